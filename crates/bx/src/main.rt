@@ -2,6 +2,7 @@
 #![tactic(auto)]
 
 use bx_cli::Fault;
+use bx_program::Terminals;
 use std::io::IsTerminal;
 use std::process::ExitCode;
 
@@ -11,8 +12,11 @@ fn status(fault: Fault) -> u8 {
 }
 
 fn main(rt: HostRuntime) -> ExitCode {
-    let person = rt.stderr().is_terminal();
-    match bx_program::run(&rt, person) {
+    let terminals = Terminals {
+        output: rt.stdout().is_terminal(),
+        errors: rt.stderr().is_terminal(),
+    };
+    match bx_program::run(&rt, terminals) {
         Ok(()) => ExitCode::SUCCESS,
         Err(fault) => ExitCode::from(status(fault)),
     }

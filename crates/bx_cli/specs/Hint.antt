@@ -3,9 +3,9 @@ use Rattle.std.specs.Prelude.{ℕ, List, [], length, ◌++◌, ◌==◌, codes, 
 use Rattle.bx_text.specs.declared.fault.IoFault.TheVariants as io
 use Rattle.bx_read.specs.declared.fault.ReadFault.TheVariants as read
 use Rattle.bx_dd.specs.declared.fault.DdFault.TheVariants as dd
-use Rattle.bx_scan.specs.declared.fault.SessionFault.TheVariants as session
-use Rattle.bx_commands.specs.declared.fault.Fault.{Fault}
-use Rattle.bx_commands.specs.declared.fault.Fault.TheVariants.{Io, Read, Dd, Session}
+use Rattle.bx_journal_read.specs.declared.fault.SessionFault.TheVariants as session
+use Rattle.bx_cli_commands.specs.declared.fault.Fault.{Fault}
+use Rattle.bx_cli_commands.specs.declared.fault.Fault.TheVariants.{Io, Read, Dd, Session}
 use Rattle.bx_cli.specs.declared.hint.Known.{Known}
 
 -- two parts with a text between them, where neither is empty
@@ -28,7 +28,7 @@ advice_of (Read (read.AddressTooLarge _)) = codes "addresses are below 461168601
 advice_of (Read (read.OddDigits _)) = codes "each byte is two digits"
 advice_of (Dd dd.InputTooLong) = codes "at most 1099511627776 bytes are read"
 advice_of (Dd (dd.UnknownOperand _)) = codes "bx dd --help lists the operands and the conversions"
-advice_of (Dd (dd.BadNumber _)) = codes "a number is decimal, with b, k, M or G behind it where wanted"
+advice_of (Dd (dd.BadNumber _)) = codes "a number is decimal; behind it b (512), k or K (1024), M (1048576) or G (1073741824) may stand"
 advice_of (Dd (dd.ZeroSize _)) = codes "a size is at least 1, and a product such as 0x4 is 0: give numbers in decimal"
 advice_of (Dd dd.Conflict) = codes "give one of block and unblock, and one of lcase and ucase"
 advice_of (Dd dd.MissingCbs) = codes "block and unblock want cbs=BYTES"
@@ -36,20 +36,20 @@ advice_of (Dd dd.SeekWithoutOutput) = codes "give of=IMAGE too"
 advice_of (Session session.NoMemory) = codes "a change, and what an undo or a redo takes back, are held in memory: CAVEATS in man bx has a way without"
 advice_of (Session session.TooLarge) = codes "an image has at most 281474976710655 bytes"
 advice_of (Session session.DeviceFailed) = codes "nothing was changed"
-advice_of (Session (session.Damaged _)) = codes "mend the line; or move journal and redo file away, and with them the older images"
+advice_of (Session (session.Damaged _)) = codes "repair that line, or move the journal and the redo file away (their undo history is lost)"
 advice_of (Session (session.TooFew _)) = codes "bx log"
-advice_of (Session session.JournalFull) = codes "move journal and redo file away to go on, and with them the older images"
-advice_of (Session session.Interrupted) = codes "the next command on the image takes back or drops what was begun; look by bx log"
+advice_of (Session session.JournalFull) = codes "move the journal and the redo file away to go on (their undo history is lost)"
+advice_of (Session session.Interrupted) = codes "each command on the image but bx show first takes back or drops what was begun; look by bx show"
 advice_of (Session (session.LengthDiffers _)) = codes "it may have another journal; where its length alone was changed, truncate -s"
 advice_of (Session (session.NothingToRedo _)) = codes "a change that is no redo gives up what was undone, and a journal that is moved takes its redo file along"
-advice_of (Session (session.RedoDamaged _)) = codes "move the redo file away to go on, and with it what was undone"
+advice_of (Session (session.RedoDamaged _)) = codes "move the redo file away to go on (what was undone is lost)"
 advice_of _ = []
 
 -- what stands behind the words of the command that is given
 abbrev pub rest_of : Fault → List ℕ
 rest_of (Session (session.TooFew _)) = codes " lists the changes"
-rest_of (Session session.Interrupted) = codes " first"
-rest_of (Session (session.LengthDiffers _)) = codes " gives that back; or move journal and redo file away, and with them the older images"
+rest_of (Session session.Interrupted) = codes ", which writes nothing"
+rest_of (Session (session.LengthDiffers _)) = codes " gives that back; or move the journal and the redo file away (their undo history is lost)"
 rest_of _ = []
 
 -- what is at fault and why, and what can be done

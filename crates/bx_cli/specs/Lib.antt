@@ -1,2 +1,2 @@
 pub mod Hint
-pub mod inner
+pub mod private

@@ -2,16 +2,17 @@
 ghost use Rattle.std.specs.Prelude.{◌≡◌, [], OnOk, IfSome, string_bytes};
 ghost use Rattle.bx_cli.specs.Hint.{advice_of, completed, hint_of, joined, rest_of};
 
-use crate::instead::{has_negative, instead, is_negative, negative, no_negative, similar};
+use crate::instead::{
+    has_negative, instead, is_negative, is_unexpected, negative, no_negative, similar,
+};
 use crate::options::program;
 use crate::plan::{kind, words_of};
-use bx_commands::Fault;
+use bx_cli_commands::{Fault, MOST_LEAST, MOST_STEPS, columns, count_or, number, radix};
 use bx_dd::DdFault;
 use bx_dump::od::Address;
-use bx_jobs::{MOST_LEAST, MOST_STEPS, columns, count_or, number, radix};
 use bx_journal::SessionFault;
 use bx_read::ReadFault;
-use bx_text::{IoFault, SizeStyle, Words};
+use bx_text::{IoFault, SizeFault, SizeStyle, Words, read_size};
 use clap::ArgMatches;
 use std::alloc::{AllocError, Allocator, Global};
 
@@ -76,7 +77,8 @@ fn dd_advice(fault: DdFault) -> &'static str
     match fault {
         DdFault::InputTooLong => "at most 1099511627776 bytes are read",
         DdFault::UnknownOperand(_) => "bx dd --help lists the operands and the conversions",
-        DdFault::BadNumber(_) => "a number is decimal, with b, k, M or G behind it where wanted",
+        DdFault::BadNumber(_) =>
+            "a number is decimal; behind it b (512), k or K (1024), M (1048576) or G (1073741824) may stand",
         DdFault::ZeroSize(_) =>
             "a size is at least 1, and a product such as 0x4 is 0: give numbers in decimal",
         DdFault::Conflict => "give one of block and unblock, and one of lcase and ucase",
@@ -96,13 +98,13 @@ fn session_advice(fault: SessionFault) -> &'static str
         SessionFault::TooLarge => "an image has at most 281474976710655 bytes",
         SessionFault::DeviceFailed => "nothing was changed",
         SessionFault::Damaged { .. } => {
-            "mend the line; or move journal and redo file away, and with them the older images"
+            "repair that line, or move the journal and the redo file away (their undo history is lost)"
         }
         SessionFault::TooFew { .. } => "bx log",
         SessionFault::JournalFull =>
-            "move journal and redo file away to go on, and with them the older images",
+            "move the journal and the redo file away to go on (their undo history is lost)",
         SessionFault::Interrupted =>
-            "the next command on the image takes back or drops what was begun; look by bx log",
+            "each command on the image but bx show first takes back or drops what was begun; look by bx show",
         SessionFault::LengthDiffers { .. } => {
             "it may have another journal; where its length alone was changed, truncate -s"
         }
@@ -110,7 +112,7 @@ fn session_advice(fault: SessionFault) -> &'static str
             "a change that is no redo gives up what was undone, and a journal that is moved takes its redo file along"
         }
         SessionFault::RedoDamaged { .. } =>
-            "move the redo file away to go on, and with it what was undone",
+            "move the redo file away to go on (what was undone is lost)",
         _ => "",
     }
 }
@@ -121,9 +123,9 @@ fn rest(fault: Fault) -> &'static str
 {
     match fault {
         Fault::Session(SessionFault::TooFew { .. }) => " lists the changes",
-        Fault::Session(SessionFault::Interrupted) => " first",
+        Fault::Session(SessionFault::Interrupted) => ", which writes nothing",
         Fault::Session(SessionFault::LengthDiffers { .. }) => {
-            " gives that back; or move journal and redo file away, and with them the older images"
+            " gives that back; or move the journal and the redo file away (their undo history is lost)"
         }
         _ => "",
     }
@@ -206,21 +208,30 @@ pub fn misuse_of(alloc: Global, words: &Words, fault: Fault) -> Result<Misuse, F
         Err(error) => {
             let text = error.to_string(alloc)?;
             let found = told(alloc, text.as_str())?;
-            Ok(corrected(alloc, words, found)?)
+            corrected(alloc, words, found)
         }
     }
 }
 
 /// What clap says, with what to give instead of the word; of a negative number the whole of it, since clap takes it for an
-/// option of its first digit.
-fn corrected(alloc: Global, words: &Words, said: Misuse) -> Result<Misuse, AllocError> {
+/// option of its first digit. Of a word that it doesn't know the usage names no option that it finds similar.
+fn corrected(alloc: Global, words: &Words, said: Misuse) -> Result<Misuse, Fault> {
     let mut found = said;
     let name = words.get(0).unwrap_or("");
+    if is_unexpected(found.word.as_str()) {
+        if let Ok(plain) = usage_of(alloc, name) {
+            found.usage = plain.usage;
+        }
+    }
     found.reason = instead(name, found.word.as_str());
     if found.reason.is_empty() {
         if let Some(word) = negative(words, found.word.as_str()) {
             found.word = String::from_str(alloc, word)?;
-            found.reason = no_negative(true);
+            found.reason = if name == "strings" {
+                "give -n COUNT for the minimum run length"
+            } else {
+                no_negative(true)
+            };
         }
     }
     Ok(found)
@@ -278,27 +289,38 @@ fn usage_of(alloc: Global, name: &str) -> Result<Misuse, Fault> {
 fn wrong_word<'a>(fault: Fault, name: &str, m: &ArgMatches<'a>) -> (&'a str, &'static str) {
     match fault {
         Fault::Dd(
-            DdFault::UnknownOperand(place)
+            fault @ (DdFault::UnknownOperand(place)
             | DdFault::BadNumber(place)
             | DdFault::NumberTooLarge(place)
             | DdFault::ZeroSize(place)
-            | DdFault::Repeated(place),
+            | DdFault::Repeated(place)),
         ) => {
             let word = operand(m, place).unwrap_or("");
-            (
-                word,
-                if has_negative(word) {
-                    no_negative(is_place_operand(word))
-                } else {
-                    ""
-                },
-            )
+            (word, operand_reason(fault, word))
         }
         Fault::Usage => match wrong_value(name, m) {
             Some(found) => found,
             None => missing(name),
         },
         _ => ("", ""),
+    }
+}
+
+/// What is wrong with an operand of dd.
+fn operand_reason(fault: DdFault, operand: &str) -> &'static str {
+    match fault {
+        _ if has_negative(operand) => no_negative(is_place_operand(operand)),
+        DdFault::BadNumber(_) if operand.contains("=0x") => {
+            "0x begins no hexadecimal number here, since x multiplies: give it in decimal"
+        }
+        DdFault::NumberTooLarge(_) if is_block_operand(operand) => {
+            "a block has at most 16777216 bytes, which is 16M"
+        }
+        DdFault::NumberTooLarge(_) if is_place_operand(operand) => {
+            "a place is at most 281474976710656 bytes from the start"
+        }
+        DdFault::NumberTooLarge(_) => "a number is at most 1099511627775",
+        _ => "",
     }
 }
 
@@ -336,6 +358,8 @@ fn wrong_value<'a>(name: &str, m: &ArgMatches<'a>) -> Option<(&'a str, &'static 
                 value,
                 if is_negative(value) {
                     no_negative(is_place(id))
+                } else if is_large(id, value, style) {
+                    "a number is at most 4611686018427387904"
                 } else {
                     form
                 },
@@ -343,6 +367,12 @@ fn wrong_value<'a>(name: &str, m: &ArgMatches<'a>) -> Option<(&'a str, &'static 
         }
     }
     None
+}
+
+/// Whether it is a number of its option but for being too large.
+fn is_large(id: &str, value: &str, style: SizeStyle) -> bool {
+    (matches!(id, "group" | "limit") || is_place(id))
+        && read_size(value.as_bytes(), style) == Err(SizeFault::TooLarge)
 }
 
 /// Whether the values of an option are places.
@@ -353,6 +383,11 @@ fn is_place(id: &str) -> bool {
 /// Whether the value of an operand is a place.
 fn is_place_operand(operand: &str) -> bool {
     operand.starts_with("skip=") || operand.starts_with("seek=")
+}
+
+/// Whether it is the size of a block or a record.
+fn is_block_operand(operand: &str) -> bool {
+    operand.starts_with("ibs=") || operand.starts_with("bs=") || operand.starts_with("cbs=")
 }
 
 /// What the values of an option are.

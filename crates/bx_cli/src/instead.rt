@@ -13,10 +13,104 @@ pub(crate) fn no_negative(is_place: bool) -> &'static str {
 /// What to give in place of a word that is refused under a subcommand; `said` is what clap says of it. Empty where nothing is
 /// known.
 pub(crate) fn instead(name: &str, said: &str) -> &'static str {
-    match quoted(said) {
-        "-r" | "--revert" if name == "xxd" => {
-            "bx revert -f DUMP IMAGE writes the bytes of a dump onto an image"
+    let word = quoted(said);
+    if !is_unexpected(said) {
+        ""
+    } else if name == "xxd" && matches!(word, "-r" | "--revert") {
+        "bx revert -f DUMP IMAGE writes the bytes of a dump onto an image"
+    } else if word.starts_with("--") {
+        short(name, word)
+    } else if word.starts_with('-') {
+        ""
+    } else {
+        alone(name)
+    }
+}
+
+/// Whether clap says that it doesn't know an option, or that a word is one too many.
+pub(crate) fn is_unexpected(said: &str) -> bool {
+    said.starts_with("unexpected argument")
+}
+
+/// What is said of a second word that is no option.
+fn alone(name: &str) -> &'static str {
+    match name {
+        "revert" => "one word is the image; a dump is named by -f: bx revert -f DUMP IMAGE",
+        "undo" | "redo" | "log" | "show" => "one word is the image, and there is no other",
+        "od" | "xxd" | "hexdump" | "strings" => {
+            "one word is the file that is read; the dump goes to standard output"
         }
+        _ => "",
+    }
+}
+
+/// The option that stands for a long one of other tools, or for what it does.
+fn short(name: &str, long: &str) -> &'static str {
+    match name {
+        "od" => short_of_od(long),
+        "xxd" => short_of_xxd(long),
+        "hexdump" => short_of_hexdump(long),
+        "strings" => short_of_strings(long),
+        _ => short_of_change(long),
+    }
+}
+
+fn short_of_od(long: &str) -> &'static str {
+    match long {
+        "--address-radix" => "give -A RADIX",
+        "--skip-bytes" | "--skip" => "give -j COUNT",
+        "--read-bytes" | "--length" => "give -N COUNT",
+        "--format" => "give -t TYPE",
+        "--output-duplicates" => "give -v",
+        _ => "",
+    }
+}
+
+fn short_of_xxd(long: &str) -> &'static str {
+    match long {
+        "--len" | "--length" => "give -l COUNT",
+        "--seek" | "--skip" => "give -s OFFSET",
+        "--offset" => "give -o OFFSET",
+        "--cols" => "give -c COLS",
+        "--group" | "--groupsize" => "give -g BYTES",
+        "--plain" | "--postscript" => "give -p",
+        "--bits" => "give -b",
+        "--include" => "give -i",
+        "--upper" | "--uppercase" => "give -u",
+        _ => "",
+    }
+}
+
+fn short_of_hexdump(long: &str) -> &'static str {
+    match long {
+        "--canonical" => "give -C",
+        "--length" => "give -n COUNT",
+        "--skip" => "give -s COUNT",
+        "--no-squeezing" => "give -v",
+        _ => "",
+    }
+}
+
+fn short_of_strings(long: &str) -> &'static str {
+    match long {
+        "--all" => "give -a",
+        "--bytes" => "give -n COUNT",
+        "--radix" => "give -t RADIX",
+        _ => "",
+    }
+}
+
+fn short_of_change(long: &str) -> &'static str {
+    match long {
+        "--count" => "give -k COUNT",
+        "--journal" => "give -J JOURNAL",
+        "--unsynced" => "give -U",
+        "--dump" | "--file" => "give -f DUMP",
+        "--plain" => "give -p",
+        "--offset" => "give -s OFFSET",
+        "--redo" => "give -r",
+        "--difference" | "--diff" => "give -d",
+        "--verbose" => "give -v",
         _ => "",
     }
 }

@@ -28,13 +28,13 @@ static OD: [Row; 11] = [
         id: "limit",
         short: 'N',
         value: Some("COUNT"),
-        help: "Most bytes to dump [default: all]",
+        help: "Maximum number of bytes to dump [default: all]",
     },
     Row {
         id: "kind",
         short: 't',
         value: Some("TYPE"),
-        help: "Values: c, or d, o, u or x and 1, 2, 4 or 8 bytes, as x1 [default: o2]",
+        help: "Values: c, or d o u x and 1 2 4 8 bytes, as in x1 [default: o2]",
     },
     Row {
         id: "o1",
@@ -111,7 +111,7 @@ static XXD: [Row; 9] = [
         id: "limit",
         short: 'l',
         value: Some("COUNT"),
-        help: "Most bytes to dump [default: all]",
+        help: "Maximum number of bytes to dump [default: all]",
     },
     Row {
         id: "shift",
@@ -154,7 +154,7 @@ static HEXDUMP: [Row; 4] = [
         id: "limit",
         short: 'n',
         value: Some("COUNT"),
-        help: "Most bytes to dump [default: all]",
+        help: "Maximum number of bytes to dump [default: all]",
     },
     Row {
         id: "skip",
@@ -181,13 +181,13 @@ static STRINGS: [Row; 3] = [
         id: "least",
         short: 'n',
         value: Some("COUNT"),
-        help: "Least bytes of a run, 1 to 4096 [default: 4]",
+        help: "Minimum run length, 1 to 4096 [default: 4]",
     },
     Row {
         id: "offsets",
         short: 't',
         value: Some("RADIX"),
-        help: "Show where each run begins, in d, o or x [default: not]",
+        help: "Show where each run begins, in d, o or x [default: no offsets]",
     },
 ];
 
@@ -202,7 +202,7 @@ const UNSYNCED: Row = Row {
     id: "unsynced",
     short: 'U',
     value: None,
-    help: "Do not wait for the disk: faster, but a loss of power may take changes, or the undo",
+    help: "Do not wait for the disk: faster, but not safe from power loss",
 };
 
 static REVERT: [Row; 5] = [
@@ -256,13 +256,13 @@ static LOG: [Row; 3] = [
         id: "unsynced",
         short: 'U',
         value: None,
-        help: "Do not wait for the disk where a stopped change is taken back first",
+        help: "Do not wait for the disk where a stopped change is taken back",
     },
     Row {
         id: "verbose",
         short: 'v',
         value: None,
-        help: "Show the length after each change too, and which bytes were saved",
+        help: "Show the length after each change, and which bytes were saved",
     },
 ];
 
@@ -287,6 +287,13 @@ static SHOW: [Row; 4] = [
         help: "Show beside each line what the image has there now",
     },
 ];
+
+static DIFF: [Row; 1] = [Row {
+    id: "rows",
+    short: 'v',
+    value: None,
+    help: "Write whole rows of 16 bytes where a byte differs",
+}];
 
 static DD: [Row; 2] = [JOURNAL, UNSYNCED];
 
@@ -387,7 +394,7 @@ fn od<'a>(alloc: Global) -> Result<Command<'a>, AllocError> {
     let command = Command::new(alloc, "od")
         .about("Dump bytes as numbers or characters")
         .after_help(
-            "COUNT: decimal, 0x and hexadecimal, or 0 and octal; then b (512), k (1024) or m (1048576).\n\nEXAMPLES:\n  bx od -A x -t x1 disk.img     bytes in hexadecimal, with hexadecimal addresses\n  bx od -c -N 64 notes.txt      the first 64 bytes as characters\n  bx od -t u4 -j 1k disk.img    numbers of 4 bytes, from byte 1024 on",
+            "COUNT: decimal, 0x and hexadecimal, or 0 and octal;\nthen b (512), k (1024) or m (1048576).\n\nEXAMPLES:\n  bx od -A x -t x1 disk.img     bytes in hexadecimal, with hexadecimal addresses\n  bx od -c -N 64 notes.txt      the first 64 bytes as characters\n  bx od -t u4 -j 1k disk.img    numbers of 4 bytes, from byte 1024 on",
         );
     let typed = with_group(alloc, command, "type", &OD_TYPES)?;
     reader(alloc, typed, &OD)
@@ -420,7 +427,7 @@ fn hexdump<'a>(alloc: Global) -> Result<Command<'a>, AllocError> {
     let command = Command::new(alloc, "hexdump")
         .about("Dump bytes in hexadecimal beside their characters")
         .after_help(
-            "COUNT: decimal, 0x and hexadecimal, or 0 and octal; then b (512), k (1024) or m (1048576).\n\nEXAMPLES:\n  bx hexdump -C disk.img\n  bx hexdump -C -s 1m -n 256 disk.img    256 bytes, from byte 1048576 on",
+            "COUNT: decimal, 0x and hexadecimal, or 0 and octal;\nthen b (512), k (1024) or m (1048576).\n\nEXAMPLES:\n  bx hexdump -C disk.img\n  bx hexdump -C -s 1m -n 256 disk.img    256 bytes, from byte 1048576 on",
         );
     reader(alloc, command, &HEXDUMP)
 }
@@ -438,7 +445,7 @@ fn dd<'a>(alloc: Global) -> Result<Command<'a>, AllocError> {
     let command = Command::new(alloc, "dd")
         .about("Copy and convert bytes, to standard output or onto an image")
         .after_help(
-            "Operands:\n  if=FILE       File to read [default: standard input]\n  of=IMAGE      Image that is changed, a file or a block device [default: none, standard output]\n  ibs=BYTES     Bytes of an input block, 1 to 16777216 [default: 512]\n  obs=BYTES     Bytes of an output block [default: 512]\n  bs=BYTES      Both, 1 to 16777216\n  cbs=BYTES     Bytes of a record of block and unblock, 1 to 16777216\n  skip=BLOCKS   Input blocks to skip first [default: 0]\n  seek=BLOCKS   Output blocks in front of the place in IMAGE [default: 0]\n  count=BLOCKS  Most input blocks to copy [default: all]\n  conv=WORDS    Of block, unblock, lcase, ucase, swab, sync, notrunc, with commas\n\nNumbers: decimal, then b (512), k or K (1024), M (1048576) or G (1073741824); 2x80 is 160.\n\nEXAMPLES:\n  bx dd if=boot.bin of=disk.img seek=1 conv=notrunc    a file onto byte 512 of an image\n  bx dd if=log.txt conv=ucase count=1                  the first 512 bytes in upper case\n  bx dd if=cards conv=unblock cbs=80                   a line for each 80 bytes",
+            "Operands:\n  if=FILE       File to read [default: standard input]\n  of=IMAGE      Image to change, file or block device [default: standard output]\n  ibs=BYTES     Bytes of an input block, 1 to 16777216 [default: 512]\n  obs=BYTES     Bytes of an output block [default: 512]\n  bs=BYTES      Both, 1 to 16777216\n  cbs=BYTES     Bytes of a record of block and unblock, 1 to 16777216\n  skip=BLOCKS   Input blocks to skip first [default: 0]\n  seek=BLOCKS   Output blocks in front of the place in IMAGE [default: 0]\n  count=BLOCKS  Most input blocks to copy [default: all]\n  conv=WORDS    Of block, unblock, lcase, ucase, swab, sync, notrunc, by commas\n\nNumbers: decimal, then b (512), k or K (1024), M (1048576) or G (1073741824);\nx multiplies, so 2x80 is 160, and 0x80 is 0.\n\nEXAMPLES:\n  bx dd if=boot.bin of=disk.img seek=1 conv=notrunc   onto byte 512 of an image\n  bx dd if=log.txt conv=ucase count=1                 512 bytes in upper case\n  bx dd if=cards conv=unblock cbs=80                  a line for each 80 bytes",
         );
     with_mounted(
         alloc,
@@ -461,7 +468,7 @@ fn revert<'a>(alloc: Global) -> Result<Command<'a>, AllocError> {
     let command = Command::new(alloc, "revert")
         .about("Write the bytes of a dump onto an image")
         .after_help(
-            "OFFSET: decimal, 0x and hexadecimal, or 0 and octal. Image, journal and redo file are made where they are missing.\n\nA line: an address in hexadecimal, a colon, a space, pairs of hexadecimal digits with at most one space between two;\nfrom two spaces on nothing is read, so edit digits and not the characters beside them.\nRead, but not as they are meant: dumps of xxd -b (binary digits), of xxd -e (bytes in another order) and of xxd -d\n(decimal addresses), and pairs behind a gap of two spaces, as in lines of hexdump -C.\n\nEXAMPLES:\n  echo '00000002: 7879' | bx revert disk.img     two bytes at place 2\n  bx revert -f edited.txt disk.img               a dump of xxd that was edited\n  echo 7879 | bx revert -p -s 0x200 disk.img     two bytes at place 512",
+            "OFFSET: decimal, 0x and hexadecimal, or 0 and octal.\nImage, journal and redo file are made where they are missing.\n\nA line: an address in hexadecimal, a colon, a space, pairs of hexadecimal digits\nwith at most one space between two. From two spaces on nothing is read, so edit\nthe digits and not the characters beside them. Lines end in a newline alone.\n\nRead, but not as they are meant: dumps of xxd -b (binary digits), of xxd -e\n(bytes in another order) and of xxd -d (decimal addresses), and pairs behind a\ngap of two spaces, as in lines of hexdump -C.\n\nEXAMPLES:\n  echo '00000002: 7879' | bx revert disk.img     two bytes at place 2\n  bx revert -f edited.txt disk.img               a dump of xxd that was edited\n  echo 7879 | bx revert -p -s 0x200 disk.img     two bytes at place 512",
         );
     changer(alloc, command, &REVERT)
 }
@@ -477,9 +484,9 @@ fn undo<'a>(alloc: Global) -> Result<Command<'a>, AllocError> {
 
 fn redo<'a>(alloc: Global) -> Result<Command<'a>, AllocError> {
     let command = Command::new(alloc, "redo")
-        .about("Make the last undone changes of an image again, and show how many then stand")
+        .about("Make the last undone changes again, and show how many then stand")
         .after_help(
-            "COUNT: decimal. A change that is made by another command gives up what was undone.\n\nEXAMPLES:\n  bx redo disk.img         the change that was undone last\n  bx redo -k 3 disk.img    the last three undone changes",
+            "COUNT: decimal. A change that another command makes gives up what was undone.\n\nEXAMPLES:\n  bx redo disk.img         the change that was undone last\n  bx redo -k 3 disk.img    the last three undone changes",
         );
     changer(alloc, command, &REDO)
 }
@@ -488,24 +495,115 @@ fn log<'a>(alloc: Global) -> Result<Command<'a>, AllocError> {
     let command = Command::new(alloc, "log")
         .about("List the changes of an image, the oldest first")
         .after_help(
-            "Each line has a change's number, the image's bytes before it, and the bytes that were saved; with -v the bytes\nbefore and after it, the bytes that were saved, and their ranges.\n\nEXAMPLES:\n  bx log disk.img\n  bx log -v disk.img\n  bx log -J other.bxj disk.img",
+            "Each line has a change's number, the image's bytes before it, and the bytes that\nwere saved; with -v the bytes before and after it, the bytes saved, and their\nranges. A change that was stopped is taken back first; bx show only looks.\n\nEXAMPLES:\n  bx log disk.img\n  bx log -v disk.img\n  bx log -J other.bxj disk.img",
         );
     with_mounted(
         alloc,
         command,
         &LOG,
-        "Take a stopped change of a block device back even while it is mounted",
+        "Recover on a block device even while it is mounted",
     )?
     .arg(image(alloc))
 }
 
 fn show<'a>(alloc: Global) -> Result<Command<'a>, AllocError> {
     let command = Command::new(alloc, "show")
-        .about("Show what an undo would do, or a redo, the first step first; nothing is written")
+        .about("Show what an undo or a redo would do; nothing is written")
         .after_help(
-            "COUNT: decimal. Each change has a heading that begins with #, and the lines that would be written onto the image;\nwithout the headings they are a dump that revert takes.\n\nEXAMPLES:\n  bx show disk.img            what an undo of the last change would do\n  bx show -d disk.img         the same, beside what the image has there now\n  bx show -r -k 2 disk.img    what a redo of two changes would do",
+            "COUNT: decimal. Each change has a heading that begins with #, and the lines that\nwould be written onto the image; without the headings they are a dump that\nrevert takes. A change that was stopped is told first, whatever COUNT is.\n\nEXAMPLES:\n  bx show disk.img            what an undo of the last change would do\n  bx show -d disk.img         the same, beside what the image has there now\n  bx show -r -k 2 disk.img    what a redo of two changes would do",
         );
     with_rows(alloc, command, &SHOW)?.arg(image(alloc))
+}
+
+fn diff<'a>(alloc: Global) -> Result<Command<'a>, AllocError> {
+    let command = Command::new(alloc, "diff")
+        .about("Write what differs between two files, as a patch")
+        .after_help(
+            "The first line tells both lengths. Each other line is bytes as xxd writes them,\nbehind - those of OLD and behind + those of NEW. Nothing is written where the\nfiles are equal; the exit status is 0 in either case.\n\nEXAMPLES:\n  bx diff old.bin new.bin       the bytes that differ, and no others\n  bx diff -v old.bin new.bin    the rows in which they stand",
+        );
+    with_rows(alloc, command, &DIFF)?
+        .arg(compared(alloc, "old", "OLD"))?
+        .arg(compared(alloc, "new", "NEW"))
+}
+
+/// One of the files that are compared.
+fn compared<'a>(alloc: Global, id: &'static str, value: &'static str) -> Arg<'a> {
+    Arg::new(alloc, id)
+        .value_name(value)
+        .required(true)
+        .help("File or block device to compare")
+}
+
+/// A subcommand.
+#[derive(Clone, Copy)]
+pub enum Verb {
+    Od,
+    Xxd,
+    Hexdump,
+    Strings,
+    Dd,
+    Revert,
+    Undo,
+    Redo,
+    Log,
+    Show,
+    Diff,
+}
+
+/// All subcommands, in the order of the help.
+static VERBS: [Verb; 11] = [
+    Verb::Od,
+    Verb::Xxd,
+    Verb::Hexdump,
+    Verb::Strings,
+    Verb::Dd,
+    Verb::Revert,
+    Verb::Undo,
+    Verb::Redo,
+    Verb::Log,
+    Verb::Show,
+    Verb::Diff,
+];
+
+impl Verb {
+    /// How it is called.
+    fn name(self) -> &'static str {
+        match self {
+            Verb::Od => "od",
+            Verb::Xxd => "xxd",
+            Verb::Hexdump => "hexdump",
+            Verb::Strings => "strings",
+            Verb::Dd => "dd",
+            Verb::Revert => "revert",
+            Verb::Undo => "undo",
+            Verb::Redo => "redo",
+            Verb::Log => "log",
+            Verb::Show => "show",
+            Verb::Diff => "diff",
+        }
+    }
+
+    /// What it takes.
+    fn command<'a>(self, alloc: Global) -> Result<Command<'a>, AllocError> {
+        match self {
+            Verb::Od => od(alloc),
+            Verb::Xxd => xxd(alloc),
+            Verb::Hexdump => hexdump(alloc),
+            Verb::Strings => strings(alloc),
+            Verb::Dd => dd(alloc),
+            Verb::Revert => revert(alloc),
+            Verb::Undo => undo(alloc),
+            Verb::Redo => redo(alloc),
+            Verb::Log => log(alloc),
+            Verb::Show => show(alloc),
+            Verb::Diff => diff(alloc),
+        }
+    }
+
+    /// The one that is called so.
+    pub fn of(name: &str) -> Option<Verb> {
+        VERBS.iter().copied().find(|verb| verb.name() == name)
+    }
 }
 
 /// All that the program takes.
@@ -514,19 +612,14 @@ pub fn program<'a>(alloc: Global) -> Result<Command<'a>, AllocError> {
         .version("1.1.0")
         .about("A byte toolkit with undo: dumps files, patches them, and takes changes back")
         .after_help(
-            "EXAMPLES:\n  bx xxd -l 64 disk.img\n  echo '00000002: 7879' | bx revert disk.img\n  bx undo disk.img\n  bx redo disk.img\n\nThe exit status is 0, 1 for a fault, and 2 for wrong words.\nSee 'bx COMMAND --help' for a command's options, and 'man bx' for formats and faults.",
+            "EXAMPLES:\n  bx xxd -l 64 disk.img\n  echo '00000002: 7879' | bx revert disk.img\n  bx undo disk.img\n  bx redo disk.img\n\nThe exit status is 0, 1 for a fault, and 2 for wrong words.\nSee 'bx COMMAND --help' for its options, and 'man bx' for formats and faults.",
         )
         .subcommand_required(true);
-    let program = taking(program, od(alloc))?;
-    let program = taking(program, xxd(alloc))?;
-    let program = taking(program, hexdump(alloc))?;
-    let program = taking(program, strings(alloc))?;
-    let program = taking(program, dd(alloc))?;
-    let program = taking(program, revert(alloc))?;
-    let program = taking(program, undo(alloc))?;
-    let program = taking(program, redo(alloc))?;
-    let program = taking(program, log(alloc))?;
-    taking(program, show(alloc))
+    let mut program = program;
+    for verb in &VERBS {
+        program = taking(program, verb.command(alloc))?;
+    }
+    Ok(program)
 }
 
 /// The program with one command more.

@@ -1,16 +1,18 @@
 //! From words to a job.
-use crate::options::program;
-use bx_commands::Fault;
+ghost use Rattle.std.specs.Prelude.{◌≡◌, IfOk};
+
+use crate::options::{Verb, program};
+use bx_cli_commands::{
+    Access, ChangeJob, DdImageJob, DdJob, DiffJob, DumpJob, Durability, Fault, HexdumpJob, Job,
+    LogJob, LookJob, MOST_COLUMNS, MOST_LEAST, MOST_STEPS, OdJob, RevertJob, ShowJob, StepsJob,
+    StringsJob, Target, XxdJob, XxdLook, columns, count_or, kind_word, name_of, number, number_or,
+    radix, texts_of,
+};
 use bx_dd::parse;
 use bx_dump::hexdump::HexdumpOptions;
 use bx_dump::od::{Address, Kind, OdOptions};
 use bx_dump::strings::StringsOptions;
 use bx_dump::xxd::XxdOptions;
-use bx_jobs::{
-    Access, DdJob, Durability, HexdumpJob, Job, MOST_COLUMNS, MOST_LEAST, MOST_STEPS, OdJob,
-    RevertJob, StringsJob, Texts, XxdJob, XxdLook, columns, count_or, kind_word, name_of, number,
-    number_or, radix, texts_of,
-};
 use bx_journal::Way;
 use bx_text::{IoFault, Name, SizeStyle, Words};
 use clap::error::ErrorKind;
@@ -37,8 +39,11 @@ pub fn plan_words(alloc: Global, words: &Words) -> Result<Job, Fault> {
         Ok(matches) => matches,
         Err(error) => return refused(alloc, error),
     };
-    match matches.subcommand() {
-        Some((name, inner)) => job_of(alloc, name, inner),
+    let Some((name, inner)) = matches.subcommand() else {
+        return Err(Fault::Usage);
+    };
+    match Verb::of(name) {
+        Some(verb) => job_of(alloc, verb, inner),
         None => Err(Fault::Usage),
     }
 }
@@ -53,23 +58,36 @@ fn refused(alloc: Global, error: Error) -> Result<Job, Fault> {
             })
         }
         ErrorKind::OutOfMemory => Err(Fault::Io(IoFault::NoMemory)),
-        _ => Err(Fault::Usage),
+        ErrorKind::InvalidValue
+        | ErrorKind::UnknownArgument
+        | ErrorKind::InvalidSubcommand
+        | ErrorKind::NoEquals
+        | ErrorKind::ValueValidation
+        | ErrorKind::TooManyValues
+        | ErrorKind::TooFewValues
+        | ErrorKind::WrongNumberOfValues
+        | ErrorKind::ArgumentConflict
+        | ErrorKind::MissingRequiredArgument
+        | ErrorKind::MissingSubcommand
+        | ErrorKind::DisplayHelpOnMissingArgumentOrSubcommand
+        | ErrorKind::Io
+        | ErrorKind::Format => Err(Fault::Usage),
     }
 }
 
-fn job_of(alloc: Global, name: &str, inner: &ArgMatches<'_>) -> Result<Job, Fault> {
-    match name {
-        "od" => od(alloc, inner),
-        "xxd" => xxd(alloc, inner),
-        "hexdump" => hexdump(alloc, inner),
-        "strings" => strings(alloc, inner),
-        "dd" => dd(alloc, inner),
-        "revert" => revert(alloc, inner),
-        "undo" => undo(alloc, inner),
-        "redo" => redo(alloc, inner),
-        "log" => log(alloc, inner),
-        "show" => show(alloc, inner),
-        _ => Err(Fault::Usage),
+fn job_of(alloc: Global, verb: Verb, inner: &ArgMatches<'_>) -> Result<Job, Fault> {
+    match verb {
+        Verb::Od => Ok(Job::Dump(DumpJob::Od(od(alloc, inner)?))),
+        Verb::Xxd => Ok(Job::Dump(DumpJob::Xxd(xxd(alloc, inner)?))),
+        Verb::Hexdump => Ok(Job::Dump(DumpJob::Hexdump(hexdump(alloc, inner)?))),
+        Verb::Strings => Ok(Job::Dump(DumpJob::Strings(strings(alloc, inner)?))),
+        Verb::Dd => dd(alloc, inner),
+        Verb::Revert => Ok(Job::Change(ChangeJob::Revert(revert(alloc, inner)?))),
+        Verb::Undo => Ok(Job::Change(ChangeJob::Undo(steps(alloc, inner)?))),
+        Verb::Redo => Ok(Job::Change(ChangeJob::Redo(steps(alloc, inner)?))),
+        Verb::Log => Ok(Job::Look(LookJob::Log(log(alloc, inner)?))),
+        Verb::Show => Ok(Job::Look(LookJob::Show(show(alloc, inner)?))),
+        Verb::Diff => Ok(Job::Diff(diff(alloc, inner)?)),
     }
 }
 
@@ -80,13 +98,28 @@ fn name(alloc: Global, m: &ArgMatches<'_>, id: &str) -> Result<Option<Name>, Fau
     }
 }
 
-// The image and the texts beside it.
-fn image_and_texts(alloc: Global, m: &ArgMatches<'_>) -> Result<(Name, Texts), Fault> {
+// The image that is named, the texts beside it, and how they are used.
+fn target(alloc: Global, m: &ArgMatches<'_>, access: Access) -> Result<Target, Fault> {
     let Some(image) = m.get_str("image") else {
         return Err(Fault::Usage);
     };
+    target_of(alloc, m, image, access)
+}
+
+fn target_of(
+    alloc: Global,
+    m: &ArgMatches<'_>,
+    image: &str,
+    access: Access,
+) -> Result<Target, Fault>
+    ensures { IfOk result (λ t. t.image ≡ image.now) }
+{
     let texts = texts_of(alloc, m.get_str("journal"), image)?;
-    Ok((name_of(alloc, image)?, texts))
+    Ok(Target {
+        image: name_of(alloc, image)?,
+        texts,
+        access,
+    })
 }
 
 fn access(m: &ArgMatches<'_>) -> Access {
@@ -116,8 +149,8 @@ pub(crate) fn kind(m: &ArgMatches<'_>) -> Result<Kind, Fault> {
     kind_word("o2")
 }
 
-fn od(alloc: Global, m: &ArgMatches<'_>) -> Result<Job, Fault> {
-    Ok(Job::Od(OdJob {
+fn od(alloc: Global, m: &ArgMatches<'_>) -> Result<OdJob, Fault> {
+    Ok(OdJob {
         options: OdOptions {
             address: radix(m.get_str("radix"), Address::Octal, true)?,
             kind: kind(m)?,
@@ -127,10 +160,10 @@ fn od(alloc: Global, m: &ArgMatches<'_>) -> Result<Job, Fault> {
             all: m.get_flag("all"),
         },
         file: name(alloc, m, "file")?,
-    }))
+    })
 }
 
-fn xxd(alloc: Global, m: &ArgMatches<'_>) -> Result<Job, Fault> {
+fn xxd(alloc: Global, m: &ArgMatches<'_>) -> Result<XxdJob, Fault> {
     let (look, cols, group) = if m.get_flag("plain") {
         (XxdLook::Plain, 30, 2)
     } else if m.get_flag("bits") {
@@ -142,7 +175,7 @@ fn xxd(alloc: Global, m: &ArgMatches<'_>) -> Result<Job, Fault> {
     };
     let cols = columns(m.get_str("cols"), cols)?;
     let group = number_or(m.get_str("group"), SizeStyle::Bare, group)?.min(MOST_COLUMNS) as u16;
-    Ok(Job::Xxd(XxdJob {
+    Ok(XxdJob {
         look,
         options: XxdOptions {
             cols,
@@ -153,15 +186,15 @@ fn xxd(alloc: Global, m: &ArgMatches<'_>) -> Result<Job, Fault> {
             upper: m.get_flag("upper"),
         },
         file: name(alloc, m, "file")?,
-    }))
+    })
 }
 
 // The canonical form has to be asked for: there is no other.
-fn hexdump(alloc: Global, m: &ArgMatches<'_>) -> Result<Job, Fault> {
+fn hexdump(alloc: Global, m: &ArgMatches<'_>) -> Result<HexdumpJob, Fault> {
     if !m.get_flag("canonical") {
         return Err(Fault::Usage);
     }
-    Ok(Job::Hexdump(HexdumpJob {
+    Ok(HexdumpJob {
         options: HexdumpOptions {
             first: 0,
             skip: number_or(m.get_str("skip"), SizeStyle::Count, 0)?,
@@ -169,21 +202,21 @@ fn hexdump(alloc: Global, m: &ArgMatches<'_>) -> Result<Job, Fault> {
             all: m.get_flag("all"),
         },
         file: name(alloc, m, "file")?,
-    }))
+    })
 }
 
-fn strings(alloc: Global, m: &ArgMatches<'_>) -> Result<Job, Fault> {
+fn strings(alloc: Global, m: &ArgMatches<'_>) -> Result<StringsJob, Fault> {
     let least = count_or(m.get_str("least"), 4, MOST_LEAST)? as u16;
     if least == 0 {
         return Err(Fault::Usage);
     }
-    Ok(Job::Strings(StringsJob {
+    Ok(StringsJob {
         options: StringsOptions {
             least,
             offsets: radix(m.get_str("offsets"), Address::Without, false)?,
         },
         file: name(alloc, m, "file")?,
-    }))
+    })
 }
 
 fn operands_of(alloc: Global, m: &ArgMatches<'_>) -> Result<Words, Fault> {
@@ -196,80 +229,74 @@ fn operands_of(alloc: Global, m: &ArgMatches<'_>) -> Result<Words, Fault> {
     Ok(operands)
 }
 
-// The operands' faults come before that of the texts' names.
+// To a stream, or onto the image that `of=` names. The operands' faults come before that of the texts' names.
 fn dd(alloc: Global, m: &ArgMatches<'_>) -> Result<Job, Fault> {
     let operands = operands_of(alloc, m)?;
     let plan = parse(alloc, &operands)?;
-    let texts = match &plan.output {
-        Some(image) => Some(texts_of(alloc, m.get_str("journal"), image.as_str())?),
-        None => None,
+    let target = match &plan.output {
+        Some(image) => target_of(alloc, m, image.as_str(), access(m))?,
+        None => return Ok(Job::Dump(DumpJob::Dd(DdJob { plan, operands }))),
     };
-    Ok(Job::Dd(DdJob {
+    Ok(Job::Change(ChangeJob::Dd(DdImageJob {
         plan,
         operands,
-        texts,
-        access: access(m),
-    }))
+        target,
+    })))
 }
 
-fn revert(alloc: Global, m: &ArgMatches<'_>) -> Result<Job, Fault> {
+fn revert(alloc: Global, m: &ArgMatches<'_>) -> Result<RevertJob, Fault> {
     let at = number_or(m.get_str("offset"), SizeStyle::Bare, 0)?;
-    let (image, texts) = image_and_texts(alloc, m)?;
-    Ok(Job::Revert(RevertJob {
+    let target = target(alloc, m, access(m))?;
+    Ok(RevertJob {
         dump: name(alloc, m, "dump")?,
         plain: m.get_flag("plain"),
         at,
-        image,
-        texts,
-        access: access(m),
-    }))
-}
-
-fn undo(alloc: Global, m: &ArgMatches<'_>) -> Result<Job, Fault> {
-    let count = count_or(m.get_str("count"), 1, MOST_STEPS)? as u32;
-    let (image, texts) = image_and_texts(alloc, m)?;
-    Ok(Job::Undo {
-        count,
-        image,
-        texts,
-        access: access(m),
+        target,
     })
 }
 
-fn redo(alloc: Global, m: &ArgMatches<'_>) -> Result<Job, Fault> {
+fn steps(alloc: Global, m: &ArgMatches<'_>) -> Result<StepsJob, Fault> {
     let count = count_or(m.get_str("count"), 1, MOST_STEPS)? as u32;
-    let (image, texts) = image_and_texts(alloc, m)?;
-    Ok(Job::Redo {
-        count,
-        image,
-        texts,
-        access: access(m),
-    })
+    let target = target(alloc, m, access(m))?;
+    Ok(StepsJob { count, target })
 }
 
-fn log(alloc: Global, m: &ArgMatches<'_>) -> Result<Job, Fault> {
-    let (image, texts) = image_and_texts(alloc, m)?;
-    Ok(Job::Log {
+fn log(alloc: Global, m: &ArgMatches<'_>) -> Result<LogJob, Fault> {
+    let target = target(alloc, m, access(m))?;
+    Ok(LogJob {
         verbose: m.get_flag("verbose"),
-        image,
-        texts,
-        access: access(m),
+        target,
     })
 }
 
-fn show(alloc: Global, m: &ArgMatches<'_>) -> Result<Job, Fault> {
+// Nothing of the image is written, so nothing is waited for.
+fn show(alloc: Global, m: &ArgMatches<'_>) -> Result<ShowJob, Fault> {
     let count = count_or(m.get_str("count"), 1, MOST_STEPS)? as u32;
-    let (image, texts) = image_and_texts(alloc, m)?;
+    let access = Access {
+        durability: Durability::Unsynced,
+        mounted: false,
+    };
+    let target = target(alloc, m, access)?;
     let way = if m.get_flag("redo") {
         Way::Redo
     } else {
         Way::Undo
     };
-    Ok(Job::Show {
+    Ok(ShowJob {
         way,
         count,
         compares: m.get_flag("difference"),
-        image,
-        texts,
+        target,
+    })
+}
+
+fn diff(alloc: Global, m: &ArgMatches<'_>) -> Result<DiffJob, Fault> {
+    let (Some(old), Some(new)) = (m.get_str("old"), m.get_str("new")) else {
+        return Err(Fault::Usage);
+    };
+    Ok(DiffJob {
+        rows: m.get_flag("rows"),
+        old: name_of(alloc, old)?,
+        new: name_of(alloc, new)?,
     })
 }

@@ -6,7 +6,7 @@ use Rattle.bx_text.proofs.PiecesLemmas.{in_pieces-none, in_pieces-more}
 use Rattle.bx_dd.specs.declared.form.Form.{Form}
 use Rattle.bx_dd.specs.Counting.{counts_of}
 use Rattle.bx_dd.specs.Output.{converted, cut_records, joined, swapped, cased, filler}
-use Rattle.bx_dd.specs.inner.Output.{block_of}
+use Rattle.bx_dd.specs.private.Output.{block_of}
 
 pub joined_none : (form : Form) → 0 < form.ibs → joined form [] ≡ []
 unfolding joined block_of

@@ -1,14 +1,13 @@
 -- What was read of an input, and what went out of it.
-use Rattle.std.proofs.Common.{◌≡◌, ℕ, ◌+◌, ◌-◌, ◌*◌, ◌/◌, ◌%◌, ◌^◌, ◌<◌, ◌≤◌, Bool, true, false, cond, List, [], ◌++◌, length, take, drop, Option, None, Some, refl, sym, ap, ◌∙◌, arith, append_assoc, append-nil, subst, ◌⊎◌, inl, inr}
+use Rattle.std.proofs.Common.{◌≡◌, ℕ, ◌+◌, ◌-◌, ◌*◌, ◌/◌, ◌%◌, ◌^◌, ◌<◌, ◌≤◌, Bool, true, false, cond, List, [], ◌++◌, length, take, drop, Option, None, Some, refl, sym, ap, ◌∙◌, arith, append_assoc, append-nil, subst, ◌⊎◌, inl, inr, drop_of_length-le}
 use Rattle.std.specs.Prelude.{◌||◌, ◌==◌}
 use Rattle.std.proofs.Math.Nat.{div-add-mod, mod-eq_of_lt, mul-add-mod_self_left}
 use Rattle.std.proofs.lemmas.List.{length-append, length-drop, length-take, take-append-le, take_all, length-take-le, drop-append-le}
-use Rattle.std.proofs.Common.{drop_of_length-le}
 use Rattle.std.specs.Io.KnownBytes.{Appends, Consumes, IsAtEnd}
 use Rattle.bx_text.proofs.KnownLemmas.{Appends-nil, Consumes-nil, Consumes-trans}
 use Rattle.bx_text.proofs.StreamLemmas.{read_within}
 use Rattle.bx_text.specs.Stream.{IsReadCause}
-use Rattle.bx_text.specs.inner.Stream.{StopsAfter}
+use Rattle.bx_text.specs.private.Stream.{StopsAfter}
 use Rattle.bx_text.specs.Writing.{WritesFront}
 use Rattle.bx_text.specs.declared.fault.IoFault.{IoFault}
 use Rattle.bx_text.specs.declared.fault.IoFault.TheVariants.{NoMemory, ReadFailed, WriteFailed, InputTooLong, SkipPastEnd}
@@ -18,15 +17,15 @@ use Rattle.bx_dd.specs.declared.operands.plan.Plan.{Plan}
 use Rattle.bx_dd.specs.Counting.{counts_of}
 use Rattle.bx_dd.specs.Plan.{form_of}
 use Rattle.bx_dd.specs.Transfer.{output_of, selected_by}
-use Rattle.bx_dd.specs.inner.Transfer.{IsReadOut, IsWithin, selected}
+use Rattle.bx_dd.specs.private.Transfer.{IsReadOut, IsWithin, selected}
 use Rattle.bx_dd.specs.declared.form.Form.{Form}
 use Rattle.bx_dd.specs.declared.form.Shape.{Shape}
 use Rattle.bx_dd.specs.declared.form.Shape.TheVariants.{Flat, Block, Unblock}
 use Rattle.bx_dd.specs.Output.{converted, cut_records, joined, shaped}
-use Rattle.bx_dd.specs.inner.Output.{fitted, line_of}
-use Rattle.bx_dd.specs.inner.Standing.{HasSizes, last_of}
+use Rattle.bx_dd.specs.private.Output.{fitted, line_of}
+use Rattle.bx_dd.specs.private.Standing.{HasSizes, last_of}
 use Rattle.bx_dd.specs.Streaming.{IsCopy, IsCopyAhead, IsCopyFault, StopsCopy}
-use Rattle.bx_dd.specs.inner.Streaming.{CopiesRest, Flows, Goes, Output, Stage, StopsFlow, StopsPass, StopsStage, most_of, unit_of, written_by}
+use Rattle.bx_dd.specs.private.Streaming.{CopiesRest, Flows, Goes, Output, Stage, StopsFlow, StopsPass, StopsStage, most_of, unit_of, written_by}
 use Rattle.bx_dd.proofs.ConvertLemmas.{joined_none}
 use Rattle.bx_dd.proofs.RecordsLemmas.{Stands_last, Stands_none, cut_nil, shaped_nil, take_nil}
 use Rattle.bx_dd.proofs.TransferLemmas.{asked_skip, drop_read}

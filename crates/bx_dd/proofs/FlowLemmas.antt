@@ -12,11 +12,11 @@ use Rattle.bx_text.proofs.PiecesLemmas.{in_pieces-append}
 use Rattle.bx_dd.specs.declared.form.Shape.{Shape}
 use Rattle.bx_dd.specs.declared.form.Shape.TheVariants.{Flat, Block, Unblock}
 use Rattle.bx_dd.specs.Output.{records, shaped, unfinished}
-use Rattle.bx_dd.specs.inner.Output.{fitted, line_of}
+use Rattle.bx_dd.specs.private.Output.{fitted, line_of}
 use Rattle.bx_dd.specs.Standing.{Stands}
-use Rattle.bx_dd.specs.inner.Standing.{finished, rest_of, last_of}
+use Rattle.bx_dd.specs.private.Standing.{finished, rest_of, last_of}
 use Rattle.bx_dd.specs.declared.convert.records.Tail.{Tail}
-use Rattle.bx_dd.specs.inner.Streaming.{Flows, Output, StopsFlow}
+use Rattle.bx_dd.specs.private.Streaming.{Flows, Output, StopsFlow}
 use Rattle.bx_dd.proofs.RecordsLemmas.{Stands_flat, finished-all, finished-ended, fitted_short, held_piece, parts, piece_taken, records-after}
 use Rattle.bx_dd.proofs.StreamLemmas.{front_more}
 

@@ -18,9 +18,9 @@ use Rattle.bx_dd.specs.declared.fault.DdFault.{DdFault}
 use Rattle.bx_dd.specs.declared.fault.DdFault.TheVariants.{UnknownOperand, BadNumber, NumberTooLarge, ZeroSize, Repeated}
 use Rattle.bx_dd.specs.declared.operands.Kind.{Kind}
 use Rattle.bx_dd.specs.declared.operands.Kind.TheVariants.{File, Size, Number, Conversions}
-use Rattle.bx_dd.specs.inner.Number.{number_of}
+use Rattle.bx_dd.specs.private.Number.{number_of}
 use Rattle.bx_dd.specs.Operands.{is_operand, name_of, value_of, kind_of, is_conversion, value_fault, is_given, operand_fault, first_fault, given, number_given, converts}
-use Rattle.bx_dd.specs.inner.Operands.{parts_of, is_equals, is_named, kind_fault, number_fault, size_fault}
+use Rattle.bx_dd.specs.private.Operands.{parts_of, is_equals, is_named, kind_fault, number_fault, size_fault}
 use Rattle.bx_dd.specs.OperandGrammar.{IsOperand, IsAmong, AreConversions, IsSoundValue, IsValueFault, IsSoundBehind, IsFaultBehind, OperandHasForm, AreSoundBehind, OperandsHaveForm, Says, WordsAreAskedFor}
 
 and_true : (a b : Bool) → (a && b) ≡ true → (a ≡ true) × (b ≡ true)

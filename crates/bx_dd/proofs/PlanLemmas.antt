@@ -16,10 +16,10 @@ use Rattle.bx_dd.specs.declared.operands.Kind.{Kind}
 use Rattle.bx_dd.specs.declared.operands.Kind.TheVariants.{Size}
 use Rattle.bx_text.specs.declared.number.size.SizeStyle.TheVariants.{Product}
 use Rattle.bx_text.specs.Number.{size_value}
-use Rattle.bx_text.specs.inner.Number.{within}
-use Rattle.bx_dd.specs.inner.Number.{number_of}
+use Rattle.bx_text.specs.private.Number.{within}
+use Rattle.bx_dd.specs.private.Number.{number_of}
 use Rattle.bx_dd.specs.Operands.{is_operand, name_of, value_of, kind_of, is_given, value_fault, operand_fault, first_fault, given, number_given, number_or, converts, fault_of}
-use Rattle.bx_dd.specs.inner.Operands.{ibs_of, obs_of, shape_of, is_named, kind_fault, is_conflict, is_cbs_missing, later_fault, size_fault}
+use Rattle.bx_dd.specs.private.Operands.{ibs_of, obs_of, shape_of, is_named, kind_fault, is_conflict, is_cbs_missing, later_fault, size_fault}
 
 -- ---- options and tests
 

@@ -13,9 +13,9 @@ use Rattle.bx_text.proofs.PiecesLemmas.{in_pieces-none, in_pieces-append, in_pie
 use Rattle.bx_dd.specs.declared.form.Shape.{Shape}
 use Rattle.bx_dd.specs.declared.form.Shape.TheVariants.{Flat, Block, Unblock}
 use Rattle.bx_dd.specs.Output.{records, shaped, cut_records, unfinished}
-use Rattle.bx_dd.specs.inner.Output.{fitted, line_of, goes_on, is_space}
+use Rattle.bx_dd.specs.private.Output.{fitted, line_of, goes_on, is_space}
 use Rattle.bx_dd.specs.Standing.{Stands}
-use Rattle.bx_dd.specs.inner.Standing.{finished, rest_of, last_of}
+use Rattle.bx_dd.specs.private.Standing.{finished, rest_of, last_of}
 
 -- a record that fits
 pub fitted_short : (n : ℕ) (line : List ℕ) → length line ≤ n → fitted n line ≡ line ++ replicate (n - length line) 32

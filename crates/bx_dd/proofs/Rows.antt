@@ -5,10 +5,10 @@ use Rattle.bx_dd.specs.declared.form.Form.{Form}
 use Rattle.bx_dd.specs.declared.form.Letters.TheVariants.{Keep, Upper}
 use Rattle.bx_dd.specs.declared.form.Shape.TheVariants.{Flat, Block, Unblock}
 use Rattle.bx_dd.specs.Output.{converted, cut_records, joined, swapped, records, shaped, unfinished}
-use Rattle.bx_dd.specs.inner.Output.{block_of, fitted, line_of}
-use Rattle.bx_dd.specs.inner.Transfer.{selected}
-use Rattle.bx_dd.specs.inner.Counting.{parts_in}
-use Rattle.bx_dd.specs.inner.Standing.{rest_of}
+use Rattle.bx_dd.specs.private.Output.{block_of, fitted, line_of}
+use Rattle.bx_dd.specs.private.Transfer.{selected}
+use Rattle.bx_dd.specs.private.Counting.{parts_in}
+use Rattle.bx_dd.specs.private.Standing.{rest_of}
 
 swab_odd_block : converted (record { ibs = 3; obs = 512; cbs = 0; swab = true; sync = false; letters = Keep; shape = Flat }) (codes "ABCDEF") ≡ codes "BACEDF"
 unfolding joined in_pieces block_of swapped shaped fitted line_of

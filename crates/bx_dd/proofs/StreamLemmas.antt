@@ -7,7 +7,7 @@ use Rattle.bx_text.proofs.KnownLemmas.{Appends-trans, Appends-nil}
 use Rattle.bx_text.specs.declared.fault.IoFault.{IoFault}
 use Rattle.bx_text.specs.declared.fault.IoFault.TheVariants.{NoMemory, ReadFailed, WriteFailed, InputTooLong, SkipPastEnd}
 use Rattle.bx_text.specs.Writing.{WritesFront}
-use Rattle.bx_dd.specs.inner.Streaming.{Goes, Grows, written_by}
+use Rattle.bx_dd.specs.private.Streaming.{Goes, Grows, written_by}
 
 -- nothing was put yet
 pub Goes-nil : (s : Option (List ℕ)) → Goes s s [] 0 []

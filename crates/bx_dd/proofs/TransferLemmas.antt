@@ -9,7 +9,7 @@ use Rattle.bx_text.specs.declared.stream.State.TheVariants.{Open, Ended}
 use Rattle.bx_dd.specs.declared.fault.DdFault.{DdFault}
 use Rattle.bx_dd.specs.declared.fault.DdFault.TheVariants.{NoMemory}
 use Rattle.bx_dd.specs.Transfer.{HasStopped}
-use Rattle.bx_dd.specs.inner.Transfer.{IsReadOut, IsStopCause, IsWithin, HasRead, StopsWithin, selected}
+use Rattle.bx_dd.specs.private.Transfer.{IsReadOut, IsStopCause, IsWithin, HasRead, StopsWithin, selected}
 
 cause_more : (e : DdFault) (room n m : ℕ) → n ≤ room → IsStopCause e (room - n) m → IsStopCause e room (n + m)
 cause_more e room n m few (inl long) = inl (long.0, omega (arith, long.1))

@@ -9,8 +9,8 @@ use Rattle.bx_text.specs.InPieces.{in_pieces}
 use Rattle.bx_text.proofs.PiecesLemmas.{in_pieces-append, in_pieces-none, in_pieces-one}
 use Rattle.bx_dd.specs.declared.form.Form.{Form}
 use Rattle.bx_dd.specs.Output.{cased, filler, joined, swapped}
-use Rattle.bx_dd.specs.inner.Output.{block_of}
-use Rattle.bx_dd.specs.inner.Streaming.{unit_of}
+use Rattle.bx_dd.specs.private.Output.{block_of}
+use Rattle.bx_dd.specs.private.Streaming.{unit_of}
 
 full_is : (s : Bool) (fill n : ℕ) (b : List ℕ) → length b ≡ n → cond s (b ++ replicate (n - length b) fill) b ≡ b
 full_is true fill n b e = let none : n - length b ≡ 0 = omega arith in ap (λ k. b ++ replicate k fill) none ∙ append-nil b

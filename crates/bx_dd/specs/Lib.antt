@@ -9,4 +9,4 @@ pub mod Parsing
 pub mod Behind
 pub mod Laws
 pub mod OperandGrammar
-pub mod inner
+pub mod private

@@ -2,11 +2,11 @@
 ghost use Rattle.std.specs.Prelude.{◌≡◌, ◌≢◌, ℕ, ◌+◌, ◌-◌, ◌%◌, ◌^◌, ◌<◌, ◌≤◌, List, [], ◌++◌, length, min, vec_capacity, IfOk, OnOk, IsOkUnless};
 ghost use Rattle.bx_dd.specs.Counting.{counts_of};
 ghost use Rattle.bx_dd.specs.Output.{converted, joined, unfinished};
-ghost use Rattle.bx_dd.specs.inner.Output.{block_of};
+ghost use Rattle.bx_dd.specs.private.Output.{block_of};
 ghost use Rattle.bx_dd.specs.Plan.{form_of};
 ghost use Rattle.bx_dd.specs.Standing.{IsAfter};
-ghost use Rattle.bx_dd.specs.inner.Paged.{Takes, TakesWithin};
-ghost use Rattle.bx_dd.specs.inner.Standing.{last_of, HasSizes};
+ghost use Rattle.bx_dd.specs.private.Paged.{Takes, TakesWithin};
+ghost use Rattle.bx_dd.specs.private.Standing.{last_of, HasSizes};
 ghost use Rattle.bx_dd.specs.declared.form.Shape.TheVariants.{Flat, Unblock};
 
 mod block;
@@ -43,7 +43,7 @@ impl<A: Allocator> Model for Convert<A> {
 
     ghost use Rattle.bx_dd.specs.declared.form.Shape.TheVariants.{Flat, Unblock};
     ghost use Rattle.std.specs.Prelude.{length, vec_capacity, ◌<◌, ◌≤◌, ◌≡◌, ◌≢◌, ◌+◌, ◌%◌, ◌^◌};
-    ghost use Rattle.bx_dd.specs.inner.Standing.{HasSizes};
+    ghost use Rattle.bx_dd.specs.private.Standing.{HasSizes};
 
     ghost view = { λ c. record { form = c.form; taken = c.taken; out = c.out.items; held = c.held.items; over = c.over; cut = c.cut } };
 

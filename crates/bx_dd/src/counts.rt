@@ -1,7 +1,7 @@
 //! What was made of an input.
 ghost use Rattle.std.specs.Prelude.{◌≡◌, ◌++◌, IfOk, OnOk, IsOkUnless, string_bytes};
 ghost use Rattle.bx_dd.specs.Counting.{report_text};
-ghost use Rattle.bx_dd.specs.inner.Counting.{cut_text};
+ghost use Rattle.bx_dd.specs.private.Counting.{cut_text};
 
 use crate::fault::DdFault;
 use bx_text::Bytes;

@@ -3,9 +3,9 @@ ghost use Rattle.std.specs.Prelude.{◌≡◌, ℕ, ◌+◌, ◌-◌, ◌*◌, �
 ghost use Rattle.std.specs.Option.{option_copied};
 ghost use Rattle.std.specs.List.{list_all, list_any, position_or_len};
 ghost use Rattle.std.specs.Str.{bytes_eq};
-ghost use Rattle.bx_dd.specs.inner.Number.{number_of};
+ghost use Rattle.bx_dd.specs.private.Number.{number_of};
 ghost use Rattle.bx_dd.specs.Operands.{is_operand, name_of, value_of, kind_of, is_conversion, value_fault, operand_fault, first_fault, given, number_given, converts, block_size, number_or, is_given, place_of, fault_of};
-ghost use Rattle.bx_dd.specs.inner.Operands.{parts_of, is_named, is_conflict, is_cbs_missing, later_fault, letters_of, shape_of, number_fault, size_fault};
+ghost use Rattle.bx_dd.specs.private.Operands.{parts_of, is_named, is_conflict, is_cbs_missing, later_fault, letters_of, shape_of, number_fault, size_fault};
 
 mod number;
 pub(crate) mod parse;

@@ -2,7 +2,7 @@
 ghost use Rattle.std.specs.Prelude.{◌≡◌, ℕ, ◌+◌, ◌<◌, ◌≤◌, [], ◌++◌, length, replicate, vec_capacity, IfOk, IfErr, OnOk};
 ghost use Rattle.std.specs.Io.KnownBytes.{Appends};
 ghost use Rattle.bx_text.specs.Writing.{WritesFront};
-ghost use Rattle.bx_dd.specs.inner.Streaming.{Grows, written_by};
+ghost use Rattle.bx_dd.specs.private.Streaming.{Grows, written_by};
 
 use bx_text::{IoFault, emit_after};
 use std::alloc::{Allocator, Global};
@@ -29,7 +29,7 @@ pub struct Page<A: Allocator = Global> {
 }
 
 impl<A: Allocator> Page<A> {
-    ghost use Rattle.bx_dd.specs.inner.Paged.{Flushes, Puts, StopsFlush, StopsPut};
+    ghost use Rattle.bx_dd.specs.private.Paged.{Flushes, Puts, StopsFlush, StopsPut};
 
     /// A page without room, after this many bytes that went out: what is put goes out at once.
     pub fn direct(alloc: A, written: u64) -> Page<A>

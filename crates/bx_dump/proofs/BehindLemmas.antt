@@ -7,11 +7,11 @@ use Rattle.bx_dump.specs.OdDump.{od_of}
 use Rattle.bx_dump.specs.Pages.{Dump}
 use Rattle.bx_dump.specs.Styles.{group_of, include_items, styled, xxd_of}
 use Rattle.bx_dump.specs.Xxd.{bits_line}
-use Rattle.bx_columns.specs.Lines.{in_lines}
+use Rattle.bx_dump_columns.specs.Lines.{in_lines}
 use Rattle.bx_text.specs.Dump.{dump_line}
-use Rattle.bx_dump.specs.inner.Pages.{capped}
-use Rattle.bx_dump.specs.inner.Rows.{plain_line}
-use Rattle.bx_dump.specs.inner.Styles.{named_text}
+use Rattle.bx_dump.specs.private.Pages.{capped}
+use Rattle.bx_dump.specs.private.Rows.{plain_line}
+use Rattle.bx_dump.specs.private.Styles.{named_text}
 use Rattle.bx_dump.specs.declared.hexdump.options.HexdumpOptions.{HexdumpOptions}
 use Rattle.bx_dump.specs.declared.od.options.OdOptions.{OdOptions}
 use Rattle.bx_dump.specs.declared.xxd.options.XxdOptions.{XxdOptions}

@@ -11,13 +11,13 @@ use Rattle.std.proofs.Math.Seq.{take-append-add}
 use Rattle.bx_text.specs.Field.{char_at, laid_out, hex_text}
 use Rattle.bx_text.specs.Dump.{shown_byte}
 use Rattle.bx_text.proofs.FieldLemmas.{char_at-inside, char_at-below, char_at-above, div_mono}
-use Rattle.bx_columns.specs.inner.Cells.{piece_at, grouped}
-use Rattle.bx_dump.specs.inner.Xxd.{columns_line, cell_of, cell_width, columns_place, columns_width, columns}
+use Rattle.bx_dump_columns.specs.Cells.{piece_at, grouped}
+use Rattle.bx_dump.specs.private.Xxd.{columns_line, cell_of, cell_width, columns_place, columns_width, columns}
 use Rattle.bx_dump.specs.declared.xxd.columns.Columns.{Columns}
 use Rattle.bx_dump.specs.declared.xxd.columns.Digits.{Digits}
 use Rattle.bx_dump.specs.declared.xxd.columns.Digits.TheVariants.{Hexadecimal, Binary}
-use Rattle.bx_columns.proofs.LinesLemmas.{cells_len, cells_drop, cells_part}
-use Rattle.bx_columns.proofs.CellsLemmas.{range_more, flat_more}
+use Rattle.bx_dump_columns.proofs.LinesLemmas.{cells_len, cells_drop, cells_part}
+use Rattle.bx_dump_columns.proofs.CellsLemmas.{range_more, flat_more}
 
 -- a text put on blanks, at its place
 module _ (place : ℕ → ℕ) (text : ℕ → List ℕ) (i width : ℕ) (front : List ℕ) (m : ℕ) (at : length front ≡ place i) (total : length front + (length (text i) + m) ≡ width)

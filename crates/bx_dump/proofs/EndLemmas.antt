@@ -6,12 +6,11 @@ use Rattle.std.proofs.lemmas.Bool.{cases_eq}
 use Rattle.std.proofs.lemmas.List.{length-replicate}
 use Rattle.bx_text.specs.Field.{left_filled}
 use Rattle.bx_text.proofs.FieldLemmas.{digits_onto-last, digits_onto-more, digits_start}
-use Rattle.bx_columns.specs.declared.od.options.Address.{Address}
-use Rattle.bx_columns.specs.declared.od.options.Address.TheVariants.{Octal, Decimal, Hexadecimal, Without}
-use Rattle.bx_dump.specs.inner.Hexdump.{canon_end}
+use Rattle.bx_dump_columns.specs.declared.od.options.Address.{Address}
+use Rattle.bx_dump_columns.specs.declared.od.options.Address.TheVariants.{Octal, Decimal, Hexadecimal, Without}
+use Rattle.bx_dump.specs.private.Hexdump.{canon_end}
 use Rattle.bx_dump.specs.Od.{od_end}
-use Rattle.bx_columns.specs.Names.{c_name}
-use Rattle.bx_columns.specs.inner.Names.{include_tail}
+use Rattle.bx_dump_columns.specs.Names.{c_name, include_tail}
 
 onto_few : (k base n : ℕ) (acc : List ℕ) → length (digits_onto k base false n acc) ≤ k + length acc
 onto_few zero base n acc = omega arith

@@ -5,10 +5,10 @@ use Rattle.std.specs.List.{prefix_len}
 use Rattle.std.proofs.lemmas.Bool.Decides.{nat_tests}
 use Rattle.std.proofs.lemmas.List.{length-drop, length-take-le}
 use Rattle.std.proofs.Math.Seq.{take-add}
-use Rattle.bx_columns.specs.declared.od.options.Address.{Address}
+use Rattle.bx_dump_columns.specs.declared.od.options.Address.{Address}
 use Rattle.bx_text.specs.Ascii.{is_printable}
-use Rattle.bx_columns.specs.Places.{place_text}
-use Rattle.bx_dump.specs.inner.Scan.{scan_text, scan_run, end_text, AllPrint, NonePrints, IsQuiet}
+use Rattle.bx_dump_columns.specs.Places.{place_text}
+use Rattle.bx_dump.specs.private.Scan.{scan_text, scan_run, end_text, AllPrint, NonePrints, IsQuiet}
 use Rattle.bx_dump.proofs.ScanLemmas.{both, front_prints, scan_text-append, scan_run-append, scan_run-print, scan_run-none, scan_end, scan_short, scan_crossing}
 
 -- the byte behind those that print in front

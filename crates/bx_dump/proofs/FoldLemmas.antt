@@ -10,7 +10,7 @@ use Rattle.std.proofs.Math.Seq.{drop-append-add}
 use Rattle.bx_text.specs.declared.line.fold.Fold.{Fold}
 use Rattle.bx_text.specs.declared.line.fold.Show.TheVariants.{Line, Star, Nothing}
 use Rattle.bx_text.specs.Fold.{line_bytes, is_hidden, show_at, line_text, folded, HasTaken}
-use Rattle.bx_text.specs.inner.Fold.{lines_to, line_count, IsTaken}
+use Rattle.bx_text.specs.private.Fold.{lines_to, line_count, IsTaken}
 use Rattle.bx_text.proofs.RangeLemmas.{flat_map_along, flat_map_split}
 
 pos16 : 0 < 16

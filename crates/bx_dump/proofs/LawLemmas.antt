@@ -6,9 +6,9 @@ use Rattle.std.proofs.lemmas.Bool.{eq-eqb, ne_eqb}
 use Rattle.std.proofs.lemmas.Bool.Decides.{nat_tests}
 use Rattle.std.proofs.lemmas.List.Sums.{sum_by-cons}
 use Rattle.std.proofs.Math.Nat.{pow-suc, pow-zero, mul-le-mul_left, div-eq_of_lt, le-div_iff_mul-le}
-use Rattle.bx_columns.specs.Values.{value_of}
+use Rattle.bx_dump_columns.specs.Values.{value_of}
 use Rattle.bx_dump.specs.Laws.{item, items, ValueIsSum, ItemsAreBytes, ItemsAreLines, item_at, line_count}
-use Rattle.bx_dump.specs.inner.Rows.{include_line, next_item}
+use Rattle.bx_dump.specs.private.Rows.{include_line, next_item}
 
 sums : (x y s t : ℕ) → x ≡ 256 * y → s ≡ 256 * t → x + s ≡ 256 * (y + t)
 sums x y s t p q = omega arith

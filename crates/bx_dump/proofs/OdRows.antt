@@ -4,10 +4,10 @@ use Rattle.std.specs.Prelude.{codes}
 use Rattle.std.specs.Fmt.{digits}
 use Rattle.bx_dump.specs.Hexdump.{hexdump_text}
 use Rattle.bx_dump.specs.Od.{od_text}
-use Rattle.bx_columns.specs.declared.od.options.Address.TheVariants.{Octal, Decimal, Hexadecimal, Without}
-use Rattle.bx_columns.specs.declared.od.options.NumForm.TheVariants as form
-use Rattle.bx_columns.specs.declared.od.options.Size.TheVariants.{One, Two, Four, Eight}
-use Rattle.bx_columns.specs.declared.od.options.Kind.TheVariants.{Chars, Number}
+use Rattle.bx_dump_columns.specs.declared.od.options.Address.TheVariants.{Octal, Decimal, Hexadecimal, Without}
+use Rattle.bx_dump_columns.specs.declared.od.options.NumForm.TheVariants as form
+use Rattle.bx_dump_columns.specs.declared.od.options.Size.TheVariants.{One, Two, Four, Eight}
+use Rattle.bx_dump_columns.specs.declared.od.options.Kind.TheVariants.{Chars, Number}
 
 zeros_48 : hexdump_text false 0 (replicate 48 0) ≡ codes "00000000  00 00 00 00 00 00 00 00  00 00 00 00 00 00 00 00  |................|\n*\n00000030\n"
 unfolding digits

@@ -7,15 +7,15 @@ use Rattle.std.proofs.lemmas.Bool.{cases_order}
 use Rattle.bx_text.specs.declared.fault.IoFault.{IoFault}
 use Rattle.bx_text.specs.declared.fault.IoFault.TheVariants.{NoMemory, ReadFailed, WriteFailed, InputTooLong, SkipPastEnd}
 use Rattle.bx_text.specs.Stream.{IsReadCause, Skips}
-use Rattle.bx_text.specs.inner.Stream.{StopsAfter}
+use Rattle.bx_text.specs.private.Stream.{StopsAfter}
 use Rattle.bx_text.specs.Writing.{WritesFront}
 use Rattle.bx_text.proofs.KnownLemmas.{Appends-trans, Consumes-trans, Appends-nil, Consumes-nil}
 use Rattle.bx_text.proofs.StreamLemmas.{cause_more, read_within}
-use Rattle.bx_dump.specs.inner.Dumped.{IsDumpFault, KeepsUp}
+use Rattle.bx_dump.specs.private.Dumped.{IsDumpFault, KeepsUp}
 use Rattle.bx_dump.proofs.DumpLemmas.{cause_longer, keeps_read, keeps_along, keeps_whole}
 use Rattle.bx_dump.specs.Dumped.{IsDumpStop}
 use Rattle.bx_dump.specs.Pages.{Dump, WritesAll, WritesFrontOf, part_of}
-use Rattle.bx_dump.specs.inner.Pages.{WritesPart, WritesFrontBut, capped, IsEndOf, WritesRest, IsLast, streams}
+use Rattle.bx_dump.specs.private.Pages.{WritesPart, WritesFrontBut, capped, IsEndOf, WritesRest, IsLast, streams}
 
 -- why a read stopped is why a dump did
 dump_cause : (fault : IoFault) (wanted n written size : ℕ) → IsReadCause fault wanted (2 ^ 40) n → IsDumpFault fault n written size

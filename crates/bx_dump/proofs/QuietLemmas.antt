@@ -6,10 +6,10 @@ use Rattle.std.proofs.lemmas.Bool.{cases_lt, eq-eqb, ne_eqb, cond-true, cond-fal
 use Rattle.std.proofs.lemmas.Bool.Decides.{nat_tests}
 use Rattle.std.proofs.lemmas.List.{length-take-le, drop-drop, take-append-drop, get_or-take, get_or_past}
 use Rattle.std.proofs.lemmas.List.Folds.{prefix_len-append}
-use Rattle.bx_columns.specs.declared.od.options.Address.{Address}
+use Rattle.bx_dump_columns.specs.declared.od.options.Address.{Address}
 use Rattle.bx_text.specs.Ascii.{is_printable}
-use Rattle.bx_dump.specs.inner.Scan.{scan_text, scan_run, AllPrint, EndsQuiet, IsQuiet}
-use Rattle.bx_columns.specs.inner.Printing.{four_print}
+use Rattle.bx_dump.specs.private.Scan.{scan_text, scan_run, AllPrint, EndsQuiet, IsQuiet}
+use Rattle.bx_dump_columns.specs.Printing.{four_print}
 use Rattle.bx_dump.proofs.ScanLemmas.{both, ends_quiet}
 
 -- one load of n bytes: not all print, or all

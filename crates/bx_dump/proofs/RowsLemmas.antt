@@ -8,7 +8,7 @@ use Rattle.std.proofs.lemmas.Simd.{pick_l_whole}
 use lib.Lanes.{pick_l}
 use Rattle.bx_text.specs.Dump.{pair_of}
 use Rattle.bx_dump.specs.Laws.{items}
-use Rattle.bx_dump.specs.inner.Rows.{include_line}
+use Rattle.bx_dump.specs.private.Rows.{include_line}
 
 -- the signs around the digits
 abbrev pub signs : List ℕ

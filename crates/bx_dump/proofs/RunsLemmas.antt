@@ -8,11 +8,11 @@ use Rattle.std.proofs.lemmas.Grind.{flat_map-append}
 use Rattle.std.proofs.lemmas.List.{length-drop, length-take-le, get_or-drop}
 use Rattle.std.proofs.lemmas.List.Sums.{prefix_len-le-length, prefix_len_passes, prefix_len_stops}
 use Rattle.std.proofs.lemmas.List.Elements.{All-nil, All-cons, All-head, All-tail, All-append, All-weaker, Contains-append_left, Contains-append_right, Contains-push}
-use Rattle.bx_columns.specs.declared.od.options.Address.{Address}
+use Rattle.bx_dump_columns.specs.declared.od.options.Address.{Address}
 use Rattle.bx_text.specs.Ascii.{is_printable}
-use Rattle.bx_columns.specs.Places.{place_text}
+use Rattle.bx_dump_columns.specs.Places.{place_text}
 use Rattle.bx_dump.specs.Strings.{is_run_start, line_at}
-use Rattle.bx_dump.specs.inner.Strings.{run_at}
+use Rattle.bx_dump.specs.private.Strings.{run_at}
 use Rattle.bx_dump.specs.Runs.{IsPrintableRun, IsRising, run_line, ShowsRuns}
 use Rattle.bx_dump.proofs.ScanLemmas.{both}
 

@@ -1,17 +1,15 @@
 -- Scanning part by part, and that it gives the runs by position.
 use Rattle.std.proofs.Common.{◌≡◌, ◌⊎◌, ℕ, zero, suc, ◌+◌, ◌-◌, ◌*◌, ◌<◌, ◌≤◌, Bool, true, false, List, [], ◌∷◌, ◌++◌, length, take, drop, refl, sym, ap, ◌∙◌, arith, add-zero, append_assoc, append-nil, length-append, inl, inr}
-use Rattle.std.specs.Prelude.{nat_lt, nat_le, ◌==◌, not}
+use Rattle.std.specs.Prelude.{nat_lt, nat_le, ◌==◌, not, slice_index}
 use Rattle.std.specs.List.{prefix_len}
 use Rattle.std.proofs.lemmas.Bool.{cases_eq, eq-eqb, ne_eqb}
 use Rattle.std.proofs.lemmas.Bool.Decides.{nat_tests}
-use Rattle.std.specs.Prelude.{slice_index}
 use Rattle.std.proofs.Math.Seq.{take-add}
-use Rattle.bx_columns.specs.declared.od.options.Address.{Address}
+use Rattle.bx_dump_columns.specs.declared.od.options.Address.{Address}
 use Rattle.bx_text.specs.Ascii.{is_printable}
-use Rattle.bx_columns.specs.Places.{place_text}
-use Rattle.bx_columns.specs.declared.od.options.Address.TheVariants.{Octal, Decimal, Hexadecimal, Without}
-use Rattle.bx_dump.specs.inner.Scan.{scan_text, scan_run, grown_text, end_text, AllPrint, NonePrints, pending, IsKept, EndsQuiet, IsQuiet}
-use Rattle.bx_columns.specs.inner.Places.{cost_of}
+use Rattle.bx_dump_columns.specs.Places.{place_text, cost_of}
+use Rattle.bx_dump_columns.specs.declared.od.options.Address.TheVariants.{Octal, Decimal, Hexadecimal, Without}
+use Rattle.bx_dump.specs.private.Scan.{scan_text, scan_run, grown_text, end_text, AllPrint, NonePrints, pending, IsKept, EndsQuiet, IsQuiet}
 
 pub both : (b : Bool) → (b ≡ true) ⊎ (b ≡ false)
 both true = inl refl

@@ -1,23 +1,22 @@
 -- The runs by position are what the scan gives.
 use Rattle.std.proofs.Common.{◌≡◌, ℕ, zero, suc, ◌+◌, ◌-◌, ◌^◌, ◌<◌, ◌≤◌, Bool, true, false, List, [], ◌∷◌, ◌++◌, length, take, refl, sym, ap, ◌∙◌, arith, append_assoc, append-nil, length-append, inl, inr}
-use Rattle.std.specs.Prelude.{nat_lt, nat_le, ◌==◌, codes, if◌then◌else◌}
+use Rattle.std.specs.Prelude.{nat_lt, nat_le, ◌==◌, codes, if◌then◌else◌, Option, None}
 use Rattle.std.specs.List.{prefix_len}
 use Rattle.std.proofs.lemmas.Bool.{cases_lt, cases_eq, eq-eqb, ne_eqb}
 use Rattle.std.proofs.lemmas.Bool.Decides.{nat_tests}
 use Rattle.bx_text.proofs.RangeLemmas.{flat_map_along}
-use Rattle.std.specs.Prelude.{Option, None}
 use Rattle.std.proofs.lemmas.List.{take-append-le}
 use Rattle.bx_text.specs.declared.fault.IoFault.{IoFault}
-use Rattle.bx_dump.specs.inner.Pages.{WritesFrontBut, streams}
-use Rattle.bx_dump.specs.inner.Dumped.{DumpsFrontBut}
+use Rattle.bx_dump.specs.private.Pages.{WritesFrontBut, streams}
+use Rattle.bx_dump.specs.private.Dumped.{DumpsFrontBut}
 use Rattle.bx_dump.proofs.DumpLemmas.{cause_longer, keeps_along, front_whole}
 use Rattle.bx_dump.proofs.ScanLemmas.{both}
-use Rattle.bx_columns.specs.declared.od.options.Address.{Address}
+use Rattle.bx_dump_columns.specs.declared.od.options.Address.{Address}
 use Rattle.bx_text.specs.Ascii.{is_printable}
-use Rattle.bx_columns.specs.Places.{place_text}
+use Rattle.bx_dump_columns.specs.Places.{place_text}
 use Rattle.bx_dump.specs.Strings.{is_run_start, line_at, strings_text}
-use Rattle.bx_dump.specs.inner.Strings.{runs_text}
-use Rattle.bx_dump.specs.inner.Scan.{scan_text, scan_run, grown_text, end_text}
+use Rattle.bx_dump.specs.private.Strings.{runs_text}
+use Rattle.bx_dump.specs.private.Scan.{scan_text, scan_run, grown_text, end_text}
 
 -- what a run that stands right before x leaves to be written
 abbrev front_of : List ℕ → List ℕ

@@ -2,7 +2,7 @@
 use Rattle.std.specs.Prelude.{◌≡◌, ℕ, ◌+◌, ◌-◌, ◌*◌, ◌/◌, ◌^◌, ◌<◌, ◌==◌, nat_lt, false, if◌then◌else◌, List, ◌++◌, length, take, drop, slice_index, sum_by, codes}
 use Rattle.std.specs.List.{flat_map, join_by, range_with_len}
 use Rattle.bx_text.specs.Dump.{pair_of}
-use Rattle.bx_columns.specs.Values.{value_of}
+use Rattle.bx_dump_columns.specs.Values.{value_of}
 use Rattle.bx_dump.specs.Styles.{include_items, styled}
 use Rattle.bx_dump.specs.Pages.{part_of}
 use Rattle.bx_dump.specs.declared.xxd.options.XxdStyle.{XxdStyle}

@@ -4,11 +4,11 @@ use Rattle.std.specs.Fmt.{digits}
 use Rattle.std.specs.Option.{option_map_or}
 use Rattle.bx_text.specs.Field.{left_filled}
 use Rattle.bx_text.specs.Fold.{folded}
-use Rattle.bx_columns.specs.Lines.{in_lines}
-use Rattle.bx_columns.specs.declared.od.options.Address.{Address}
-use Rattle.bx_columns.specs.declared.od.options.Kind.{Kind}
-use Rattle.bx_columns.specs.Values.{value_of, width_of, field_text}
-use Rattle.bx_columns.specs.Places.{digits_of}
+use Rattle.bx_dump_columns.specs.Lines.{in_lines}
+use Rattle.bx_dump_columns.specs.declared.od.options.Address.{Address}
+use Rattle.bx_dump_columns.specs.declared.od.options.Kind.{Kind}
+use Rattle.bx_dump_columns.specs.Values.{value_of, width_of, field_text}
+use Rattle.bx_dump_columns.specs.Places.{digits_of}
 
 -- an address in its digits
 abbrev pub address_text : Address → ℕ → List ℕ

@@ -1,9 +1,9 @@
 -- The printable runs of an input as pairs of places.
 use Rattle.std.specs.Prelude.{◌≡◌, ℕ, ◌+◌, ◌-◌, ◌<◌, ◌≤◌, true, false, List, [], ◌∷◌, ◌++◌, length, take, drop, slice_index, codes, All, Contains}
 use Rattle.std.specs.List.{flat_map}
-use Rattle.bx_columns.specs.declared.od.options.Address.{Address}
+use Rattle.bx_dump_columns.specs.declared.od.options.Address.{Address}
 use Rattle.bx_text.specs.Ascii.{is_printable}
-use Rattle.bx_columns.specs.Places.{place_text}
+use Rattle.bx_dump_columns.specs.Places.{place_text}
 use Rattle.bx_dump.specs.Strings.{strings_text}
 
 -- the bytes from place a up to b print, those beside them don't, and they are at least this many

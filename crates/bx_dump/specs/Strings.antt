@@ -2,10 +2,10 @@
 use Rattle.std.specs.Prelude.{ℕ, zero, suc, ◌+◌, Bool, false, ◌&&◌, not, nat_le, if◌then◌else◌, List, [], ◌++◌, length, take, drop, slice_index, codes, None}
 use Rattle.std.specs.List.{flat_map, range_with_len, prefix_len}
 use Rattle.bx_text.specs.Ascii.{is_printable}
-use Rattle.bx_columns.specs.Places.{place_text}
+use Rattle.bx_dump_columns.specs.Places.{place_text}
 use Rattle.bx_dump.specs.Pages.{Dump}
 use Rattle.bx_dump.specs.declared.strings.options.StringsOptions.{StringsOptions}
-use Rattle.bx_columns.specs.declared.od.options.Address.{Address}
+use Rattle.bx_dump_columns.specs.declared.od.options.Address.{Address}
 
 -- Whether a printable run begins at a place: its byte prints, and the one before doesn't. `before` is whether the byte in front of x prints
 abbrev pub is_run_start : Bool → List ℕ → ℕ → Bool

@@ -3,13 +3,13 @@ use Rattle.std.specs.Prelude.{ℕ, ◌+◌, ◌^◌, ◌≤◌, ◌==◌, false,
 use Rattle.std.specs.Fmt.{digits}
 use Rattle.std.specs.List.{flat_map, join_by}
 use Rattle.bx_text.specs.Dump.{dump_line, pair_of}
-use Rattle.bx_columns.specs.Lines.{in_lines}
+use Rattle.bx_dump_columns.specs.Lines.{in_lines}
 use Rattle.bx_dump.specs.Pages.{Dump}
 use Rattle.bx_dump.specs.Xxd.{bits_line}
 use Rattle.bx_dump.specs.declared.xxd.options.XxdStyle.{XxdStyle}
 use Rattle.bx_dump.specs.declared.xxd.options.XxdStyle.TheVariants.{Normal, Plain, Bits, Include}
 use Rattle.bx_dump.specs.declared.xxd.options.XxdOptions.{XxdOptions}
-use Rattle.bx_columns.specs.Names.{c_name}
+use Rattle.bx_dump_columns.specs.Names.{c_name}
 
 -- All items: in a line there is a comma between two. Behind each line stand a comma and a newline, and behind the last a newline alone;
 -- nothing where there is no byte.

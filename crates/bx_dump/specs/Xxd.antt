@@ -2,7 +2,7 @@
 use Rattle.std.specs.Prelude.{ℕ, ◌+◌, ◌-◌, ◌*◌, ◌/◌, false, List, ◌++◌, map, length, slice_index, codes}
 use Rattle.bx_text.specs.Field.{hex_text, laid_out}
 use Rattle.bx_text.specs.Dump.{shown_byte}
-use Rattle.bx_columns.specs.Cells.{bits_of}
+use Rattle.bx_dump_columns.specs.Cells.{bits_of}
 
 -- A line in binary: the address, the digits of the bytes, one space after each group, in a field for `cols` bytes, and the bytes as text.
 abbrev pub bits_line : ℕ → ℕ → ℕ → List ℕ → List ℕ

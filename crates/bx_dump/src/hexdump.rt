@@ -2,14 +2,14 @@
 ghost use Rattle.std.specs.Prelude.{◌≡◌, ℕ, ◌+◌, ◌-◌, ◌*◌, ◌/◌, ◌<◌, ◌≤◌, length, IfOk, IfErr};
 ghost use Rattle.bx_dump.specs.Hexdump.{canon_line, hexdump_of};
 ghost use Rattle.bx_dump.specs.Pages.{WritesAll, WritesFrontOf};
-ghost use Rattle.bx_columns.specs.inner.Hexdump.{canon_columns};
-ghost use Rattle.bx_dump.specs.inner.Hexdump.{canon_end};
+ghost use Rattle.bx_dump_columns.specs.Hexdump.{canon_columns};
+ghost use Rattle.bx_dump.specs.private.Hexdump.{canon_end};
 
 mod options;
 
 use crate::driver::folded::{FoldedPages, Form};
 use crate::driver::pages::dump_part;
-use bx_columns::hex_lanes::put_canon_sixteen;
+use bx_dump_columns::hex_lanes::put_canon_sixteen;
 use bx_text::{
     IoFault, ShortText, blank, emit_after, hex_digit, hex_field, push_text, put_address, put_text,
 };

@@ -1,6 +1,6 @@
 //! What the definitions say, in other words.
 ghost use Rattle.std.specs.Prelude.{ℕ, ◌<◌, List};
-ghost use Rattle.bx_columns.specs.declared.od.options.Address.{Address};
+ghost use Rattle.bx_dump_columns.specs.declared.od.options.Address.{Address};
 ghost use Rattle.bx_dump.specs.Behind.{DumpsBehind, RestAsksBehind};
 ghost use Rattle.bx_dump.specs.Laws.{ItemsAreBytes, ItemsAreLines, ValueIsSum};
 ghost use Rattle.bx_dump.specs.Runs.{ShowsRuns};

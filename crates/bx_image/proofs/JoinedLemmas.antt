@@ -8,7 +8,7 @@ use Rattle.std.proofs.lemmas.List.Elements.{All-cons}
 use Rattle.bx_text.specs.declared.owned.pieces.Piece.{Piece}
 use Rattle.bx_image.specs.declared.change.Change.{Change}
 use Rattle.bx_image.specs.Change.{placed, effect, touches, Fits, kept_byte, saved}
-use Rattle.bx_image.specs.inner.Change.{cut_to, is_covered}
+use Rattle.bx_image.specs.private.Change.{cut_to, is_covered}
 use Rattle.bx_image.specs.Image.{place, end_of, is_within}
 use Rattle.bx_image.specs.Joined.{AreJoined, JoinedIsSame}
 use Rattle.bx_image.proofs.Files.{place_next}

@@ -7,7 +7,7 @@ use Rattle.std.proofs.lemmas.Bool.Decides.{nat_tests}
 use Rattle.bx_text.specs.declared.owned.pieces.Piece.{Piece}
 use Rattle.bx_image.specs.Image.{is_within}
 use Rattle.bx_image.specs.Change.{byte_in, with_byte, runs_from, AreNonEmpty, BeginAbove, HaveGaps, AreMaximalRuns}
-use Rattle.bx_image.specs.inner.Change.{byte_of, with_byte_if}
+use Rattle.bx_image.specs.private.Change.{byte_of, with_byte_if}
 use Rattle.bx_image.proofs.Images.{same_image}
 
 pub option_or-none : (o : Option ℕ) → option_or o None ≡ o

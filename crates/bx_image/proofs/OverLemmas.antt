@@ -5,7 +5,7 @@ use Rattle.bx_text.specs.declared.owned.pieces.Piece.{Piece}
 use Rattle.bx_image.specs.Runs.{IsRunOf, AreRunsOf}
 use Rattle.bx_image.proofs.Images.{same_image}
 use Rattle.bx_image.specs.Over.{run_over, LieWithin}
-use Rattle.bx_image.specs.inner.Spans.{StandOver}
+use Rattle.bx_image.specs.private.Spans.{StandOver}
 use Rattle.bx_image.proofs.Runs.{IsRunOf-read}
 
 run_long : (x : List ℕ) (s : Span) → s.at < s.end → s.end ≤ length x → s.at + length (take (s.end - s.at) (drop s.at x)) ≡ s.end

@@ -4,7 +4,7 @@ use Rattle.std.proofs.lemmas.Bool.{cases_lt}
 use Rattle.std.proofs.lemmas.List.{places, take-append-le, length-take}
 use Rattle.bx_image.specs.Image.{image_of, place, cut}
 use Rattle.bx_image.specs.Pages.{byte_at}
-use Rattle.bx_image.specs.inner.Pages.{page_at, IsWrittenOver, IsCleared}
+use Rattle.bx_image.specs.private.Pages.{page_at, IsWrittenOver, IsCleared}
 use Rattle.bx_image.proofs.Images.{same_image, end_of_some, length-image_of, slice_index-image_of, slice_index_past, length-place, length-cut, slice_index-cut, slice_index-place_within, slice_index-place_below, slice_index-place_above}
 
 pub page_at-get_or : {P : Type 0} (pages : List P) (bytes : P → List ℕ) (k : ℕ) (d : P) → k < length pages → page_at pages bytes k ≡ bytes (get_or pages k d)

@@ -14,9 +14,9 @@ use Rattle.bx_text.specs.declared.owned.pieces.Piece.{Piece}
 use Rattle.bx_image.specs.declared.record.spans.Span.{Span}
 use Rattle.bx_image.specs.declared.change.Change.{Change}
 use Rattle.bx_image.specs.Change.{touches, AllWithin, AreNonEmpty, HaveGaps}
-use Rattle.bx_image.specs.inner.Change.{is_cut_off, is_covered}
+use Rattle.bx_image.specs.private.Change.{is_cut_off, is_covered}
 use Rattle.bx_image.specs.Over.{IsWithin, LieWithin}
-use Rattle.bx_image.specs.inner.Spans.{is_between, are_over, with_span, AreApart, StandOver}
+use Rattle.bx_image.specs.private.Spans.{is_between, are_over, with_span, AreApart, StandOver}
 use Rattle.bx_image.proofs.Images.{end_of_le}
 
 or_none : (b : Bool) → (b || false) ≡ b

@@ -4,7 +4,7 @@ use Rattle.bx_text.specs.declared.owned.pieces.Piece.{Piece}
 use Rattle.bx_image.specs.declared.change.Change.{Change}
 use Rattle.bx_image.specs.Change.{KeepsUntouched}
 use Rattle.bx_image.specs.Power.{Only, NoMore, Follows, KeepsOutside, KeepsBelow, AllKeepUntouched}
-use Rattle.bx_image.specs.inner.Change.{KeepsBelowBase}
+use Rattle.bx_image.specs.private.Change.{KeepsBelowBase}
 use Rattle.bx_image.proofs.Changes.{KeepsUntouched_refl, untouched_outside, untouched_below}
 use Rattle.bx_image.proofs.Images.{is_outside}
 

@@ -1,7 +1,7 @@
 -- What one call of a file that is read and written at addresses leaves.
 use Rattle.std.specs.Prelude.{◌≡◌, ◌≤◌, ℕ, min, max, Result, Ok, Err, List, length, take}
-use Rattle.bx_image.specs.declared.device.file.Stop.{Stop}
-use Rattle.bx_image.specs.declared.device.file.Stop.TheVariants.{Interrupted, Failed}
+use Rattle.bx_image.specs.declared.device.access.Stop.{Stop}
+use Rattle.bx_image.specs.declared.device.access.Stop.TheVariants.{Interrupted, Failed}
 use Rattle.bx_image.specs.Image.{place, cut}
 
 -- a front of the bytes was placed

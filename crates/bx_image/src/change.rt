@@ -1,7 +1,7 @@
 //! Changes to images.
 ghost use Rattle.std.specs.Prelude.{◌≡◌, ◌↔◌, ◌+◌, ◌<◌, ◌≤◌, [], List, ℕ, length, min, IfOk, IsOk, OnOk, OnErr, is_err, IfSome, true};
 ghost use Rattle.bx_image.specs.Change.{effect, placed, saved, Restores, RestoresBy, Covers, IsAsGood, Fits, KeepsUntouched};
-ghost use Rattle.bx_image.specs.inner.Change.{cut_to, IsPartlyCutTo, KeepsBelowBase};
+ghost use Rattle.bx_image.specs.private.Change.{cut_to, IsPartlyCutTo, KeepsBelowBase};
 ghost use Rattle.bx_image.specs.Device.{GoesOn, IsPartlyCut};
 ghost use Rattle.bx_image.specs.Image.{cut, end_of};
 ghost use Rattle.bx_image.specs.Power.{AllKeepUntouched, Follows, KeepsBelow, KeepsOnDisk, NoMore, Only};

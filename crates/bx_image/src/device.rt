@@ -5,10 +5,12 @@ ghost use Rattle.bx_image.specs.Power.{Only, NoMore, Follows, KeepsOutside, Keep
 ghost use Rattle.bx_image.specs.Device.{GoesOn, IsPartlyWritten, IsPartlyCut};
 ghost use Rattle.bx_image.specs.declared.device.ImageFault.TheVariants.{DeviceFailed as Failed, NoMemory as OutOfMemory};
 
+pub(crate) mod access;
 pub(crate) mod file;
 pub(crate) mod fuse;
 pub(crate) mod memory;
 pub(crate) mod pages;
+pub(crate) mod system;
 
 use bx_text::NoMemory;
 use std::alloc::{AllocError, AllocFailed};

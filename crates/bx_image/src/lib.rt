@@ -17,13 +17,12 @@ mod record;
 
 pub use bx_text::NoMemory;
 pub use change::{Change, MAX_LEN, apply, check};
-pub use device::file::{
-    FileImage, RandomAccess, Stop, SystemFile, counted, read_full, resize_to, size_of, sync_full,
-    write_full,
-};
+pub use device::access::{RandomAccess, Stop};
+pub use device::file::{FileImage, counted, read_full, resize_to, size_of, sync_full, write_full};
 pub use device::fuse::{Fuse, FuseImage, Part};
 pub use device::memory::MemImage;
 pub use device::pages::PagedImage;
+pub use device::system::{FailedCall, Operation, SystemFile};
 pub use device::{Device, DeviceFailed, ImageFault, TooLarge};
 pub use record::fill::{room, room_to_restore, zeros_over};
 pub use record::spans::{Span, touched_by, touched_to_restore};

@@ -10,9 +10,9 @@ use Rattle.bx_image.specs.Change.{byte_in, effect, kept_byte, restore, runs_from
 use Rattle.bx_image.specs.Image.{end_of}
 use Rattle.bx_image.proofs.Changes.{KeepsUntouched_refl}
 use Rattle.bx_image.proofs.Records.{byte_in_untouched, is_some-byte_in, KeepsUntouched-effect, len-saved, length-restore, or_false, restore-saved, saved-maximal, saved-same, slice_index-restore}
-use Rattle.bx_entries.specs.Kept.{Kept, kept_of}
-use Rattle.bx_steps.specs.Taken.{taken}
-use Rattle.bx_steps.proofs.TakenText.{kept_byte_in, plain, saved_in}
+use Rattle.bx_journal_format.specs.Kept.{Kept, kept_of}
+use Rattle.bx_journal_protocol.specs.model.Taken.{taken}
+use Rattle.bx_journal_protocol.proofs.TakenText.{kept_byte_in, plain, saved_in}
 
 -- the change that puts a record back
 abbrev pub back_of : Kept → Change (Unit {0})

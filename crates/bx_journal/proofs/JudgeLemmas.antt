@@ -4,32 +4,31 @@ use Rattle.std.specs.Prelude.{is_some, IsTrue, IfSome, IfNone, IfOk, IfErr, Matc
 use Rattle.std.proofs.lemmas.Grind.{common_steps}
 use Rattle.std.proofs.lemmas.List.{take_more, take-append-drop}
 use Rattle.std.proofs.Math.Seq.{drop-cons}
-use Rattle.bx_scan.specs.declared.fault.SessionFault.{SessionFault}
-use Rattle.bx_scan.specs.declared.fault.SessionFault.TheVariants.{NoMemory, TooLarge, DeviceFailed, Damaged, TooFew, JournalFull, Interrupted, Broken, LengthDiffers, NothingToRedo, RedoDamaged}
-use Rattle.bx_entries.specs.declared.read.whole.JournalRead.{JournalRead}
-use Rattle.bx_entries.specs.declared.read.types.EntryRead.{EntryRead}
-use Rattle.bx_entries.specs.declared.read.types.StageRead.TheVariants.{Between as BetweenRead, Saving as SavingRead, Ending as EndingRead}
-use Rattle.bx_scan.specs.declared.read.count.CountedText.{CountedText}
-use Rattle.bx_scan.specs.inner.Calls.{ReadFault}
-use Rattle.bx_entries.specs.inner.Journal.{HasRead}
-use Rattle.bx_scan.specs.Judging.{RefusesRedo}
-use Rattle.bx_scan.specs.inner.Looking.{FaultCounts}
-use Rattle.bx_scan.specs.inner.Judging.{AllTold, IsBeyondAt, IsFit, IsRedoCounted, IsUnfitAt, IsUnfitFrom, IsUntoldAt, JudgeFault, RedoTextFault}
-use Rattle.bx_scan.specs.inner.Fault.{redo_fault}
-use Rattle.bx_entries.specs.inner.Mark.{IsMark, HasMarks}
-use Rattle.bx_entries.specs.inner.Parsed.{entry_of, entries_onto, entries_of, stage_of, reading_of, AreMarked, IsMarked}
-use Rattle.bx_entries.specs.Finished.{AllTell, IsFinished}
-use Rattle.bx_scan.specs.Redo.{BeginsAt, IsRedoOf, DamagedLine, Tail, FirstForm, IsRefusedAt, NoRedo, TooMany, Off}
-use Rattle.bx_scan.specs.Stack.{stack_of}
-use Rattle.bx_entries.specs.inner.Tally.{IsCounted, IsCountedAll}
-use Rattle.bx_entries.specs.Text.{Entry, Between, Reading, Reads, Split, split, with_front, start, after_lines}
-use Rattle.bx_entries.proofs.Damage.{split_at_mark}
-use Rattle.bx_scan.proofs.Phases.{length-stack_of}
-use Rattle.bx_entries.proofs.ReadLemmas.{length-entries_of}
-use Rattle.bx_steps.proofs.RedoText.{one_reading}
+use Rattle.bx_journal_read.specs.declared.fault.SessionFault.{SessionFault}
+use Rattle.bx_journal_read.specs.declared.fault.SessionFault.TheVariants.{NoMemory, TooLarge, DeviceFailed, Damaged, TooFew, JournalFull, Interrupted, Broken, LengthDiffers, NothingToRedo, RedoDamaged}
+use Rattle.bx_journal_format.specs.declared.read.whole.JournalRead.{JournalRead}
+use Rattle.bx_journal_format.specs.declared.read.types.EntryRead.{EntryRead}
+use Rattle.bx_journal_format.specs.declared.read.types.StageRead.TheVariants.{Between as BetweenRead, Saving as SavingRead, Ending as EndingRead}
+use Rattle.bx_journal_read.specs.declared.scan.count.CountedText.{CountedText}
+use Rattle.bx_journal.specs.private.RedoFound.{IsOfText}
+use Rattle.bx_journal_read.specs.model.Calls.{ReadFault}
+use Rattle.bx_journal_format.specs.read.Journal.{HasRead}
+use Rattle.bx_journal_read.specs.model.Judging.{RefusesRedo, AllTold, IsBeyondAt, IsFit, IsRedoCounted, IsUnfitAt, IsUnfitFrom, IsUntoldAt, JudgeFault, RedoTextFault}
+use Rattle.bx_journal_read.specs.scan.Looking.{FaultCounts}
+use Rattle.bx_journal_read.specs.model.Fault.{redo_fault}
+use Rattle.bx_journal_format.specs.count.Mark.{IsMark, HasMarks}
+use Rattle.bx_journal_format.specs.Parsed.{entry_of, entries_onto, entries_of, stage_of, reading_of, AreMarked, IsMarked}
+use Rattle.bx_journal_format.specs.Finished.{AllTell, IsFinished}
+use Rattle.bx_journal_read.specs.model.Redo.{IsRedoOf, DamagedLine, Tail, FirstForm, IsRefusedAt, NoRedo, TooMany, Off}
+use Rattle.bx_journal_read.specs.model.Stack.{stack_of}
+use Rattle.bx_journal_format.specs.count.Tally.{IsCounted, IsCountedAll}
+use Rattle.bx_journal_format.specs.Text.{Entry, Between, Reading, Reads, Split, split, with_front, start, after_lines}
+use Rattle.bx_journal_read.proofs.Phases.{length-stack_of}
+use Rattle.bx_journal_format.proofs.ReadLemmas.{length-entries_of}
+use Rattle.bx_journal_protocol.proofs.RedoText.{one_reading}
 use Rattle.bx_journal.proofs.Refused.{not_no_redo, too_many, refused_once, none_refused}
-use Rattle.bx_scan.proofs.TailLemmas.{begins_at, begin_mark}
-use Rattle.bx_scan.proofs.Tails.{rest_none}
+use Rattle.bx_journal_read.proofs.TailLemmas.{begins_at, begin_mark, begins_of}
+use Rattle.bx_journal_read.proofs.Tails.{rest_none}
 use Rattle.bx_journal.proofs.CountedLemmas.{counted_lengths}
 
 -- entries that were read, in parts
@@ -53,23 +52,6 @@ marks_in : {A : Type 0} → (text : List ℕ) (done : List Entry) (from to : ℕ
     → HasMarks text (entries_onto done older) e.version (entry_of e) e.begins e.saved
 marks_in text done from to [] newer e are = are.1
 marks_in text done from to (f ∷ older) newer e are = marks_in text (entry_of f ∷ done) f.saved to older newer e are.2
-
-take_front : (a b : List (List ℕ)) → take (length a) (a ++ b) ≡ a
-take_front [] b = refl
-take_front (l ∷ a) b = ap (λ s. l ∷ s) (take_front a b)
-
--- at a mark between two entries a line begins
-begins_of : (text : List ℕ) (at : ℕ) (es : List Entry) → IsMark text at (record { entries = es; stage = Between }) → BeginsAt text es (suc (length (split (take at text)).lines))
-begins_of text at es mark =
-    let a : List (List ℕ) = (split (take at text)).lines in
-    let b : List (List ℕ) = (split (drop at text)).lines in
-    let parts : (split text).lines ≡ a ++ b = ap (λ (s : Split). s.lines) (split_at_mark text at (record { entries = es; stage = Between }) mark) in
-    record {
-      before = length a;
-      within = omega (arith, ap length parts, length-append a b);
-      reads = ap (λ ls. after_lines start (take (length a) ls)) parts ∙ ap (after_lines start) (take_front a b) ∙ mark.lines;
-      line_is = refl;
-    }
 
 -- the first entry that tells no length
 pub untold_unfit : {A : Type 0} → (text : List ℕ) (changes at to : ℕ) (es : List (EntryRead A)) → IsFinished text (entries_of es) → AreMarked text [] 0 es to → IsUntoldAt es at → IsUnfitFrom text changes at
@@ -390,18 +372,31 @@ abbrev pub OffFault : Type 0 → List ℕ → List ℕ → Option ℕ → Sessio
 OffFault H text x told e = (e ≡ DeviceFailed) ⊎ ((e ≡ RedoDamaged (length (split text).lines)) × (H → (n : ℕ) × (told ≡ Some n) × (length x ≡ n → ⊥)))
 
 -- a fault of the text is none of a device
-pub text_counts : (text : List ℕ) (changes d t : ℕ) (e : SessionFault) → RedoTextFault text changes e → FaultCounts e d t d t
-text_counts text changes d t NoMemory h = (refl, refl)
-text_counts text changes d t (RedoDamaged line) h = (refl, refl)
-text_counts text changes d t TooLarge h = absurd h
-text_counts text changes d t DeviceFailed h = absurd h
-text_counts text changes d t (Damaged line) h = absurd h
-text_counts text changes d t (TooFew have) h = absurd h
-text_counts text changes d t JournalFull h = absurd h
-text_counts text changes d t Interrupted h = absurd h
-text_counts text changes d t Broken h = absurd h
-text_counts text changes d t (LengthDiffers n) h = absurd h
-text_counts text changes d t (NothingToRedo have) h = absurd h
+pub text_counts : (d t : ℕ) (e : SessionFault) → IsOfText e → FaultCounts e d t d t
+text_counts d t NoMemory h = (refl, refl)
+text_counts d t (RedoDamaged line) h = (refl, refl)
+text_counts d t TooLarge h = absurd h
+text_counts d t DeviceFailed h = absurd h
+text_counts d t (Damaged line) h = absurd h
+text_counts d t (TooFew have) h = absurd h
+text_counts d t JournalFull h = absurd h
+text_counts d t Interrupted h = absurd h
+text_counts d t Broken h = absurd h
+text_counts d t (LengthDiffers n) h = absurd h
+text_counts d t (NothingToRedo have) h = absurd h
+
+pub of_text : (text : List ℕ) (changes : ℕ) (e : SessionFault) → RedoTextFault text changes e → IsOfText e
+of_text text changes NoMemory h = tt
+of_text text changes (RedoDamaged line) h = tt
+of_text text changes TooLarge h = h
+of_text text changes DeviceFailed h = h
+of_text text changes (Damaged line) h = h
+of_text text changes (TooFew have) h = h
+of_text text changes JournalFull h = h
+of_text text changes Interrupted h = h
+of_text text changes Broken h = h
+of_text text changes (LengthDiffers n) h = h
+of_text text changes (NothingToRedo have) h = h
 
 -- the number of the text's lines was counted before
 pub lines_off : (H : Type 0) (text x : List ℕ) (lines : ℕ) (told : Option ℕ) (e : SessionFault) → lines ≡ length (split text).lines

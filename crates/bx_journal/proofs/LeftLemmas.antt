@@ -1,8 +1,8 @@
 -- What opening leaves of a journal's text: a front of it, which is its finished entries alone.
 use Rattle.std.proofs.Common.{◌≡◌, ℕ, List, [], sym, ◌∙◌, subst, Option, Some, append-nil}
-use Rattle.bx_entries.specs.Text.{Between, Reading, Reads}
-use Rattle.bx_entries.specs.inner.Tally.{IsCounted}
-use Rattle.bx_scan.specs.Undoing.{HasLeft}
+use Rattle.bx_journal_format.specs.Text.{Between, Reading, Reads}
+use Rattle.bx_journal_format.specs.count.Tally.{IsCounted}
+use Rattle.bx_journal_read.specs.model.Undoing.{HasLeft}
 
 one_reading : {A : Type 0} (x y : A) → Some x ≡ Some y → x ≡ y
 one_reading x y e = cc

@@ -12,3 +12,5 @@ pub mod OpenedLemmas
 pub mod LeftLemmas
 pub mod ListLemmas
 pub mod Reopening
+pub mod LossLaws
+pub mod ForgottenLemmas

@@ -2,30 +2,33 @@
 use Rattle.std.proofs.Common.{◌≡◌, ℕ, zero, suc, ◌+◌, ◌*◌, ◌≤◌, List, [], ◌∷◌, ◌++◌, length, take, drop, refl, ap, sym, ◌∙◌, subst, inl, inr, append_assoc, append-nil, arith, Result, Ok, Some}
 use Rattle.std.specs.Prelude.{Vec}
 use Rattle.std.proofs.lemmas.Result.{IfOk-weaker}
-use Rattle.bx_entries.specs.declared.format.version.Version.{Version}
-use Rattle.bx_entries.specs.declared.read.count.Place.{Place}
-use Rattle.bx_entries.specs.declared.read.count.Place.TheVariants.{Between as BetweenPlace, Saving as SavingPlace, Ending as EndingPlace}
-use Rattle.bx_entries.specs.declared.read.rows.Summed.{Summed}
-use Rattle.bx_entries.specs.Text.{Entry, Stage, Between, Saving, Ending, Reading, Split, ended, split, start, next_at, after_lines}
-use Rattle.bx_entries.specs.inner.Followed.{AreFullSaved}
-use Rattle.bx_entries.specs.inner.Plain.{HasNoNewline}
-use Rattle.bx_entries.specs.inner.Rows.{IsMore, SumsTo, summed_of, with_more}
-use Rattle.bx_entries.specs.inner.Tally.{AreFullAt, place_of}
-use Rattle.bx_entries.proofs.FullLemmas.{full_first, full_sums}
-use Rattle.bx_entries.proofs.Inverse.{next_between, next_saving, next_ending}
-use Rattle.bx_entries.proofs.Runs.{after_lines-append}
-use Rattle.bx_entries.proofs.Splits.{split-append, split-ended}
-use Rattle.bx_entries.proofs.TallyLemmas.{HasForm, IsFirstLine, has_form, last, line_taken, take_sum}
-use Rattle.bx_scan.specs.Calls.{rows_of}
-use Rattle.bx_scan.specs.declared.answers.LogRow.{LogRow}
-use Rattle.bx_scan.specs.declared.fault.SessionFault.{SessionFault}
-use Rattle.bx_scan.specs.declared.read.windows.Reached.{Reached}
+use Rattle.bx_image.specs.Power.{NoMore}
+use Rattle.bx_image.proofs.Survivors.{NoMore_then}
+use Rattle.bx_journal_store.specs.declared.store.TextStore.{Ghosts as StoreViews}
+use Rattle.bx_journal_format.specs.declared.format.version.Version.{Version}
+use Rattle.bx_journal_format.specs.declared.read.count.Place.{Place}
+use Rattle.bx_journal_format.specs.declared.read.count.Place.TheVariants.{Between as BetweenPlace, Saving as SavingPlace, Ending as EndingPlace}
+use Rattle.bx_journal_format.specs.declared.read.rows.Summed.{Summed}
+use Rattle.bx_journal_format.specs.Text.{Entry, Stage, Between, Saving, Ending, Reading, Split, ended, split, start, next_at, after_lines}
+use Rattle.bx_journal_format.specs.read.Followed.{AreFullSaved}
+use Rattle.bx_journal_format.specs.read.Plain.{HasNoNewline}
+use Rattle.bx_journal_format.specs.count.Rows.{IsMore, SumsTo, summed_of, with_more}
+use Rattle.bx_journal_format.specs.count.Tally.{AreFullAt, place_of}
+use Rattle.bx_journal_format.proofs.FullLemmas.{full_first, full_sums}
+use Rattle.bx_journal_format.proofs.Inverse.{next_between, next_saving, next_ending}
+use Rattle.bx_journal_format.proofs.Runs.{after_lines-append}
+use Rattle.bx_journal_format.proofs.Splits.{split-append, split-ended}
+use Rattle.bx_journal_format.proofs.TallyLemmas.{HasForm, IsFirstLine, has_form, last, line_taken, take_sum}
+use Rattle.bx_journal_read.specs.model.Calls.{rows_of}
+use Rattle.bx_journal_read.specs.declared.answers.LogRow.{LogRow}
+use Rattle.bx_journal_read.specs.declared.fault.SessionFault.{SessionFault}
+use Rattle.bx_journal_read.specs.declared.scan.windows.Reached.{Reached}
 use Rattle.bx_journal.specs.declared.session.log.windows.RowScan.{RowScan}
-use Rattle.bx_scan.specs.inner.Looking.{LooksAt}
-use Rattle.bx_journal.specs.inner.Rows.{AreRowsOf, FindsRows, IsListed, ended_row}
-use Rattle.bx_scan.specs.inner.Windows.{IsReached}
-use Rattle.bx_scan.proofs.ScanLemmas.{reached_all}
-use Rattle.bx_scan.proofs.WindowLemmas.{again_behind, looks_before}
+use Rattle.bx_journal_read.specs.scan.Looking.{LooksAt}
+use Rattle.bx_journal.specs.private.Rows.{AreRowsOf, FindsRows, IsListed, ended_row}
+use Rattle.bx_journal_read.specs.scan.Windows.{IsReached}
+use Rattle.bx_journal_read.proofs.ScanLemmas.{reached_all}
+use Rattle.bx_journal_read.proofs.WindowLemmas.{again_behind, looks_before}
 
 -- a line adds a row where it ends an entry
 abbrev RowsNext : List Entry → Reading → Type 0
@@ -143,11 +146,12 @@ listed_all H now stored text size len count r still same long all reached place 
     }
 
 -- the rows of a text behind a call that only looked at it
-pub rows_behind : {T A V : Type 0} {honest : T → Type 0} {text : T → List ℕ} {failures : T → ℕ} {count : ℕ} {v : V} {old now new : T} → LooksAt honest text failures (Ok v) old now → (r : Result (Vec LogRow A) SessionFault)
-    → FindsRows honest text failures count r now new → FindsRows honest text failures count r old new
-rows_behind {honest = honest} {text = text} {count = count} {old = old} {now = now} first r next = record {
-  rows = IfOk-weaker r (λ v. AreRowsOf (honest now) (text now) v.items count) (λ v. AreRowsOf (honest old) (text old) v.items count)
+pub rows_behind : {T A V : Type 0} (t : StoreViews T) {count : ℕ} {v : V} {old now new : T} → LooksAt t.honest t.text t.failures (Ok v) old now
+    → (t.honest old → NoMore (t.survives old) (t.survives now)) → (r : Result (Vec LogRow A) SessionFault) → FindsRows t count r now new → FindsRows t count r old new
+rows_behind t {count = count} {old = old} {now = now} first before r next = record {
+  rows = IfOk-weaker r (λ v. AreRowsOf (t.honest now) (t.text now) v.items count) (λ v. AreRowsOf (t.honest old) (t.text old) v.items count)
       (λ v f. record { text = f.text; is = λ h. sym (first.same h) ∙ f.is (first.honesty.1 h); entries = f.entries; finished = f.finished; counted = f.counted; rows_are = f.rows_are }) next.rows;
   fault = again_behind first count r next.fault;
   looks = looks_before first next.looks;
+  found_before = λ h. NoMore_then _ _ _ (before h) (next.found_before (first.honesty.1 h));
 }

@@ -5,13 +5,13 @@ use Rattle.std.specs.List.{sum_by}
 use Rattle.std.proofs.lemmas.List.{take_more, length-take-le}
 use Rattle.std.proofs.lemmas.List.Sums.{sum-map, sum_by_more_le}
 use Rattle.bx_text.specs.declared.owned.pieces.Piece.{Piece}
-use Rattle.bx_entries.specs.Kept.{Run, run_of, kept_of}
-use Rattle.bx_entries.specs.declared.read.types.EntryRead.{EntryRead}
-use Rattle.bx_scan.specs.declared.answers.LogRow.{LogRow}
-use Rattle.bx_scan.specs.Calls.{rows_of}
-use Rattle.bx_entries.specs.inner.Rows.{saved_length}
-use Rattle.bx_entries.specs.inner.Parsed.{entry_of, entries_of}
-use Rattle.bx_entries.proofs.ReadLemmas.{onto-push, length-entries_of}
+use Rattle.bx_journal_format.specs.Kept.{Run, run_of, kept_of}
+use Rattle.bx_journal_format.specs.declared.read.types.EntryRead.{EntryRead}
+use Rattle.bx_journal_read.specs.declared.answers.LogRow.{LogRow}
+use Rattle.bx_journal_read.specs.model.Calls.{rows_of}
+use Rattle.bx_journal_format.specs.count.Rows.{saved_length}
+use Rattle.bx_journal_format.specs.Parsed.{entry_of, entries_of}
+use Rattle.bx_journal_format.proofs.ReadLemmas.{onto-push, length-entries_of}
 
 abbrev pub run_length : {A : Type 0} → Piece A → ℕ
 run_length run = length run.bytes

@@ -2,33 +2,33 @@
 use Rattle.std.proofs.Common.{◌≡◌, ℕ, suc, ◌+◌, ◌≤◌, List, [], ◌∷◌, length, refl, ap, sym, ◌∙◌, subst, inl, inr, ◌⊎◌, arith, Option, Some, None, Result, Ok, Err}
 use Rattle.std.specs.Prelude.{IfOk, IfErr, OnOk, OnErr, MatchResult}
 use Rattle.std.proofs.lemmas.Bool.{cases_lt}
-use Rattle.bx_scan.specs.declared.answers.How.{How}
-use Rattle.bx_scan.specs.declared.answers.How.TheVariants.{Clean, Dropped, Restored}
-use Rattle.bx_scan.specs.declared.answers.Recovered.{Recovered}
-use Rattle.bx_scan.specs.declared.fault.SessionFault.{SessionFault}
-use Rattle.bx_scan.specs.declared.fault.SessionFault.TheVariants.{NoMemory, TooLarge, DeviceFailed, Damaged, TooFew, JournalFull, Interrupted, Broken, LengthDiffers, NothingToRedo, RedoDamaged}
-use Rattle.bx_scan.specs.declared.read.journal.Found.{Found}
-use Rattle.bx_scan.specs.declared.read.journal.Found.TheVariants.{Finished, Unfinished}
-use Rattle.bx_scan.specs.declared.read.journal.Torn.{Torn}
-use Rattle.bx_entries.specs.declared.read.window.Counted.{Counted}
-use Rattle.bx_scan.specs.Calls.{AfterFault, Differs, OpenFault}
-use Rattle.bx_scan.specs.Images.{Images}
-use Rattle.bx_scan.specs.Judging.{RefusesRedo}
-use Rattle.bx_scan.specs.Machine.{changes_of}
-use Rattle.bx_scan.specs.Opening.{IsOpened, RefusesLength}
-use Rattle.bx_entries.specs.Parsed.{told_by}
-use Rattle.bx_scan.specs.inner.Recovery.{FindFault, FinishedFault, HasOtherLength, HasToldLength, HasUndoneCount, IsCountedIn, IsFoundIn, IsUnfinishedIn, KeepsUndone, RecoverFault}
-use Rattle.bx_entries.specs.Shown.{shown}
-use Rattle.bx_entries.proofs.CleanLemmas.{clean_shown}
-use Rattle.bx_steps.specs.Power.{Found as FoundOnDisk}
-use Rattle.bx_scan.specs.Redo.{IsClean, IsRedoOf, IsRefusedAt, RefusesRedoAt, found_undone}
-use Rattle.bx_scan.specs.Stack.{Recovers, image_at}
-use Rattle.bx_entries.specs.inner.Tally.{IsCounted}
-use Rattle.bx_entries.specs.Text.{Between, Entry, IsAccepted, Reading, Reads}
-use Rattle.bx_scan.proofs.Judged.{undamaged}
-use Rattle.bx_scan.proofs.OpenLemmas.{differs_of}
+use Rattle.bx_journal_read.specs.declared.answers.How.{How}
+use Rattle.bx_journal_read.specs.declared.answers.How.TheVariants.{Clean, Dropped, Restored}
+use Rattle.bx_journal_read.specs.declared.answers.Recovered.{Recovered}
+use Rattle.bx_journal_read.specs.declared.fault.SessionFault.{SessionFault}
+use Rattle.bx_journal_read.specs.declared.fault.SessionFault.TheVariants.{NoMemory, TooLarge, DeviceFailed, Damaged, TooFew, JournalFull, Interrupted, Broken, LengthDiffers, NothingToRedo, RedoDamaged}
+use Rattle.bx_journal_read.specs.declared.scan.journal.Found.{Found}
+use Rattle.bx_journal_read.specs.declared.scan.journal.Found.TheVariants.{Finished, Unfinished}
+use Rattle.bx_journal_read.specs.declared.scan.journal.Torn.{Torn}
+use Rattle.bx_journal_format.specs.declared.read.window.Counted.{Counted}
+use Rattle.bx_journal_read.specs.model.Calls.{AfterFault, Differs, OpenFault}
+use Rattle.bx_journal_read.specs.model.Images.{Images}
+use Rattle.bx_journal_read.specs.model.Judging.{RefusesRedo}
+use Rattle.bx_journal_read.specs.model.Machine.{changes_of}
+use Rattle.bx_journal_read.specs.model.Opening.{IsOpened, RefusesLength}
+use Rattle.bx_journal_format.specs.Parsed.{told_by}
+use Rattle.bx_journal_read.specs.scan.Recovery.{FindFault, FinishedFault, HasOtherLength, HasToldLength, HasUndoneCount, IsCountedIn, IsFoundIn, IsUnfinishedIn, KeepsUndone, RecoverFault}
+use Rattle.bx_journal_format.specs.Shown.{shown}
+use Rattle.bx_journal_format.proofs.CleanLemmas.{clean_shown}
+use Rattle.bx_journal_protocol.specs.model.Power.{Found as FoundOnDisk}
+use Rattle.bx_journal_read.specs.model.Redo.{IsClean, IsRedoOf, IsRefusedAt, RefusesRedoAt, found_undone}
+use Rattle.bx_journal_read.specs.model.Stack.{Recovers, image_at}
+use Rattle.bx_journal_format.specs.count.Tally.{IsCounted}
+use Rattle.bx_journal_format.specs.Text.{Between, Entry, IsAccepted, Reading, Reads}
+use Rattle.bx_journal_read.proofs.Judged.{undamaged}
+use Rattle.bx_journal_read.proofs.OpenLemmas.{after_same, differs_of}
 use Rattle.bx_journal.proofs.TornLemmas.{torn_stack}
-use Rattle.bx_steps.proofs.RedoText.{empty_is_redo, one_list}
+use Rattle.bx_journal_protocol.proofs.RedoText.{empty_is_redo, one_list}
 use Rattle.bx_journal.proofs.Refused.{none_refused}
 use Rattle.bx_journal.proofs.CountedLemmas.{counted_differs, counted_once, counted_opened, counted_stack}
 
@@ -293,3 +293,37 @@ finished_silent P (Err e) I B redo x count told clean fault = beside_silent I B 
 pub unfinished_matches : (o : Result Recovered SessionFault) (P : Type 0) → MatchResult o (λ v. Unit {0} → P) (λ e. AfterFault e P (Unit {0})) → MatchResult o (λ v. (v.how ≡ Clean → ⊥) → P) (λ e. AfterFault e P (Unit {0}))
 unfinished_matches (Ok v) P m = λ unclean. m tt
 unfinished_matches (Err e) P m = m
+
+-- behind a fault, what follows of what is so
+pub after_then : {P Q : Type 0} → (Q → P) → (e : SessionFault) → AfterFault e (Unit {0}) Q → AfterFault e (Unit {0}) P
+after_then f NoMemory q = f q
+after_then f DeviceFailed q = f q
+after_then f (Damaged line) q = f q
+after_then f TooLarge q = f q
+after_then f (TooFew have) q = f q
+after_then f JournalFull q = f q
+after_then f Interrupted q = tt
+after_then f Broken q = f q
+after_then f (LengthDiffers n) q = f q
+after_then f (NothingToRedo have) q = f q
+after_then f (RedoDamaged line) q = f q
+
+-- what holds beside finished entries alone, whatever the answer is
+pub finished_same : {P : Type 0} (o : Result Recovered SessionFault) → P → MatchResult o (λ v. v.how ≡ Clean → P) (λ e. AfterFault e (Unit {0}) P)
+finished_same (Ok v) p = λ clean. p
+finished_same {P = P} (Err e) p = after_same e P p
+
+-- where something was unfinished, it holds behind each fault but an interruption
+pub unfinished_same : {P Q : Type 0} (o : Result Recovered SessionFault) → IfOk o (λ v. (v.how ≡ Clean → ⊥) × (v.undone ≡ 0)) → (Q → P) → IfErr o (λ e. AfterFault e (Unit {0}) Q)
+    → MatchResult o (λ v. v.how ≡ Clean → P) (λ e. AfterFault e (Unit {0}) P)
+unfinished_same (Ok v) unclean f q = λ clean. absurd (unclean.0 clean)
+unfinished_same (Err e) unclean f q = after_then f e q
+
+-- where something was unfinished, what holds of an answer
+pub finished_none : (P : Type 0) (o : Result Recovered SessionFault) (count : ℕ) → IfOk o (λ v. (v.how ≡ Clean) × (v.changes ≡ count)) → IfOk o (λ v. (v.how ≡ Clean → ⊥) → P)
+finished_none P (Ok v) count clean = λ unclean. absurd (unclean clean.0)
+finished_none P (Err e) count clean = tt
+
+pub unfinished_holds : (P : Type 0) (o : Result Recovered SessionFault) → OnOk o P → IfOk o (λ v. (v.how ≡ Clean → ⊥) → P)
+unfinished_holds P (Ok v) p = λ unclean. p
+unfinished_holds P (Err e) p = tt

@@ -3,17 +3,17 @@ use Rattle.std.proofs.Common.{◌≡◌, ℕ, zero, suc, ◌+◌, ◌-◌, ◌�
 use Rattle.std.specs.Prelude.{is_some, IsTrue, IfSome}
 use Rattle.std.proofs.lemmas.Bool.{cases_lt}
 use Rattle.std.proofs.Math.Seq.{take-add}
-use Rattle.bx_entries.specs.Parsed.{told_by}
-use Rattle.bx_entries.specs.Text.{Entry, Between, Reading, split, start, after_lines}
-use Rattle.bx_scan.specs.Stack.{HaveLengths}
-use Rattle.bx_entries.specs.Finished.{IsFinished, AllTell}
-use Rattle.bx_entries.proofs.Foreign.{no_way_back}
-use Rattle.bx_steps.proofs.LawProofs.{damaged_at_one}
-use Rattle.bx_scan.proofs.Phases.{length-stack_of}
-use Rattle.bx_entries.proofs.Runs.{after_lines-append}
-use Rattle.bx_scan.specs.Redo.{IsRedoOf, BeginsAt, HasTailAt, IsTooManyAt, IsNoRedoAt, DamagedLine, Tail, FirstForm, IsRefusedAt, NoRedo, TooMany, Off}
-use Rattle.bx_steps.specs.RedoLaws.{RedoLineOne}
-use Rattle.bx_steps.proofs.RedoText.{one_reading, one_list}
+use Rattle.bx_journal_format.specs.Parsed.{told_by}
+use Rattle.bx_journal_format.specs.Text.{Entry, Between, Reading, split, start, after_lines}
+use Rattle.bx_journal_read.specs.model.Stack.{HaveLengths}
+use Rattle.bx_journal_format.specs.Finished.{IsFinished, AllTell}
+use Rattle.bx_journal_format.proofs.Foreign.{no_way_back}
+use Rattle.bx_journal_protocol.proofs.LawProofs.{damaged_at_one}
+use Rattle.bx_journal_read.proofs.Phases.{length-stack_of}
+use Rattle.bx_journal_format.proofs.Runs.{after_lines-append}
+use Rattle.bx_journal_read.specs.model.Redo.{IsRedoOf, BeginsAt, HasTailAt, IsTooManyAt, IsNoRedoAt, DamagedLine, Tail, FirstForm, IsRefusedAt, NoRedo, TooMany, Off}
+use Rattle.bx_journal_protocol.specs.model.RedoLaws.{RedoLineOne}
+use Rattle.bx_journal_protocol.proofs.RedoText.{one_reading, one_list}
 
 -- this many lines and more
 further : (es : List Entry) (ls : List (List ℕ)) (a b : ℕ) → a ≤ b → b ≤ length ls → after_lines start (take a ls) ≡ Some (record { entries = es; stage = Between }) → after_lines start (take b ls) ≡ Some (record { entries = es; stage = Between }) → b ≤ a

@@ -1,16 +1,16 @@
 -- How a call of a session ends: it is accepted, refused before its first write, or interrupted.
 use Rattle.std.proofs.Common.{◌≡◌, ◌∙◌, ℕ, Bool, true, false, sym, subst, Result, Ok, Err}
 use Rattle.std.specs.Prelude.{IfErr}
-use Rattle.bx_scan.specs.Calls.{AfterFault}
-use Rattle.bx_scan.specs.Fault.{DeviceFault}
-use Rattle.bx_scan.specs.Opening.{OneMoreOfThree, ThreeCounts}
-use Rattle.bx_steps.specs.Session.{FailsSafely, IsUnfailed}
-use Rattle.bx_steps.specs.SessionView.{SessionView, devices_of}
+use Rattle.bx_journal_read.specs.model.Calls.{AfterFault}
+use Rattle.bx_journal_read.specs.model.Fault.{DeviceFault}
+use Rattle.bx_journal_read.specs.model.Opening.{OneMoreOfThree, ThreeCounts}
+use Rattle.bx_journal_protocol.specs.model.Session.{FailsSafely, IsUnfailed}
+use Rattle.bx_journal_protocol.specs.model.SessionView.{SessionView, devices_of}
 use Rattle.bx_image.specs.declared.device.Device.{Ghosts as DeviceViews}
-use Rattle.bx_store.specs.declared.store.TextStore.{Ghosts as StoreViews}
-use Rattle.bx_scan.specs.declared.fault.SessionFault.{SessionFault}
-use Rattle.bx_scan.specs.declared.fault.SessionFault.TheVariants.{NoMemory, TooLarge, DeviceFailed, Damaged, TooFew, JournalFull, Interrupted, Broken, LengthDiffers, NothingToRedo, RedoDamaged}
-use Rattle.bx_steps.specs.inner.Devices.{HaveStayed, StepsOn}
+use Rattle.bx_journal_store.specs.declared.store.TextStore.{Ghosts as StoreViews}
+use Rattle.bx_journal_read.specs.declared.fault.SessionFault.{SessionFault}
+use Rattle.bx_journal_read.specs.declared.fault.SessionFault.TheVariants.{NoMemory, TooLarge, DeviceFailed, Damaged, TooFew, JournalFull, Interrupted, Broken, LengthDiffers, NothingToRedo, RedoDamaged}
+use Rattle.bx_journal_protocol.specs.Devices.{HaveStayed, StepsOn}
 
 -- a session that is whole isn't broken
 not_both : {A : Type 0} (b : Bool) → b ≡ false → b ≡ true → A
@@ -32,19 +32,19 @@ any_fault (Err (NothingToRedo have)) s = s
 any_fault (Err (RedoDamaged line)) s = s
 
 -- behind a fault of a device before the first write all is as it was, whatever an interruption leaves
-pub device_after : {V S : Type 0} (X : Type 0) (r : Result V SessionFault) → IfErr r DeviceFault → S → IfErr r (λ e. AfterFault e X S)
-device_after X (Ok v) f s = tt
-device_after X (Err NoMemory) f s = s
-device_after X (Err TooLarge) f s = absurd f
-device_after X (Err DeviceFailed) f s = s
-device_after X (Err (Damaged line)) f s = absurd f
-device_after X (Err (TooFew have)) f s = absurd f
-device_after X (Err JournalFull) f s = absurd f
-device_after X (Err Interrupted) f s = absurd f
-device_after X (Err Broken) f s = absurd f
-device_after X (Err (LengthDiffers n)) f s = absurd f
-device_after X (Err (NothingToRedo have)) f s = absurd f
-device_after X (Err (RedoDamaged line)) f s = absurd f
+pub image_after : {V S : Type 0} (X : Type 0) (r : Result V SessionFault) → IfErr r DeviceFault → S → IfErr r (λ e. AfterFault e X S)
+image_after X (Ok v) f s = tt
+image_after X (Err NoMemory) f s = s
+image_after X (Err TooLarge) f s = absurd f
+image_after X (Err DeviceFailed) f s = s
+image_after X (Err (Damaged line)) f s = absurd f
+image_after X (Err (TooFew have)) f s = absurd f
+image_after X (Err JournalFull) f s = absurd f
+image_after X (Err Interrupted) f s = absurd f
+image_after X (Err Broken) f s = absurd f
+image_after X (Err (LengthDiffers n)) f s = absurd f
+image_after X (Err (NothingToRedo have)) f s = absurd f
+image_after X (Err (RedoDamaged line)) f s = absurd f
 
 module _ {D T : Type 0} {d : DeviceViews D} {t : StoreViews T} where
   pub accepts : {V R E : Type 0} {v : V} {r : R} {old new : SessionView D T} → old.is_broken ≡ false
@@ -55,7 +55,7 @@ module _ {D T : Type 0} {d : DeviceViews D} {t : StoreViews T} where
     refused = λ dh th. tt;
     redo_same = λ rh. tt;
     unmoved = tt;
-    honesty = (steps.device_honesty, steps.store_honesty, steps.redo_honesty);
+    honesty = (steps.image_honesty, steps.journal_honesty, steps.redo_honesty);
     counts = steps.no_failure;
   }
 
@@ -68,7 +68,7 @@ module _ {D T : Type 0} {d : DeviceViews D} {t : StoreViews T} where
     refused = λ dh th. tt;
     redo_same = λ rh. tt;
     unmoved = (count, undone, broken);
-    honesty = (steps.device_honesty, steps.store_honesty, steps.redo_honesty);
+    honesty = (steps.image_honesty, steps.journal_honesty, steps.redo_honesty);
     counts = steps.failure;
   }
 
@@ -77,7 +77,7 @@ module _ {D T : Type 0} {d : DeviceViews D} {t : StoreViews T} where
       → new.count ≡ old.count → new.undone ≡ old.undone → new.is_broken ≡ old.is_broken
       → HaveStayed d t (devices_of old) (devices_of new)
       → ThreeCounts e a b c a_new b_new c_new
-      → (OneMoreOfThree a b c a_new b_new c_new → OneMoreOfThree (d.failures old.device) (t.failures old.store) (t.failures old.redo_text) (d.failures new.device) (t.failures new.store) (t.failures new.redo_text))
+      → (OneMoreOfThree a b c a_new b_new c_new → OneMoreOfThree (d.failures old.image) (t.failures old.journal) (t.failures old.redo) (d.failures new.image) (t.failures new.journal) (t.failures new.redo))
       → ((a_new ≡ a) × (b_new ≡ b) × (c_new ≡ c) → IsUnfailed d.failures t.failures old new)
       → FailsSafely d t old new r
   refuses {V = V} {old = old} {new = new} {a = a} {b = b} {c = c} {a_new = a_new} {b_new = b_new} {c_new = c_new} r e is fault whole count undone broken stayed counts one none =
@@ -90,7 +90,7 @@ module _ {D T : Type 0} {d : DeviceViews D} {t : StoreViews T} where
         refused = λ dh th. record { image_same = stayed.image_same dh; text_same = stayed.text_same th; count = count; broken = broken };
         redo_same = λ rh. record { text_same = stayed.redo_same rh; undone = undone };
         unmoved = (count, undone, broken);
-        honesty = (stayed.device_honesty, stayed.store_honesty, stayed.redo_honesty);
+        honesty = (stayed.image_honesty, stayed.journal_honesty, stayed.redo_honesty);
         counts = none h;
       }
       by_fault DeviceFailed f h = record {
@@ -99,7 +99,7 @@ module _ {D T : Type 0} {d : DeviceViews D} {t : StoreViews T} where
         refused = λ dh th. record { image_same = stayed.image_same dh; text_same = stayed.text_same th; count = count; broken = broken };
         redo_same = λ rh. record { text_same = stayed.redo_same rh; undone = undone };
         unmoved = (count, undone, broken);
-        honesty = (stayed.device_honesty, stayed.store_honesty, stayed.redo_honesty);
+        honesty = (stayed.image_honesty, stayed.journal_honesty, stayed.redo_honesty);
         counts = one h;
       }
       by_fault TooLarge f h = absurd f

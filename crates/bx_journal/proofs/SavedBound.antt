@@ -3,19 +3,18 @@ use Rattle.std.proofs.Common.{◌≡◌, ℕ, suc, ◌+◌, ◌<◌, ◌≤◌, 
 use Rattle.std.specs.Prelude.{sum, All, option_map, if◌then◌else◌, ◌&&◌, nat_le}
 use Rattle.std.specs.Str.{bytes_eq}
 use Rattle.std.proofs.lemmas.List.Elements.{All-nil, All-cons, All-weaker}
-use Rattle.bx_entries.specs.Kept.{Run, with_run, kept_of}
-use Rattle.bx_entries.proofs.Gathered.{with_run-sum}
-use Rattle.bx_entries.specs.declared.read.types.EntryRead.{EntryRead}
-use Rattle.bx_entries.specs.DumpLine.{piece_of}
-use Rattle.bx_entries.specs.Line.{save_line, saved_in}
-use Rattle.bx_entries.specs.Text.{Entry, Stage, Between, Saving, Ending, Reading, Reads, next_at, start, after_lines, split, joined, ended}
-use Rattle.bx_entries.specs.inner.Text.{next}
-use Rattle.bx_entries.specs.inner.Rows.{saved_length}
-use Rattle.bx_entries.specs.inner.Parsed.{entry_of, entries_onto, entries_of}
-use Rattle.bx_entries.proofs.Inverse.{bind_some, map_some, test_some, next_between, next_ending}
-use Rattle.bx_scan.proofs.Tails.{joined_rest}
+use Rattle.bx_journal_format.specs.Kept.{Run, with_run, kept_of}
+use Rattle.bx_journal_format.proofs.Gathered.{with_run-sum}
+use Rattle.bx_journal_format.specs.declared.read.types.EntryRead.{EntryRead}
+use Rattle.bx_journal_format.specs.DumpLine.{piece_of}
+use Rattle.bx_journal_format.specs.Line.{save_line, saved_in}
+use Rattle.bx_journal_format.specs.Text.{Entry, Stage, Between, Saving, Ending, Reading, Reads, next_at, start, after_lines, split, joined, ended, next}
+use Rattle.bx_journal_format.specs.count.Rows.{saved_length}
+use Rattle.bx_journal_format.specs.Parsed.{entry_of, entries_onto, entries_of}
+use Rattle.bx_journal_format.proofs.Inverse.{bind_some, map_some, test_some, next_between, next_ending}
+use Rattle.bx_journal_read.proofs.Tails.{joined_rest}
 use Rattle.bx_journal.proofs.LogLemmas.{run_length}
-use Rattle.bx_entries.proofs.PieceBound.{piece_short}
+use Rattle.bx_journal_format.proofs.PieceBound.{piece_short}
 
 abbrev run_size : Run → ℕ
 run_size = run_length {A = Unit {0}}

@@ -3,28 +3,28 @@ use Rattle.std.proofs.Common.{◌≡◌, ℕ, suc, ◌+◌, ◌≤◌, List, [],
 use Rattle.std.specs.Prelude.{IfSome}
 use Rattle.std.proofs.lemmas.List.{take-append-drop}
 use Rattle.bx_image.specs.Change.{restore}
-use Rattle.bx_entries.specs.Kept.{Kept}
-use Rattle.bx_entries.specs.Finished.{IsFinished}
-use Rattle.bx_entries.specs.Shown.{shown}
-use Rattle.bx_entries.specs.Text.{Entry, Stage, Between, Saving, Ending, Reading, Reads, IsRest, split, start, after_lines, may_begin}
-use Rattle.bx_entries.specs.declared.format.version.Version.{Version}
-use Rattle.bx_entries.specs.inner.Mark.{IsMark}
-use Rattle.bx_entries.proofs.ShownLemmas.{shown_is_front, shown_short, take_shown}
-use Rattle.bx_scan.specs.declared.read.mark.Mark.{Mark}
-use Rattle.bx_scan.specs.declared.read.journal.Torn.{Torn}
-use Rattle.bx_scan.specs.declared.answers.How.{How}
-use Rattle.bx_scan.specs.declared.answers.How.TheVariants.{Dropped, Restored}
-use Rattle.bx_scan.specs.Calls.{how_of}
-use Rattle.bx_scan.specs.Opening.{IsOpened, left_over}
-use Rattle.bx_scan.specs.Redo.{IsClean}
-use Rattle.bx_scan.specs.Stack.{HaveLengths, Recovers, image_at, stack_of}
-use Rattle.bx_scan.specs.Undoing.{HasLeft}
-use Rattle.bx_scan.specs.inner.Recovery.{HasMark, IsTorn}
-use Rattle.bx_scan.specs.inner.Restoring.{AllShorter, StandsAt}
-use Rattle.bx_scan.specs.inner.Step.{HasTail}
-use Rattle.bx_scan.proofs.OpenLemmas.{begins_told}
-use Rattle.bx_scan.proofs.ReadingLemmas.{IsSane, have_lengths, length-restore, read_sane}
-use Rattle.bx_scan.proofs.Tails.{counted_stack, tail_of}
+use Rattle.bx_journal_format.specs.Kept.{Kept}
+use Rattle.bx_journal_format.specs.Finished.{IsFinished}
+use Rattle.bx_journal_format.specs.Shown.{shown}
+use Rattle.bx_journal_format.specs.Text.{Entry, Stage, Between, Saving, Ending, Reading, Reads, IsRest, split, start, after_lines, may_begin}
+use Rattle.bx_journal_format.specs.declared.format.version.Version.{Version}
+use Rattle.bx_journal_format.specs.count.Mark.{IsMark}
+use Rattle.bx_journal_format.proofs.ShownLemmas.{shown_is_front, shown_short, take_shown}
+use Rattle.bx_journal_read.specs.declared.scan.mark.Mark.{Mark}
+use Rattle.bx_journal_read.specs.declared.scan.journal.Torn.{Torn}
+use Rattle.bx_journal_read.specs.declared.answers.How.{How}
+use Rattle.bx_journal_read.specs.declared.answers.How.TheVariants.{Dropped, Restored}
+use Rattle.bx_journal_read.specs.model.Calls.{how_of}
+use Rattle.bx_journal_read.specs.model.Opening.{IsOpened, left_over}
+use Rattle.bx_journal_read.specs.model.Redo.{IsClean}
+use Rattle.bx_journal_read.specs.model.Stack.{HaveLengths, Recovers, image_at, stack_of}
+use Rattle.bx_journal_read.specs.model.Undoing.{HasLeft}
+use Rattle.bx_journal_read.specs.scan.Recovery.{HasMark, IsTorn}
+use Rattle.bx_journal_read.specs.scan.Restoring.{AllShorter, StandsAt}
+use Rattle.bx_journal_read.specs.scan.Step.{HasTail}
+use Rattle.bx_journal_read.proofs.OpenLemmas.{begins_told}
+use Rattle.bx_journal_read.proofs.ReadingLemmas.{IsSane, have_lengths, length-restore, read_sane}
+use Rattle.bx_journal_read.proofs.Tails.{counted_stack, tail_of}
 
 same_reading : (q r : Reading) → Some q ≡ Some r → q ≡ r
 same_reading q r e = cc

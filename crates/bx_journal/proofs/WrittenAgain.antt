@@ -8,28 +8,27 @@ use Rattle.bx_image.specs.declared.change.Change.{Change}
 use Rattle.bx_image.specs.declared.change.TheConstants.{MAX_LEN}
 use Rattle.bx_image.specs.Change.{effect, restore, saved, AreBytes, IsOf}
 use Rattle.bx_image.proofs.Records.{KeepsUntouched-effect, len-saved, restore-saved, saved-maximal}
-use Rattle.bx_entries.specs.Kept.{Kept, kept_of, with_run}
-use Rattle.bx_entries.specs.Entry.{entry_text}
-use Rattle.bx_entries.specs.Finished.{IsFinished}
-use Rattle.bx_entries.specs.Text.{Entry, Stage, Between, Saving, Ending, Reading, Reads, Split, split, joined, start, after_lines}
-use Rattle.bx_entries.specs.inner.Text.{next}
-use Rattle.bx_entries.proofs.CalmLemmas.{lines_count}
-use Rattle.bx_entries.proofs.Foreign.{joined_lines}
-use Rattle.bx_entries.proofs.KeptLemmas.{is_of_in, same_byte, same_restore}
-use Rattle.bx_entries.proofs.Inverse.{bind_some, next_between, next_saving, next_ending}
-use Rattle.bx_entries.proofs.Runs.{after_lines-append}
-use Rattle.bx_entries.proofs.Splits.{split-append}
-use Rattle.bx_steps.specs.Laws.{HasBytes}
-use Rattle.bx_scan.specs.Redo.{IsRedoOf}
-use Rattle.bx_steps.specs.RedoLaws.{IsWrittenAgain}
-use Rattle.bx_scan.specs.Stack.{StandsFor}
-use Rattle.bx_steps.specs.Taken.{taken, taken_by}
-use Rattle.bx_scan.specs.Undoing.{HasLeft}
+use Rattle.bx_journal_format.specs.Kept.{Kept, kept_of, with_run}
+use Rattle.bx_journal_format.specs.Entry.{entry_text}
+use Rattle.bx_journal_format.specs.Finished.{IsFinished}
+use Rattle.bx_journal_format.specs.Text.{Entry, Stage, Between, Saving, Ending, Reading, Reads, Split, split, joined, start, after_lines, next}
+use Rattle.bx_journal_format.proofs.CalmLemmas.{lines_count}
+use Rattle.bx_journal_format.proofs.Foreign.{joined_lines}
+use Rattle.bx_journal_format.proofs.KeptLemmas.{is_of_in, same_byte, same_restore}
+use Rattle.bx_journal_format.proofs.Inverse.{bind_some, next_between, next_saving, next_ending}
+use Rattle.bx_journal_format.proofs.Runs.{after_lines-append}
+use Rattle.bx_journal_format.proofs.Splits.{split-append}
+use Rattle.bx_journal_protocol.specs.model.Laws.{HasBytes}
+use Rattle.bx_journal_read.specs.model.Redo.{IsRedoOf}
+use Rattle.bx_journal_protocol.specs.model.RedoLaws.{IsWrittenAgain}
+use Rattle.bx_journal_read.specs.model.Stack.{StandsFor}
+use Rattle.bx_journal_protocol.specs.model.Taken.{taken, taken_by}
+use Rattle.bx_journal_read.specs.model.Undoing.{HasLeft}
 use Rattle.bx_journal.proofs.AgainTaken.{back_of, saved_is_of, taken_again, taken_back}
-use Rattle.bx_steps.proofs.LawProofs.{written_is_read}
-use Rattle.bx_steps.proofs.Performed.{performed, restored_same, top_of_stands}
-use Rattle.bx_steps.proofs.RedoText.{one_reading}
-use Rattle.bx_scan.proofs.Phases.{length-stack_of, may_begin_of}
+use Rattle.bx_journal_protocol.proofs.LawProofs.{written_is_read}
+use Rattle.bx_journal_protocol.proofs.Performed.{performed, restored_same, top_of_stands}
+use Rattle.bx_journal_protocol.proofs.RedoText.{one_reading}
+use Rattle.bx_journal_read.proofs.Phases.{length-stack_of, may_begin_of}
 
 abbrev between : List Entry → Reading
 between es = record { entries = es; stage = Between }
@@ -165,14 +164,14 @@ written_again c x older text left redo kept new stack undone n st many r long mo
 
 pub is_written_again : (A : Type 0) {D T : Type 0} (image : D → List ℕ) (text : T → List ℕ) → IsWrittenAgain A image text
 is_written_again A image text c x older stack undone old mid new left n behind has standing leaves keeps grows =
-    let image_is : image mid.device ≡ x = sym (top_of_stands (text mid.store) (image mid.device) stack standing.stands) ∙ top_of_stands older x stack behind.stands in
+    let image_is : image mid.image ≡ x = sym (top_of_stands (text mid.journal) (image mid.image) stack standing.stands) ∙ top_of_stands older x stack behind.stands in
     let number : suc mid.count ≡ old.count = sym standing.count ∙ behind.count in
-    let redo : IsRedoOf (text old.redo_text) (effect c x) (suc mid.count) undone =
-    subst (λ k. IsRedoOf (text old.redo_text) (effect c x) k undone) (sym number) (subst (λ y. IsRedoOf (text old.redo_text) y old.count undone) behind.changed has.redo) in
-    let written : text old.store ≡ older ++ entry_text (suc mid.count) (kept_of (saved c x)) (length (effect c x)) =
+    let redo : IsRedoOf (text old.redo) (effect c x) (suc mid.count) undone =
+    subst (λ k. IsRedoOf (text old.redo) (effect c x) k undone) (sym number) (subst (λ y. IsRedoOf (text old.redo) y old.count undone) behind.changed has.redo) in
+    let written : text old.journal ≡ older ++ entry_text (suc mid.count) (kept_of (saved c x)) (length (effect c x)) =
     behind.written ∙ ap (λ k. older ++ entry_text k (kept_of (saved c x)) (length (effect c x))) (sym number) in
-    written_again c x older (text old.store) (text mid.store) (text old.redo_text) (text mid.redo_text) (text new.store) stack undone mid.count behind.stands standing.count redo behind.fits.0 behind.fits.1 behind.bytes.0 behind.bytes.1
+    written_again c x older (text old.journal) (text mid.journal) (text old.redo) (text mid.redo) (text new.journal) stack undone mid.count behind.stands standing.count redo behind.fits.0 behind.fits.1 behind.bytes.0 behind.bytes.1
     written
-    (λ es finished. keeps es finished ∙ ap (λ y. taken_by 1 es y old.undone (text old.redo_text)) behind.changed ∙ ap (λ k. taken_by 1 es (effect c x) k (text old.redo_text)) has.counted)
+    (λ es finished. keeps es finished ∙ ap (λ y. taken_by 1 es y old.undone (text old.redo)) behind.changed ∙ ap (λ k. taken_by 1 es (effect c x) k (text old.redo)) has.counted)
     leaves
-    (λ es finished. grows es finished ∙ ap (λ y. taken_by 1 es y mid.count (text mid.store)) image_is)
+    (λ es finished. grows es finished ∙ ap (λ y. taken_by 1 es y mid.count (text mid.journal)) image_is)

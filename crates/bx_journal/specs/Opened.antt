@@ -1,146 +1,216 @@
--- What opening leaves and answers, of the devices that it is given.
-use Rattle.std.specs.Prelude.{◌≡◌, ◌↔◌, ℕ, List, [], false, Result, IfOk, IfErr, OnOk, MatchResult}
-use Rattle.bx_scan.specs.declared.answers.How.{How}
-use Rattle.bx_scan.specs.declared.answers.How.TheVariants.{Clean}
-use Rattle.bx_scan.specs.declared.answers.Recovered.{Recovered}
-use Rattle.bx_scan.specs.declared.fault.SessionFault.{SessionFault}
-use Rattle.bx_scan.specs.declared.fault.SessionFault.TheVariants.{Damaged, Interrupted, LengthDiffers, RedoDamaged}
-use Rattle.bx_entries.specs.Shown.{shown}
-use Rattle.bx_entries.specs.Text.{IsAccepted, IsDamagedAt, Reading, Reads}
-use Rattle.bx_scan.specs.Calls.{AfterFault, Differs, OpenFault}
-use Rattle.bx_scan.specs.Images.{Images}
-use Rattle.bx_scan.specs.Judging.{RefusesRedo}
-use Rattle.bx_scan.specs.Opening.{IsOpened, RefusesLength, RefusesText, ThreeCounts}
-use Rattle.bx_steps.specs.Power.{Found}
-use Rattle.bx_scan.specs.Machine.{changes_of}
-use Rattle.bx_scan.specs.Phase.{IsAtRest}
-use Rattle.bx_journal.specs.Recovery.{OpenKind}
-use Rattle.bx_scan.specs.Redo.{IsClean, IsRedoOf, RefusesRedoAt, found_undone}
-use Rattle.bx_steps.specs.Session.{HasUndone, IsReady}
-use Rattle.bx_steps.specs.SessionView.{SessionView}
-use Rattle.bx_scan.specs.Stack.{Recovers, image_at, recovered}
-use Rattle.bx_steps.specs.Standing.{IsStanding}
-use Rattle.bx_scan.specs.Undoing.{HasLeft}
+-- Opening: what it leaves of the three devices that it is given, and what it answers.
+use Rattle.std.specs.Prelude.{◌≡◌, ◌↔◌, ◌⊎◌, ℕ, suc, List, [], false, length, Result, Ok, Err, IfOk, IfErr, OnErr, OnOk, MatchResult}
 use Rattle.bx_image.specs.declared.device.Device.{Ghosts as DeviceViews}
-use Rattle.bx_store.specs.declared.store.TextStore.{Ghosts as StoreViews}
+use Rattle.bx_journal_store.specs.declared.store.TextStore.{Ghosts as StoreViews}
+use Rattle.bx_journal_format.specs.Shown.{shown}
+use Rattle.bx_journal_format.specs.Text.{IsAccepted, IsDamagedAt, Reading, Reads}
+use Rattle.bx_journal_read.specs.declared.answers.How.{How}
+use Rattle.bx_journal_read.specs.declared.answers.How.TheVariants.{Clean}
+use Rattle.bx_journal_read.specs.declared.answers.Recovered.{Recovered}
+use Rattle.bx_journal_read.specs.declared.fault.SessionFault.{SessionFault}
+use Rattle.bx_journal_read.specs.declared.fault.SessionFault.TheVariants.{Damaged, Interrupted, LengthDiffers, RedoDamaged}
+use Rattle.bx_journal_read.specs.model.Calls.{AfterFault, Differs, OpenFault}
+use Rattle.bx_journal_read.specs.model.Fault.{DeviceFault}
+use Rattle.bx_journal_read.specs.model.Images.{Images}
+use Rattle.bx_journal_read.specs.model.Judging.{RefusesRedo}
+use Rattle.bx_journal_read.specs.model.Machine.{changes_of}
+use Rattle.bx_journal_read.specs.model.Opening.{IsOpened, RefusesLength as RefusesTold, RefusesText}
+use Rattle.bx_journal_read.specs.model.Phase.{IsAtRest}
+use Rattle.bx_journal_read.specs.model.Redo.{IsClean, IsRedoOf, RefusesRedoAt, found_undone}
+use Rattle.bx_journal_read.specs.model.Stack.{Recovers, image_at, recovered}
+use Rattle.bx_journal_read.specs.model.Undoing.{HasLeft}
+use Rattle.bx_journal_read.specs.scan.Recovery.{HasUndoneCount, KeepsStack, KeepsUndone}
+use Rattle.bx_journal_protocol.specs.declared.devices.Devices.{Devices}
+use Rattle.bx_journal_protocol.specs.Devices.{AreCounted}
+use Rattle.bx_journal_protocol.specs.model.Power.{Found, FoundBefore, RecoverySurvives}
+use Rattle.bx_journal_protocol.specs.model.Session.{HasUndone, IsReady}
+use Rattle.bx_journal_protocol.specs.protocol.Written.{AreSettled}
+use Rattle.bx_journal_protocol.specs.model.SessionView.{SessionView, devices_of}
+use Rattle.bx_journal_protocol.specs.model.Standing.{IsStanding}
+use Rattle.bx_journal.specs.Recovery.{OpenKind}
 
--- image and journal are as they were
-abbrev pub IsPairSame : {D T : Type 0} → (D → List ℕ) → (T → List ℕ) → D → T → D → T → Type 0
-IsPairSame image text d t d_new t_new = (text t_new ≡ text t) × (image d_new ≡ image d)
+-- what opening answers: a session and what was found, or the three devices and a fault
+abbrev pub Opening : Type 0 → Type 0 → Type 0
+Opening D T = Result (SessionView D T × Recovered) (Devices D T × SessionFault)
 
--- it holds of the reading that a text has, as far as it is shown
-abbrev pub AsRead : List ℕ → (Reading → Type 0) → Type 0
-AsRead text holds = (r : Reading) → Reads (shown text) r → holds r
+-- the same where the three are handed back one by one
+abbrev pub opening_of : {D T : Type 0} → Result (SessionView D T × Recovered) (D × T × T × SessionFault) → Opening D T
+opening_of (Ok o) = Ok o
+opening_of (Err e) = Err (record { image = e.0; journal = e.1; redo = e.2 }, e.3)
+
+-- it holds of the three devices that are left, and of what was found or the fault
+abbrev pub Leaves : {D T : Type 0} → (Devices D T → Result Recovered SessionFault → Type 0) → Opening D T → Type 0
+Leaves holds result = MatchResult result (λ o. holds (devices_of o.0) (Ok o.1)) (λ e. holds e.0 (Err e.1))
 
 -- it holds of the stack that opening finds of a text and an image
 abbrev pub AsFound : List ℕ → List ℕ → (List (List ℕ) → Type 0) → Type 0
 AsFound text x holds = (stack : List (List ℕ)) → Recovers (shown text) x stack → holds stack
 
--- what the session has stands for what a reading of the journal recovers, and the answer tells how
-abbrev pub OpensAs : {D T : Type 0} → (D → List ℕ) → (T → List ℕ) → D → T → Reading → SessionView D T → Recovered → Type 0
-OpensAs image text d t r s o = IsOpened (text t) (image d) r (text s.store) (image s.device) o.how o.changes
+-- Of three devices before opening.
+module _ {D T : Type 0} (d : DeviceViews D) (t : StoreViews T) (old : Devices D T) where
+  -- it holds where image and journal are honest
+  abbrev pub OfPair : Type 0 → Type 0
+  OfPair holds = d.honest old.image → t.honest old.journal → holds
 
--- and the session may go on from there
-abbrev pub StandsRecovered : {D T : Type 0} → (D → List ℕ) → (T → List ℕ) → D → Reading → SessionView D T → Type 0
-StandsRecovered image text d r s = IsStanding image text s (recovered r (image d))
+  -- it holds where all three are honest
+  abbrev pub OfAll : Type 0 → Type 0
+  OfAll holds = d.honest old.image → t.honest old.journal → t.honest old.redo → holds
 
--- where a length differs, that is the fault, unless another came before
-abbrev pub RefusesDiffering : {V E : Type 0} → Result V E → (E → SessionFault) → List ℕ → List ℕ → Type 0
-RefusesDiffering result fault text x = (r : Reading) (n : ℕ) → Reads text r → Differs r.entries (image_at r.stage x) n
-    → MatchResult result (λ v. ⊥) (λ e. RefusesLength n (fault e))
+  -- it holds of the images that opening finds of the three, where they are honest
+  abbrev pub OfFound : (Images → Type 0) → Type 0
+  OfFound holds = OfAll ((s : Images) → Found (t.text old.journal) (d.image old.image) (t.text old.redo) s → holds s)
 
--- opening finds the stack that it found before
-abbrev pub KeepsFound : List ℕ → List ℕ → List ℕ → List ℕ → Type 0
-KeepsFound text x new y = (stack : List (List ℕ)) → Recovers (shown text) x stack → Recovers (shown new) y stack
+  -- image and journal are as they were
+  abbrev pub IsPairSame : Devices D T → Type 0
+  IsPairSame new = (t.text new.journal ≡ t.text old.journal) × (d.image new.image ≡ d.image old.image)
 
--- no length differs of a pair in which opening finds a stack
-abbrev pub KeepsLengths : List ℕ → List ℕ → SessionFault → Type 0
-KeepsLengths text x e = (stack : List (List ℕ)) → Recovers (shown text) x stack → (n : ℕ) → e ≡ LengthDiffers n → ⊥
+  -- whatever the journal reads as, what is left stands for what that recovers
+  abbrev pub Opens : {E : Type 0} → Devices D T → Result Recovered E → Type 0
+  Opens new result = OfPair ((r : Reading) → Reads (shown (t.text old.journal)) r
+      → IfOk result (λ o. IsOpened (t.text old.journal) (d.image old.image) r (t.text new.journal) (d.image new.image) o.how o.changes))
 
--- a line that is reported of the redo text is one at which it is refused
-abbrev pub RefusesRightly : {D T : Type 0} → (D → List ℕ) → (T → List ℕ) → D → T → T → SessionFault → Type 0
-RefusesRightly image text d t u e = (line : ℕ) → e ≡ RedoDamaged line → RefusesRedoAt (text t) (image d) (text u) line
+  -- as many changes are reported as the stack has that opening finds
+  abbrev pub CountsStack : {E : Type 0} → Result Recovered E → Type 0
+  CountsStack result = OfPair (AsFound (t.text old.journal) (d.image old.image) (λ stack. IfOk result (λ o. length stack ≡ suc o.changes)))
 
--- where the redo text is refused at a line, that line is reported, unless another fault came before
-abbrev pub RefusesUnfit : {V E : Type 0} → Result V E → (E → SessionFault) → List ℕ → List ℕ → List ℕ → Type 0
-RefusesUnfit result fault text x redo = (line : ℕ) → RefusesRedoAt text x redo line → MatchResult result (λ v. ⊥) (λ e. RefusesRedo line (fault e))
+  -- from a sound pair the stack is kept, whatever it answers
+  abbrev pub KeepsPair : {E : Type 0} → Devices D T → Result Recovered E → Type 0
+  KeepsPair new result = OfPair (KeepsStack result (t.text old.journal) (d.image old.image) (t.text new.journal) (d.image new.image))
 
--- the session keeps the undone images that are found, or none where something is unfinished
-abbrev pub KeepsImages : {D T : Type 0} → (D → List ℕ) → (T → List ℕ) → D → T → T → SessionView D T → Recovered → Type 0
-KeepsImages image text d t u s o = (i : Images) → Found (text t) (image d) (text u) i → HasUndone image text s (found_undone o.how i.undone)
+  -- a fault is one that the journal's reading gives
+  abbrev pub FaultsAsRead : {V : Type 0} → Result V SessionFault → Type 0
+  FaultsAsRead result = OfPair ((r : Reading) → Reads (shown (t.text old.journal)) r → IfErr result (OpenFault r (d.image old.image)))
 
--- a redo text in which opening finds images is never refused
-abbrev pub KeepsRedo : {D T : Type 0} → (D → List ℕ) → (T → List ℕ) → D → T → T → SessionFault → Type 0
-KeepsRedo image text d t u e = (s : Images) → Found (text t) (image d) (text u) s → (line : ℕ) → e ≡ RedoDamaged line → ⊥
+  -- where a length differs, that is the fault, unless another came before
+  abbrev pub RefusesLength : {V : Type 0} → Result V SessionFault → Type 0
+  RefusesLength result = OfPair ((r : Reading) (n : ℕ) → Reads (shown (t.text old.journal)) r → Differs r.entries (image_at r.stage (d.image old.image)) n
+      → MatchResult result (λ _. ⊥) (RefusesTold n))
 
--- image and texts are those of a session that is ready with these images, as it is when it is closed
-abbrev pub ShowImages : {D T : Type 0} → (D → List ℕ) → (T → List ℕ) → D → T → T → Images → Type 0
-ShowImages image text d t u s = IsAtRest (text t) (image d) s.stack × IsRedoOf (text u) (image d) (changes_of s.stack) s.undone
+  -- each fault but an interruption leaves image and journal
+  abbrev pub SparesPair : {V : Type 0} → Devices D T → Result V SessionFault → Type 0
+  SparesPair new result = OfPair (IfErr result (λ e. AfterFault e (Unit {0}) (IsPairSame new)))
 
--- nothing was unfinished and nothing was written, and the session is ready with these images
-pub record IsReopened {D T : Type 0} (image : D → List ℕ) (text : T → List ℕ) (d : D) (t u : T) (images : Images) (s : SessionView D T) (how : How) : Type 0 where
-  pub clean : how ≡ Clean
-  pub pair_same : IsPairSame image text d t s.device s.store
-  pub redo_same : text s.redo_text ≡ text u
-  pub ready : IsReady image text s images.stack
-  pub undone : HasUndone image text s images.undone
+  -- and so do finished entries alone
+  abbrev pub SparesClean : {E : Type 0} → Devices D T → Result Recovered E → Type 0
+  SparesClean new result = OfPair (IfOk result (λ o. o.how ≡ Clean → IsPairSame new))
 
--- what opening answers: a session and what was found, or the three devices and a fault
-abbrev pub Opening : Type 0 → Type 0 → Type 0
-Opening D T = Result (SessionView D T × Recovered) (D × T × T × SessionFault)
+  -- this many undone images are reported as the redo text and the image that are left stand for
+  abbrev pub TellsUndone : {E : Type 0} → Devices D T → Result Recovered E → Type 0
+  TellsUndone new result = OfAll (IfOk result (λ o. HasUndoneCount (t.text new.redo) (d.image new.image) o.changes o.undone))
 
--- What is found, whatever image it is: the pair that is left stands for the recovered stack, and the session says how many changes that are
-pub record FindsStack {D T : Type 0} (d : DeviceViews D) (t : StoreViews T) (x : D) (s : T) (result : Opening D T) : Type 0 where
-  pub opened : d.honest x → t.honest s → AsRead (t.text s) (λ r. IfOk result (λ o. OpensAs d.image t.text x s r o.0 o.1))
-  pub standing : d.honest x → t.honest s → AsRead (t.text s) (λ r. IfOk result (λ o. StandsRecovered d.image t.text x r o.0))
-  pub left : t.honest s → AsRead (t.text s) (λ r. IfOk result (λ o. HasLeft (t.text s) (t.text o.0.store) r.entries))
-  pub fresh : IfOk result (λ o. (o.0.count ≡ o.1.changes) × (o.0.undone ≡ o.1.undone) × (o.0.is_broken ≡ false))
+  -- a line that is reported of the redo text is one at which it is refused
+  abbrev pub TellsRefused : {V : Type 0} → Result V SessionFault → Type 0
+  TellsRefused result = OfAll (IfErr result (λ e. (line : ℕ) → e ≡ RedoDamaged line → RefusesRedoAt (t.text old.journal) (d.image old.image) (t.text old.redo) line))
 
--- A text that isn't accepted is never opened, and one that is accepted is never called damaged
-pub record JudgesText {D T : Type 0} (t : StoreViews T) (s : T) (result : Opening D T) : Type 0 where
-  pub accepted : t.honest s → OnOk result (IsAccepted (shown (t.text s)))
-  pub damaged : t.honest s → IfErr result (λ e. (line : ℕ) → e.3 ≡ Damaged line → IsDamagedAt (shown (t.text s)) line)
-  pub unaccepted : t.honest s → (IsAccepted (shown (t.text s)) → ⊥) → MatchResult result (λ _. ⊥) (λ e. RefusesText e.3)
+  -- where the redo text is refused at a line, that line is reported, unless another fault came before
+  abbrev pub TellsUnfit : {V : Type 0} → Result V SessionFault → Type 0
+  TellsUnfit result = OfAll ((line : ℕ) → RefusesRedoAt (t.text old.journal) (d.image old.image) (t.text old.redo) line
+      → MatchResult result (λ _. ⊥) (RefusesRedo line))
 
--- Which fault comes: a length differs exactly where the newest finished entry tells another one than that of the image below which it
--- stands, an interruption comes only where something was unfinished, and no fault of another call comes at all
-pub record AnswersFault {D T : Type 0} (d : DeviceViews D) (t : StoreViews T) (x : D) (s : T) (result : Opening D T) : Type 0 where
-  pub faults : d.honest x → t.honest s → AsRead (t.text s) (λ r. IfErr result (λ e. OpenFault r (d.image x) e.3))
-  pub differs : d.honest x → t.honest s → RefusesDiffering result (λ e. e.3) (shown (t.text s)) (d.image x)
-  pub lengths_kept : d.honest x → t.honest s → IfErr result (λ e. KeepsLengths (t.text s) (d.image x) e.3)
-  pub unfinished : t.honest s → IfErr result (λ e. e.3 ≡ Interrupted → IsClean (t.text s) → ⊥)
-  pub kind : IfErr result (λ e. OpenKind e.3)
+  -- the undone images that opening finds are kept, or none where something is unfinished
+  abbrev pub KeepsFoundUndone : {E : Type 0} → Devices D T → Result Recovered E → Type 0
+  KeepsFoundUndone new result = OfFound (λ s. IfOk result (λ o. KeepsUndone (t.text new.redo) (d.image new.image) o s.undone))
 
--- What a fault leaves: the stack is kept, each fault but an interruption leaves all as it was, and behind that one opening finds the images
--- that it found before, without those that were undone
-pub record SparesDevices {D T : Type 0} (d : DeviceViews D) (t : StoreViews T) (x : D) (s u : T) (result : Opening D T) : Type 0 where
-  pub keeps_err : d.honest x → t.honest s → IfErr result (λ e. KeepsFound (t.text s) (d.image x) (t.text e.1) (d.image e.0))
-  pub refused : d.honest x → t.honest s → IfErr result (λ e. AfterFault e.3 (Unit {0}) (IsPairSame d.image t.text x s e.0 e.1))
-  pub redo_same : t.honest u → IfErr result (λ e. AfterFault e.3 (Unit {0}) (t.text e.2 ≡ t.text u))
-  pub finds_err : d.honest x → t.honest s → t.honest u → (i : Images) → Found (t.text s) (d.image x) (t.text u) i
-      → IfErr result (λ e. AfterFault e.3 (Found (t.text e.1) (d.image e.0) (t.text e.2) (record { stack = i.stack; undone = [] }))
-      (Found (t.text e.1) (d.image e.0) (t.text e.2) i))
+  -- behind a fault opening finds the images that it found before, behind an interruption without those that were undone
+  abbrev pub FindsAgain : {V : Type 0} → Devices D T → Result V SessionFault → Type 0
+  FindsAgain new result = OfFound (λ s. IfErr result (λ e. AfterFault e (Found (t.text new.journal) (d.image new.image) (t.text new.redo) (record { stack = s.stack; undone = [] }))
+      (Found (t.text new.journal) (d.image new.image) (t.text new.redo) s)))
 
--- What becomes of the redo text: beside a finished journal it stays, and stands for the undone images; what is unfinished empties it
-pub record OpensRedo {D T : Type 0} (d : DeviceViews D) (t : StoreViews T) (x : D) (s u : T) (result : Opening D T) : Type 0 where
-  pub clean_redo : t.honest u → IfOk result (λ o. o.1.how ≡ Clean → t.text o.0.redo_text ≡ t.text u)
-  pub emptied : t.honest u → IfOk result (λ o. (o.1.how ≡ Clean → ⊥) → (t.text o.0.redo_text ≡ []) × (o.1.undone ≡ 0))
-  pub undone : d.honest x → t.honest s → t.honest u → IfOk result (λ o. (undone : List (List ℕ)) × HasUndone d.image t.text o.0 undone)
-  pub keeps_undone : d.honest x → t.honest s → t.honest u → IfOk result (λ o. KeepsImages d.image t.text x s u o.0 o.1)
+  -- a redo text in which opening finds images is never refused
+  abbrev pub KeepsRedoText : {V : Type 0} → Result V SessionFault → Type 0
+  KeepsRedoText result = OfFound (λ s. IfErr result (λ e. (line : ℕ) → e ≡ RedoDamaged line → ⊥))
 
--- A redo text is refused exactly where it isn't one of the image and of as many changes, and then at the one line
-pub record JudgesRedo {D T : Type 0} (d : DeviceViews D) (t : StoreViews T) (x : D) (s u : T) (result : Opening D T) : Type 0 where
-  pub redo_refused : d.honest x → t.honest s → t.honest u → IfErr result (λ e. RefusesRightly d.image t.text x s u e.3)
-  pub redo_unfit : d.honest x → t.honest s → t.honest u → RefusesUnfit result (λ e. e.3) (t.text s) (d.image x) (t.text u)
-  pub redo_kept : d.honest x → t.honest s → t.honest u → IfErr result (λ e. KeepsRedo d.image t.text x s u e.3)
+  -- of what opening finds unfinished: that is dropped or taken back, or behind an interruption still there
+  abbrev pub SurvivesOpening : Devices D T → Result Recovered SessionFault → Type 0
+  SurvivesOpening new result = OfAll (RecoverySurvives d t result (λ o. o.how ≡ Clean → ⊥) (λ e. e) old new)
 
--- Each device is honest as it was, and counts a failure more where its call failed
-pub record CountsCalls {D T : Type 0} (d : DeviceViews D) (t : StoreViews T) (x : D) (s u : T) (result : Opening D T) : Type 0 where
-  pub device_honesty : IfOk result (λ o. d.honest o.0.device ↔ d.honest x)
-  pub store_honesty : IfOk result (λ o. t.honest o.0.store ↔ t.honest s)
-  pub redo_honesty : IfOk result (λ o. t.honest o.0.redo_text ↔ t.honest u)
-  pub honesty_err : IfErr result (λ e. (d.honest e.0 ↔ d.honest x) × (t.honest e.1 ↔ t.honest s) × (t.honest e.2 ↔ t.honest u))
-  pub device_failures : IfOk result (λ o. d.failures o.0.device ≡ d.failures x)
-  pub store_failures : IfOk result (λ o. t.failures o.0.store ≡ t.failures s)
-  pub redo_failures : IfOk result (λ o. t.failures o.0.redo_text ≡ t.failures u)
-  pub counts : IfErr result (λ e. ThreeCounts e.3 (d.failures x) (t.failures s) (t.failures u) (d.failures e.0) (t.failures e.1) (t.failures e.2))
+  -- beside finished entries alone, and behind each fault but an interruption, whatever is found after a loss of power was found before
+  abbrev pub FindsNothingNew : Devices D T → Result Recovered SessionFault → Type 0
+  FindsNothingNew new result = MatchResult result (λ o. o.how ≡ Clean → FoundBefore d t old new) (λ e. AfterFault e (Unit {0}) (FoundBefore d t old new))
+
+  -- what was unfinished is dropped or taken back on the disk too: of each of the three no more is found than what it has
+  abbrev pub SettlesRecovered : Devices D T → Result Recovered SessionFault → Type 0
+  SettlesRecovered new result = OfAll (IfOk result (λ o. (o.how ≡ Clean → ⊥) → AreSettled d t new))
+
+  -- the three are those of a session that is ready with these images, as it is when it is closed
+  abbrev pub ShowImages : Images → Type 0
+  ShowImages s = IsAtRest (t.text old.journal) (d.image old.image) s.stack × IsRedoOf (t.text old.redo) (d.image old.image) (changes_of s.stack) s.undone
+
+  -- nothing was unfinished and nothing was written, and the session is ready with these images
+  pub record IsReopened (images : Images) (s : SessionView D T) (how : How) : Type 0 where
+    pub clean : how ≡ Clean
+    pub pair_same : IsPairSame (devices_of s)
+    pub redo_same : t.text s.redo ≡ t.text old.redo
+    pub ready : IsReady d.image t.text s images.stack
+    pub undone : HasUndone d.image t.text s images.undone
+
+  -- What is found, whatever image it is: what is left stands for the recovered stack, and the session says how many changes that are
+  pub record FindsStack (result : Opening D T) : Type 0 where
+    pub opened : Leaves Opens result
+    pub standing : OfPair ((r : Reading) → Reads (shown (t.text old.journal)) r → IfOk result (λ o. IsStanding d.image t.text o.0 (recovered r (d.image old.image))))
+    pub left : t.honest old.journal → (r : Reading) → Reads (shown (t.text old.journal)) r → IfOk result (λ o. HasLeft (t.text old.journal) (t.text o.0.journal) r.entries)
+    pub fresh : IfOk result (λ o. (o.0.count ≡ o.1.changes) × (o.0.undone ≡ o.1.undone) × (o.0.is_broken ≡ false))
+
+  -- A text that isn't accepted is never opened, and one that is accepted is never called damaged
+  pub record JudgesText (result : Opening D T) : Type 0 where
+    pub accepted : t.honest old.journal → OnOk result (IsAccepted (shown (t.text old.journal)))
+    pub damaged : t.honest old.journal → IfErr result (λ e. (line : ℕ) → e.1 ≡ Damaged line → IsDamagedAt (shown (t.text old.journal)) line)
+    pub unaccepted : t.honest old.journal → (IsAccepted (shown (t.text old.journal)) → ⊥) → MatchResult result (λ _. ⊥) (λ e. RefusesText e.1)
+
+  -- Which fault comes: a length differs exactly where the newest finished entry tells another one than that of the image below which it
+  -- stands, an interruption comes only where something was unfinished, and no fault of another call comes at all
+  pub record AnswersFault (result : Opening D T) : Type 0 where
+    pub faults : Leaves (λ new. FaultsAsRead) result
+    pub differs : Leaves (λ new. RefusesLength) result
+    pub lengths_kept : OfPair (AsFound (t.text old.journal) (d.image old.image) (λ stack. IfErr result (λ e. (n : ℕ) → e.1 ≡ LengthDiffers n → ⊥)))
+    pub unfinished : t.honest old.journal → IfErr result (λ e. e.1 ≡ Interrupted → IsClean (t.text old.journal) → ⊥)
+    pub kind : IfErr result (λ e. OpenKind e.1)
+
+  -- What is left: beside finished entries alone, and behind each fault but an interruption, all is as it was; behind an interruption opening
+  -- finds the images that it found before, without those that were undone
+  pub record SparesDevices (result : Opening D T) : Type 0 where
+    pub clean : Leaves SparesClean result
+    pub refused : Leaves SparesPair result
+    pub redo_same : t.honest old.redo → Leaves (λ new r. IfErr r (λ e. AfterFault e (Unit {0}) (t.text new.redo ≡ t.text old.redo))) result
+    pub keeps : Leaves KeepsPair result
+    pub finds_err : Leaves FindsAgain result
+
+  -- What becomes of the redo text: beside a finished journal it stays, and stands for the undone images; what is unfinished empties it
+  pub record OpensRedo (result : Opening D T) : Type 0 where
+    pub clean_redo : t.honest old.redo → IfOk result (λ o. o.1.how ≡ Clean → t.text o.0.redo ≡ t.text old.redo)
+    pub emptied : t.honest old.redo → IfOk result (λ o. (o.1.how ≡ Clean → ⊥) → (t.text o.0.redo ≡ []) × (o.1.undone ≡ 0))
+    pub undone : OfAll (IfOk result (λ o. (undone : List (List ℕ)) × HasUndone d.image t.text o.0 undone))
+    pub keeps_undone : OfFound (λ s. IfOk result (λ o. HasUndone d.image t.text o.0 (found_undone o.1.how s.undone)))
+
+  -- A redo text is refused exactly where it isn't one of the image and of as many changes, and then at the one line
+  pub record JudgesRedo (result : Opening D T) : Type 0 where
+    pub redo_refused : Leaves (λ new. TellsRefused) result
+    pub redo_unfit : Leaves (λ new. TellsUnfit) result
+    pub redo_kept : Leaves (λ new. KeepsRedoText) result
+
+  -- Each device is honest as it was, and counts a failure more where its call failed
+  pub record CountsCalls (result : Opening D T) : Type 0 where
+    pub image_honesty : IfOk result (λ o. d.honest o.0.image ↔ d.honest old.image)
+    pub journal_honesty : IfOk result (λ o. t.honest o.0.journal ↔ t.honest old.journal)
+    pub redo_honesty : IfOk result (λ o. t.honest o.0.redo ↔ t.honest old.redo)
+    pub honesty_err : IfErr result (λ e. (d.honest e.0.image ↔ d.honest old.image) × (t.honest e.0.journal ↔ t.honest old.journal)
+        × (t.honest e.0.redo ↔ t.honest old.redo))
+    pub image_failures : IfOk result (λ o. d.failures o.0.image ≡ d.failures old.image)
+    pub journal_failures : IfOk result (λ o. t.failures o.0.journal ≡ t.failures old.journal)
+    pub redo_failures : IfOk result (λ o. t.failures o.0.redo ≡ t.failures old.redo)
+    pub counts : Leaves (AreCounted d t old) result
+
+  -- Opening, whatever the three devices are: all that is promised of it
+  pub record OpensDevices (result : Opening D T) : Type 0 where
+    pub found : FindsStack result
+    pub text : JudgesText result
+    pub fault : AnswersFault result
+    pub keeps : OfPair (AsFound (t.text old.journal) (d.image old.image) (λ s. IfOk result (λ o. IsReady d.image t.text o.0 s)))
+    pub spares : SparesDevices result
+    pub redo : OpensRedo result
+    pub redo_fault : JudgesRedo result
+    pub reopens : OfAll ((s : Images) → ShowImages s → MatchResult result (λ o. IsReopened s o.0 o.1.how) (λ e. DeviceFault e.1))
+    pub survives : Leaves SurvivesOpening result
+    pub settled : Leaves SettlesRecovered result
+    pub found_before : Leaves FindsNothingNew result
+    pub devices : CountsCalls result

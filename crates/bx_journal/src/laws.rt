@@ -1,9 +1,10 @@
 //! Laws over the definitions alone.
-ghost use Rattle.bx_steps.specs.Laws.{WrittenIsRead, StandsForOne, DamagedAtOne, EmptyIsSound};
-ghost use Rattle.bx_steps.specs.RedoLaws.{EmptyIsRedo, IsWrittenAgain, RedoIsOne, RedoLineOne};
+ghost use Rattle.bx_journal.specs.Losses.{FindsIsFound, OpeningFinds, OpeningsFind};
+ghost use Rattle.bx_journal_protocol.specs.model.Laws.{WrittenIsRead, StandsForOne, DamagedAtOne, EmptyIsSound};
+ghost use Rattle.bx_journal_protocol.specs.model.RedoLaws.{EmptyIsRedo, IsWrittenAgain, RedoIsOne, RedoLineOne};
 
 use bx_image::Device;
-use bx_store::TextStore;
+use bx_journal_store::TextStore;
 use std::alloc::Allocator;
 
 /// The entry that is written is read again, and gives its number, its record and its length.
@@ -44,4 +45,21 @@ pub fn one_redo_line()
 /// Behind a change that was made, an undo that is made and a redo that is made leave the very text of the journal.
 pub fn entry_is_written_again<D: Device, T: TextStore, A: Allocator>()
     ensures { IsWrittenAgain A D.image T.text }
+{}
+
+/// What opening finds of a text it finds of the same text behind a loss of power. So a fault that leaves images to be found
+/// (`Finds`) leaves them to an opening, which asks for `Found`.
+pub fn finds_is_found()
+    ensures { FindsIsFound }
+{}
+
+/// Where the three devices are found with some images whatever a loss of power leaves, they are so behind an opening, whatever it answers, or
+/// without those that were undone. So what a call that was answered put on the disk outlives the openings of later processes.
+pub fn opening_finds<D: Device, T: TextStore>()
+    ensures { OpeningFinds D.Device T.TextStore }
+{}
+
+/// The same through any number of losses of power and openings, each loss at any moment of the opening before it.
+pub fn openings_find<D: Device, T: TextStore>()
+    ensures { OpeningsFind D.Device T.TextStore }
 {}

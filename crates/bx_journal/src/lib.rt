@@ -11,13 +11,15 @@
 //! `docs/CALLING.md` has the whole caller, which the gate proves and runs.
 #![tactic(auto)]
 
+mod forget;
 pub mod laws;
 mod look;
 mod recovery;
 mod session;
 
-pub use bx_scan::{How, LogRow, Recovered, SessionFault};
-pub use bx_show::{ShowFault, Steps, Way};
-pub use bx_store::{FileText, FuseText, MemText, TextStore};
+pub use bx_journal_protocol::Devices;
+pub use bx_journal_read::{How, LogRow, Recovered, SessionFault, ShowFault, Steps, Way};
+pub use bx_journal_store::{FileText, FuseText, MemText, TextStore};
+pub use forget::forget_devices;
 pub use look::{log_ranges, show_steps};
 pub use session::Session;

@@ -1,19 +1,22 @@
 //! A look at the changes of a text, without a session: nothing is recovered, and the text stays.
-ghost use Rattle.std.specs.Prelude.{◌≡◌, ◌<◌, ◌≤◌, ℕ, All, false, IsTrue, None, length, OnOk, IfOk, IfErr};
-ghost use Rattle.bx_show.specs.Showing.{RangesOf, StopsLog};
-ghost use Rattle.bx_show.specs.Steps.{RefusesSteps, ShowsSteps, StopsSteps};
-ghost use Rattle.bx_show.specs.inner.Showing.{LiesWithin, PutFault};
-ghost use Rattle.bx_show.specs.inner.Steps.{CannotStep, FindsSteps, IsChecked, IsFoundPut, few_that, fault_that};
+ghost use Rattle.std.specs.Prelude.{◌≡◌, ◌<◌, ◌≤◌, ℕ, All, IsTrue, length, OnOk, IfOk, IfErr, IfSome, IfNone};
+ghost use Rattle.bx_journal_read.specs.model.Fault.{LacksOrFails};
+ghost use Rattle.bx_journal_read.specs.scan.Looking.{LooksAt};
+ghost use Rattle.bx_journal_read.specs.show.Showing.{RangesOf, StopsLog, LiesWithin, LookCounts, PutFault, Stays};
+ghost use Rattle.bx_journal_read.specs.show.Steps.{RefusesSteps, ShowsSteps, StopsSteps, BeginsLine, CannotStep, FindsSteps, IsChecked, IsFoundPut, IsLeftIn, IsSettled, few_that, fault_that};
 
 mod entries;
 mod step;
 
 use crate::look::entries::put_rows;
 use crate::look::step::put_steps;
+use crate::recovery::redo::line_at;
 use bx_image::{Device, DeviceFailed};
-use bx_scan::{SessionFault, Torn, of_redo};
-use bx_show::{Marked, ShowFault, Steps, Way, all_marks, begin_writing, front_marks, put_torn};
-use bx_store::TextStore;
+use bx_journal_read::{
+    Marked, SessionFault, ShowFault, Steps, Torn, Way, all_marks, begin_writing, front_marks,
+    of_redo, of_text, put_torn,
+};
+use bx_journal_store::TextStore;
 use std::alloc::Allocator;
 use std::io::Write;
 
@@ -24,23 +27,24 @@ use std::io::Write;
 /// it takes windows of 256 KiB, and 56 bytes for each entry.
 ///
 /// # Errors
-/// `NoMemory`, also where a line has more than 256 KiB, `DeviceFailed`, and `Damaged` with the line from 1; `WriteFailed` with
+/// `NoMemory`, also where a saved line has more than 256 KiB, `DeviceFailed`, and `Damaged` with the line from 1; `WriteFailed` with
 /// how many bytes were written.
 pub fn log_ranges<T: TextStore, A: Allocator + Clone, W: Write>(
     alloc: &A,
-    store: &mut T,
+    journal: &mut T,
     out: &mut W,
 ) -> Result<(), ShowFault>
-    requires { T.failures store.old < u64.MAX }
-    ensures rows { T.honest store.old → OnOk result (RangesOf (T.text store.old) (W.contents out.old) (W.contents out.new)) }
-    ensures fault { IfErr result (StopsLog (T.honest store.old) (T.text store.old)) }
-    ensures text { T.honest store.old → T.text store.new ≡ T.text store.old }
+    requires { T.failures journal.old < u64.MAX }
+    ensures rows { T.honest journal.old → OnOk result (RangesOf (T.text journal.old) (W.contents out.old) (W.contents out.new)) }
+    ensures fault { IfErr result (StopsLog (T.honest journal.old) (T.text journal.old)) }
+    ensures text { Stays T.honest T.text T.failures result journal.old journal.new }
+    ensures counts { IfErr result (λ f. LookCounts f (T.failures journal.old) 0 (T.failures journal.new) 0) }
 {
-    let marks = match all_marks(alloc, store) {
+    let marks = match all_marks(alloc, journal) {
         Ok(marks) => marks,
         Err(fault) => return Err(ShowFault::Text(fault)),
     };
-    put_rows(alloc, store, marks.as_slice(), out)
+    put_rows(alloc, journal, marks.as_slice(), out)
 }
 
 /// A fault of reading the text, as the call that steps over its changes answers it.
@@ -63,25 +67,43 @@ fn too_few(way: Way, have: u32) -> SessionFault
     }
 }
 
-/// Whether something is unfinished that steps this way don't deal with.
-fn is_left(way: Way, torn: Option<Torn>) -> bool
-    ensures { result ≡ false → way ≡ Way.Redo → torn ≡ None }
+/// What is unfinished, where steps this way don't deal with it.
+fn left_of(way: Way, torn: Option<Torn>) -> Option<Torn>
+    ensures some { IfSome result (IsLeftIn way torn) }
+    ensures none { IfNone result (IsSettled way torn) }
 {
     match way {
-        Way::Undo => false,
-        Way::Redo => torn.is_some(),
+        Way::Undo => None,
+        Way::Redo => torn,
     }
 }
 
-/// The marks that were found, where there are as many as there are to be steps, and nothing is unfinished that these don't deal with.
+/// The number, from 1, of the line that begins at this place of a text, which is read whole. It changes nothing.
+fn left_line<T: TextStore, A: Allocator + Clone>(
+    alloc: &A,
+    journal: &mut T,
+    begins: u64,
+) -> Result<u64, SessionFault>
+    requires { T.failures journal.old < u64.MAX }
+    ensures line { T.honest journal.old → begins ≤ length (T.text journal.old) → IfOk result (BeginsLine (T.text journal.old) begins) }
+    ensures fault { IfErr result LacksOrFails }
+    ensures looks { LooksAt T.honest T.text T.failures result journal.old journal.new }
+{
+    let bytes = match journal.read_all(alloc.clone()?) {
+        Ok(bytes) => bytes,
+        Err(fault) => return Err(of_text(fault)),
+    };
+    let at = begins.min(bytes.len() as u64);
+    Ok(line_at(&bytes, at))
+}
+
+/// The marks that were found, where there are as many as there are to be steps.
 fn check_steps<A: Allocator>(steps: Steps, found: Marked<A>) -> Result<Marked<A>, SessionFault>
-    requires { length found.marks.items ≤ 65535 }
+    requires few { length found.marks.items ≤ 65535 }
+    requires settled { IsSettled steps.way found.torn }
     ensures ok { IfOk result (IsChecked steps found) }
     ensures fault { IfErr result (CannotStep steps found) }
 {
-    if is_left(steps.way, found.torn) {
-        return Err(SessionFault::NoMemory);
-    }
     let have = found.marks.len();
     if have < steps.count as usize {
         return Err(too_few(steps.way, have as u32));
@@ -89,46 +111,54 @@ fn check_steps<A: Allocator>(steps: Steps, found: Marked<A>) -> Result<Marked<A>
     Ok(found)
 }
 
-/// The marks of the entries of a text that are to be stepped over.
+/// The marks of the entries of a text that are to be stepped over. A redo text with something unfinished is damaged at the line
+/// where that begins.
 fn find_steps<T: TextStore, A: Allocator + Clone>(
     alloc: &A,
-    store: &mut T,
+    journal: &mut T,
     steps: Steps,
 ) -> Result<Marked<A>, SessionFault>
-    requires { T.failures store.old < u64.MAX }
-    ensures { FindsSteps T.honest T.text T.failures steps result store.old store.new }
+    requires { T.failures journal.old < u64.MAX }
+    ensures { FindsSteps T.honest T.text T.failures steps result journal.old journal.new }
 {
-    let found = match front_marks(alloc, store) {
+    let found = match front_marks(alloc, journal) {
         Ok(found) => found,
         Err(fault) => return Err(fault_on(steps.way, fault)),
     };
-    check_steps(steps, found)
+    let Some(left) = left_of(steps.way, found.torn) else {
+        return check_steps(steps, found);
+    };
+    match left_line(alloc, journal, left.begins) {
+        Ok(line) => Err(SessionFault::RedoDamaged { line }),
+        Err(fault) => Err(fault),
+    }
 }
 
 /// Writes the line on what is unfinished, and the steps.
 fn put_found<D: Device, T: TextStore, A: Allocator + Clone, W: Write>(
     alloc: &A,
-    device: &mut D,
-    store: &mut T,
+    image: &mut D,
+    journal: &mut T,
     found: &Marked<A>,
     steps: Steps,
     out: &mut W,
 ) -> Result<(), ShowFault>
-    requires countable { D.failures device.old < u64.MAX }
-    requires also_countable { T.failures store.old < u64.MAX }
+    requires countable { D.failures image.old < u64.MAX }
+    requires also_countable { T.failures journal.old < u64.MAX }
     requires enough { steps.count ≤ length found.now.marks.items }
-    requires lie { (len : ℕ) × (T.honest store.old → len ≤ length (T.text store.old)) × All (LiesWithin len) found.now.marks.items }
-    ensures put { T.honest store.old → (IsTrue steps.compares → D.honest device.old) → OnOk result
-        (IsFoundPut steps (D.image device.old) (T.text store.old) found.now (W.contents out.old) (W.contents out.new)) }
+    requires lie { (len : ℕ) × (T.honest journal.old → len ≤ length (T.text journal.old)) × All (LiesWithin len) found.now.marks.items }
+    ensures put { T.honest journal.old → (IsTrue steps.compares → D.honest image.old) → OnOk result
+        (IsFoundPut steps (D.image image.old) (T.text journal.old) found.now (W.contents out.old) (W.contents out.new)) }
     ensures kind { IfErr result PutFault }
-    ensures image { D.honest device.old → D.image device.new ≡ D.image device.old }
-    ensures text { T.honest store.old → T.text store.new ≡ T.text store.old }
+    ensures image { Stays D.honest D.image D.failures result image.old image.new }
+    ensures stays { Stays T.honest T.text T.failures result journal.old journal.new }
+    ensures counts { IfErr result (λ f. LookCounts f (D.failures image.old) (T.failures journal.old) (D.failures image.new) (T.failures journal.new)) }
 {
     let before = put_torn(alloc, found.torn, out)?;
     let mut writing = begin_writing(alloc, before)?;
     put_steps(
-        device,
-        store,
+        image,
+        journal,
         &mut writing,
         found.marks.as_slice(),
         steps,
@@ -137,35 +167,36 @@ fn put_found<D: Device, T: TextStore, A: Allocator + Clone, W: Write>(
 }
 
 /// Writes what the next undos of a journal's text, or the next redos of a redo text, would do: for each step a heading, the
-/// saved lines of the entry as they stand in the text, or where they are compared each beside what the image has there, and an
-/// empty line.
+/// saved lines of the entry, each made from the bytes that it gives, where they are compared beside what the image has there, and
+/// an empty line.
 ///
 /// Where something is unfinished at the end of a journal, a line says so first, and the steps are over the entries before it.
-/// Of memory it takes windows of 256 KiB, 56 bytes for each entry, and where lines are compared about 1 MiB.
+/// Of memory it takes windows of 256 KiB, 56 bytes for each entry, and about 1 MiB for lines.
 ///
 /// # Errors
 /// `TooFew` or `NothingToRedo` where the text has fewer entries, `Damaged` or `RedoDamaged` with the line from 1, before
-/// anything is written; `NoMemory`, also where a line has more than 256 KiB, or a redo text has something unfinished at its end,
-/// and `DeviceFailed`; `WriteFailed` with how many bytes were written.
+/// anything is written: a redo text with something unfinished is damaged at the line where that begins. `NoMemory`, also where a
+/// saved line has more than 256 KiB, and `DeviceFailed`; `WriteFailed` with how many bytes were written.
 pub fn show_steps<D: Device, T: TextStore, A: Allocator + Clone, W: Write>(
     alloc: &A,
-    device: &mut D,
-    store: &mut T,
+    image: &mut D,
+    journal: &mut T,
     steps: Steps,
     out: &mut W,
 ) -> Result<(), ShowFault>
-    requires countable { D.failures device.old < u64.MAX }
-    requires also_countable { T.failures store.old < u64.MAX }
-    ensures shows { T.honest store.old → (IsTrue steps.compares → D.honest device.old) → OnOk result
-        (ShowsSteps (T.text store.old) (D.image device.old) steps (W.contents out.old) (W.contents out.new)) }
-    ensures fault { IfErr result (StopsSteps (T.honest store.old) (T.text store.old) steps) }
+    requires countable { D.failures image.old < u64.MAX }
+    requires also_countable { T.failures journal.old < u64.MAX }
+    ensures shows { T.honest journal.old → (IsTrue steps.compares → D.honest image.old) → OnOk result
+        (ShowsSteps (T.text journal.old) (D.image image.old) steps (W.contents out.old) (W.contents out.new)) }
+    ensures fault { IfErr result (StopsSteps (T.honest journal.old) (T.text journal.old) steps) }
     ensures quiet { IfErr result (λ fault. RefusesSteps fault → W.contents out.new ≡ W.contents out.old) }
-    ensures image { D.honest device.old → D.image device.new ≡ D.image device.old }
-    ensures text { T.honest store.old → T.text store.new ≡ T.text store.old }
+    ensures image { Stays D.honest D.image D.failures result image.old image.new }
+    ensures text { Stays T.honest T.text T.failures result journal.old journal.new }
+    ensures counts { IfErr result (λ f. LookCounts f (D.failures image.old) (T.failures journal.old) (D.failures image.new) (T.failures journal.new)) }
 {
-    let found = match find_steps(alloc, store, steps) {
+    let found = match find_steps(alloc, journal, steps) {
         Ok(found) => found,
         Err(fault) => return Err(ShowFault::Text(fault)),
     };
-    put_found(alloc, device, store, &found, steps, out)
+    put_found(alloc, image, journal, &found, steps, out)
 }

@@ -1,19 +1,20 @@
 //! A session: changes to an image, each with its entry in the journal, a write-ahead undo log.
 ghost use Rattle.std.specs.Prelude.{◌≡◌, ◌+◌, ◌<◌, ◌≤◌, [], false, IfOk, IfErr, OnOk};
-ghost use Rattle.bx_scan.specs.Machine.{PerformStep, changed};
+ghost use Rattle.bx_journal_read.specs.model.Machine.{PerformStep, changed};
 
+mod compare;
+mod forget;
 mod log;
 mod open;
 mod redo;
 mod undo;
 mod view;
 
-use bx_entries::MOST_CHANGES;
 use bx_image::{Change, Device};
-use bx_prepare::prepare_change;
-use bx_scan::SessionFault;
-use bx_steps::{Devices, RedoCut, write_change};
-use bx_store::TextStore;
+use bx_journal_format::MOST_CHANGES;
+use bx_journal_protocol::{Devices, RedoCut, prepare_change, write_change};
+use bx_journal_read::SessionFault;
+use bx_journal_store::TextStore;
 use std::alloc::{Allocator, Global};
 use std::marker::Model;
 
@@ -30,18 +31,20 @@ pub struct Session<D: Device, T: TextStore, A: Allocator = Global> {
 }
 
 impl<D: Device, T: TextStore, A: Allocator> Model for Session<D, T, A> {
-    ghost use Rattle.bx_steps.specs.SessionView.{SessionView};
+    ghost use Rattle.bx_journal_protocol.specs.model.SessionView.{SessionView};
 
     ghost Value = { SessionView D T };
 
-    ghost view = { λ s. record { device = s.devices.device; store = s.devices.store; redo_text = s.devices.redo_text; count = s.count; undone = s.undone; is_broken = s.is_broken } };
+    ghost view = { λ s. record { image = s.devices.image; journal = s.devices.journal; redo = s.devices.redo; count = s.count; undone = s.undone; is_broken = s.is_broken } };
 }
 
 impl<D: Device, T: TextStore, A: Allocator + Clone> Session<D, T, A> {
-    ghost use Rattle.bx_steps.specs.Performing.{AppendsEntry, FindsOne, StaysReady, Steps, StopsPerform};
-    ghost use Rattle.bx_scan.specs.Calls.{AfterFault};
-    ghost use Rattle.bx_steps.specs.Power.{NothingNew, ChangeSurvives};
-    ghost use Rattle.bx_steps.specs.Session.{FailsSafely, HasUndone};
+    ghost use Rattle.bx_journal_protocol.specs.model.Performing.{AppendsEntry, FindsOne, StaysReady, Steps, StopsPerform};
+    ghost use Rattle.bx_journal_read.specs.model.Calls.{AfterFault};
+    ghost use Rattle.bx_journal_protocol.specs.model.Power.{NothingNew, ChangeSurvives};
+    ghost use Rattle.bx_journal_protocol.specs.model.SessionView.{devices_of};
+    ghost use Rattle.bx_journal_protocol.specs.protocol.Written.{AreSettled};
+    ghost use Rattle.bx_journal_protocol.specs.model.Session.{FailsSafely, HasUndone};
     ghost use Rattle.bx_journal.specs.Faults.{FaultsOfChange};
 
     /// Changes the image, and answers the change's number, which is how many changes then stand. What was undone is
@@ -52,30 +55,32 @@ impl<D: Device, T: TextStore, A: Allocator + Clone> Session<D, T, A> {
     /// reserving, and `Interrupted` from the first write on. Each but the last changes nothing. Of what it overwrites no
     /// more is held than a page of the journal has.
     pub fn perform(&mut self, change: &Change<A>) -> Result<u32, SessionFault>
-        requires device_countable { D.failures self.old.device < u64.MAX }
-        requires store_countable { T.failures self.old.store < u64.MAX }
-        requires redo_countable { T.failures self.old.redo_text < u64.MAX }
+        requires image_countable { D.failures self.old.image < u64.MAX }
+        requires journal_countable { T.failures self.old.journal < u64.MAX }
+        requires redo_countable { T.failures self.old.redo < u64.MAX }
 
         // Accepted, it makes the machine's step, and the session goes on.
-        ensures accepted { D.honest self.old.device → T.honest self.old.store → Steps D.image T.text self.old self.new PerformStep change.now changed result }
-        ensures sound { D.honest self.old.device → T.honest self.old.store → StaysReady D.image T.text self.old self.new (changed change.now) result }
+        ensures accepted { D.honest self.old.image → T.honest self.old.journal → Steps D.image T.text self.old self.new PerformStep change.now changed result }
+        ensures sound { D.honest self.old.image → T.honest self.old.journal → StaysReady D.image T.text self.old self.new (changed change.now) result }
         ensures number { IfOk result (λ n. (n ≡ self.old.count + 1) × (self.new.count ≡ n) × (self.new.undone ≡ 0) × (self.new.is_broken ≡ false)) }
-        ensures entry { D.honest self.old.device → T.honest self.old.store
+        ensures entry { D.honest self.old.image → T.honest self.old.journal
             → IfOk result (AppendsEntry D.image T.text change.now self.old self.new) }
 
         // What was undone is given up.
-        ensures emptied { T.honest self.old.redo_text → OnOk result (T.text self.new.redo_text ≡ []) }
-        ensures undone { T.honest self.old.redo_text → OnOk result (HasUndone D.image T.text self.new []) }
+        ensures emptied { T.honest self.old.redo → OnOk result (T.text self.new.redo ≡ []) }
+        ensures undone { T.honest self.old.redo → OnOk result (HasUndone D.image T.text self.new []) }
 
         // An interruption leaves the old stack or the new one, and another fault leaves all as it was.
-        ensures fault { D.honest self.old.device → T.honest self.old.store → StopsPerform D.image T.text change.now self.old self.new result }
+        ensures fault { D.honest self.old.image → T.honest self.old.journal → StopsPerform D.image T.text change.now self.old self.new result }
 
-        ensures finds { D.honest self.old.device → T.honest self.old.store → T.honest self.old.redo_text
+        ensures finds { D.honest self.old.image → T.honest self.old.journal → T.honest self.old.redo
             → FindsOne D.image T.text change.now self.old self.new result }
 
-        // So it is behind a loss of power inside the call; where it is accepted, the new images are on the disk.
-        ensures survives { D.honest self.old.device → T.honest self.old.store → T.honest self.old.redo_text
-            → ChangeSurvives D.image D.survives T.text T.survives change.now self.old self.new result }
+        // So it is behind a loss of power inside the call; where it is accepted, the new images are on the disk,
+        // and of each of the three no more is found than what it has.
+        ensures survives { D.honest self.old.image → T.honest self.old.journal → T.honest self.old.redo
+            → ChangeSurvives D.image D.survives T.text T.survives change.now self.old self.new result
+            × OnOk result (AreSettled D.Device T.TextStore (devices_of self.new)) }
 
         // A refusal leaves nothing to be found after a loss of power that wasn't to be found before.
         ensures found_before { IfErr result (λ e. AfterFault e (Unit {0}) (NothingNew D.Device T.TextStore self.old self.new)) }

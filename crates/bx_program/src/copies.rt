@@ -1,32 +1,33 @@
-//! dd.
+//! dd onto an image, and its report.
+ghost use Rattle.bx_cli_commands.specs.jobs.Passing.{CanPass, plan_skip};
+
 use crate::files::look::is_device;
 use crate::fitting::Fitting;
 use crate::hints::remarks::Remarks;
 use crate::images::{finish, open_session};
 use crate::input::{Placed, file, standard};
-use crate::stopped::{Noted, STANDARD_INPUT, Stopped};
-use bx_cli::{Command, DdJob, Fault, Job, Reply, Texts};
-use bx_dd::{Counts, report};
-use bx_text::{IoFault, Name, Words};
-use std::alloc::Global;
+use crate::stopped::{Noted, Stopped};
+use bx_cli::{Command, DdImageJob, Fault, plan_rest};
+use bx_dd::{Counts, Plan, report};
+use bx_program_system::Progress;
+use bx_text::IoFault;
 use std::fs::File;
 use std::io::Read;
 use std::rt::Files;
+use std::time::Clock;
 
-/// Puts what the operands make of the input onto the image, and tells the counts. The input is opened first, and read whole
-/// before the image is written: they may be one file. `dd` is what the job has.
+/// Puts what the plan makes of the input onto the image, and tells the counts. The input is opened first, and read whole
+/// before the image is written: they may be one file.
 pub fn copy_onto<'a, R>(
     rt: &R,
-    job: &Job,
-    dd: &'a DdJob,
-    image: &'a Name,
-    texts: &'a Texts,
+    job: &'a DdImageJob,
     remarks: &mut Remarks,
 ) -> Result<(), Stopped<'a>>
 where
-    R: Files<File = File> + Input + Eprint + AllocGlobal,
+    R: Files<File = File> + Input + Eprint + Clock + AllocGlobal,
 {
-    if let Some(counts) = copy_input(rt, job, dd, image, texts)? {
+    let progress = remarks.progress_of_input(rt, None);
+    if let Some(counts) = copy_input(rt, job, &progress)? {
         remarks.look_at_counts(&counts);
         // One that can't be made or written is no fault: what it tells of is done.
         let _ = tell(rt, &counts, 0);
@@ -34,76 +35,64 @@ where
     Ok(())
 }
 
-/// Opens the input, puts what the operands make of it onto the image, and answers the counts.
+/// Opens the input, puts what the plan makes of it onto the image, and answers the counts.
 fn copy_input<'a, R>(
     rt: &R,
-    job: &Job,
-    dd: &'a DdJob,
-    image: &'a Name,
-    texts: &'a Texts,
+    job: &'a DdImageJob,
+    progress: &Progress<'_, R>,
 ) -> Result<Option<Counts>, Stopped<'a>>
 where
-    R: Files<File = File> + Input + Eprint + AllocGlobal,
+    R: Files<File = File> + Input + Eprint + Clock + AllocGlobal,
 {
-    match &dd.plan.input {
-        Some(name) => copy_from(rt, dd, image, texts, name.as_str(), file(rt, job, name)?),
-        None => copy_from(rt, dd, image, texts, STANDARD_INPUT, standard(rt, job)),
+    let skip = job.skip();
+    match &job.plan.input {
+        Some(name) => copy_from(rt, job, file(rt, skip, name)?, progress),
+        None => copy_from(rt, job, standard(rt, skip), progress),
     }
 }
 
-/// The operands for what stands behind passed bytes: `skip=` tells how many blocks are left to skip. Of a block device, whose
-/// length stays, they have `conv=notrunc`, as the real dd takes it.
-fn operands_of(alloc: Global, dd: &DdJob, passed: u64, keeps_length: bool) -> Result<Words, Fault> {
-    let left = dd.plan.skip.saturating_sub(passed / dd.plan.ibs);
-    let skip = format!(in alloc; "skip={left}")?;
-    let mut operands = Words::new(alloc);
-    let mut is_kept = !keeps_length;
-    for i in 0..dd.operands.len() {
-        match dd.operands.get(i) {
-            Some(word) if word.starts_with("skip=") => operands.push(skip.as_str())?,
-            Some(word) if keeps_length && word.starts_with("conv=") => {
-                operands.push(format!(in alloc; "{word},notrunc")?.as_str())?;
-                is_kept = true;
-            }
-            Some(word) => operands.push(word)?,
-            None => {}
-        }
-    }
-    if !is_kept {
-        operands.push("conv=notrunc")?;
-    }
-    Ok(operands)
+/// The plan for what stands behind passed bytes. On a block device, whose length stays, it has `conv=notrunc`, as the real dd
+/// takes it.
+fn plan_for(plan: &Plan, passed: u64, keeps_length: bool) -> Plan
+    requires { CanPass passed (plan_skip plan.now) }
+{
+    let mut rest = plan_rest(plan, passed);
+    rest.notrunc = rest.notrunc || keeps_length;
+    rest
 }
 
-/// Puts what the operands make of an input onto the image, and answers the counts. No more is read for a block device than
+/// Puts what the plan makes of an input onto the image, and answers the counts. No more is read for a block device than
 /// shows that it doesn't fit.
 fn copy_from<'a, R, I: Read + Drop>(
     rt: &R,
-    dd: &'a DdJob,
-    image: &'a Name,
-    texts: &'a Texts,
-    from: &'a str,
-    input: Placed<I>,
+    job: &'a DdImageJob,
+    input: Placed<'a, I>,
+    progress: &Progress<'_, R>,
 ) -> Result<Option<Counts>, Stopped<'a>>
 where
-    R: Files<File = File> + Eprint + AllocGlobal,
+    R: Files<File = File> + Eprint + Clock + AllocGlobal,
+    requires { CanPass input.passed (plan_skip job.now.plan) }
 {
-    let keeps_length = is_device(rt, image.as_str());
-    let operands = operands_of(rt.alloc(), dd, input.passed, keeps_length)?;
-    let session = open_session(rt, image, texts, true, dd.access)?;
-    let passed = input.passed;
+    let keeps_length = is_device(rt, job.target.image.as_str());
+    let session = open_session(rt, &job.target, true, progress)?;
+    let (from, passed) = (input.name, input.passed);
+    let plan = plan_for(&job.plan, passed, keeps_length);
     let input = Noted::new(input.reader);
-    let mut fitting = Fitting::new(input, &dd.plan, passed, session.length);
-    let asked = Command::Dd {
-        operands,
+    let mut fitting = Fitting::new(input, &job.plan, passed, session.length);
+    let asked = Command::Copy {
+        plan,
         input: &mut fitting,
     };
-    match finish(rt, session, asked, image, texts) {
-        Ok(Reply::Copied { counts, .. }) => Ok(Some(counts)),
-        Ok(_) => Ok(None),
+    match finish(rt, session, asked, &job.target) {
+        Ok(reply) => Ok(reply.counts()),
         Err(stopped) if fitting.is_full() => Err(stopped.on_more_input()),
         Err(stopped) => Err(stopped.on_input(from, fitting.input.error)),
     }
+}
+
+/// How many bytes dd reads at most behind those that it skips; none where its operands don't tell.
+pub fn most_of_dd(plan: &Plan) -> Option<u64> {
+    plan.count.map(|count| count.saturating_mul(plan.ibs))
 }
 
 /// dd's report, on standard error. `written` bytes went to standard output before, and a write fault tells them: how much of

@@ -1,31 +1,37 @@
 //! The devices of a session, and which of them stopped it.
 use crate::files::Made;
-use crate::files::open::take_away;
-use crate::files::text_file::TextFile;
 use crate::stopped::{Reason, Stopped};
-use bx_cli::{Fault, Texts};
-use bx_image::{Device, FileImage};
-use bx_journal::SessionFault;
-use bx_store::{FileText, TextStore};
-use bx_text::{Name, NoMemory};
+use bx_cli::{Fault, Target};
+use bx_image::{Device, FileImage, RandomAccess};
+use bx_journal::{Devices, SessionFault};
+use bx_journal_store::{FileText, TextStore};
+use bx_program_system::{CountedFile, take_away};
 use std::fs::File;
 use std::io::{Seek, SeekFrom};
 use std::rt::Files;
+use std::time::Clock;
+
+/// An image in a file.
+pub type ImageFile<'p, 'r, R> = FileImage<CountedFile<'p, 'r, R>>;
+
+/// A journal or a redo text in a file.
+pub type TextFile<'p, 'r, R> = FileText<CountedFile<'p, 'r, R>>;
+
+/// The devices of a session.
+pub type FileDevices<'p, 'r, R> = Devices<ImageFile<'p, 'r, R>, TextFile<'p, 'r, R>>;
 
 /// The devices of a session, with their names.
 #[derive(Drop)]
-pub struct Devices<'a> {
+pub struct Named<'a, F: RandomAccess> {
     /// The image, the journal and the redo text.
-    pub trio: (FileImage, FileText<TextFile>, FileText<TextFile>),
-    /// The image's name.
-    pub image: &'a Name,
-    /// The names of the other two.
-    pub texts: &'a Texts,
+    pub devices: Devices<FileImage<F>, FileText<F>>,
+    /// Their names.
+    pub target: &'a Target,
 }
 
-impl<'a> Devices<'a> {
+impl<'a, 'p, 'r, R: Clock + Eprint> Named<'a, CountedFile<'p, 'r, R>> {
     /// The device that stopped a session. Where nothing was begun, the files that this run made are taken away again.
-    pub fn refused<R>(&self, rt: &R, fault: Fault, made: Made) -> Stopped<'a>
+    pub fn refused(&self, rt: &R, fault: Fault, made: Made) -> Stopped<'a>
     where
         R: Files<File = File> + AllocGlobal,
     {
@@ -36,16 +42,23 @@ impl<'a> Devices<'a> {
     }
 
     /// Takes files away that nothing was written to.
-    fn unmake<R: Files<File = File> + AllocGlobal>(&self, rt: &R, made: Made) {
-        let (image, journal, redo) = &self.trio;
-        if made.image {
-            take_away(rt, self.image.as_str(), &image.file().file);
+    fn unmake(&self, rt: &R, made: Made)
+    where
+        R: Files<File = File> + AllocGlobal,
+    {
+        let Devices {
+            image,
+            journal,
+            redo,
+        } = &self.devices;
+        if let Some(file) = image.file().file().filter(|_| made.image) {
+            take_away(rt, self.target.image.as_str(), &file.file);
         }
         if let Some(file) = journal.file().file().filter(|_| made.journal) {
-            take_away(rt, self.texts.journal.as_str(), &file.file);
+            take_away(rt, self.target.texts.journal.as_str(), &file.file);
         }
         if let Some(file) = redo.file().file().filter(|_| made.redo) {
-            take_away(rt, self.texts.redo.as_str(), &file.file);
+            take_away(rt, self.target.texts.redo.as_str(), &file.file);
         }
     }
 
@@ -58,21 +71,37 @@ impl<'a> Devices<'a> {
             SessionFault::DeviceFailed | SessionFault::Interrupted => self.failed(fault),
             SessionFault::LengthDiffers { expected } => self.differs(fault, expected),
             SessionFault::NoMemory => self.unfitting(fault),
-            SessionFault::Damaged { .. } => Stopped::by(fault, self.texts.journal.as_str(), None),
-            SessionFault::RedoDamaged { .. } => Stopped::by(fault, self.texts.redo.as_str(), None),
+            SessionFault::Damaged { .. } => Stopped::by(
+                fault,
+                self.target.texts.journal.as_str(),
+                None,
+            ),
+            SessionFault::RedoDamaged { .. } => Stopped::by(
+                fault,
+                self.target.texts.redo.as_str(),
+                None,
+            ),
             _ => Stopped::from(fault),
         }
     }
 
     /// The first device that had a failed call.
     fn failed(&self, fault: Fault) -> Stopped<'a> {
-        let (image, journal, redo) = &self.trio;
+        let Devices {
+            image,
+            journal,
+            redo,
+        } = &self.devices;
         if image.faults() > 0 {
-            Stopped::by(fault, self.image.as_str(), image.file().error)
+            Stopped::failed(fault, self.target.image.as_str(), image.file().failed())
         } else if journal.faults() > 0 {
-            Stopped::by(fault, self.texts.journal.as_str(), journal.file().error())
+            Stopped::failed(
+                fault,
+                self.target.texts.journal.as_str(),
+                journal.file().failed(),
+            )
         } else if redo.faults() > 0 {
-            Stopped::by(fault, self.texts.redo.as_str(), redo.file().error())
+            Stopped::failed(fault, self.target.texts.redo.as_str(), redo.file().failed())
         } else {
             Stopped::from(fault)
         }
@@ -80,12 +109,12 @@ impl<'a> Devices<'a> {
 
     /// The image, where it can't grow and the change doesn't fit.
     fn unfitting(&self, fault: Fault) -> Stopped<'a> {
-        match self.trio.0.refused() {
+        match self.devices.image.refused() {
             Some(wanted) => Stopped {
-                fault: Fault::from(NoMemory),
-                file: Some(self.image.as_str()),
+                fault: Fault::from(SessionFault::TooLarge),
+                file: Some(self.target.image.as_str()),
                 reason: Reason::Fixed {
-                    has: self.trio.0.reserved(),
+                    has: self.devices.image.reserved(),
                     wanted,
                 },
             },
@@ -95,14 +124,17 @@ impl<'a> Devices<'a> {
 
     /// The image, which has not the length that it should have.
     fn differs(&self, fault: Fault, expected: u64) -> Stopped<'a> {
-        let mut file = &self.trio.0.file().file;
+        let Some(file) = self.devices.image.file().file() else {
+            return Stopped::from(fault);
+        };
+        let mut file = &file.file;
         match file.seek(SeekFrom::End(0)) {
             Ok(has) => Stopped {
                 fault,
-                file: Some(self.image.as_str()),
+                file: Some(self.target.image.as_str()),
                 reason: Reason::Lengths { has, expected },
             },
-            Err(error) => Stopped::by(fault, self.image.as_str(), error.raw_os_error()),
+            Err(error) => Stopped::by(fault, self.target.image.as_str(), error.raw_os_error()),
         }
     }
 }

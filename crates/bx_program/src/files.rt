@@ -1,22 +1,19 @@
 //! The files of a session.
-mod alias;
+mod dev;
+mod guard;
 mod links;
 pub mod look;
-mod mode;
 mod mounts;
 pub mod open;
-pub mod text_file;
+mod unfit;
 
-use crate::files::alias::is_apart;
-use crate::files::look::{Holds, look, look_at_all};
-use crate::files::mode::Permits;
-use crate::files::open::{Opened, Purpose, take_away};
+use crate::files::guard::Guard;
+use crate::files::look::{Holds, Makes, Use, look, look_at_all};
+use crate::files::open::{Opened, Purpose};
 use crate::stopped::Stopped;
-use bx_cli::Texts;
-use bx_text::Name;
+use bx_cli::{Target, Texts};
+use bx_program_system::{Permits, fixed_length, take_away};
 use std::fs::File;
-use std::io::{self, Seek, SeekFrom};
-use std::os::unix::fs::FileTypeExt;
 use std::rt::Files;
 
 /// Which of an image, its journal and its redo text this run made.
@@ -56,10 +53,11 @@ pub struct SessionFiles {
 
 impl SessionFiles {
     /// Takes those away again that this run made and nothing was written to.
-    pub fn unmake<R>(&self, rt: &R, image: &Name, texts: &Texts)
+    pub fn unmake<R>(&self, rt: &R, target: &Target)
     where
         R: Files<File = File> + AllocGlobal,
     {
+        let Target { image, texts, .. } = target;
         if self.made.image {
             take_away(rt, image.as_str(), &self.image);
         }
@@ -70,14 +68,6 @@ impl SessionFiles {
             take_away(rt, texts.redo.as_str(), redo);
         }
     }
-}
-
-/// The length of a file that can't have another one.
-fn fixed_length(mut file: &File) -> io::Result<Option<u64>> {
-    if file.metadata()?.file_type().is_block_device() {
-        return Ok(Some(file.seek(SeekFrom::End(0))?));
-    }
-    Ok(None)
 }
 
 /// The three as a session takes them.
@@ -112,14 +102,15 @@ fn open_redo<'a, R>(
     rt: &R,
     name: &'a str,
     purpose: Purpose,
+    holds: Holds,
     image: &Opened<'_>,
     journal: &Opened<'_>,
 ) -> Result<Opened<'a>, Stopped<'a>>
 where
     R: Files<File = File> + AllocGlobal,
 {
-    let redo = Opened::new(rt, name, purpose, Holds::Text)?;
-    match is_apart(&redo, image).and_then(|()| is_apart(&redo, journal)) {
+    let redo = Opened::new(rt, name, purpose, holds)?;
+    match redo.is_apart(image).and_then(|()| redo.is_apart(journal)) {
         Ok(()) => Ok(redo),
         Err(stopped) => {
             redo.unmake(rt);
@@ -138,15 +129,15 @@ fn make_texts<'a, R>(
 where
     R: Files<File = File> + AllocGlobal,
 {
-    let permits = match image.file.metadata() {
-        Ok(file) => Permits::beside(&file),
+    let (permits, holds) = match image.file.metadata() {
+        Ok(file) => (Permits::beside(&file), Holds::Text(Some(Guard::of(&file)))),
         Err(error) => return Err(Stopped::unopened(image.name, error)),
     };
     let purpose = Purpose::Make(permits);
     let of_journal = if make { purpose } else { Purpose::Change };
-    let journal = Opened::new(rt, texts.journal.as_str(), of_journal, Holds::Text)?;
-    let outcome = match is_apart(&journal, image) {
-        Ok(()) => open_redo(rt, texts.redo.as_str(), purpose, image, &journal),
+    let journal = Opened::new(rt, texts.journal.as_str(), of_journal, holds)?;
+    let outcome = match journal.is_apart(image) {
+        Ok(()) => open_redo(rt, texts.redo.as_str(), purpose, holds, image, &journal),
         Err(stopped) => Err(stopped),
     };
     match outcome {
@@ -160,25 +151,27 @@ where
 
 /// The image, then its journal, then its redo text. `make` says whether an image and a journal that are missing are made; the
 /// redo text always is. All three are looked at before one is opened, and what was made is taken away again where a later one
-/// is refused. The texts that are made may be read by nobody who may not read the image. `mounted` says whether the image may be
-/// a block device that is mounted.
+/// is refused. The texts that are made may be read by nobody who may not read the image. The target's access says whether the
+/// image may be a block device that is mounted.
 ///
 /// # Errors
 /// `OpenFailed` where one is missing and isn't to be made, can't be opened, is no regular file (and, for the image, no block
-/// device either), or is locked by another program or under another name; where two of them are one file; where a block device
-/// has no journal of another name than `IMAGE.bxj`, or is mounted. No file is then changed, and none is made, but for an empty
-/// one whose place could not be looked at again.
-pub fn trio<'a, R>(
-    rt: &R,
-    image: &'a Name,
-    texts: &'a Texts,
-    make: bool,
-    mounted: bool,
-) -> Result<SessionFiles, Stopped<'a>>
+/// device either), or is locked by another program or under another name; where two of them are one file; where a text is a link,
+/// has a second name, belongs to nobody who may write the image, or may be read or written by somebody who may not do so with the
+/// image; where a block device has no journal of another name than `IMAGE.bxj`, is read-only or is mounted; where a file would be
+/// made among the devices, or behind the link of another user. No file is then changed, and none is made, but for an empty one
+/// whose place could not be looked at again.
+pub fn trio<'a, R>(rt: &R, target: &'a Target, make: bool) -> Result<SessionFiles, Stopped<'a>>
 where
     R: Files<File = File> + AllocGlobal,
 {
-    look_at_all(rt, image, texts, make, !mounted)?;
+    let Target {
+        image,
+        texts,
+        access,
+    } = target;
+    let makes = if make { Makes::All } else { Makes::Redo };
+    look_at_all(rt, target, makes, Use::change(access.mounted))?;
     let purpose = if make {
         Purpose::Make(Permits::of_image())
     } else {
@@ -200,19 +193,23 @@ where
 /// As of `trio`.
 pub fn existing<'a, R>(
     rt: &R,
-    image: &'a Name,
-    texts: &'a Texts,
+    target: &'a Target,
     purpose: Purpose,
 ) -> Result<SessionFiles, Stopped<'a>>
 where
     R: Files<File = File> + AllocGlobal,
 {
-    let redo_is_there = look(rt, texts.redo.as_str(), true, Holds::Text)?.is_some();
+    let Target { image, texts, .. } = target;
+    let redo_is_there = look(rt, texts.redo.as_str(), true, Holds::Text(None))?.is_some();
     let image = Opened::new(rt, image.as_str(), purpose, Holds::Image)?;
-    let journal = Opened::new(rt, texts.journal.as_str(), purpose, Holds::Text)?;
-    is_apart(&journal, &image)?;
+    let holds = match image.file.metadata() {
+        Ok(file) => Holds::Text(Some(Guard::of(&file))),
+        Err(error) => return Err(Stopped::unopened(image.name, error)),
+    };
+    let journal = Opened::new(rt, texts.journal.as_str(), purpose, holds)?;
+    journal.is_apart(&image)?;
     let redo = if redo_is_there {
-        Some(open_redo(rt, texts.redo.as_str(), purpose, &image, &journal)?)
+        Some(open_redo(rt, texts.redo.as_str(), purpose, holds, &image, &journal)?)
     } else {
         None
     };

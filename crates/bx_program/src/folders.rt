@@ -1,33 +1,15 @@
 //! The folders that the names of a session's files stand in.
 use crate::stopped::Stopped;
-use bx_cli::Texts;
-use bx_text::Name;
+use bx_cli::Target;
+use bx_program_system::{folder_of, sync_folder};
 use std::fs::File;
-use std::io::{self, ErrorKind};
 use std::rt::Files;
-
-/// The folder of a name.
-pub fn folder_of(name: &str) -> &str {
-    match name.rsplit_once('/') {
-        None => ".",
-        Some(("", _)) => "/",
-        Some((folder, _)) => folder,
-    }
-}
-
-/// Whether the system says that such a folder can't be synced at all, or not by this user.
-fn is_passed(error: &io::Error) -> bool {
-    matches!(
-        error.kind(),
-        ErrorKind::InvalidInput | ErrorKind::Unsupported | ErrorKind::PermissionDenied
-    )
-}
 
 /// Puts the names that a folder has on the disk.
 fn sync<'a, R: Files<File = File>>(rt: &R, folder: &'a str) -> Result<(), Stopped<'a>> {
-    match File::open(rt, folder).and_then(|opened| opened.sync_all()) {
-        Err(error) if !is_passed(&error) => Err(Stopped::unopened(folder, error)),
-        _ => Ok(()),
+    match sync_folder(rt, folder) {
+        Ok(()) => Ok(()),
+        Err(error) => Err(Stopped::unopened(folder, error)),
     }
 }
 
@@ -39,12 +21,11 @@ fn sync<'a, R: Files<File = File>>(rt: &R, folder: &'a str) -> Result<(), Stoppe
 /// not read, is passed by.
 pub fn keep_names<'a, R: Files<File = File>>(
     rt: &R,
-    image: &'a Name,
-    texts: &'a Texts,
+    target: &'a Target,
 ) -> Result<(), Stopped<'a>> {
-    let folder = folder_of(texts.journal.as_str());
+    let folder = folder_of(target.texts.journal.as_str());
     sync(rt, folder)?;
-    let of_image = folder_of(image.as_str());
+    let of_image = folder_of(target.image.as_str());
     if of_image != folder {
         sync(rt, of_image)?;
     }

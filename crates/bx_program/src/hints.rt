@@ -1,14 +1,18 @@
 //! What the program writes of a fault, and for a person of a success.
 mod commands;
+mod effect;
 mod names;
-mod readers;
+mod products;
+mod quoted;
 pub mod remarks;
 pub mod seen;
 
-use crate::hints::commands::{operands_of, words_of};
-use crate::hints::names::name_hint;
+use crate::hints::commands::{operands_of, push_word, words_of};
+use crate::hints::names::{name_hint, subject};
+use crate::hints::quoted::printed;
 use crate::stopped::{Reason, Stopped};
 use bx_cli::{Fault, Job, Known, hint_text, misuse_of};
+use bx_image::FailedCall;
 use bx_text::Words;
 use std::alloc::{AllocError, Global};
 use std::io;
@@ -44,8 +48,9 @@ where
 {
     if is_of_words(stopped) {
         let misuse = misuse_of(rt.alloc(), words, stopped.fault)?;
+        let word = printed(rt.alloc(), misuse.word.as_str())?;
         let known = Known {
-            subject: misuse.word.as_str(),
+            subject: word.as_str(),
             reason: misuse.reason,
             words: "",
             usage: misuse.usage.as_str(),
@@ -62,10 +67,10 @@ where
     R: Eprint + AllocGlobal,
 {
     let file = stopped.file.unwrap_or("");
-    let reason = reason_text(rt.alloc(), job, stopped.reason)?;
-    if matches!(stopped.reason, Reason::Fixed { .. } | Reason::Full { .. }) {
-        // The advice is on memory, and there was enough.
-        let _ = eprintln!(rt; "hint: {file}: {reason}");
+    let name = subject(rt.alloc(), file)?;
+    let reason = reason_text(rt.alloc(), job, stopped)?;
+    if stopped.reason.is_all() {
+        let _ = eprintln!(rt; "hint: {name}: {reason}");
         return Ok(());
     }
     let words = match job {
@@ -73,7 +78,7 @@ where
         None => String::new(rt.alloc()),
     };
     let known = Known {
-        subject: file,
+        subject: name.as_str(),
         reason: reason.as_str(),
         words: words.as_str(),
         usage: if stopped.fault == Fault::OpenFailed {
@@ -103,12 +108,19 @@ fn is_of_words(stopped: Stopped<'_>) -> bool {
 }
 
 /// The reason in words, as the system says it.
-fn reason_text(alloc: Global, job: Option<&Job>, reason: Reason) -> Result<String, AllocError> {
-    match reason {
+fn reason_text(
+    alloc: Global,
+    job: Option<&Job>,
+    stopped: Stopped<'_>,
+) -> Result<String, AllocError> {
+    match stopped.reason {
         Reason::Unknown => Ok(String::new(alloc)),
         Reason::System(code) => system_text(alloc, code),
+        Reason::Call(call) => call_text(alloc, call),
         Reason::Told(why) => String::from_str(alloc, why),
+        Reason::Wide { bits } => wide_text(alloc, stopped.file.unwrap_or(""), bits),
         Reason::Unfinished => unfinished_text(alloc, job),
+        Reason::Begun => begun_text(alloc, job),
         Reason::Fixed { has, wanted } => {
             format!(in alloc; "it has {has} bytes and can't grow to {wanted}")
         }
@@ -123,14 +135,47 @@ fn reason_text(alloc: Global, job: Option<&Job>, reason: Reason) -> Result<Strin
     }
 }
 
+/// What is said of a text that more people may read or write than the image, and the command that narrows it to these bits.
+fn wide_text(alloc: Global, name: &str, bits: u32) -> Result<String, AllocError> {
+    let mut text = format!(in alloc;
+        "somebody may read or write it who may not do so with the image; chmod {bits:03o}"
+    )?;
+    push_word(&mut text, name)?;
+    text.push_str(" narrows it, and -J names a journal elsewhere")?;
+    Ok(text)
+}
+
 /// What is said of a file that has to be written before the changes can be listed.
 fn unfinished_text(alloc: Global, job: Option<&Job>) -> Result<String, AllocError> {
-    let operands = match job {
-        Some(job) => operands_of(alloc, job)?,
+    let operands = match job.and_then(Job::target) {
+        Some(target) => operands_of(alloc, target)?,
         None => String::new(alloc),
     };
     format!(in alloc;
         "a change is unfinished, and recovery has to write this file; let someone run bx log{operands} who may"
+    )
+}
+
+/// The call that the system refused, by its name, and why.
+fn call_text(alloc: Global, call: FailedCall) -> Result<String, AllocError> {
+    let name = call.operation.name();
+    match call.error {
+        Some(code) => {
+            let why = system_text(alloc, code)?;
+            format!(in alloc; "{name}: {why}")
+        }
+        None => String::from_str(alloc, name),
+    }
+}
+
+/// What is said where a change is unfinished behind those that can be shown.
+fn begun_text(alloc: Global, job: Option<&Job>) -> Result<String, AllocError> {
+    let operands = match job.and_then(Job::target) {
+        Some(target) => operands_of(alloc, target)?,
+        None => String::new(alloc),
+    };
+    format!(in alloc;
+        "a change is unfinished, and isn't counted; bx log{operands} takes it back or drops it, as each command but bx show does, and lists the changes"
     )
 }
 

@@ -1,159 +1,161 @@
 //! The jobs that change an image or show its changes.
 ghost use Rattle.std.specs.Prelude.{◌≡◌, ◌<◌, IfOk};
-ghost use Rattle.bx_commands.specs.Command.{IsNear};
+ghost use Rattle.bx_cli_commands.specs.Command.{IsNear};
 
-use crate::devices::Devices;
-use crate::files::look::look_at_all;
+use crate::devices::{FileDevices, ImageFile, Named, TextFile};
+use crate::files::look::{Makes, Use, look_at_all};
 use crate::files::open::Purpose;
-use crate::files::text_file::TextFile;
 use crate::files::{Made, SessionFiles, existing, trio};
 use crate::folders::keep_names;
 use crate::paged::Paged;
 use crate::stopped::Stopped;
 use bx_cli::{
-    Access, Command, Durability, Fault, Reply, Texts, change_if_read, list_ranges, list_steps,
-    log_text, run_one,
+    Command, Durability, Fault, Reply, Target, change_if_read, list_ranges, list_steps, log_text,
+    run_one,
 };
-use bx_image::{Change, Device, FileImage, SystemFile};
-use bx_journal::{How, LogRow, Session, SessionFault, Steps, Way};
+use bx_image::{Change, Device, FileImage, RandomAccess};
+use bx_journal::{Devices, How, LogRow, Session, SessionFault, Steps, Way};
+use bx_journal_store::{FileText, TextStore};
+use bx_program_system::{CountedFile, Progress, held, image_of, size_of_texts};
 use bx_read::ReadFault;
-use bx_store::{FileText, TextStore};
-use bx_text::Name;
 use std::alloc::Global;
 use std::fs::File;
 use std::io::{Read, Write};
 use std::rt::Files;
+use std::time::Clock;
 
-type FileSession = Session<FileImage, FileText<TextFile>>;
+type FileSession<'p, 'r, R> = Session<ImageFile<'p, 'r, R>, TextFile<'p, 'r, R>>;
+
+/// A session on the files of an image.
+pub type OpenSession<'p, 'r, R> = SessionOn<'p, 'r, R, CountedFile<'p, 'r, R>>;
 
 /// A session on an image and its texts, and which of them this run made: those are taken away again where a command is refused
 /// before anything was written to them.
 #[derive(Drop)]
-pub struct OpenSession {
+pub struct SessionOn<'p, 'r, R, F: RandomAccess> {
     /// The image's length, where it can't have another one: of a block device.
     pub length: Option<u64>,
-    session: FileSession,
+    session: Session<FileImage<F>, FileText<F>>,
     made: Made,
-}
-
-/// A file as a device holds it.
-fn held(file: File, durability: Durability) -> SystemFile {
-    let mut file = SystemFile::new(file);
-    file.waits = durability == Durability::Synced;
-    file
+    progress: &'p Progress<'r, R>,
 }
 
 /// Opens the image and its texts for a command that may change them, and puts their names on the disk. The files are locked up
-/// to the session's end.
-pub fn open_session<'a, R>(
+/// to the session's end. `progress` counts what is read of the texts, and then what the command writes.
+pub fn open_session<'a, 'p, 'r, R>(
     rt: &R,
-    image: &'a Name,
-    texts: &'a Texts,
+    target: &'a Target,
     make: bool,
-    access: Access,
-) -> Result<OpenSession, Stopped<'a>>
+    progress: &'p Progress<'r, R>,
+) -> Result<OpenSession<'p, 'r, R>, Stopped<'a>>
 where
-    R: Files<File = File> + Eprint + AllocGlobal,
-    ensures device { IfOk result (λ o. ⟦<FileImage as Device>⟧.failures o.session.device ≡ 0) }
-    ensures store { IfOk result (λ o. ⟦<FileText<TextFile> as TextStore>⟧.failures o.session.store ≡ 0) }
-    ensures redo_text { IfOk result (λ o. ⟦<FileText<TextFile> as TextStore>⟧.failures o.session.redo_text ≡ 0) }
+    R: Files<File = File> + Eprint + Clock + AllocGlobal,
+    ensures image { IfOk result (λ o. ⟦<FileImage<CountedFile<'p, 'r, R>> as Device>⟧.failures o.session.image ≡ 0) }
+    ensures journal { IfOk result (λ o. ⟦<FileText<CountedFile<'p, 'r, R>> as TextStore>⟧.failures o.session.journal ≡ 0) }
+    ensures redo { IfOk result (λ o. ⟦<FileText<CountedFile<'p, 'r, R>> as TextStore>⟧.failures o.session.redo ≡ 0) }
 {
-    let files = trio(rt, image, texts, make, access.mounted)?;
-    if access.durability == Durability::Synced {
-        if let Err(stopped) = keep_names(rt, image, texts) {
-            files.unmake(rt, image, texts);
+    let files = trio(rt, target, make)?;
+    let durability = target.access.durability;
+    if durability == Durability::Synced {
+        if let Err(stopped) = keep_names(rt, target) {
+            files.unmake(rt, target);
             return Err(stopped);
         }
     }
-    session_of(rt, files, image, texts, access.durability)
+    session_of(rt, files, target, durability, progress)
 }
 
 /// Opens the image and its texts for a command that only reads what stands: without writing anything, where nothing is
 /// unfinished. Else it recovers.
-pub fn open_to_look<'a, R>(
+pub fn open_to_look<'a, 'p, 'r, R>(
     rt: &R,
-    image: &'a Name,
-    texts: &'a Texts,
-    access: Access,
-) -> Result<OpenSession, Stopped<'a>>
+    target: &'a Target,
+    progress: &'p Progress<'r, R>,
+) -> Result<OpenSession<'p, 'r, R>, Stopped<'a>>
 where
-    R: Files<File = File> + Eprint + AllocGlobal,
-    ensures { IfOk result (λ o. ⟦<FileText<TextFile> as TextStore>⟧.failures o.session.store ≡ 0) }
+    R: Files<File = File> + Eprint + Clock + AllocGlobal,
+    ensures { IfOk result (λ o. ⟦<FileText<CountedFile<'p, 'r, R>> as TextStore>⟧.failures o.session.journal ≡ 0) }
 {
-    look_at_all(rt, image, texts, false, false)?;
-    let files = existing(rt, image, texts, Purpose::Read)?;
-    match session_of(rt, files, image, texts, Durability::Unsynced) {
+    look_at_all(rt, target, Makes::Nothing, Use::Read)?;
+    let files = existing(rt, target, Purpose::Read)?;
+    match session_of(rt, files, target, Durability::Unsynced, progress) {
         Err(stopped) if stopped.fault == Fault::from(SessionFault::Interrupted) => {}
         outcome => return outcome,
     }
-    look_at_all(rt, image, texts, false, !access.mounted).map_err(Stopped::unrecovered)?;
-    let files = existing(rt, image, texts, Purpose::Change).map_err(Stopped::unrecovered)?;
+    let access = target.access;
+    let used = Use::change(access.mounted);
+    look_at_all(rt, target, Makes::Nothing, used).map_err(Stopped::unrecovered)?;
+    let files = existing(rt, target, Purpose::Change).map_err(Stopped::unrecovered)?;
     if access.durability == Durability::Synced {
-        keep_names(rt, image, texts)?;
+        keep_names(rt, target)?;
     }
-    session_of(rt, files, image, texts, access.durability)
+    session_of(rt, files, target, access.durability, progress)
 }
 
 /// The session of files that were just opened. It says on standard error what was recovered.
-fn session_of<'a, R>(
+fn session_of<'a, 'p, 'r, R>(
     rt: &R,
     files: SessionFiles,
-    image: &'a Name,
-    texts: &'a Texts,
+    target: &'a Target,
     durability: Durability,
-) -> Result<OpenSession, Stopped<'a>>
+    progress: &'p Progress<'r, R>,
+) -> Result<OpenSession<'p, 'r, R>, Stopped<'a>>
 where
-    R: Files<File = File> + Eprint + AllocGlobal,
-    ensures device { IfOk result (λ o. ⟦<FileImage as Device>⟧.failures o.session.device ≡ 0) }
-    ensures store { IfOk result (λ o. ⟦<FileText<TextFile> as TextStore>⟧.failures o.session.store ≡ 0) }
-    ensures redo_text { IfOk result (λ o. ⟦<FileText<TextFile> as TextStore>⟧.failures o.session.redo_text ≡ 0) }
+    R: Files<File = File> + Eprint + Clock + AllocGlobal,
+    ensures image { IfOk result (λ o. ⟦<FileImage<CountedFile<'p, 'r, R>> as Device>⟧.failures o.session.image ≡ 0) }
+    ensures journal { IfOk result (λ o. ⟦<FileText<CountedFile<'p, 'r, R>> as TextStore>⟧.failures o.session.journal ≡ 0) }
+    ensures redo { IfOk result (λ o. ⟦<FileText<CountedFile<'p, 'r, R>> as TextStore>⟧.failures o.session.redo ≡ 0) }
 {
     let made = files.made;
     let length = files.length;
-    let (device, store, redo_text) = devices_of(files, durability);
-    let (session, found) = match Session::open(rt.alloc(), device, store, redo_text) {
+    progress.begin(size_of(&files, progress));
+    let devices = devices_of(files, durability, progress);
+    let (session, found) = match Session::open_devices(rt.alloc(), devices) {
         Ok(opened) => opened,
-        Err((device, store, redo_text, fault)) => {
-            let trio = (device, store, redo_text);
-            let devices = Devices { trio, image, texts };
-            return Err(devices.refused(rt, Fault::from(fault), made));
+        Err((devices, fault)) => {
+            progress.end();
+            let named = Named { devices, target };
+            return Err(named.refused(rt, Fault::from(fault), made));
         }
     };
+    progress.begin(None);
     let recovered = tell_recovered(rt, found.how);
-    Ok(OpenSession {
+    Ok(SessionOn {
         length,
         session,
         made: if recovered { Made::NONE } else { made },
+        progress,
     })
 }
 
 /// The devices of files that were just opened; no call of them has failed.
-fn devices_of(
+fn devices_of<'p, 'r, R: Clock + Eprint>(
     files: SessionFiles,
     durability: Durability,
-) -> (FileImage, FileText<TextFile>, FileText<TextFile>)
-    ensures device { ⟦<FileImage as Device>⟧.failures result.0 ≡ 0 }
-    ensures store { ⟦<FileText<TextFile> as TextStore>⟧.failures result.1 ≡ 0 }
-    ensures redo_text { ⟦<FileText<TextFile> as TextStore>⟧.failures result.2 ≡ 0 }
+    progress: &'p Progress<'r, R>,
+) -> FileDevices<'p, 'r, R>
+    ensures image { ⟦<FileImage<CountedFile<'p, 'r, R>> as Device>⟧.failures result.image ≡ 0 }
+    ensures journal { ⟦<FileText<CountedFile<'p, 'r, R>> as TextStore>⟧.failures result.journal ≡ 0 }
+    ensures redo { ⟦<FileText<CountedFile<'p, 'r, R>> as TextStore>⟧.failures result.redo ≡ 0 }
 {
-    let device = image_of(held(files.image, durability), files.length);
-    let store = FileText::new(TextFile::new(Some(held(files.journal, durability))));
-    let redo = files.redo.map(|file| held(file, durability));
-    (device, store, FileText::new(TextFile::new(redo)))
-}
-
-/// The image of a file, which may have a length that stays.
-fn image_of(file: SystemFile, length: Option<u64>) -> FileImage
-    ensures { ⟦<FileImage as Device>⟧.failures result ≡ 0 }
-{
-    match length {
-        Some(length) => FileImage::fixed(file, length),
-        None => FileImage::new(file),
+    let waits = durability == Durability::Synced;
+    let image = CountedFile::image(held(files.image, waits), progress);
+    let journal = held(files.journal, waits);
+    let redo = files.redo.map(|file| held(file, waits));
+    Devices {
+        image: image_of(image, files.length),
+        journal: FileText::new(CountedFile::text(Some(journal), progress)),
+        redo: FileText::new(CountedFile::text(redo, progress)),
     }
 }
 
+/// How many bytes the texts have, where somebody looks and the system tells.
+fn size_of<R>(files: &SessionFiles, progress: &Progress<'_, R>) -> Option<u64> {
+    size_of_texts(progress, &files.journal, files.redo.as_ref())
+}
+
 /// Says on standard error what was recovered, and answers whether anything was.
-fn tell_recovered<R: Eprint>(rt: &R, how: How) -> bool {
+fn tell_recovered<'p, 'r, R: Eprint>(rt: &R, how: How) -> bool {
     match how {
         How::Clean => false,
         How::Dropped => {
@@ -168,28 +170,30 @@ fn tell_recovered<R: Eprint>(rt: &R, how: How) -> bool {
 }
 
 /// Runs one command on a session that was just opened, and closes it.
-pub fn finish<'a, R, I: Read + Drop>(
+pub fn finish<'a, 'p, 'r, R, I: Read + Drop>(
     rt: &R,
-    opened: OpenSession,
+    opened: OpenSession<'p, 'r, R>,
     asked: Command<I>,
-    image: &'a Name,
-    texts: &'a Texts,
+    target: &'a Target,
 ) -> Result<Reply, Stopped<'a>>
 where
-    R: Files<File = File> + AllocGlobal,
+    R: Files<File = File> + Eprint + Clock + AllocGlobal,
     requires near { IsNear asked }
-    requires device { ⟦<FileImage as Device>⟧.failures opened.session.device ≡ 0 }
-    requires store { ⟦<FileText<TextFile> as TextStore>⟧.failures opened.session.store ≡ 0 }
-    requires redo_text { ⟦<FileText<TextFile> as TextStore>⟧.failures opened.session.redo_text ≡ 0 }
+    requires image { ⟦<FileImage<CountedFile<'p, 'r, R>> as Device>⟧.failures opened.session.image ≡ 0 }
+    requires journal { ⟦<FileText<CountedFile<'p, 'r, R>> as TextStore>⟧.failures opened.session.journal ≡ 0 }
+    requires redo { ⟦<FileText<CountedFile<'p, 'r, R>> as TextStore>⟧.failures opened.session.redo ≡ 0 }
 {
-    let OpenSession {
+    let SessionOn {
         mut session,
         made,
+        progress,
         ..
     } = opened;
-    match command(rt, &mut session, asked) {
-        Ok(reply) => Ok(reply),
-        Err(fault) => Err(refusal(rt, session, fault, made, image, texts)),
+    let reply = command(rt, &mut session, asked);
+    progress.end();
+    match reply.standing() {
+        Ok(_) => Ok(reply),
+        Err(fault) => Err(refusal(rt, session, fault, made, target)),
     }
 }
 
@@ -197,90 +201,88 @@ where
 /// again.
 fn refusal<'a, R>(
     rt: &R,
-    session: FileSession,
+    session: FileSession<'_, '_, R>,
     fault: Fault,
     made: Made,
-    image: &'a Name,
-    texts: &'a Texts,
+    target: &'a Target,
 ) -> Stopped<'a>
 where
-    R: Files<File = File> + AllocGlobal,
+    R: Files<File = File> + Eprint + Clock + AllocGlobal,
 {
-    let trio = session.close();
-    let devices = Devices { trio, image, texts };
-    devices.refused(rt, fault, made)
+    let devices = closed(session);
+    let named = Named { devices, target };
+    named.refused(rt, fault, made)
 }
 
 /// Makes the change of a text that was read, on a session that was just opened, and closes it.
-pub fn finish_read<'a, R>(
+pub fn finish_read<'a, 'p, 'r, R>(
     rt: &R,
-    opened: OpenSession,
+    opened: OpenSession<'p, 'r, R>,
     read: Result<Change, ReadFault>,
-    image: &'a Name,
-    texts: &'a Texts,
+    target: &'a Target,
 ) -> Result<(), Stopped<'a>>
 where
-    R: Files<File = File> + AllocGlobal,
-    requires device { ⟦<FileImage as Device>⟧.failures opened.session.device ≡ 0 }
-    requires store { ⟦<FileText<TextFile> as TextStore>⟧.failures opened.session.store ≡ 0 }
-    requires redo_text { ⟦<FileText<TextFile> as TextStore>⟧.failures opened.session.redo_text ≡ 0 }
+    R: Files<File = File> + Eprint + Clock + AllocGlobal,
+    requires image { ⟦<FileImage<CountedFile<'p, 'r, R>> as Device>⟧.failures opened.session.image ≡ 0 }
+    requires journal { ⟦<FileText<CountedFile<'p, 'r, R>> as TextStore>⟧.failures opened.session.journal ≡ 0 }
+    requires redo { ⟦<FileText<CountedFile<'p, 'r, R>> as TextStore>⟧.failures opened.session.redo ≡ 0 }
 {
-    let OpenSession {
+    let SessionOn {
         mut session,
         made,
+        progress,
         ..
     } = opened;
-    match change_if_read(&mut session, read) {
-        Reply::Refused(fault) => Err(refusal(rt, session, fault, made, image, texts)),
-        _ => Ok(()),
+    let reply = change_if_read(&mut session, read);
+    progress.end();
+    match reply.standing() {
+        Ok(_) => Ok(()),
+        Err(fault) => Err(refusal(rt, session, fault, made, target)),
     }
 }
 
 /// Runs one command on a session that was just opened.
-fn command<R, I: Read + Drop>(
+fn command<'p, 'r, R, I: Read + Drop>(
     rt: &R,
-    session: &mut FileSession,
+    session: &mut FileSession<'p, 'r, R>,
     mut command: Command<I>,
-) -> Result<Reply, Fault>
+) -> Reply
 where
-    R: AllocGlobal,
+    R: Clock + Eprint + AllocGlobal,
     requires near { IsNear command }
-    requires device { ⟦<FileImage as Device>⟧.failures session.old.device ≡ 0 }
-    requires store { ⟦<FileText<TextFile> as TextStore>⟧.failures session.old.store ≡ 0 }
-    requires redo_text { ⟦<FileText<TextFile> as TextStore>⟧.failures session.old.redo_text ≡ 0 }
+    requires image { ⟦<FileImage<CountedFile<'p, 'r, R>> as Device>⟧.failures session.old.image ≡ 0 }
+    requires journal { ⟦<FileText<CountedFile<'p, 'r, R>> as TextStore>⟧.failures session.old.journal ≡ 0 }
+    requires redo { ⟦<FileText<CountedFile<'p, 'r, R>> as TextStore>⟧.failures session.old.redo ≡ 0 }
 {
-    match run_one(&rt.alloc(), session, &mut command) {
-        Reply::Refused(fault) => Err(fault),
-        reply => Ok(reply),
-    }
+    run_one(&rt.alloc(), session, &mut command)
 }
 
 /// Writes the changes of a session that was just opened, a line with ranges each, the oldest first.
-pub fn log_places<'a, R, W: Write>(
+pub fn log_places<'a, 'p, 'r, R, W: Write>(
     rt: &R,
-    opened: OpenSession,
-    image: &'a Name,
-    texts: &'a Texts,
+    opened: OpenSession<'p, 'r, R>,
+    target: &'a Target,
     out: &mut W,
 ) -> Result<(), Stopped<'a>>
 where
-    R: AllocGlobal,
-    requires { ⟦<FileText<TextFile> as TextStore>⟧.failures opened.session.store ≡ 0 }
+    R: Clock + Eprint + AllocGlobal,
+    requires { ⟦<FileText<CountedFile<'p, 'r, R>> as TextStore>⟧.failures opened.session.journal ≡ 0 }
 {
-    let (device, mut store, redo_text) = opened.session.close();
-    match put_ranges(rt.alloc(), &mut store, out) {
+    opened.progress.end();
+    let mut devices = closed(opened.session);
+    match put_ranges(rt.alloc(), &mut devices.journal, out) {
         Ok(()) => Ok(()),
-        Err(fault) => Err(stop((device, store, redo_text), fault, image, texts)),
+        Err(fault) => Err(stop(devices, fault, target)),
     }
 }
 
 /// Writes what a journal's text says of ranges.
-fn put_ranges<W: Write>(
+fn put_ranges<'p, 'r, R: Clock + Eprint, W: Write>(
     alloc: Global,
-    store: &mut FileText<TextFile>,
+    store: &mut TextFile<'p, 'r, R>,
     out: &mut W,
 ) -> Result<(), Fault>
-    requires { ⟦<FileText<TextFile> as TextStore>⟧.failures store.old ≡ 0 }
+    requires { ⟦<FileText<CountedFile<'p, 'r, R>> as TextStore>⟧.failures store.old ≡ 0 }
 {
     let mut page = Paged::new(alloc, out);
     match list_ranges(&alloc, store, &mut page) {
@@ -289,32 +291,45 @@ fn put_ranges<W: Write>(
     }
 }
 
+/// The devices of a session, which ends.
+fn closed<'p, 'r, R: Clock + Eprint>(session: FileSession<'p, 'r, R>) -> FileDevices<'p, 'r, R>
+    ensures image { result.image ≡ session.entry.image }
+    ensures journal { result.journal ≡ session.entry.journal }
+    ensures redo { result.redo ≡ session.entry.redo }
+{
+    let (image, journal, redo) = session.close();
+    Devices {
+        image,
+        journal,
+        redo,
+    }
+}
+
 /// What stopped a session that had these devices.
-fn stop<'a>(
-    trio: (FileImage, FileText<TextFile>, FileText<TextFile>),
+fn stop<'a, R: Clock + Eprint>(
+    devices: FileDevices<'_, '_, R>,
     fault: Fault,
-    image: &'a Name,
-    texts: &'a Texts,
+    target: &'a Target,
 ) -> Stopped<'a> {
-    let devices = Devices { trio, image, texts };
-    devices.stopped(fault)
+    let named = Named { devices, target };
+    named.stopped(fault)
 }
 
 /// The changes of a session that was just opened as text, a line each, the oldest first.
-pub fn log<'a, R>(
+pub fn log<'a, 'p, 'r, R>(
     rt: &R,
-    opened: OpenSession,
-    image: &'a Name,
-    texts: &'a Texts,
+    opened: OpenSession<'p, 'r, R>,
+    target: &'a Target,
 ) -> Result<String, Stopped<'a>>
 where
-    R: AllocGlobal,
-    requires { ⟦<FileText<TextFile> as TextStore>⟧.failures opened.session.store ≡ 0 }
+    R: Clock + Eprint + AllocGlobal,
+    requires { ⟦<FileText<CountedFile<'p, 'r, R>> as TextStore>⟧.failures opened.session.journal ≡ 0 }
 {
+    opened.progress.end();
     let mut session = opened.session;
     match session.log() {
         Ok(rows) => Ok(text_of(rt.alloc(), rows)?),
-        Err(fault) => Err(stop(session.close(), Fault::from(fault), image, texts)),
+        Err(fault) => Err(stop(closed(session), Fault::from(fault), target)),
     }
 }
 
@@ -328,92 +343,163 @@ fn text_of(alloc: Global, rows: Vec<LogRow>) -> Result<String, Fault> {
 pub fn show_changes<'a, R, W: Write>(
     rt: &R,
     steps: Steps,
-    image: &'a Name,
-    texts: &'a Texts,
+    target: &'a Target,
+    progress: &Progress<'_, R>,
     out: &mut W,
 ) -> Result<(), Stopped<'a>>
 where
-    R: Files<File = File> + AllocGlobal,
+    R: Files<File = File> + Eprint + Clock + AllocGlobal,
 {
-    look_at_all(rt, image, texts, false, false)?;
-    let files = existing(rt, image, texts, Purpose::Read)?;
-    let (device, store, redo_text) = devices_of(files, Durability::Unsynced);
-    match Session::open(rt.alloc(), device, store, redo_text) {
+    look_at_all(rt, target, Makes::Nothing, Use::Read)?;
+    let files = existing(rt, target, Purpose::Read)?;
+    progress.begin(size_of(&files, progress));
+    let devices = devices_of(files, target.access.durability, progress);
+    let opened = Session::open_devices(rt.alloc(), devices);
+    progress.end();
+    match opened {
         Ok((session, found)) => {
-            let trio = session.close();
+            let devices = closed(session);
             let changes = found.changes;
             let steps = Steps { changes, ..steps };
-            put_steps(rt, steps, Devices { trio, image, texts }, out)
+            put_steps(rt, steps, Named { devices, target }, out)
         }
-        Err((device, store, redo_text, fault)) => {
-            let trio = (device, store, redo_text);
-            let devices = Devices { trio, image, texts };
+        Err((devices, fault)) => {
+            let named = Named { devices, target };
             if fault != SessionFault::Interrupted {
-                return Err(devices.stopped(Fault::from(fault)));
+                return Err(named.stopped(Fault::from(fault)));
             }
-            put_unfinished(rt, steps, devices, out)
+            put_unfinished(rt, steps, named, out)
         }
     }
 }
 
-/// Writes what an undo would do once what is unfinished is recovered. Nothing can be made again then.
-fn put_unfinished<'a, R, W: Write>(
+/// Writes that something is unfinished, and what an undo would do once it is recovered. Nothing can be made again then. The line
+/// on it is written also where fewer changes stand than are to be shown.
+fn put_unfinished<'a, 'p, 'r, R, W: Write>(
     rt: &R,
     steps: Steps,
-    devices: Devices<'a>,
+    named: Named<'a, CountedFile<'p, 'r, R>>,
     out: &mut W,
 ) -> Result<(), Stopped<'a>>
 where
-    R: AllocGlobal,
-    requires device { ⟦<FileImage as Device>⟧.failures devices.trio.0 < u64.MAX }
-    requires store { ⟦<FileText<TextFile> as TextStore>⟧.failures devices.trio.1 < u64.MAX }
-    requires redo_text { ⟦<FileText<TextFile> as TextStore>⟧.failures devices.trio.2 < u64.MAX }
+    R: Clock + Eprint + AllocGlobal,
+    requires image { ⟦<FileImage<CountedFile<'p, 'r, R>> as Device>⟧.failures named.devices.image < u64.MAX }
+    requires journal { ⟦<FileText<CountedFile<'p, 'r, R>> as TextStore>⟧.failures named.devices.journal < u64.MAX }
+    requires redo { ⟦<FileText<CountedFile<'p, 'r, R>> as TextStore>⟧.failures named.devices.redo < u64.MAX }
 {
-    if steps.way == Way::Redo && steps.count > 0 {
-        return Err(Stopped::from(Fault::from(SessionFault::NothingToRedo { have: 0 })));
+    let Named { devices, target } = named;
+    let Devices {
+        mut image,
+        mut journal,
+        redo,
+    } = devices;
+    match put_begun(rt.alloc(), &mut image, &mut journal, steps, out) {
+        Ok(()) => Ok(()),
+        Err(fault) => {
+            let devices = Devices {
+                image,
+                journal,
+                redo,
+            };
+            let stopped = stop(devices, fault, target);
+            Err(stopped.on_begun(target.image.as_str()))
+        }
     }
-    let steps = Steps {
+}
+
+/// Writes what the text of an unfinished journal says of steps; where there are fewer, what is unfinished alone.
+fn put_begun<'p, 'r, R: Clock + Eprint, W: Write>(
+    alloc: Global,
+    device: &mut ImageFile<'p, 'r, R>,
+    store: &mut TextFile<'p, 'r, R>,
+    steps: Steps,
+    out: &mut W,
+) -> Result<(), Fault>
+    requires device { ⟦<FileImage<CountedFile<'p, 'r, R>> as Device>⟧.failures device.old < u64.MAX }
+    requires store { ⟦<FileText<CountedFile<'p, 'r, R>> as TextStore>⟧.failures store.old < u64.MAX }
+{
+    let outcome = if steps.way == Way::Redo && steps.count > 0 {
+        Err(Fault::from(SessionFault::NothingToRedo { have: 0 }))
+    } else {
+        let way = Way::Undo;
+        put_text(alloc, device, store, Steps { way, ..steps }, out)
+    };
+    if let Err(
+        Fault::Session(SessionFault::TooFew { .. } | SessionFault::NothingToRedo { .. }),
+    ) = outcome
+    {
+        put_torn(alloc, device, store, steps, out)?;
+    }
+    outcome
+}
+
+/// Writes what is unfinished in a journal, and no step.
+fn put_torn<'p, 'r, R: Clock + Eprint, W: Write>(
+    alloc: Global,
+    device: &mut ImageFile<'p, 'r, R>,
+    store: &mut TextFile<'p, 'r, R>,
+    steps: Steps,
+    out: &mut W,
+) -> Result<(), Fault> {
+    let none = Steps {
         way: Way::Undo,
+        count: 0,
         ..steps
     };
-    put_steps(rt, steps, devices, out)
+    if device.faults() < u64::MAX {
+        if store.faults() < u64::MAX {
+            return put_text(alloc, device, store, none, out);
+        }
+    }
+    Err(Fault::from(SessionFault::DeviceFailed))
 }
 
 /// Writes what the journal's text says of an undo, or the redo text of a redo.
-fn put_steps<'a, R, W: Write>(
+fn put_steps<'a, 'p, 'r, R, W: Write>(
     rt: &R,
     steps: Steps,
-    devices: Devices<'a>,
+    named: Named<'a, CountedFile<'p, 'r, R>>,
     out: &mut W,
 ) -> Result<(), Stopped<'a>>
 where
-    R: AllocGlobal,
-    requires device { ⟦<FileImage as Device>⟧.failures devices.trio.0 < u64.MAX }
-    requires store { ⟦<FileText<TextFile> as TextStore>⟧.failures devices.trio.1 < u64.MAX }
-    requires redo_text { ⟦<FileText<TextFile> as TextStore>⟧.failures devices.trio.2 < u64.MAX }
+    R: Clock + Eprint + AllocGlobal,
+    requires image { ⟦<FileImage<CountedFile<'p, 'r, R>> as Device>⟧.failures named.devices.image < u64.MAX }
+    requires journal { ⟦<FileText<CountedFile<'p, 'r, R>> as TextStore>⟧.failures named.devices.journal < u64.MAX }
+    requires redo { ⟦<FileText<CountedFile<'p, 'r, R>> as TextStore>⟧.failures named.devices.redo < u64.MAX }
 {
-    let Devices { trio, image, texts } = devices;
-    let (mut device, mut store, mut redo_text) = trio;
+    let Named { devices, target } = named;
+    let Devices {
+        mut image,
+        mut journal,
+        mut redo,
+    } = devices;
     let shown = match steps.way {
-        Way::Undo => put_text(rt.alloc(), &mut device, &mut store, steps, out),
-        Way::Redo => put_text(rt.alloc(), &mut device, &mut redo_text, steps, out),
+        Way::Undo => put_text(rt.alloc(), &mut image, &mut journal, steps, out),
+        Way::Redo => put_text(rt.alloc(), &mut image, &mut redo, steps, out),
     };
     match shown {
         Ok(()) => Ok(()),
-        Err(fault) => Err(stop((device, store, redo_text), fault, image, texts)),
+        Err(fault) => {
+            let devices = Devices {
+                image,
+                journal,
+                redo,
+            };
+            Err(stop(devices, fault, target))
+        }
     }
 }
 
 /// Writes what one text says of an undo or a redo.
-fn put_text<W: Write>(
+fn put_text<'p, 'r, R: Clock + Eprint, W: Write>(
     alloc: Global,
-    device: &mut FileImage,
-    text: &mut FileText<TextFile>,
+    device: &mut ImageFile<'p, 'r, R>,
+    text: &mut TextFile<'p, 'r, R>,
     steps: Steps,
     out: &mut W,
 ) -> Result<(), Fault>
-    requires device { ⟦<FileImage as Device>⟧.failures device.old < u64.MAX }
-    requires text { ⟦<FileText<TextFile> as TextStore>⟧.failures text.old < u64.MAX }
+    requires image { ⟦<FileImage<CountedFile<'p, 'r, R>> as Device>⟧.failures device.old < u64.MAX }
+    requires text { ⟦<FileText<CountedFile<'p, 'r, R>> as TextStore>⟧.failures text.old < u64.MAX }
 {
     let mut page = Paged::new(alloc, out);
     match list_steps(&alloc, device, text, steps, &mut page) {

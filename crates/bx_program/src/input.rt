@@ -1,9 +1,9 @@
-//! What a dump or a copy reads: FILE, moved by a seek past the bytes that the job skips, or standard input.
+//! What a dump or a copy reads: FILE, moved by a seek past bytes that are skipped, or standard input.
 ghost use Rattle.std.specs.Prelude.{IfOk};
-ghost use Rattle.bx_jobs.specs.JobBehind.{CanPass};
+ghost use Rattle.bx_cli_commands.specs.jobs.Passing.{CanPass};
 
-use crate::stopped::Stopped;
-use bx_cli::{Fault, Job};
+use crate::stopped::{STANDARD_INPUT, Stopped};
+use bx_cli::{Fault, Skip};
 use bx_text::{IoFault, Name};
 use std::fs::{File, Metadata};
 use std::io::{self, Seek, SeekFrom};
@@ -20,11 +20,25 @@ fn has_places(file: io::Result<Metadata>) -> bool {
 
 /// An input, and how many of its bytes a seek passed.
 #[derive(Drop)]
-pub struct Placed<I> {
+pub struct Placed<'a, I> {
+    /// What is said of it: its name, or what stands for one.
+    pub name: &'a str,
     /// What gives the bytes behind them.
     pub reader: I,
-    /// How many were passed: some of those that the job skips.
+    /// How many were passed: some of those that are skipped.
     pub passed: u64,
+    /// How many are left behind them, where that is known.
+    pub left: Option<u64>,
+}
+
+impl<I> Placed<'_, I> {
+    /// How many bytes are read where a job reads at most `limit`, as far as either is known.
+    pub fn most(&self, limit: Option<u64>) -> Option<u64> {
+        match (limit, self.left) {
+            (Some(limit), Some(left)) => Some(limit.min(left)),
+            (limit, left) => limit.or(left),
+        }
+    }
 }
 
 /// A file that is only read, from its first byte on.
@@ -35,46 +49,76 @@ pub fn open<'a, R: Files<File = File>>(rt: &R, name: &'a Name) -> Result<File, S
     }
 }
 
-/// FILE, behind the bytes that the job skips and a seek can pass.
+/// FILE, behind the bytes that are skipped and a seek can pass.
 pub fn file<'a, R: Files<File = File>>(
     rt: &R,
-    job: &Job,
+    skip: Skip,
     name: &'a Name,
-) -> Result<Placed<File>, Stopped<'a>>
-    ensures { IfOk result (λ input. CanPass input.passed job.now) }
+) -> Result<Placed<'a, File>, Stopped<'a>>
+    ensures { IfOk result (λ input. CanPass input.passed skip) }
 {
     let file = open(rt, name)?;
     let movable = has_places(file.metadata());
-    place(file, job, name.as_str(), movable)
+    let length = if movable { length_of(&file) } else { None };
+    place(file, skip, name.as_str(), movable, length)
 }
 
-/// Standard input, which has no seek: what the job skips is read.
-pub fn standard<R>(rt: &R, job: &Job) -> Placed<R::Reader>
+/// How many bytes a file has that was just opened; none where it has no places, or doesn't tell.
+pub fn size_of(file: &File) -> Option<u64> {
+    if has_places(file.metadata()) {
+        length_of(file)
+    } else {
+        None
+    }
+}
+
+/// How many bytes a file has that was just opened and has places. It stands at its start again.
+fn length_of(mut file: &File) -> Option<u64> {
+    let length = file.seek(SeekFrom::End(0)).ok();
+    let _ = file.seek(SeekFrom::Start(0));
+    length
+}
+
+/// Standard input, which has no seek: what is skipped is read.
+pub fn standard<R>(rt: &R, skip: Skip) -> Placed<'static, R::Reader>
 where
     R: Input,
-    ensures { CanPass result.passed job.now }
+    ensures { CanPass result.passed skip }
 {
     Placed {
+        name: STANDARD_INPUT,
         reader: rt.reader(),
-        passed: job.passable(0),
+        passed: skip.passable(0),
+        left: None,
     }
 }
 
 /// Places a reader, where it can be moved. A seek that fails on the way is a read that does.
 fn place<'a, S: Seek + Drop>(
     mut reader: S,
-    job: &Job,
+    skip: Skip,
     name: &'a str,
     movable: bool,
-) -> Result<Placed<S>, Stopped<'a>>
-    ensures { IfOk result (λ input. CanPass input.passed job.now) }
+    length: Option<u64>,
+) -> Result<Placed<'a, S>, Stopped<'a>>
+    ensures { IfOk result (λ input. CanPass input.passed skip) }
 {
-    if !movable || job.passable(u64::MAX) == 0 {
-        let passed = job.passable(0);
-        return Ok(Placed { reader, passed });
+    if !movable || skip.passable(u64::MAX) == 0 {
+        let passed = skip.passable(0);
+        return Ok(Placed {
+            name,
+            reader,
+            passed,
+            left: length,
+        });
     }
-    match pass(&mut reader, job) {
-        Ok(passed) => Ok(Placed { reader, passed }),
+    match pass(&mut reader, skip) {
+        Ok(passed) => Ok(Placed {
+            name,
+            reader,
+            passed,
+            left: length.map(|length| length.saturating_sub(passed)),
+        }),
         Err(error) => {
             let stopped = Stopped::from(Fault::Io(IoFault::ReadFailed));
             Err(stopped.on_input(name, error.raw_os_error()))
@@ -82,18 +126,18 @@ fn place<'a, S: Seek + Drop>(
     }
 }
 
-/// Moves a reader behind the bytes that the job skips, as far as its input goes, and answers how many it passed. One that
+/// Moves a reader behind the bytes that are skipped, as far as its input goes, and answers how many it passed. One that
 /// can't be moved stays where it stands, and passes none.
-fn pass<S: Seek>(reader: &mut S, job: &Job) -> io::Result<u64>
-    ensures { IfOk result (λ passed. CanPass passed job.now) }
+fn pass<S: Seek>(reader: &mut S, skip: Skip) -> io::Result<u64>
+    ensures { IfOk result (λ passed. CanPass passed skip) }
 {
     let Ok(at) = reader.seek(SeekFrom::Current(0)) else {
-        return Ok(job.passable(0));
+        return Ok(skip.passable(0));
     };
     let Ok(end) = reader.seek(SeekFrom::End(0)) else {
-        return Ok(job.passable(0));
+        return Ok(skip.passable(0));
     };
-    let passed = job.passable(end.saturating_sub(at));
+    let passed = skip.passable(end.saturating_sub(at));
     reader.seek(SeekFrom::Start(at.saturating_add(passed)))?;
     Ok(passed)
 }

@@ -1,32 +1,34 @@
 //! The jobs, and one run of the program.
-ghost use Rattle.bx_jobs.specs.JobBehind.{CanPass};
-ghost use Rattle.bx_commands.specs.Command.{IsNear};
+ghost use Rattle.bx_cli_commands.specs.jobs.Passing.{CanPass, skip_of};
+ghost use Rattle.bx_cli_commands.specs.Command.{IsNear};
 
-use crate::copies::{copy_onto, tell};
+use crate::copies::{copy_onto, most_of_dd, tell};
+use crate::diff::diff;
 use crate::hints::remarks::Remarks;
 use crate::hints::seen::{Seen, Watched};
 use crate::hints::show_fault;
 use crate::images::{
     finish, finish_read, log, log_places, open_session, open_to_look, show_changes,
 };
-use crate::input::{Placed, file, open, standard};
+use crate::input::{Placed, file, open, size_of, standard};
 use crate::stopped::{Noted, STANDARD_INPUT, Stopped};
 use crate::streams::Held;
-use crate::tally::Tally;
 use bx_cli::{
-    Access, Command, DdJob, Done, Fault, Form, HexdumpJob, Job, OdJob, Reply, RevertJob,
-    StringsJob, Texts, XxdJob, change_from, plan_words, run_dump_behind,
+    ChangeJob, Command, Done, DumpJob, Fault, Form, Job, LogJob, LookJob, RevertJob, ShowJob,
+    Target, change_from, plan_words, run_dump,
 };
 use bx_dd::Counts;
 use bx_image::Change;
 use bx_journal::Steps;
+use bx_program_system::{Counted, Progress, Tally, Terminals};
 use bx_read::ReadFault;
-use bx_text::{IoFault, Name, Source, Words, dec_field, emit, emit_after};
+use bx_text::{IoFault, Source, Words, dec_field, emit, emit_after};
 use std::alloc::Global;
 use std::env;
 use std::fs::File;
 use std::io::{self, Read, Write};
 use std::rt::{Env, Files};
+use std::time::Clock;
 
 /// The most bytes of a dump that is reverted.
 const MOST_INPUT: u64 = 1 << 40;
@@ -36,40 +38,40 @@ const NOT_UTF_8: &str = "a word is not UTF-8; a file of such a name can be given
 /// Does what the words of the command line ask for, and writes the text of the fault that stopped it, with a hint behind it
 /// where a person looks at standard error. A standard stream that is closed keeps its number to the end, so that no file gets
 /// it.
-pub fn run<R>(rt: &R, person: bool) -> Result<(), Fault>
+pub fn run<R>(rt: &R, terminals: Terminals) -> Result<(), Fault>
 where
-    R: Files<File = File> + Env + Input + Print + Eprint + AllocGlobal,
+    R: Files<File = File> + Env + Input + Print + Eprint + Clock + AllocGlobal,
 {
     let mut words = Words::new(rt.alloc());
     match Held::new(rt) {
-        Ok(_held) => run_words(rt, person, &mut words),
-        Err(fault) => Err(show_fault(rt, person, &words, None, Stopped::from(fault))),
+        Ok(_held) => run_words(rt, terminals, &mut words),
+        Err(fault) => Err(show_fault(rt, terminals.errors, &words, None, Stopped::from(fault))),
     }
 }
 
 /// Does what the words ask for, which are read first.
-fn run_words<R>(rt: &R, person: bool, words: &mut Words) -> Result<(), Fault>
+fn run_words<R>(rt: &R, terminals: Terminals, words: &mut Words) -> Result<(), Fault>
 where
-    R: Files<File = File> + Env + Input + Print + Eprint + AllocGlobal,
+    R: Files<File = File> + Env + Input + Print + Eprint + Clock + AllocGlobal,
 {
     match planned(rt, words) {
         Ok(job) => {
-            let outcome = run_planned(rt, person, words, &job);
+            let outcome = run_planned(rt, terminals, words, &job);
             drop(job);
             outcome
         }
-        Err(stopped) => Err(show_fault(rt, person, words, None, stopped)),
+        Err(stopped) => Err(show_fault(rt, terminals.errors, words, None, stopped)),
     }
 }
 
 /// Does what a job asks for that these words gave.
-fn run_planned<R>(rt: &R, person: bool, words: &Words, job: &Job) -> Result<(), Fault>
+fn run_planned<R>(rt: &R, terminals: Terminals, words: &Words, job: &Job) -> Result<(), Fault>
 where
-    R: Files<File = File> + Input + Print + Eprint + AllocGlobal,
+    R: Files<File = File> + Input + Print + Eprint + Clock + AllocGlobal,
 {
-    match perform_for(rt, person, job) {
+    match perform_for(rt, terminals, job) {
         Ok(()) => Ok(()),
-        Err(stopped) => Err(show_fault(rt, person, words, Some(job), stopped)),
+        Err(stopped) => Err(show_fault(rt, terminals.errors, words, Some(job), stopped)),
     }
 }
 
@@ -99,11 +101,11 @@ fn read_words<R: Env + AllocGlobal>(rt: &R, words: &mut Words) -> Result<(), Sto
 }
 
 /// Runs a job and writes what it shows; for a person then the hints on what was done.
-fn perform_for<'a, R>(rt: &R, person: bool, job: &'a Job) -> Result<(), Stopped<'a>>
+fn perform_for<'a, R>(rt: &R, terminals: Terminals, job: &'a Job) -> Result<(), Stopped<'a>>
 where
-    R: Files<File = File> + Input + Print + Eprint + AllocGlobal,
+    R: Files<File = File> + Input + Print + Eprint + Clock + AllocGlobal,
 {
-    let mut remarks = Remarks::new(person);
+    let mut remarks = Remarks::new(terminals);
     remarks.look_before(rt, job);
     perform_seen(rt, job, &mut remarks)?;
     remarks.tell(rt, job);
@@ -113,15 +115,19 @@ where
 /// Runs a job, and writes what it shows.
 pub fn perform<'a, R>(rt: &R, job: &'a Job) -> Result<(), Stopped<'a>>
 where
-    R: Files<File = File> + Input + Print + Eprint + AllocGlobal,
+    R: Files<File = File> + Input + Print + Eprint + Clock + AllocGlobal,
 {
-    perform_seen(rt, job, &mut Remarks::new(false))
+    let terminals = Terminals {
+        output: false,
+        errors: false,
+    };
+    perform_seen(rt, job, &mut Remarks::new(terminals))
 }
 
 /// Runs a job, and writes what it shows; `remarks` see it.
 fn perform_seen<'a, R>(rt: &R, job: &'a Job, remarks: &mut Remarks) -> Result<(), Stopped<'a>>
 where
-    R: Files<File = File> + Input + Print + Eprint + AllocGlobal,
+    R: Files<File = File> + Input + Print + Eprint + Clock + AllocGlobal,
 {
     let mut out = Tally::new(io::writer(rt));
     let counts = match run_job(rt, job, &mut out, remarks) {
@@ -147,128 +153,106 @@ fn run_job<'a, R, W: Write>(
     remarks: &mut Remarks,
 ) -> Result<Option<Counts>, Stopped<'a>>
 where
-    R: Files<File = File> + Input + Eprint + AllocGlobal,
+    R: Files<File = File> + Input + Eprint + Clock + AllocGlobal,
 {
     match job {
-        Job::Od(OdJob { file, .. })
-        | Job::Xxd(XxdJob { file, .. })
-        | Job::Hexdump(HexdumpJob { file, .. })
-        | Job::Strings(StringsJob { file, .. }) => dump_file(rt, job, file, out),
-        Job::Dd(dd) => copy(rt, job, dd, out, remarks),
-        _ => {
-            run_uncounted(rt, job, out, remarks)?;
+        Job::Dump(job) => dump(rt, job, out, remarks),
+        Job::Change(job) => {
+            change(rt, job, out, remarks)?;
+            Ok(None)
+        }
+        Job::Look(job) => {
+            look(rt, job, out, remarks)?;
+            Ok(None)
+        }
+        Job::Diff(job) => {
+            diff(rt, job, out)?;
+            Ok(None)
+        }
+        Job::Help { text } => {
+            show(out, text.as_str())?;
             Ok(None)
         }
     }
 }
 
-/// Runs a job that is neither a dump nor a dd.
-fn run_uncounted<'a, R, W: Write>(
+/// Runs a job that changes an image.
+fn change<'a, R, W: Write>(
     rt: &R,
-    job: &'a Job,
+    job: &'a ChangeJob,
     out: &mut W,
     remarks: &mut Remarks,
 ) -> Result<(), Stopped<'a>>
 where
-    R: Files<File = File> + Input + Eprint + AllocGlobal,
+    R: Files<File = File> + Input + Eprint + Clock + AllocGlobal,
 {
     match job {
-        Job::Help { text } => Ok(show(out, text.as_str())?),
-        Job::Revert(job) => revert(rt, job, remarks),
-        Job::Undo { .. } | Job::Redo { .. } => take_steps(rt, job, out, remarks),
-        Job::Log { .. } | Job::Show { .. } => look(rt, job, out),
-        _ => Ok(()),
+        ChangeJob::Dd(job) => copy_onto(rt, job, remarks),
+        ChangeJob::Revert(job) => revert(rt, job, remarks),
+        ChangeJob::Undo(job) => {
+            let undo = Command::Undo { k: job.count };
+            take_steps(rt, undo, &job.target, out, remarks)
+        }
+        ChangeJob::Redo(job) => {
+            let redo = Command::Redo { j: job.count };
+            take_steps(rt, redo, &job.target, out, remarks)
+        }
     }
 }
 
-/// An undo or a redo, and how many changes then stand.
+/// Takes changes back or makes undone ones again, and shows how many changes then stand.
 fn take_steps<'a, R, W: Write>(
     rt: &R,
-    job: &'a Job,
+    asked: Command,
+    target: &'a Target,
     out: &mut W,
     remarks: &mut Remarks,
 ) -> Result<(), Stopped<'a>>
 where
-    R: Files<File = File> + Eprint + AllocGlobal,
+    R: Files<File = File> + Eprint + Clock + AllocGlobal,
+    requires { IsNear asked }
 {
-    let reply = match job {
-        Job::Undo {
-            count,
-            image,
-            texts,
-            access,
-        } => {
-            let undo = Command::Undo { k: *count };
-            step(rt, undo, image, texts, *access, remarks)?
-        }
-        Job::Redo {
-            count,
-            image,
-            texts,
-            access,
-        } => {
-            let redo = Command::Redo { j: *count };
-            step(rt, redo, image, texts, *access, remarks)?
-        }
-        _ => return Ok(()),
-    };
-    match reply {
-        Reply::Undone { left: standing } | Reply::Redone { changes: standing } => {
-            Ok(show_number(out, standing)?)
-        }
-        _ => Ok(()),
-    }
+    let progress = remarks.progress_of_input(rt, None);
+    let session = open_session(rt, target, false, &progress)?;
+    remarks.look_at_times(rt, target);
+    let reply = finish(rt, session, asked, target)?;
+    Ok(show_number(out, reply.standing()?)?)
 }
 
-/// What shows the changes of an image.
-fn look<'a, R, W: Write>(rt: &R, job: &'a Job, out: &mut W) -> Result<(), Stopped<'a>>
-where
-    R: Files<File = File> + Eprint + AllocGlobal,
-{
-    match job {
-        Job::Log {
-            verbose,
-            image,
-            texts,
-            access,
-        } => show_log(rt, *verbose, image, texts, *access, out),
-        Job::Show {
-            way,
-            count,
-            compares,
-            image,
-            texts,
-        } => {
-            let steps = Steps {
-                way: *way,
-                count: *count,
-                changes: 0,
-                compares: *compares,
-            };
-            show_changes(rt, steps, image, texts, out)
-        }
-        _ => Ok(()),
-    }
-}
-
-/// dd, onto the image that `of=` names or to standard output.
-fn copy<'a, R, W: Write>(
+/// Shows the changes of an image.
+fn look<'a, R, W: Write>(
     rt: &R,
-    job: &Job,
-    dd: &'a DdJob,
+    job: &'a LookJob,
     out: &mut W,
-    remarks: &mut Remarks,
-) -> Result<Option<Counts>, Stopped<'a>>
+    remarks: &Remarks,
+) -> Result<(), Stopped<'a>>
 where
-    R: Files<File = File> + Input + Eprint + AllocGlobal,
+    R: Files<File = File> + Eprint + Clock + AllocGlobal,
 {
-    match (&dd.plan.output, &dd.texts) {
-        (Some(image), Some(texts)) => {
-            copy_onto(rt, job, dd, image, texts, remarks)?;
-            Ok(None)
-        }
-        _ => dump_file(rt, job, &dd.plan.input, out),
+    let progress = remarks.progress_of_input(rt, None);
+    match job {
+        LookJob::Log(job) => show_log(rt, job, &progress, out),
+        LookJob::Show(job) => show_next(rt, job, &progress, out),
     }
+}
+
+/// Shows what an undo or a redo would do.
+fn show_next<'a, R, W: Write>(
+    rt: &R,
+    job: &'a ShowJob,
+    progress: &Progress<'_, R>,
+    out: &mut W,
+) -> Result<(), Stopped<'a>>
+where
+    R: Files<File = File> + Eprint + Clock + AllocGlobal,
+{
+    let steps = Steps {
+        way: job.way,
+        count: job.count,
+        changes: 0,
+        compares: job.compares,
+    };
+    show_changes(rt, steps, &job.target, progress, out)
 }
 
 fn show<W: Write>(out: &mut W, text: &str) -> Result<(), Fault> {
@@ -286,12 +270,24 @@ fn show_number<W: Write>(out: &mut W, number: u32) -> Result<(), Fault> {
 /// Puts the bytes of a dump onto the image: the whole dump is read first.
 fn revert<'a, R>(rt: &R, job: &'a RevertJob, remarks: &mut Remarks) -> Result<(), Stopped<'a>>
 where
-    R: Files<File = File> + Input + Eprint + AllocGlobal,
+    R: Files<File = File> + Input + Eprint + Clock + AllocGlobal,
 {
     let mut seen = remarks.seen_of(rt.alloc(), job.plain);
-    let read = read_dump(rt, job, &mut seen)?;
+    let read = read_dump(rt, job, &mut seen, remarks)?;
+    let has_returns = seen.has_returns;
     remarks.look_at_dump(seen);
-    put_dump(rt, job, read)
+    match put_dump(rt, job, read, remarks) {
+        Err(stopped) if has_returns => Err(stopped.on_returns(dump_name(job))),
+        outcome => outcome,
+    }
+}
+
+/// What is said of the dump in place of its name where it has none.
+fn dump_name(job: &RevertJob) -> &str {
+    match &job.dump {
+        Some(name) => name.as_str(),
+        None => STANDARD_INPUT,
+    }
 }
 
 /// The change of the dump that a job reads, or the dump's fault; `seen` sees it.
@@ -299,13 +295,26 @@ fn read_dump<'a, R>(
     rt: &R,
     job: &'a RevertJob,
     seen: &mut Seen,
+    remarks: &Remarks,
 ) -> Result<Result<Change, ReadFault>, Stopped<'a>>
 where
-    R: Files<File = File> + Input + AllocGlobal,
+    R: Files<File = File> + Input + Eprint + Clock + AllocGlobal,
 {
+    let alloc = rt.alloc();
     match &job.dump {
-        Some(name) => change_of(rt.alloc(), job, name.as_str(), open(rt, name)?, seen),
-        None => change_of(rt.alloc(), job, STANDARD_INPUT, rt.reader(), seen),
+        Some(name) => {
+            let file = open(rt, name)?;
+            let progress = remarks.progress_of_input(rt, size_of(&file));
+            let read = change_of(alloc, job, name.as_str(), file, seen, &progress);
+            progress.end();
+            read
+        }
+        None => {
+            let progress = remarks.progress_of_input(rt, None);
+            let read = change_of(alloc, job, STANDARD_INPUT, rt.reader(), seen, &progress);
+            progress.end();
+            read
+        }
     }
 }
 
@@ -314,82 +323,68 @@ fn put_dump<'a, R>(
     rt: &R,
     job: &'a RevertJob,
     read: Result<Change, ReadFault>,
+    remarks: &mut Remarks,
 ) -> Result<(), Stopped<'a>>
 where
-    R: Files<File = File> + Eprint + AllocGlobal,
+    R: Files<File = File> + Eprint + Clock + AllocGlobal,
 {
-    let session = open_session(rt, &job.image, &job.texts, true, job.access)?;
-    finish_read(rt, session, read, &job.image, &job.texts)
+    let progress = remarks.progress_of_input(rt, None);
+    let session = open_session(rt, &job.target, true, &progress)?;
+    if let Ok(change) = &read {
+        remarks.look_at_change(rt, &job.target, change);
+    }
+    finish_read(rt, session, read, &job.target)
 }
 
 /// The change of the dump that an input gives, or the dump's fault.
-fn change_of<'a, I: Read + Drop>(
+fn change_of<'a, R: Eprint + Clock, I: Read + Drop>(
     alloc: Global,
     job: &RevertJob,
     name: &'a str,
     input: I,
     seen: &mut Seen,
+    progress: &Progress<'_, R>,
 ) -> Result<Result<Change, ReadFault>, Stopped<'a>> {
     let form = if job.plain { Form::Plain } else { Form::Dump };
     let mut input = Noted::new(input);
-    let watched = Watched::new(&mut input, seen);
+    let watched = Watched::new(Counted::new(&mut input, progress), seen);
     match change_from(&alloc, &mut Source::new(watched, MOST_INPUT), form, job.at) {
         Ok(read) => Ok(read),
         Err(fault) => Err(Stopped::from(Fault::from(fault)).on_input(name, input.error)),
     }
 }
 
-/// Takes changes back or makes undone ones again.
-fn step<'a, R>(
-    rt: &R,
-    asked: Command,
-    image: &'a Name,
-    texts: &'a Texts,
-    access: Access,
-    remarks: &mut Remarks,
-) -> Result<Reply, Stopped<'a>>
-where
-    R: Files<File = File> + Eprint + AllocGlobal,
-    requires { IsNear asked }
-{
-    let session = open_session(rt, image, texts, false, access)?;
-    remarks.look_at_times(rt, image, texts);
-    finish(rt, session, asked, image, texts)
-}
-
 /// Shows the changes that stand.
 fn show_log<'a, R, W: Write>(
     rt: &R,
-    verbose: bool,
-    image: &'a Name,
-    texts: &'a Texts,
-    access: Access,
+    job: &'a LogJob,
+    progress: &Progress<'_, R>,
     out: &mut W,
 ) -> Result<(), Stopped<'a>>
 where
-    R: Files<File = File> + Eprint + AllocGlobal,
+    R: Files<File = File> + Eprint + Clock + AllocGlobal,
 {
-    let session = open_to_look(rt, image, texts, access)?;
-    if verbose {
-        return log_places(rt, session, image, texts, out);
+    let session = open_to_look(rt, &job.target, progress)?;
+    if job.verbose {
+        return log_places(rt, session, &job.target, out);
     }
-    let text = log(rt, session, image, texts)?;
+    let text = log(rt, session, &job.target)?;
     Ok(show(out, text.as_str())?)
 }
 
-/// Dumps or copies FILE, or standard input where there is none.
-fn dump_file<'a, R, W: Write>(
+/// Dumps or copies FILE, or standard input where there is none, and answers what dd counted.
+fn dump<'a, R, W: Write>(
     rt: &R,
-    job: &Job,
-    named: &'a Option<Name>,
+    job: &'a DumpJob,
     out: &mut W,
+    remarks: &Remarks,
 ) -> Result<Option<Counts>, Stopped<'a>>
 where
-    R: Files<File = File> + Input + AllocGlobal,
+    R: Files<File = File> + Input + Eprint + Clock + AllocGlobal,
 {
-    let done = match named {
-        Some(name) => dump_from(rt.alloc(), job, name.as_str(), file(rt, job, name)?, out)?,
-        None => dump_from(rt.alloc(), job, STANDARD_INPUT, standard(rt, job), out)?,
+    let done = match job.input() {
+        Some(name) => dump_from(rt, job, file(rt, job.skip(), name)?, out, remarks)?,
+        None => dump_from(rt, job, standard(rt, job.skip()), out, remarks)?,
     };
     match done {
         Done::Dumped(_) => Ok(None),
@@ -397,20 +392,42 @@ where
     }
 }
 
-/// Dumps or copies an input of this name, behind the bytes that were passed.
-fn dump_from<'a, I: Read + Drop, W: Write>(
-    alloc: Global,
-    job: &Job,
-    name: &'a str,
-    input: Placed<I>,
+/// Dumps or copies an input, behind the bytes that were passed.
+fn dump_from<'a, R, I: Read + Drop, W: Write>(
+    rt: &R,
+    job: &DumpJob,
+    input: Placed<'a, I>,
     out: &mut W,
+    remarks: &Remarks,
 ) -> Result<Done, Stopped<'a>>
-    requires { CanPass input.passed job.now }
+where
+    R: Eprint + Clock + AllocGlobal,
+    requires { CanPass input.passed (skip_of job.now) }
 {
-    let Placed { reader, passed } = input;
+    let progress = remarks.progress_of_dump(rt, input.most(most_of(job)));
+    let Placed {
+        name,
+        reader,
+        passed,
+        ..
+    } = input;
     let mut reader = Noted::new(reader);
-    match run_dump_behind(alloc, job, passed, &mut reader, out) {
+    let mut counted = Counted::new(&mut reader, &progress);
+    let outcome = run_dump(rt.alloc(), job, passed, &mut counted, out);
+    progress.end();
+    match outcome {
         Ok(done) => Ok(done),
         Err(fault) => Err(Stopped::from(fault).on_input(name, reader.error)),
+    }
+}
+
+/// How many bytes a job reads at most behind those that it skips; none where its options don't tell.
+fn most_of(job: &DumpJob) -> Option<u64> {
+    match job {
+        DumpJob::Od(job) => job.options.limit,
+        DumpJob::Xxd(job) => job.options.limit,
+        DumpJob::Hexdump(job) => job.options.limit,
+        DumpJob::Strings(_) => None,
+        DumpJob::Dd(job) => most_of_dd(&job.plan),
     }
 }

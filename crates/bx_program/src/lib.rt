@@ -3,6 +3,7 @@
 
 mod copies;
 mod devices;
+mod diff;
 mod files;
 mod fitting;
 mod folders;
@@ -13,8 +14,8 @@ mod jobs;
 mod paged;
 mod stopped;
 mod streams;
-mod tally;
 
+pub use bx_program_system::Terminals;
 pub use files::{Made, SessionFiles, trio};
 pub use jobs::{perform, run};
 pub use stopped::{Reason, Stopped};

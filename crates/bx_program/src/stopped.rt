@@ -1,11 +1,20 @@
 //! What stopped a job.
 use bx_cli::Fault;
 use bx_dd::DdFault;
+use bx_image::FailedCall;
+use bx_journal::SessionFault;
+use bx_read::ReadFault;
 use bx_text::IoFault;
 use std::io::{self, ErrorKind, Read};
 
 /// What is said in place of a file's name.
 pub const STANDARD_INPUT: &str = "standard input";
+
+/// The same for the output.
+pub const STANDARD_OUTPUT: &str = "standard output";
+
+/// What is said of a dump whose lines end in CR LF.
+const RETURNS: &str = "its lines end in CR LF; tr -d '\\r' takes the CR off";
 
 /// Why a file stopped a job.
 #[derive(Clone, Copy)]
@@ -14,10 +23,19 @@ pub enum Reason {
     Unknown,
     /// The system's number of the error.
     System(i32),
+    /// A call of a device that the system refused.
+    Call(FailedCall),
     /// In words.
     Told(&'static str),
+    /// Somebody may read or write this text who may not do so with the image; with these permission bits nobody could.
+    Wide {
+        /// The bits.
+        bits: u32,
+    },
     /// A change is unfinished, and the system doesn't let this file be written.
     Unfinished,
+    /// A change is unfinished behind those that can be shown.
+    Begun,
     /// The file has this many bytes and can't grow, and the change wants it to have `wanted`.
     Fixed {
         /// How many it has.
@@ -40,6 +58,14 @@ pub enum Reason {
 }
 
 impl Reason {
+    /// Whether it says all that a person needs, and what is advised at the fault wouldn't help.
+    pub fn is_all(&self) -> bool {
+        matches!(
+            self,
+            Reason::Begun | Reason::Fixed { .. } | Reason::Full { .. }
+        )
+    }
+
     /// The reason that the system gave, if it gave one.
     fn of(error: Option<i32>) -> Reason {
         match error {
@@ -80,6 +106,18 @@ impl<'a> Stopped<'a> {
         }
     }
 
+    /// By a device, whose last failed call was this.
+    pub fn failed(fault: Fault, file: &'a str, call: Option<FailedCall>) -> Stopped<'a> {
+        Stopped {
+            fault,
+            file: Some(file),
+            reason: match call {
+                Some(call) => Reason::Call(call),
+                None => Reason::Unknown,
+            },
+        }
+    }
+
     /// By a file that the system didn't open.
     pub fn unopened(file: &'a str, error: io::Error) -> Stopped<'a> {
         Stopped::by(Fault::OpenFailed, file, error.raw_os_error())
@@ -94,11 +132,51 @@ impl<'a> Stopped<'a> {
         }
     }
 
+    /// By a text that has more permission bits than these, which are those of the image.
+    pub fn too_wide(file: &'a str, bits: u32) -> Stopped<'a> {
+        Stopped {
+            fault: Fault::OpenFailed,
+            file: Some(file),
+            reason: Reason::Wide { bits },
+        }
+    }
+
     /// The same, or, where the system doesn't let a file be written, that recovery has to.
     pub fn unrecovered(self) -> Stopped<'a> {
         match self.reason {
             Reason::System(code) if is_unwritable(code) => Stopped {
                 reason: Reason::Unfinished,
+                ..self
+            },
+            _ => self,
+        }
+    }
+
+    /// The same, or, where too few changes stand, that one is unfinished beside the image.
+    pub fn on_begun(self, image: &'a str) -> Stopped<'a> {
+        match self.fault {
+            Fault::Session(SessionFault::TooFew { .. } | SessionFault::NothingToRedo { .. }) => {
+                Stopped {
+                    file: Some(image),
+                    reason: Reason::Begun,
+                    ..self
+                }
+            }
+            _ => self,
+        }
+    }
+
+    /// The same, or that the lines of a dump end as in a text of another system, where that is what isn't read.
+    pub fn on_returns(self, file: &'a str) -> Stopped<'a> {
+        match self.fault {
+            Fault::Read(
+                ReadFault::BadAddress { .. }
+                | ReadFault::MissingColon { .. }
+                | ReadFault::BadPair { .. }
+                | ReadFault::NoData { .. },
+            ) => Stopped {
+                file: Some(file),
+                reason: Reason::Told(RETURNS),
                 ..self
             },
             _ => self,
@@ -139,7 +217,7 @@ impl<'a> Stopped<'a> {
     pub fn on_output(self, error: Option<i32>) -> Stopped<'a> {
         match self.fault {
             Fault::Io(IoFault::WriteFailed { .. }) => {
-                Stopped::by(self.fault, "standard output", error)
+                Stopped::by(self.fault, STANDARD_OUTPUT, error)
             }
             _ => self,
         }

@@ -4,7 +4,7 @@ use Rattle.std.proofs.Math.ListN.{set}
 use Rattle.std.specs.Option.{option_map}
 use Rattle.std.proofs.lemmas.List.{take_more_set, drop-set-lt, length-take-le, length-drop, length-set, drop_more}
 use Rattle.bx_read.specs.Digits.{is_hex, pairs_of, pair_value}
-use Rattle.bx_read.specs.inner.Digits.{few_pairs}
+use Rattle.bx_read.specs.private.Digits.{few_pairs}
 use Rattle.bx_read.proofs.PieceLemmas.{rest_of, long_enough}
 use Rattle.bx_read.proofs.PairsLemmas.{pairs_at-wrong, pairs_at-last, bytes_at-space, bytes_at-next}
 

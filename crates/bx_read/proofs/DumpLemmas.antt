@@ -13,9 +13,9 @@ use Rattle.bx_read.proofs.PieceLemmas.{some_bytes}
 use Rattle.bx_read.specs.Digits.{is_hex, pairs_of, pair_value}
 use Rattle.bx_read.specs.Line.{read_line}
 use Rattle.bx_read.specs.Grammar.{IsLine, GivesPieces, total_bytes}
-use Rattle.bx_read.specs.inner.Next.{IsNextPiece}
+use Rattle.bx_read.specs.private.Next.{IsNextPiece}
 use Rattle.bx_read.specs.Text.{ReadLine, is_skipped, answer_then, answers, piece_then, gathered, lines_of, contents}
-use Rattle.bx_read.specs.inner.Text.{IsPiece, with_front}
+use Rattle.bx_read.specs.private.Text.{IsPiece, with_front}
 use Rattle.bx_text.specs.declared.owned.pieces.Piece.{Piece}
 use Rattle.bx_read.specs.declared.fault.ReadFault.{ReadFault}
 use Rattle.bx_read.proofs.GrammarLemmas.{read_line-found, read_line-only, and_true, guard_some, unmap}
@@ -38,7 +38,7 @@ pub after_line : (front : Pieces) (at : ℕ) (hex bytes : List ℕ) (number : �
     after front (gathered (Ok (at, hex, number) ∷ later)) ≡ after (front ++ (at, bytes) ∷ []) (gathered later)
 after_line front at hex bytes number later e = rw e (after_piece front (at, bytes) (gathered later))
 
-star : (line : List ℕ) → is_skipped line ≡ true → (line ≡ []) ⊎ (line ≡ codes "*")
+pub star : (line : List ℕ) → is_skipped line ≡ true → (line ≡ []) ⊎ (line ≡ codes "*")
 star line h = go (eqb (length line) 0) refl h
   where
     go : (b : Bool) → eqb (length line) 0 ≡ b → (b || bytes_eq line (codes "*")) ≡ true → (line ≡ []) ⊎ (line ≡ codes "*")

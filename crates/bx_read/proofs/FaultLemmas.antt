@@ -8,9 +8,9 @@ use Rattle.std.proofs.Math.Seq.{drop-append-add}
 use Rattle.std.proofs.lemmas.List.Sums.{prefix_len_is, prefix_len_passes, prefix_len_stops, prefix_len-le-length}
 use Rattle.std.proofs.lemmas.Bool.{eqb-true, eqb-false, ltb-true, ltb-false, leb-true, lt-ltb, le-ltb, le-leb, ne_eqb, eq-eqb, cases_lt, cases_eq}
 use Rattle.bx_read.specs.Digits.{is_hex, pairs_of, data_of}
-use Rattle.bx_read.specs.inner.Digits.{pair_count}
+use Rattle.bx_read.specs.private.Digits.{pair_count}
 use Rattle.bx_read.specs.Line.{read_line, read_data}
-use Rattle.bx_read.specs.inner.Line.{read_pairs}
+use Rattle.bx_read.specs.private.Line.{read_pairs}
 use Rattle.bx_read.specs.Grammar.{EndsData}
 use Rattle.bx_read.specs.FaultTable.{BeginsWith, HasAddress, HasData, HasPairs, IsNoPairs, IsFaultOf, FaultIsOfLine}
 use Rattle.bx_read.proofs.GrammarLemmas.{first_digit, data_of-ends, data_of-pairs}
@@ -48,7 +48,7 @@ is_so true h = refl
 is_so false h = cc
 
 -- the digits in front
-begins : (text : List ℕ) → BeginsWith text (take (prefix_len is_hex text) text) (drop (prefix_len is_hex text) text)
+pub begins : (text : List ℕ) → BeginsWith text (take (prefix_len is_hex text) text) (drop (prefix_len is_hex text) text)
 begins text =
     let count = prefix_len is_hex text in
     let within = prefix_len-le-length is_hex text in
@@ -83,10 +83,10 @@ spaces tail (c ∷ cs) is (inr two) =
     inr (cs, is ∙ ap (λ d. 32 ∷ d ∷ cs) second)
 
 -- the data are the pairs in front
-has_data : (body bytes : List ℕ) → pairs_of (data_of body) ≡ Some bytes → HasData body bytes
+pub has_data : (body bytes : List ℕ) → pairs_of (data_of body) ≡ Some bytes → HasData body bytes
 has_data body bytes e = let ends = data_of-ends body in (data_of body, ends.0, ends.1, (pairs_have_form (data_of body) bytes).0 e, ends.2)
 
-data_read : (body bytes : List ℕ) → HasData body bytes → pairs_of (data_of body) ≡ Some bytes
+pub data_read : (body bytes : List ℕ) → HasData body bytes → pairs_of (data_of body) ≡ Some bytes
 data_read body bytes has =
     let pairs : pairs_of has.0 ≡ Some bytes = (pairs_have_form has.0 bytes).1 has.3 in
     ap (λ b. pairs_of (data_of b)) has.2 ∙ ap pairs_of (data_of-pairs has.0 has.1 bytes pairs has.4) ∙ pairs
@@ -146,7 +146,7 @@ data_fault number text digits tail fault address h =
     let never = no_end tail some (inr (neither (eqb (length tail) 1) (eqb (get_or tail 1 0) 32) more)) in
     pairs_fault number text digits body fault (subst (λ t. HasAddress text digits (58 ∷ t)) is address) (subst (λ t. EndsData t → ⊥) is never) pairs)))
 
-fault_found : (number : ℕ) (text : List ℕ) (fault : ReadFault) → read_line number text ≡ Err fault → IsFaultOf number text fault
+pub fault_found : (number : ℕ) (text : List ℕ) (fault : ReadFault) → read_line number text ≡ Err fault → IsFaultOf number text fault
 fault_found number text fault h =
     let P = IsFaultOf number text in
     let count = prefix_len is_hex text in
@@ -178,7 +178,7 @@ fault_found number text fault h =
 -- ---- the other way: what the table says is answered
 
 -- what is read of a line whose digits in front are these
-read_as : (number : ℕ) (text digits rest : List ℕ) → BeginsWith text digits rest →
+pub read_as : (number : ℕ) (text digits rest : List ℕ) → BeginsWith text digits rest →
     read_line number text ≡ cond (eqb (length digits) 0 || ltb 16 (length digits)) (Err (BadAddress number))
     (cond (not (eqb (get_or rest 0 0) 58)) (Err (MissingColon number)) (read_data number (digits_value 16 digits) (drop 1 rest)))
 read_as number text digits rest is =
@@ -196,7 +196,7 @@ read_as number text digits rest is =
     behind = let e : length digits + 0 ≡ length digits = omega arith in ap (λ k. drop k (digits ++ rest)) (sym e) ∙ drop-append-add digits rest 0
 
 -- behind a good address
-read_behind : (number : ℕ) (text digits rest : List ℕ) → HasAddress text digits rest →
+pub read_behind : (number : ℕ) (text digits rest : List ℕ) → HasAddress text digits rest →
     read_line number text ≡ cond (not (eqb (get_or rest 0 0) 58)) (Err (MissingColon number)) (read_data number (digits_value 16 digits) (drop 1 rest))
 read_behind number text digits rest address =
     let some : eqb (length digits) 0 ≡ false = ne_eqb (length digits) 0 (λ e. absurd (omega (arith, address.some, e))) in
@@ -208,7 +208,7 @@ or_true : (b : Bool) → (b || true) ≡ true
 or_true true = refl
 or_true false = refl
 
-read_end : (number at : ℕ) (tail : List ℕ) → EndsData tail → read_data number at tail ≡ Err (NoData number)
+pub read_end : (number at : ℕ) (tail : List ℕ) → EndsData tail → read_data number at tail ≡ Err (NoData number)
 read_end number at tail (inl none) = rw none refl
 read_end number at tail (inr (inl one)) = rw one refl
 read_end number at tail (inr (inr two)) =
@@ -217,7 +217,7 @@ read_end number at tail (inr (inr two)) =
     rw (two.1, some, or_true (eqb (suc (suc n)) 1)) refl
 
 -- behind a space and another character
-read_body : (number at c : ℕ) (body : List ℕ) → (c ≡ 32 → ⊥) →
+pub read_body : (number at c : ℕ) (body : List ℕ) → (c ≡ 32 → ⊥) →
     read_data number at (32 ∷ c ∷ body) ≡ read_pairs number at (data_of (c ∷ body)) (pair_count (data_of (c ∷ body)))
 read_body number at c body differs =
     let n = length body in
@@ -226,7 +226,7 @@ read_body number at c body differs =
     let other : eqb c 32 ≡ false = ne_eqb c 32 differs in
     rw (some, more, other) refl
 
-read_other : (number at c : ℕ) (body : List ℕ) → (c ≡ 32 → ⊥) → read_data number at (c ∷ body) ≡ Err (BadPair number)
+pub read_other : (number at c : ℕ) (body : List ℕ) → (c ≡ 32 → ⊥) → read_data number at (c ∷ body) ≡ Err (BadPair number)
 read_other number at c body differs =
     let n = length body in
     let some : eqb (suc n) 0 ≡ false = ne_eqb (suc n) 0 (λ e. absurd (omega (arith, e))) in
@@ -257,7 +257,7 @@ read_has number at body bytes has =
     ap (λ b. read_data number at (32 ∷ b)) spelled ∙ read_body number at first.0 (first.1 ++ has.1) (digit_no_space first.0 first.3)
     ∙ ap (λ b. read_pairs number at (data_of b) (pair_count (data_of b))) (sym spelled) ∙ ap (λ o. read_pairs number at (data_of body) (option_map length o)) pairs
 
-fault_read : (number : ℕ) (text : List ℕ) (fault : ReadFault) → IsFaultOf number text fault → read_line number text ≡ Err fault
+pub fault_read : (number : ℕ) (text : List ℕ) (fault : ReadFault) → IsFaultOf number text fault → read_line number text ≡ Err fault
 fault_read number text NoMemory is = absurd is
 fault_read number text (OddDigits n) is = absurd is
 fault_read number text (BadAddress n) (same, (digits, rest, front, bad)) =

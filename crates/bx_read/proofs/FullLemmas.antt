@@ -5,7 +5,7 @@ use Rattle.std.specs.List.{All}
 use Rattle.std.specs.Str.Parse.{digits_value}
 use Rattle.std.proofs.lemmas.List.{length-append, take-append-drop}
 use Rattle.std.proofs.lemmas.List.Elements.{All-cons, All-nil, All-append}
-use Rattle.bx_read.specs.inner.Full.{IsFull}
+use Rattle.bx_read.specs.private.Full.{IsFull}
 use Rattle.std.proofs.lemmas.Bool.{eqb-true}
 use Rattle.bx_read.specs.Digits.{is_hex, pairs_of, pair_value}
 use Rattle.bx_read.proofs.GrammarLemmas.{and_true, guard_some, unmap}

@@ -4,7 +4,7 @@ use Rattle.std.specs.List.{All}
 use Rattle.std.proofs.lemmas.Bool.{ne_eqb}
 use Rattle.std.proofs.lemmas.List.{drop_at, length-append}
 use Rattle.bx_read.specs.Digits.{pairs_of}
-use Rattle.bx_read.specs.inner.Full.{IsFull}
+use Rattle.bx_read.specs.private.Full.{IsFull}
 use Rattle.bx_read.specs.Text.{lines_of, answer_then, answers}
 use Rattle.bx_read.proofs.GrammarLemmas.{read_line-only}
 use Rattle.bx_read.proofs.LinesLemmas.{answers_read}

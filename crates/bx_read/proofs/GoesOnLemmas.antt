@@ -2,9 +2,9 @@
 use Rattle.std.proofs.Common.{◌≡◌, ℕ, ◌+◌, ◌-◌, ◌≤◌, Some, Result, Ok, List, ◌∷◌, ◌++◌, length, drop, refl, arith, sym, ap, subst, ◌∙◌}
 use Rattle.std.proofs.lemmas.List.{length-append, length-drop}
 use Rattle.bx_read.specs.Digits.{pairs_of}
-use Rattle.bx_read.specs.inner.Full.{IsFull}
-use Rattle.bx_read.specs.inner.NextLine.{joined_of}
-use Rattle.bx_read.specs.inner.Rows.{GoesOn}
+use Rattle.bx_read.specs.private.Full.{IsFull}
+use Rattle.bx_read.specs.private.NextLine.{joined_of}
+use Rattle.bx_read.specs.private.Rows.{GoesOn}
 use Rattle.bx_read.specs.Text.{ReadLine, lines_of, answers, gathered, piece_then}
 use Rattle.bx_read.specs.declared.fault.ReadFault.{ReadFault}
 use Rattle.bx_read.proofs.FullLines.{full_coming}

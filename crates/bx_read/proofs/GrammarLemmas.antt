@@ -8,9 +8,9 @@ use Rattle.std.proofs.Math.Seq.{drop-append-add}
 use Rattle.std.proofs.lemmas.List.Sums.{prefix_len_is, prefix_len_passes}
 use Rattle.std.proofs.lemmas.Bool.{eqb-true, eqb-false, ltb-false, leb-false, cases_lt, ne_eqb, le-ltb, lt-leb, false≢true}
 use Rattle.bx_read.specs.Digits.{is_hex, pairs_of, pair_value, data_of}
-use Rattle.bx_read.specs.inner.Digits.{pair_count}
+use Rattle.bx_read.specs.private.Digits.{pair_count}
 use Rattle.bx_read.specs.Line.{read_line, read_data}
-use Rattle.bx_read.specs.inner.Line.{read_pairs}
+use Rattle.bx_read.specs.private.Line.{read_pairs}
 use Rattle.bx_read.specs.Grammar.{IsLine, EndsData}
 use Rattle.bx_read.specs.declared.fault.ReadFault.{ReadFault}
 use Rattle.bx_read.specs.declared.fault.ReadFault.TheVariants.{BadAddress, MissingColon, BadPair, NoData, TooWide, AddressTooLarge}

@@ -15,7 +15,7 @@ use Rattle.bx_read.specs.Plain.{hex_bytes}
 use Rattle.bx_read.proofs.GrammarLemmas.{and_true, guard_some, unmap}
 use Rattle.bx_read.proofs.DigitsLemmas.{value_small}
 use Rattle.bx_read.proofs.PairsLemmas.{pairs_of-next, pairs_of-space, pairs_of-last}
-use Rattle.bx_read.specs.inner.Lanes.{group_places}
+use Rattle.bx_read.specs.private.Lanes.{group_places}
 
 abbrev pub value : ℕ → ℕ
 value c = cond (is_hex c) (digit_value c) 255

@@ -20,6 +20,8 @@ pub mod FaultLemmas
 pub mod PlainFaultLemmas
 pub mod RunLemmas
 pub mod GoesOnLemmas
+pub mod DataLemmas
+pub mod UnfinishedLemmas
 pub mod WindowLemmas
 pub mod SourceLemmas
 pub mod PlainWindowLemmas

@@ -8,7 +8,7 @@ use Rattle.std.proofs.lemmas.List.{length-append, length-replicate, get_or_past,
 use Rattle.std.proofs.Math.Nat.{add-div_right}
 use Rattle.bx_text.specs.Field.{hex_text, laid_out}
 use Rattle.bx_text.specs.Dump.{pair_of, shown_byte}
-use Rattle.bx_text.specs.inner.Dump.{hex_place, hex_columns, hex_width}
+use Rattle.bx_text.specs.private.Dump.{hex_place, hex_columns, hex_width}
 use Rattle.bx_text.proofs.FieldLemmas.{div_mono}
 use Rattle.bx_read.specs.Grammar.{IsLine, EndsData}
 use Rattle.bx_read.proofs.PackedLemmas.{packed, packed-pairs, length-packed, packed-before, two_each, apart_each, laid_out-packed}

@@ -5,7 +5,7 @@ use Rattle.std.specs.Result.{MatchResult, result_ok}
 use Rattle.std.proofs.lemmas.Bool.{leb-true, cases_lt}
 use Rattle.std.proofs.lemmas.List.{length-append}
 use Rattle.bx_read.specs.Digits.{is_hex, pairs_of, pair_value}
-use Rattle.bx_read.specs.inner.Digits.{few_pairs}
+use Rattle.bx_read.specs.private.Digits.{few_pairs}
 use Rattle.bx_read.specs.Line.{read_line, line_piece}
 use Rattle.bx_read.specs.Grammar.{IsLine}
 use Rattle.bx_read.specs.declared.fault.ReadFault.{ReadFault}

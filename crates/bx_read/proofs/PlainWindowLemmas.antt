@@ -5,11 +5,12 @@ use Rattle.std.specs.Option.{option_map, is_some}
 use Rattle.std.proofs.lemmas.Bool.{eqb-true}
 use Rattle.bx_read.specs.Digits.{is_hex, pair_value}
 use Rattle.bx_read.specs.Plain.{is_space, hex_bytes, bad_line, digit_line, plain_answer}
-use Rattle.bx_read.specs.inner.Plain.{without_space}
+use Rattle.bx_read.specs.private.Plain.{without_space}
 use Rattle.bx_read.specs.PlainWindow.{half_digit, HasDigits, IsPlainFault, HasReadPlainBy, HasReadPlain}
 use Rattle.bx_read.specs.declared.fault.ReadFault.{ReadFault}
 use Rattle.bx_read.specs.declared.fault.ReadFault.TheVariants.{NoMemory, BadPair, OddDigits}
-use Rattle.bx_read.specs.declared.plain_window.PlainRead.{PlainRead}
+use Rattle.bx_read.specs.private.PlainWindow.{plain_view}
+use Rattle.bx_read.specs.declared.plain_window.digits.DigitsRead.{DigitsRead}
 use Rattle.bx_read.proofs.DecodeLemmas.{more_in_front}
 use Rattle.bx_read.proofs.PlainLemmas.{hex-space, keep, leave, hex_bytes-some, hex_bytes-none, byte_of}
 use Rattle.bx_read.proofs.GrammarLemmas.{and_true}
@@ -157,25 +158,25 @@ module _ (text bytes : List ℕ) (passed last : ℕ) where
       rw (none, fine, ends) refl
 
 -- what is known of a text, by the fault that is kept
-pub digits_of_read : {A : Type 0} (text : List ℕ) (read : PlainRead A) → read.fault ≡ None → HasReadPlain text read → HasDigits text read.bytes.items read.half read.passed read.last
-digits_of_read text read none is = subst (HasReadPlainBy text read) none is
+pub digits_of_read : {A : Type 0} (text : List ℕ) (read : DigitsRead A) → read.fault ≡ None → HasReadPlain text (plain_view read) → HasDigits text read.bytes.items read.half read.passed read.last
+digits_of_read text read none is = subst (HasReadPlainBy text (plain_view read)) none is
 
-pub read_of_digits : {A : Type 0} (text : List ℕ) (read : PlainRead A) → read.fault ≡ None → HasDigits text read.bytes.items read.half read.passed read.last → HasReadPlain text read
-read_of_digits text read none has = subst (HasReadPlainBy text read) (sym none) has
+pub read_of_digits : {A : Type 0} (text : List ℕ) (read : DigitsRead A) → read.fault ≡ None → HasDigits text read.bytes.items read.half read.passed read.last → HasReadPlain text (plain_view read)
+read_of_digits text read none has = subst (HasReadPlainBy text (plain_view read)) (sym none) has
 
-pub read_of_fault : {A : Type 0} (text : List ℕ) (read : PlainRead A) (fault : ReadFault) → read.fault ≡ Some fault →
-    (fault ≡ NoMemory) ⊎ ((rest : List ℕ) → plain_answer (text ++ rest) ≡ Err fault) → HasReadPlain text read
-read_of_fault text read fault known has = subst (HasReadPlainBy text read) (sym known) has
+pub read_of_fault : {A : Type 0} (text : List ℕ) (read : DigitsRead A) (fault : ReadFault) → read.fault ≡ Some fault →
+    (fault ≡ NoMemory) ⊎ ((rest : List ℕ) → plain_answer (text ++ rest) ≡ Err fault) → HasReadPlain text (plain_view read)
+read_of_fault text read fault known has = subst (HasReadPlainBy text (plain_view read)) (sym known) has
 
-pub fault_stays : {A : Type 0} (text more : List ℕ) (read : PlainRead A) (fault : ReadFault) → read.fault ≡ Some fault → HasReadPlain text read → HasReadPlain (text ++ more) read
-fault_stays text more read fault known is = read_of_fault (text ++ more) read fault known (go (subst (HasReadPlainBy text read) known is))
+pub fault_stays : {A : Type 0} (text more : List ℕ) (read : DigitsRead A) (fault : ReadFault) → read.fault ≡ Some fault → HasReadPlain text (plain_view read) → HasReadPlain (text ++ more) (plain_view read)
+fault_stays text more read fault known is = read_of_fault (text ++ more) read fault known (go (subst (HasReadPlainBy text (plain_view read)) known is))
   where
     go : (fault ≡ NoMemory) ⊎ ((rest : List ℕ) → plain_answer (text ++ rest) ≡ Err fault) → (fault ≡ NoMemory) ⊎ ((rest : List ℕ) → plain_answer ((text ++ more) ++ rest) ≡ Err fault)
     go (inl none) = inl none
     go (inr all) = inr (λ rest. ap plain_answer (append_assoc text more rest) ∙ all (more ++ rest))
 
-pub fault_at_end : {A : Type 0} (text : List ℕ) (read : PlainRead A) (fault : ReadFault) → read.fault ≡ Some fault → HasReadPlain text read → IsPlainFault text fault
-fault_at_end text read fault known is = go (subst (HasReadPlainBy text read) known is)
+pub fault_at_end : {A : Type 0} (text : List ℕ) (read : DigitsRead A) (fault : ReadFault) → read.fault ≡ Some fault → HasReadPlain text (plain_view read) → IsPlainFault text fault
+fault_at_end text read fault known is = go (subst (HasReadPlainBy text (plain_view read)) known is)
   where
     go : (fault ≡ NoMemory) ⊎ ((rest : List ℕ) → plain_answer (text ++ rest) ≡ Err fault) → IsPlainFault text fault
     go (inl none) = inl none
@@ -194,5 +195,5 @@ none_left text bytes passed last None e was = plain_end text bytes passed last w
 none_left text bytes passed last (Some high) e was = cc
 
 -- nothing more
-pub nothing_more : {A : Type 0} (text : List ℕ) (read : PlainRead A) → HasReadPlain text read → HasReadPlain (text ++ []) read
+pub nothing_more : {A : Type 0} (text : List ℕ) (read : DigitsRead A) → HasReadPlain text (plain_view read) → HasReadPlain (text ++ []) (plain_view read)
 nothing_more text read is = rw (append-nil text) is

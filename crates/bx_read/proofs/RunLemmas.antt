@@ -8,7 +8,7 @@ use Rattle.std.proofs.lemmas.List.Elements.{All-cons}
 use Rattle.bx_text.specs.declared.owned.pieces.Piece.{Piece}
 use Rattle.bx_read.specs.Text.{ReadLine, gathered, piece_then, contents, answers, lines_of, dump_pieces}
 use Rattle.bx_read.specs.Runs.{with_piece, joined}
-use Rattle.bx_read.specs.inner.NextLine.{piece_of, IsNextLine, taken_then, lines_left, joined_of}
+use Rattle.bx_read.specs.private.NextLine.{piece_of, IsNextLine, taken_then, lines_left, joined_of}
 use Rattle.bx_read.specs.declared.fault.ReadFault.{ReadFault}
 use Rattle.bx_read.specs.declared.fault.ReadFault.TheVariants.{NoMemory}
 use Rattle.bx_read.specs.declared.runs.DumpLine.{DumpLine}

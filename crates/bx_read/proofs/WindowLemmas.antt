@@ -1,24 +1,26 @@
 -- A dump that is read window by window.
-use Rattle.std.proofs.Common.{◌≡◌, ◌⊎◌, inl, inr, ℕ, ◌+◌, ◌<◌, Bool, true, false, eqb, Some, None, Option, Result, Ok, Err, List, [], ◌∷◌, ◌++◌, length, refl, arith, sym, ap, subst, ◌∙◌, append_assoc, append-nil, Vec}
+use Rattle.std.proofs.Common.{◌≡◌, ◌≢◌, ◌⊎◌, inl, inr, ℕ, ◌+◌, ◌<◌, Bool, true, false, eqb, Some, None, Option, Result, Ok, Err, List, [], ◌∷◌, ◌++◌, length, refl, arith, sym, ap, subst, ◌∙◌, append_assoc, append-nil}
 use Rattle.std.specs.List.{onto_first, All}
 use Rattle.std.specs.Prelude.{◌^◌}
 use Rattle.std.specs.Option.{unwrap_or, is_some}
 use Rattle.std.proofs.lemmas.Bool.{eqb-true}
 use Rattle.std.proofs.lemmas.List.{length-append, map-append}
+use Rattle.std.proofs.lemmas.List.Elements.{All-append}
 use Rattle.bx_text.specs.declared.owned.pieces.Piece.{Piece}
 use Rattle.bx_read.specs.Digits.{pairs_of}
 use Rattle.bx_read.specs.Line.{read_line}
 use Rattle.bx_read.specs.Runs.{with_piece, joined}
 use Rattle.bx_read.specs.Text.{lines_of, is_skipped, answer_then, answers, gathered, piece_then, contents, dump_pieces}
-use Rattle.bx_read.specs.Window.{IsWhole, AreRunsOf, IsDumpFault, IsFaultBehind, HasLines, HasReadBy, HasReadDump}
-use Rattle.bx_read.specs.inner.Window.{newlines, JoinsBehind, TakesText}
-use Rattle.bx_read.specs.inner.NextLine.{joined_of}
+use Rattle.bx_read.specs.Window.{IsWhole, GivesRuns, AreRunsOf, IsDumpFault, IsFaultBehind, ReadsAlike, HasLines, HasReadBy, HasReadDump, DumpView}
+use Rattle.bx_read.specs.private.Unfinished.{IsFaultOfFront}
+use Rattle.bx_read.specs.private.Window.{newlines, JoinsBehind, TakesText}
+use Rattle.bx_read.specs.private.NextLine.{joined_of}
 use Rattle.bx_read.specs.declared.fault.ReadFault.{ReadFault}
 use Rattle.bx_read.specs.declared.fault.ReadFault.TheVariants.{NoMemory}
-use Rattle.bx_read.specs.declared.window.DumpRead.{DumpRead}
 use Rattle.bx_read.proofs.DumpLemmas.{Pieces, after}
 use Rattle.bx_read.proofs.LinesLemmas.{answers_read, answers_skip}
 use Rattle.bx_read.proofs.RunLemmas.{same_front, all_near}
+use Rattle.bx_read.proofs.UnfinishedLemmas.{stands_itself, stands_more, stands_then}
 
 -- a run behind others: the last one has its bytes too, where it begins at its end
 abbrev pub onto_last : Pieces → ℕ × List ℕ → Pieces
@@ -154,10 +156,10 @@ gathered_behind p q (line ∷ lines) others e = go (is_skipped line) refl (gathe
 
 -- a run put behind others
 module _ {A : Type 0} (old popped new : List (Piece A)) (run : Piece A) where
-  pub push_onto : contents new ≡ onto_last (contents old) (run.at, run.bytes) → JoinsBehind old new ((run.at, run.bytes) ∷ [])
+  pub push_onto : contents new ≡ onto_last (contents old) (run.at, run.bytes) → JoinsBehind (contents old) (contents new) ((run.at, run.bytes) ∷ [])
   push_onto is = λ pieces joined_are. is ∙ ap (λ r. onto_last r (run.at, run.bytes)) joined_are ∙ sym (joined_onto pieces (run.at, run.bytes))
 
-  pub push_first : old ≡ popped ++ [] → length popped ≡ 0 → new ≡ popped ++ run ∷ [] → JoinsBehind old new ((run.at, run.bytes) ∷ [])
+  pub push_first : old ≡ popped ++ [] → length popped ≡ 0 → new ≡ popped ++ run ∷ [] → JoinsBehind (contents old) (contents new) ((run.at, run.bytes) ∷ [])
   push_first before none pushed = push_onto (go popped none before pushed)
     where
       go : (popped : List (Piece A)) → length popped ≡ 0 → old ≡ popped ++ [] → new ≡ popped ++ run ∷ [] → contents new ≡ onto_last (contents old) (run.at, run.bytes)
@@ -172,7 +174,7 @@ module _ {A : Type 0} (old popped new : List (Piece A)) (run : Piece A) where
     with_last = ap (λ r. onto_last r (run.at, run.bytes)) last_of ∙ onto_front (contents popped) (last.at, last.bytes) (run.at, run.bytes)
 
     pub push_apart : (between : List (Piece A)) → between ≡ popped ++ last ∷ [] → new ≡ between ++ run ∷ [] → eqb run.at (last.at + length last.bytes) ≡ false →
-        JoinsBehind old new ((run.at, run.bytes) ∷ [])
+        JoinsBehind (contents old) (contents new) ((run.at, run.bytes) ∷ [])
     push_apart between first second e =
         let both : contents new ≡ contents popped ++ (last.at, last.bytes) ∷ (run.at, run.bytes) ∷ [] =
         ap contents (second ∙ ap (λ b. b ++ run ∷ []) first ∙ append_assoc popped (last ∷ []) (run ∷ []))
@@ -181,7 +183,7 @@ module _ {A : Type 0} (old popped new : List (Piece A)) (run : Piece A) where
         push_onto (both ∙ sym (with_last ∙ two))
 
     pub push_joined : (longer : Piece A) → longer.at ≡ last.at → longer.bytes ≡ last.bytes ++ run.bytes → new ≡ popped ++ longer ∷ [] →
-        eqb run.at (last.at + length last.bytes) ≡ true → JoinsBehind old new ((run.at, run.bytes) ∷ [])
+        eqb run.at (last.at + length last.bytes) ≡ true → JoinsBehind (contents old) (contents new) ((run.at, run.bytes) ∷ [])
     push_joined longer at bytes pushed e =
         let all : contents new ≡ contents popped ++ (longer.at, longer.bytes) ∷ [] = ap contents pushed ∙ map-append (λ p. (p.at, p.bytes)) popped (longer ∷ []) in
         let one : contents popped ++ (longer.at, longer.bytes) ∷ [] ≡ contents popped ++ (last.at, last.bytes ++ run.bytes) ∷ [] = rw (at, bytes) refl in
@@ -189,11 +191,11 @@ module _ {A : Type 0} (old popped new : List (Piece A)) (run : Piece A) where
         push_onto (all ∙ one ∙ sym (with_last ∙ two))
 
 -- runs put behind others, one after another
-pub none_put : {A : Type 0} (old : List (Piece A)) → JoinsBehind old old []
+pub none_put : {A : Type 0} (old : List (Piece A)) → JoinsBehind (contents old) (contents old) []
 none_put old = λ pieces joined_are. joined_are ∙ ap joined (sym (append-nil pieces))
 
-pub one_put : {A : Type 0} (old mid new done more : List (Piece A)) (run : Piece A) → JoinsBehind old mid (contents done) → JoinsBehind mid new ((run.at, run.bytes) ∷ []) →
-    more ≡ done ++ run ∷ [] → JoinsBehind old new (contents more)
+pub one_put : {A : Type 0} (old mid new done more : List (Piece A)) (run : Piece A) → JoinsBehind (contents old) (contents mid) (contents done) →
+    JoinsBehind (contents mid) (contents new) ((run.at, run.bytes) ∷ []) → more ≡ done ++ run ∷ [] → JoinsBehind (contents old) (contents new) (contents more)
 one_put old mid new done more run before step all = λ pieces joined_are.
     step (pieces ++ contents done) (before pieces joined_are)
     ∙ ap joined (append_assoc pieces (contents done) ((run.at, run.bytes) ∷ [])
@@ -201,13 +203,13 @@ one_put old mid new done more run before step all = λ pieces joined_are.
 
 -- a text behind lines that were read, by its own runs
 pub takes_text : {A : Type 0} (lines : ℕ) (text : List ℕ) (got old new : List (Piece A)) → joined_of (gathered (answers (lines + 1) (lines_of text))) ≡ Ok (contents got) →
-    JoinsBehind old new (contents got) → TakesText lines text old new
+    JoinsBehind (contents old) (contents new) (contents got) → TakesText lines text (contents old) (contents new)
 takes_text lines text got old new read joins = go (gathered (answers (lines + 1) (lines_of text))) refl read
   where
     same : (x y : Pieces) → ◌≡◌ {A = Result Pieces ReadFault} (Ok x) (Ok y) → x ≡ y
     same x y h = cc
 
-    go : (r : Result Pieces ReadFault) → gathered (answers (lines + 1) (lines_of text)) ≡ r → joined_of r ≡ Ok (contents got) → TakesText lines text old new
+    go : (r : Result Pieces ReadFault) → gathered (answers (lines + 1) (lines_of text)) ≡ r → joined_of r ≡ Ok (contents got) → TakesText lines text (contents old) (contents new)
     go (Ok more) is e = (more, is, λ pieces joined_are. joins pieces joined_are ∙ ap (λ t. joined (pieces ++ t)) (sym (same (joined more) (contents got) e)) ∙ joined_behind pieces more)
     go (Err fault) is e = cc
 
@@ -232,59 +234,120 @@ fault_lasts whole rest fault ends e =
     ∙ gathered_behind 1 (1 + length (lines_of whole)) (lines_of whole) (lines_of rest) refl
     ∙ ap (λ r. gives_then r (gathered (answers (1 + length (lines_of whole)) (lines_of rest)))) e
 
-whole_ends : (whole held lines front : List ℕ) → lines ≡ front ++ 10 ∷ [] → IsWhole (whole ++ (held ++ lines))
-whole_ends whole held lines front end =
-    inr (whole ++ (held ++ front), ap (λ l. whole ++ (held ++ l)) end ∙ ap (λ l. whole ++ l) (sym (append_assoc held front (10 ∷ []))) ∙ sym (append_assoc whole (held ++ front) (10 ∷ [])))
-
--- a window that is only held yet
-pub held_more : {A : Type 0} (text whole window : List ℕ) (old new : DumpRead A) → HasLines text whole old → new.held.items ≡ old.held.items ++ window → new.runs ≡ old.runs →
-    new.lines ≡ old.lines → HasLines (text ++ window) whole new
-held_more text whole window old new has held runs lines = record {
-  spelled = ap (λ t. t ++ window) has.spelled ∙ append_assoc whole old.held.items window ∙ ap (λ t. whole ++ t) (sym held);
+-- a line's front that is only held yet
+pub held_more : (text : List ℕ) (runs : Pieces) (lines : ℕ) (held more short : List ℕ) → HasLines text runs lines held → All (λ c. c ≢ 10) more → ReadsAlike (held ++ more) short →
+    HasLines (text ++ more) runs lines short
+held_more text runs lines held more short has apart stands = record {
+  whole = has.whole;
+  front = has.front ++ more;
+  spelled = ap (λ t. t ++ more) has.spelled ∙ append_assoc has.whole has.front more;
   ends = has.ends;
-  runs = subst (λ (r : Vec _ _). AreRunsOf whole r.items) (sym runs) has.runs;
-  lines = lines ∙ has.lines;
+  gives = has.gives;
+  counted = has.counted;
+  stands = stands_then (has.front ++ more) (held ++ more) short (stands_more has.front held more apart has.stands) stands;
 }
 
--- a window whose lines are read
-module _ {A : Type 0} (text whole window lines rest front : List ℕ) (old mid : DumpRead A) (has : HasLines text whole old) (cut : window ≡ lines ++ rest) (end : lines ≡ front ++ 10 ∷ [])
-    (held : mid.held.items ≡ old.held.items ++ lines) (runs : mid.runs ≡ old.runs) (count : mid.lines ≡ old.lines) where
-  spelled_more : text ++ window ≡ (whole ++ mid.held.items) ++ rest
-  spelled_more =
-      ap (λ t. t ++ window) has.spelled ∙ append_assoc whole old.held.items window
-      ∙ ap (λ w. whole ++ (old.held.items ++ w)) cut
-      ∙ ap (λ w. whole ++ w) (sym (append_assoc old.held.items lines rest) ∙ ap (λ h. h ++ rest) (sym held))
-      ∙ sym (append_assoc whole mid.held.items rest)
+pub held_as_is : (text : List ℕ) (runs : Pieces) (lines : ℕ) (held more new : List ℕ) → HasLines text runs lines held → All (λ c. c ≢ 10) more → new ≡ held ++ more →
+    HasLines (text ++ more) runs lines new
+held_as_is text runs lines held more new has apart same =
+    subst (HasLines (text ++ more) runs lines) (sym same)
+    (held_more text runs lines held more (held ++ more) has apart (stands_itself (held ++ more) (All-append (λ c. c ≢ 10) held more has.stands.apart apart)))
 
-  ends_more : IsWhole (whole ++ mid.held.items)
-  ends_more = subst (λ h. IsWhole (whole ++ h)) (sym held) (whole_ends whole old.held.items lines front end)
+-- the whole lines and the line's front, with a text behind them
+module _ (text more : List ℕ) (runs : Pieces) (lines : ℕ) (held : List ℕ) (has : HasLines text runs lines held) where
+  pub spelled_more : text ++ more ≡ has.whole ++ (has.front ++ more)
+  spelled_more = ap (λ t. t ++ more) has.spelled ∙ append_assoc has.whole has.front more
 
-  pub lines_read : (took new : DumpRead A) → TakesText mid.lines mid.held.items mid.runs.items took.runs.items → took.lines ≡ mid.lines + newlines mid.held.items →
-      took.held.items ≡ [] → new.held.items ≡ took.held.items ++ rest → new.runs ≡ took.runs → new.lines ≡ took.lines → HasLines (text ++ window) (whole ++ mid.held.items) new
-  lines_read took new takes counted none more same_runs same_lines = record {
-    spelled = spelled_more ∙ ap (λ t. (whole ++ mid.held.items) ++ t) (sym (more ∙ ap (λ h. h ++ rest) none));
-    ends = ends_more;
-    runs =
-        let before : contents mid.runs.items ≡ joined has.runs.0 = ap (λ (r : Vec _ _). contents r.items) runs ∙ has.runs.2 in (
-          has.runs.0 ++ takes.0,
-          pieces_behind whole mid.held.items mid.lines has.runs.0 has.ends has.runs.1 (count ∙ has.lines) takes.0 takes.1,
-          ap (λ (r : Vec _ _). contents r.items) same_runs ∙ takes.2 has.runs.0 before,
-        );
-    lines =
-        let whole_front : mid.held.items ≡ (old.held.items ++ front) ++ 10 ∷ [] = held ∙ ap (λ l. old.held.items ++ l) end ∙ sym (append_assoc old.held.items front (10 ∷ [])) in
-        let of_held : length (lines_of mid.held.items) ≡ newlines mid.held.items =
-        subst (λ t. length (lines_of t) ≡ newlines t) (sym whole_front) (lines_count (old.held.items ++ front)) in
-        let both : length (lines_of (whole ++ mid.held.items)) ≡ length (lines_of whole) + length (lines_of mid.held.items) =
-        ap length (lines_behind whole mid.held.items has.ends) ∙ length-append (lines_of whole) (lines_of mid.held.items) in
-        omega (arith, same_lines, counted, count, has.lines, both, of_held);
-  }
+  reads_as : (number : ℕ) → gathered (answers number (lines_of (held ++ more))) ≡ gathered (answers number (lines_of (has.front ++ more)))
+  reads_as number = sym (has.stands.reads number more)
 
-  pub window_fault : (fault : ReadFault) → (fault ≡ NoMemory) ⊎ (gathered (answers (mid.lines + 1) (lines_of mid.held.items)) ≡ Err fault) → IsFaultBehind (text ++ window) fault
-  window_fault fault (inl none) = inl none
-  window_fault fault (inr is) = inr (λ later.
-      ap (λ t. dump_pieces (t ++ later)) spelled_more ∙ ap dump_pieces (append_assoc (whole ++ mid.held.items) rest later)
-      ∙ fault_lasts (whole ++ mid.held.items) (rest ++ later) fault ends_more
-      (fault_behind whole mid.held.items mid.lines has.runs.0 has.ends has.runs.1 (count ∙ has.lines) fault is))
+  pub more_pieces : (pieces : Pieces) → gathered (answers (lines + 1) (lines_of (held ++ more))) ≡ Ok pieces → dump_pieces (text ++ more) ≡ Ok (has.gives.0 ++ pieces)
+  more_pieces pieces e =
+      ap dump_pieces spelled_more
+      ∙ pieces_behind has.whole (has.front ++ more) lines has.gives.0 has.ends has.gives.1 has.counted pieces (sym (reads_as (lines + 1)) ∙ e)
+
+  pub more_fault : (fault : ReadFault) → gathered (answers (lines + 1) (lines_of (held ++ more))) ≡ Err fault → dump_pieces (text ++ more) ≡ Err fault
+  more_fault fault e =
+      ap dump_pieces spelled_more
+      ∙ fault_behind has.whole (has.front ++ more) lines has.gives.0 has.ends has.gives.1 has.counted fault (sym (reads_as (lines + 1)) ∙ e)
+
+  -- whole lines now
+  module _ (front : List ℕ) (end : more ≡ front ++ 10 ∷ []) where
+    ends_more : IsWhole (has.whole ++ (has.front ++ more))
+    ends_more = inr (
+      has.whole ++ (has.front ++ front),
+      ap (λ l. has.whole ++ (has.front ++ l)) end
+          ∙ ap (λ l. has.whole ++ l) (sym (append_assoc has.front front (10 ∷ []))) ∙ sym (append_assoc has.whole (has.front ++ front) (10 ∷ [])),
+    )
+
+    all_read : (took : Pieces) (count : ℕ) → TakesText lines (held ++ more) runs took → count ≡ lines + newlines (held ++ more) → HasLines (text ++ more) took count []
+    all_read took count takes counted = record {
+      whole = has.whole ++ (has.front ++ more);
+      front = [];
+      spelled = spelled_more ∙ sym (append-nil (has.whole ++ (has.front ++ more)));
+      ends = ends_more;
+      gives = (
+        has.gives.0 ++ takes.0,
+        sym (ap dump_pieces spelled_more) ∙ more_pieces takes.0 takes.1,
+        takes.2 has.gives.0 has.gives.2,
+      );
+      counted =
+          let held_end : held ++ more ≡ (held ++ front) ++ 10 ∷ [] = ap (λ l. held ++ l) end ∙ sym (append_assoc held front (10 ∷ [])) in
+          let of_held : length (lines_of (held ++ more)) ≡ newlines (held ++ more) = subst (λ t. length (lines_of t) ≡ newlines t) (sym held_end) (lines_count (held ++ front)) in
+          let both : length (lines_of (has.whole ++ (has.front ++ more))) ≡ length (lines_of has.whole) + length (lines_of (has.front ++ more)) =
+          ap length (lines_behind has.whole (has.front ++ more) has.ends) ∙ length-append (lines_of has.whole) (lines_of (has.front ++ more)) in
+          omega (arith, counted, has.counted, both, of_held, has.stands.lines more);
+      stands = stands_itself [] (λ k d inside. absurd (omega (arith, inside)));
+    }
+
+    fault_read : (fault : ReadFault) → (fault ≡ NoMemory) ⊎ (gathered (answers (lines + 1) (lines_of (held ++ more))) ≡ Err fault) → IsFaultBehind (text ++ more) fault
+    fault_read fault (inl none) = inl none
+    fault_read fault (inr is) = inr (λ rest.
+        ap (λ t. dump_pieces (t ++ rest)) spelled_more
+        ∙ fault_lasts (has.whole ++ (has.front ++ more)) rest fault ends_more (sym (ap dump_pieces spelled_more) ∙ more_fault fault is))
+
+    module _ (both : List ℕ) (before : ℕ) (mid : Pieces) (same : both ≡ held ++ more) (counted : before ≡ lines) (kept : mid ≡ runs) where
+      pub lines_read : (took : Pieces) (count : ℕ) (left : List ℕ) → TakesText before both mid took → count ≡ before + newlines both → left ≡ [] → HasLines (text ++ more) took count left
+      lines_read took count left takes more_lines none =
+          subst (HasLines (text ++ more) took count) (sym none)
+          (all_read took count
+          (subst (λ r. TakesText lines (held ++ more) r took) kept (subst (λ n. TakesText n (held ++ more) mid took) counted (subst (λ t. TakesText before t mid took) same takes)))
+          (more_lines ∙ ap (λ n. n + newlines both) counted ∙ ap (λ t. lines + newlines t) same))
+
+      pub lines_fault : (fault : ReadFault) → (fault ≡ NoMemory) ⊎ (gathered (answers (before + 1) (lines_of both)) ≡ Err fault) → IsFaultBehind (text ++ more) fault
+      lines_fault fault is = fault_read fault
+          (subst (λ n. (fault ≡ NoMemory) ⊎ (gathered (answers (n + 1) (lines_of (held ++ more))) ≡ Err fault)) counted
+          (subst (λ t. (fault ≡ NoMemory) ⊎ (gathered (answers (before + 1) (lines_of t)) ≡ Err fault)) same is))
+
+  -- the fault of a line whatever follows
+  pub front_fault : All (λ c. c ≢ 10) more → (both : List ℕ) (count : ℕ) → both ≡ held ++ more → count ≡ lines → (fault : ReadFault) →
+      (fault ≡ NoMemory) ⊎ (All (λ c. c ≢ 10) both → IsFaultOfFront (count + 1) both fault) → IsFaultBehind (text ++ more) fault
+  front_fault apart both count same counted fault (inl none) = inl none
+  front_fault apart both count same counted fault (inr of_both) = inr (λ rest.
+      let is : All (λ c. c ≢ 10) (held ++ more) → IsFaultOfFront (lines + 1) (held ++ more) fault =
+      subst (λ n. All (λ c. c ≢ 10) (held ++ more) → IsFaultOfFront (n + 1) (held ++ more) fault) counted
+      (subst (λ t. All (λ c. c ≢ 10) t → IsFaultOfFront (count + 1) t fault) same of_both) in
+      let sure = is (All-append (λ c. c ≢ 10) held more has.stands.apart apart) rest in
+      let stands = stands_more has.front held more apart has.stands in
+      ap (λ t. dump_pieces (t ++ rest)) spelled_more ∙ ap dump_pieces (append_assoc has.whole (has.front ++ more) rest)
+      ∙ fault_behind has.whole ((has.front ++ more) ++ rest) lines has.gives.0 has.ends has.gives.1 has.counted fault (stands.reads (lines + 1) rest ∙ sure))
+
+-- a fault lasts
+pub fault_goes_on : (text more : List ℕ) (fault : ReadFault) → IsFaultBehind text fault → IsFaultBehind (text ++ more) fault
+fault_goes_on text more fault (inl none) = inl none
+fault_goes_on text more fault (inr all) = inr (λ rest. ap dump_pieces (append_assoc text more rest) ∙ all (more ++ rest))
+
+-- nothing was read yet
+pub nothing_read : HasLines [] [] 0 []
+nothing_read = record {
+  whole = [];
+  front = [];
+  spelled = refl;
+  ends = inl refl;
+  gives = ([], refl, refl);
+  counted = refl;
+  stands = stands_itself [] (λ k d inside. absurd (omega (arith, inside)));
+}
 
 -- what is known of a text, by the fault that is kept
 pub not_known : {X : Type 0} (o : Option X) → ((x : X) → o ≡ Some x → ⊥) → o ≡ None
@@ -295,44 +358,45 @@ pub no_fault : {X : Type 0} (o : Option X) (b : Bool) → b ≡ is_some o → b 
 no_fault None b is e = refl
 no_fault (Some x) b is e = cc
 
-pub lines_of_read : {A : Type 0} (text : List ℕ) (old : DumpRead A) → old.fault ≡ None → HasReadDump text old → (whole : List ℕ) × HasLines text whole old
-lines_of_read text old none is = subst (HasReadBy text old) none is
+pub some_fault : (o : Option ReadFault) (b : Bool) → b ≡ is_some o → b ≡ true → (fault : ReadFault) × (o ≡ Some fault)
+some_fault None b is e = cc
+some_fault (Some fault) b is e = (fault, refl)
 
-pub reads_on : {A : Type 0} (text window : List ℕ) (old new : DumpRead A) → old.fault ≡ None → new.fault ≡ old.fault →
-    ((whole : List ℕ) → HasLines text whole old → (longer : List ℕ) × HasLines (text ++ window) longer new) → HasReadDump text old → HasReadDump (text ++ window) new
-reads_on text window old new none same step is =
-    let was = lines_of_read text old none is in
-    subst (HasReadBy (text ++ window) new) (sym (same ∙ none)) (step was.0 was.1)
+-- a fault that is known stays
+pub fault_stays : (text more : List ℕ) (read : DumpView) (fault : ReadFault) → read.fault ≡ Some fault → HasReadDump text read → HasReadDump (text ++ more) read
+fault_stays text more read fault known is = subst (HasReadBy (text ++ more) read) (sym known) (fault_goes_on text more fault (subst (HasReadBy text read) known is))
 
-pub fault_stays : {A : Type 0} (text window : List ℕ) (old : DumpRead A) (fault : ReadFault) → old.fault ≡ Some fault → HasReadDump text old → HasReadDump (text ++ window) old
-fault_stays text window old fault known is = subst (HasReadBy (text ++ window) old) (sym known) (go (subst (HasReadBy text old) known is))
-  where
-    go : IsFaultBehind text fault → IsFaultBehind (text ++ window) fault
-    go (inl none) = inl none
-    go (inr all) = inr (λ rest. ap dump_pieces (append_assoc text window rest) ∙ all (window ++ rest))
+pub lines_of_read : (text : List ℕ) (read : DumpView) → read.fault ≡ None → HasReadDump text read → HasLines text read.runs read.lines read.held
+lines_of_read text read none is = subst (HasReadBy text read) none is
+
+pub read_of_lines : (text : List ℕ) (read : DumpView) → read.fault ≡ None → HasLines text read.runs read.lines read.held → HasReadDump text read
+read_of_lines text read none has = subst (HasReadBy text read) (sym none) has
+
+pub read_of_fault : (text : List ℕ) (read : DumpView) (fault : ReadFault) → read.fault ≡ Some fault → IsFaultBehind text fault → HasReadDump text read
+read_of_fault text read fault known is = subst (HasReadBy text read) (sym known) is
+
+pub fault_of_read : (text : List ℕ) (read : DumpView) (fault : ReadFault) → read.fault ≡ Some fault → HasReadDump text read → IsFaultBehind text fault
+fault_of_read text read fault known is = subst (HasReadBy text read) known is
 
 -- at the end of the text
-pub fault_at_end : {A : Type 0} (text : List ℕ) (read : DumpRead A) (fault : ReadFault) → read.fault ≡ Some fault → HasReadDump text read → IsDumpFault text fault
-fault_at_end text read fault known is = go (subst (HasReadBy text read) known is)
-  where
-    go : IsFaultBehind text fault → IsDumpFault text fault
-    go (inl none) = inl none
-    go (inr all) = inr (ap dump_pieces (sym (append-nil text)) ∙ all [])
+pub fault_at_end : (text : List ℕ) (fault : ReadFault) → IsFaultBehind text fault → IsDumpFault text fault
+fault_at_end text fault (inl none) = inl none
+fault_at_end text fault (inr all) = inr (ap dump_pieces (sym (append-nil text)) ∙ all [])
 
-module _ {A : Type 0} (text : List ℕ) (old : DumpRead A) (none : old.fault ≡ None) (is : HasReadDump text old) where
-  was : (whole : List ℕ) × HasLines text whole old
-  was = subst (HasReadBy text old) none is
+module _ (text : List ℕ) (runs : Pieces) (lines : ℕ) (held : List ℕ) (has : HasLines text runs lines held) where
+  no_more : (number : ℕ) → gathered (answers number (lines_of held)) ≡ gathered (answers number (lines_of (held ++ [])))
+  no_more number = ap (λ t. gathered (answers number (lines_of t))) (sym (append-nil held))
 
-  pub last_runs : (new : List (Piece A)) → TakesText old.lines old.held.items old.runs.items new → AreRunsOf text new
-  last_runs new takes = let has = was.1 in (
-    has.runs.0 ++ takes.0,
-    ap dump_pieces has.spelled ∙ pieces_behind was.0 old.held.items old.lines has.runs.0 has.ends has.runs.1 has.lines takes.0 takes.1,
-    takes.2 has.runs.0 has.runs.2,
+  pub last_runs : (new : Pieces) → TakesText lines held runs new → GivesRuns text new
+  last_runs new takes = (
+    has.gives.0 ++ takes.0,
+    ap dump_pieces (sym (append-nil text)) ∙ more_pieces text [] runs lines held has takes.0 (sym (no_more (lines + 1)) ∙ takes.1),
+    takes.2 has.gives.0 has.gives.2,
   )
 
-  pub last_fault : (fault : ReadFault) → (fault ≡ NoMemory) ⊎ (gathered (answers (old.lines + 1) (lines_of old.held.items)) ≡ Err fault) → IsDumpFault text fault
+  pub last_fault : (fault : ReadFault) → (fault ≡ NoMemory) ⊎ (gathered (answers (lines + 1) (lines_of held)) ≡ Err fault) → IsDumpFault text fault
   last_fault fault (inl refused) = inl refused
-  last_fault fault (inr e) = let has = was.1 in inr (ap dump_pieces has.spelled ∙ fault_behind was.0 old.held.items old.lines has.runs.0 has.ends has.runs.1 has.lines fault e)
+  last_fault fault (inr e) = inr (ap dump_pieces (sym (append-nil text)) ∙ more_fault text [] runs lines held has fault (sym (no_more (lines + 1)) ∙ e))
 
 -- each run of a text begins below 2 ^ 62
 pub runs_near : {A : Type 0} (text : List ℕ) (runs : List (Piece A)) → AreRunsOf text runs → All (λ run. run.at < 2 ^ 62) runs

@@ -10,7 +10,7 @@ use Rattle.std.proofs.lemmas.Bool.Decides.{nat_tests}
 use Rattle.std.proofs.lemmas.List.{length-append, length-replicate, length-map, get_or_append_left}
 use Rattle.bx_text.specs.Field.{char_at, hex_text}
 use Rattle.bx_text.specs.Dump.{pair_of, shown_byte}
-use Rattle.bx_text.specs.inner.Dump.{default_line, hex_place, hex_columns, hex_width}
+use Rattle.bx_text.specs.private.Dump.{default_line, hex_place, hex_columns, hex_width}
 use Rattle.bx_read.specs.Digits.{is_hex}
 use Rattle.bx_read.specs.Laws.{DumpLineReadsBack, WrittenLineReadsBack, IsWritten, line_text, wide_line_text}
 use Rattle.bx_read.proofs.GrammarLemmas.{and_true}

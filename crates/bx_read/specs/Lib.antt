@@ -11,4 +11,4 @@ pub mod Laws
 pub mod PairGrammar
 pub mod FaultTable
 pub mod PlainFaults
-pub mod inner
+pub mod private

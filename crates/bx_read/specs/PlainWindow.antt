@@ -4,7 +4,15 @@ use Rattle.std.specs.Option.{option_map}
 use Rattle.bx_read.specs.Plain.{is_space, hex_bytes, bad_line, digit_line, plain_answer}
 use Rattle.bx_read.specs.declared.fault.ReadFault.{ReadFault}
 use Rattle.bx_read.specs.declared.fault.ReadFault.TheVariants.{NoMemory}
-use Rattle.bx_read.specs.declared.plain_window.PlainRead.{PlainRead}
+
+-- What callers see of plain hexadecimal that is read window by window: its bytes, and a digit whose second one is still to come; how
+-- many newlines were passed, and the line of the last digit; what stopped the reading.
+pub record PlainView : Type 0 where
+  pub bytes : List ℕ
+  pub half : Option ℕ
+  pub passed : ℕ
+  pub last : ℕ
+  pub fault : Option ReadFault
 
 -- a digit whose second one is still to come, or none
 abbrev pub half_digit : Option ℕ → List ℕ
@@ -23,10 +31,10 @@ abbrev pub IsPlainFault : List ℕ → ReadFault → Type 0
 IsPlainFault text fault = (fault ≡ NoMemory) ⊎ (plain_answer text ≡ Err fault)
 
 -- its digits were read, or a fault is known: one of memory, or that of each text which begins so
-abbrev pub HasReadPlainBy : {A : Type 0} → List ℕ → PlainRead A → Option ReadFault → Type 0
-HasReadPlainBy text read None = HasDigits text read.bytes.items read.half read.passed read.last
+abbrev pub HasReadPlainBy : List ℕ → PlainView → Option ReadFault → Type 0
+HasReadPlainBy text read None = HasDigits text read.bytes read.half read.passed read.last
 HasReadPlainBy text read (Some fault) = (fault ≡ NoMemory) ⊎ ((rest : List ℕ) → plain_answer (text ++ rest) ≡ Err fault)
 
 -- The text was read, as far as this can be done without what follows it.
-abbrev pub HasReadPlain : {A : Type 0} → List ℕ → PlainRead A → Type 0
+abbrev pub HasReadPlain : List ℕ → PlainView → Type 0
 HasReadPlain text read = HasReadPlainBy text read read.fault

@@ -1,19 +1,30 @@
 -- A dump that is read window by window.
-use Rattle.std.specs.Prelude.{◌≡◌, ◌⊎◌, ℕ, List, [], ◌∷◌, ◌++◌, length, Option, None, Some, Ok, Err}
+use Rattle.std.specs.Prelude.{◌≡◌, ◌≢◌, ◌⊎◌, ℕ, List, [], ◌∷◌, ◌++◌, length, All, Option, None, Some, Ok, Err}
 use Rattle.bx_text.specs.declared.owned.pieces.Piece.{Piece}
 use Rattle.bx_read.specs.Runs.{joined}
-use Rattle.bx_read.specs.Text.{lines_of, dump_pieces, contents}
+use Rattle.bx_read.specs.Text.{lines_of, answers, gathered, dump_pieces, contents}
 use Rattle.bx_read.specs.declared.fault.ReadFault.{ReadFault}
 use Rattle.bx_read.specs.declared.fault.ReadFault.TheVariants.{NoMemory}
-use Rattle.bx_read.specs.declared.window.DumpRead.{DumpRead}
+
+-- What callers see of a dump that is read window by window: the runs of its whole lines, and how many lines these were; what is held
+-- of the line behind them; what stopped the reading.
+pub record DumpView : Type 0 where
+  pub runs : List (ℕ × List ℕ)
+  pub lines : ℕ
+  pub held : List ℕ
+  pub fault : Option ReadFault
 
 -- whole lines: nothing, or a text that ends in a newline
 abbrev pub IsWhole : List ℕ → Type 0
 IsWhole text = (text ≡ []) ⊎ ((front : List ℕ) × (text ≡ front ++ 10 ∷ []))
 
+-- These are the runs of the text's pieces, by their addresses and bytes.
+abbrev pub GivesRuns : List ℕ → List (ℕ × List ℕ) → Type 0
+GivesRuns text runs = (pieces : List (ℕ × List ℕ)) × (dump_pieces text ≡ Ok pieces) × (runs ≡ joined pieces)
+
 -- These are the runs of the text's pieces.
 abbrev pub AreRunsOf : {A : Type 0} → List ℕ → List (Piece A) → Type 0
-AreRunsOf text runs = (pieces : List (ℕ × List ℕ)) × (dump_pieces text ≡ Ok pieces) × (contents runs ≡ joined pieces)
+AreRunsOf text runs = GivesRuns text (contents runs)
 
 -- Memory was refused, or this is the text's fault.
 abbrev pub IsDumpFault : List ℕ → ReadFault → Type 0
@@ -23,18 +34,27 @@ IsDumpFault text fault = (fault ≡ NoMemory) ⊎ (dump_pieces text ≡ Err faul
 abbrev pub IsFaultBehind : List ℕ → ReadFault → Type 0
 IsFaultBehind text fault = (fault ≡ NoMemory) ⊎ ((rest : List ℕ) → dump_pieces (text ++ rest) ≡ Err fault)
 
--- Of the text the whole lines were read, and what stands behind them is held.
-pub record HasLines {A : Type 0} (text whole : List ℕ) (read : DumpRead A) : Type 0 where
-  pub spelled : text ≡ whole ++ read.held.items
+-- The other text stands for the front of a line: whatever follows, and whichever line it is, both read alike and are as many lines.
+pub record ReadsAlike (front other : List ℕ) : Type 0 where
+  pub reads : (number : ℕ) (rest : List ℕ) → gathered (answers number (lines_of (front ++ rest))) ≡ gathered (answers number (lines_of (other ++ rest)))
+  pub lines : (rest : List ℕ) → length (lines_of (front ++ rest)) ≡ length (lines_of (other ++ rest))
+  pub apart : All (λ c. c ≢ 10) other
+
+-- Of the text the whole lines were read, and what is held stands for the front of a line behind them.
+pub record HasLines (text : List ℕ) (runs : List (ℕ × List ℕ)) (lines : ℕ) (held : List ℕ) : Type 0 where
+  pub whole : List ℕ
+  pub front : List ℕ
+  pub spelled : text ≡ whole ++ front
   pub ends : IsWhole whole
-  pub runs : AreRunsOf whole read.runs.items
-  pub lines : read.lines ≡ length (lines_of whole)
+  pub gives : GivesRuns whole runs
+  pub counted : lines ≡ length (lines_of whole)
+  pub stands : ReadsAlike front held
 
 -- its lines were read, or a fault is known
-abbrev pub HasReadBy : {A : Type 0} → List ℕ → DumpRead A → Option ReadFault → Type 0
-HasReadBy text read None = (whole : List ℕ) × HasLines text whole read
+abbrev pub HasReadBy : List ℕ → DumpView → Option ReadFault → Type 0
+HasReadBy text read None = HasLines text read.runs read.lines read.held
 HasReadBy text read (Some fault) = IsFaultBehind text fault
 
 -- The text was read, as far as this can be done without what follows it.
-abbrev pub HasReadDump : {A : Type 0} → List ℕ → DumpRead A → Type 0
+abbrev pub HasReadDump : List ℕ → DumpView → Type 0
 HasReadDump text read = HasReadBy text read read.fault

@@ -2,7 +2,7 @@
 ghost use Rattle.std.specs.Prelude.{◌≡◌, ◌⊎◌, ◌*◌, ◌^◌, ◌<◌, ◌≤◌, ℕ, Result, length, Some, Ok, Err, MatchResult, IfOk, All, sum_by};
 ghost use Rattle.bx_read.specs.Text.{lines_of, dump_pieces, contents};
 ghost use Rattle.bx_read.specs.Lines.{coming};
-ghost use Rattle.bx_read.specs.inner.Next.{IsNextPiece, IsNextFault};
+ghost use Rattle.bx_read.specs.private.Next.{IsNextPiece, IsNextFault};
 ghost use Rattle.bx_read.specs.declared.fault.ReadFault.{ReadFault};
 
 use crate::fault::ReadFault;

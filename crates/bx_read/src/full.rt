@@ -1,6 +1,6 @@
 //! Lines of xxd's default form that hold 16 bytes.
 ghost use Rattle.std.specs.Prelude.{◌≡◌, ◌≤◌, ◌≢◌, length, All, IsFalse, Some, IfSome};
-ghost use Rattle.bx_read.specs.inner.Full.{IsFull};
+ghost use Rattle.bx_read.specs.private.Full.{IsFull};
 ghost use Rattle.bx_read.specs.Line.{line_piece};
 
 pub(crate) mod lanes;

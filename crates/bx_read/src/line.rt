@@ -2,7 +2,7 @@
 ghost use Rattle.std.specs.Prelude.{◌≡◌, ◌+◌, ◌<◌, ◌≤◌, ◌&&◌, length, take, drop, slice_index, Some, None, Ok, Err, IsTrue, IfOk, MatchResult, ℕ, nat_le, false};
 ghost use Rattle.std.specs.Option.{option_map, option_map_or};
 ghost use Rattle.bx_read.specs.Digits.{is_hex, pair_value, pairs_of, data_of};
-ghost use Rattle.bx_read.specs.inner.Digits.{pair_count, few_pairs};
+ghost use Rattle.bx_read.specs.private.Digits.{pair_count, few_pairs};
 
 use crate::digits::{front_digits, is_pair, number_of};
 use crate::fault::ReadFault;
@@ -88,7 +88,7 @@ impl<'a> Line<'a> {
 }
 
 /// How long the front is up to two spaces, or up to the end without one last space.
-fn data_len(body: &[u8]) -> usize
+pub(crate) fn data_len(body: &[u8]) -> usize
     ensures within { result ≤ length body.now }
     ensures front { take result body.now ≡ data_of body.now }
 {

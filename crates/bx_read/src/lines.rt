@@ -20,7 +20,7 @@ pub struct DumpLines<'a> {
 impl<'a> DumpLines<'a> {
     ghost use Rattle.bx_read.specs.Text.{lines_of, answers};
     ghost use Rattle.bx_read.specs.Lines.{coming, line_view};
-    ghost use Rattle.bx_read.specs.inner.NextLine.{runs_with};
+    ghost use Rattle.bx_read.specs.private.NextLine.{runs_with};
     ghost use Rattle.bx_read.specs.Line.{read_line};
     ghost use Rattle.bx_read.specs.Digits.{pairs_of};
 

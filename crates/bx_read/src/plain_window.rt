@@ -1,28 +1,26 @@
 //! Plain hexadecimal that is read window by window, so that no more than a window of the text is held.
-ghost use Rattle.std.specs.Prelude.{◌≡◌, ◌+◌, ◌^◌, ◌<◌, ◌≤◌, ◌++◌, ◌∷◌, [], ℕ, List, length, take, IsTrue, None, Ok, MatchResult, IfOk, IfSome};
-ghost use Rattle.std.proofs.Props.{props};
-ghost use Rattle.bx_read.specs.Digits.{is_hex};
-ghost use Rattle.bx_read.specs.Plain.{is_space, plain_answer};
+ghost use Rattle.std.specs.Prelude.{◌≡◌, ◌+◌, ◌^◌, ◌<◌, ◌≤◌, ◌++◌, [], ℕ, List, length, Ok, MatchResult, IfOk};
+ghost use Rattle.bx_read.specs.Plain.{plain_answer};
 
-use crate::digits::{is_digit, is_space, pair, put_pairs};
+mod digits;
+
 use crate::fault::ReadFault;
+use crate::plain_window::digits::DigitsRead;
 use std::alloc::{AllocError, Allocator, Global};
+use std::marker::Model;
 
-/// How many bytes are read at a time: more than a line of `xxd -p` has.
-const RUN: usize = 64;
-
-/// What was read so far of plain hexadecimal whose text comes in windows, which may be cut anywhere.
+/// What was read so far of plain hexadecimal whose text comes in windows, which may be cut anywhere: contracts see it as a `PlainView`.
 #[derive(Drop)]
 pub struct PlainRead<A: Allocator = Global> {
-    bytes: Vec<u8, A>,
-    // a digit whose second one is still to come
-    half: Option<u8>,
-    // how many newlines were passed, and the line of the last digit
-    passed: u64,
-    last: u64,
-    // what stopped the reading
-    fault: Option<ReadFault>,
-    ghost digit: { IfSome half (λ d. IsTrue (is_hex d)) } by { Prim.hlevel props },
+    read: DigitsRead<A>,
+}
+
+impl<A: Allocator> Model for PlainRead<A> {
+    ghost use Rattle.bx_read.specs.PlainWindow.{PlainView};
+
+    ghost Value = { PlainView };
+
+    ghost view = { λ r. record { bytes = r.read.bytes.items; half = r.read.half; passed = r.read.passed; last = r.read.last; fault = r.read.fault } };
 }
 
 impl<A: Allocator> PlainRead<A> {
@@ -33,7 +31,9 @@ impl<A: Allocator> PlainRead<A> {
         ensures read { HasReadPlain [] result }
         ensures count { result.passed ≡ 0 }
     {
-        PlainRead::begin(Vec::new(alloc))
+        PlainRead {
+            read: DigitsRead::begin(Vec::new(alloc)),
+        }
     }
 
     /// The same with room for this many bytes, without another growth.
@@ -41,22 +41,9 @@ impl<A: Allocator> PlainRead<A> {
         ensures read { IfOk result (λ read. HasReadPlain [] read) }
         ensures count { IfOk result (λ read. read.passed ≡ 0) }
     {
-        Ok(PlainRead::begin(Vec::with_capacity(alloc, capacity)?))
-    }
-
-    /// Nothing was read yet, and what will be is put here.
-    fn begin(bytes: Vec<u8, A>) -> PlainRead<A>
-        requires empty { bytes.items ≡ [] }
-        ensures read { HasReadPlain [] result }
-        ensures count { result.passed ≡ 0 }
-    {
-        PlainRead {
-            bytes,
-            half: None,
-            passed: 0,
-            last: 1,
-            fault: None,
-        }
+        Ok(PlainRead {
+            read: DigitsRead::begin(Vec::with_capacity(alloc, capacity)?),
+        })
     }
 
     /// Reads the next window of the text. After a fault, a byte that doesn't belong, nothing more is read.
@@ -66,118 +53,20 @@ impl<A: Allocator> PlainRead<A> {
         // No more newlines are passed than bytes.
         ensures count { self.new.passed ≤ self.old.passed + length window.now }
     {
-        let mut at = 0;
-        while at < window.len() {
-            at += self.take_front(&window[at..]);
-        }
+        self.read.read_window(window);
+    }
+
+    /// What stopped the reading: a byte that doesn't belong, or want of memory.
+    pub fn fault(&self) -> Option<ReadFault>
+        ensures { result ≡ self.now.fault }
+    {
+        self.read.fault
     }
 
     /// The bytes of the text that was given: what `read_plain` answers of it as one text.
     pub fn finish(self) -> Result<Vec<u8, A>, ReadFault>
         ensures exact { (text : List ℕ) → HasReadPlain text self → MatchResult result (λ v. plain_answer text ≡ Ok v.items) (IsPlainFault text) }
     {
-        if let Some(fault) = self.fault {
-            return Err(fault);
-        }
-        if self.half.is_some() {
-            return Err(ReadFault::OddDigits { line: self.last });
-        }
-        let PlainRead { bytes, .. } = self;
-        Ok(bytes)
-    }
-
-    /// Reads the pairs of digits that a text begins with and the byte behind them, and answers how long they are.
-    #[inline]
-    fn take_front(&mut self, text: &[u8]) -> usize
-        requires countable { self.old.passed + length text.now < 2 ^ 64 }
-        requires some { 0 < length text.now }
-        ensures within { result ≤ length text.now }
-        ensures some { 0 < result }
-        ensures read { (before : List ℕ) → HasReadPlain before self.old → HasReadPlain (before ++ take result text.now) self.new }
-        ensures count { self.new.passed ≤ self.old.passed + result }
-    {
-        let pairs = self.take_pairs(text);
-        if pairs == text.len() {
-            return pairs;
-        }
-        self.take_byte(text[pairs]);
-        pairs + 1
-    }
-
-    /// Reads the pairs of digits that a text begins with, as many as are read at a time, and answers how long they are: 0 where a
-    /// fault is known, or half a pair.
-    #[inline]
-    fn take_pairs(&mut self, text: &[u8]) -> usize
-        requires countable { self.old.passed + length text.now < 2 ^ 64 }
-        ensures within { result ≤ length text.now }
-        ensures read { (before : List ℕ) → HasReadPlain before self.old → HasReadPlain (before ++ take result text.now) self.new }
-        ensures count { self.new.passed ≡ self.old.passed }
-    {
-        if self.fault.is_some() {
-            return 0;
-        }
-        if self.half.is_some() {
-            return 0;
-        }
-        let mut bytes = [0u8; RUN];
-        let count = put_pairs(text, &mut bytes);
-        if count == 0 {
-            return 0;
-        }
-        self.last = self.passed + 1;
-        match self.bytes.extend_from_slice(&bytes[..count]) {
-            Ok(()) => 2 * count,
-            Err(_) => {
-                self.fault = Some(ReadFault::NoMemory);
-                2 * count
-            }
-        }
-    }
-
-    /// Reads a byte.
-    #[inline]
-    fn take_byte(&mut self, byte: u8)
-        requires countable { self.old.passed + 1 < 2 ^ 64 }
-        ensures read { (text : List ℕ) → HasReadPlain text self.old → HasReadPlain (text ++ byte ∷ []) self.new }
-        ensures count { self.new.passed ≤ self.old.passed + 1 }
-    {
-        if self.fault.is_some() {
-            return;
-        }
-        if is_digit(byte) {
-            self.take_digit(byte);
-            return;
-        }
-        if !is_space(byte) {
-            self.fault = Some(ReadFault::BadPair {
-                line: self.passed + 1,
-            });
-            return;
-        }
-        if byte == b'\n' {
-            self.passed += 1;
-        }
-    }
-
-    /// Reads a digit, where no fault is known.
-    #[inline]
-    fn take_digit(&mut self, digit: u8)
-        requires countable { self.old.passed + 1 < 2 ^ 64 }
-        requires digit { IsTrue (is_hex digit) }
-        requires sound { self.old.fault ≡ None }
-        ensures read { (text : List ℕ) → HasReadPlain text self.old → HasReadPlain (text ++ digit ∷ []) self.new }
-        ensures count { self.new.passed ≡ self.old.passed }
-    {
-        self.last = self.passed + 1;
-        match self.half {
-            None => self.half = Some(digit),
-            Some(high) => {
-                self.half = None;
-                match self.bytes.push(pair(high, digit)) {
-                    Ok(()) => {}
-                    Err(_) => self.fault = Some(ReadFault::NoMemory),
-                }
-            }
-        }
+        self.read.finish()
     }
 }

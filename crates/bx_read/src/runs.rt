@@ -3,7 +3,7 @@ ghost use Rattle.std.specs.Prelude.{◌≡◌, ◌⊎◌, ◌+◌, ◌^◌, ◌<
 ghost use Rattle.bx_read.specs.Text.{lines_of, answers, dump_pieces, contents, gathered};
 ghost use Rattle.bx_read.specs.Runs.{joined};
 ghost use Rattle.bx_read.specs.Lines.{coming};
-ghost use Rattle.bx_read.specs.inner.NextLine.{piece_of, IsNextLine, lines_left, joined_of, runs_with, runs_then};
+ghost use Rattle.bx_read.specs.private.NextLine.{piece_of, IsNextLine, lines_left, joined_of, runs_with, runs_then};
 
 use crate::fault::ReadFault;
 use crate::full::rows::goes_on;
@@ -60,7 +60,7 @@ enum DumpLine<'a> {
 }
 
 impl<'a> DumpLine<'a> {
-    ghost use Rattle.bx_read.specs.inner.NextLine.{piece_of};
+    ghost use Rattle.bx_read.specs.private.NextLine.{piece_of};
 
     /// The address of its first byte.
     #[inline]

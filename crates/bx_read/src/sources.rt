@@ -1,5 +1,5 @@
 //! Whole texts that are read from a source, a window at a time.
-ghost use Rattle.std.specs.Prelude.{◌≡◌, ◌⊎◌, ◌+◌, ◌-◌, ◌^◌, ◌<◌, ◌≤◌, ◌++◌, [], ℕ, List, length, Some, Ok, MatchResult, IfOk, IfErr, OnOk, All};
+ghost use Rattle.std.specs.Prelude.{◌≡◌, ◌≢◌, ◌⊎◌, ◌+◌, ◌-◌, ◌^◌, ◌<◌, ◌≤◌, ◌++◌, [], ℕ, List, length, Some, Ok, MatchResult, IfOk, IfErr, IfSome, OnOk, IsErrOf, All};
 ghost use Rattle.std.specs.Io.KnownBytes.{Consumes, IsAtEnd};
 ghost use Rattle.bx_text.specs.Stream.{fault_of, IsRestCause, StopsIn};
 ghost use Rattle.bx_text.specs.declared.stream.State.{State};
@@ -26,8 +26,8 @@ trait ReadsText {
     /// How much was counted: no more than the bytes of the text.
     ghost counted: { Self → ℕ };
 
-    /// Reads the next window.
-    fn read_next(&mut self, window: &[u8])
+    /// Reads the next window. Answers whether there was memory for it.
+    fn read_next(&mut self, window: &[u8]) -> bool
         requires countable { counted self.old + length window.now < 2 ^ 64 }
         ensures read { (text : List ℕ) → HasRead self.old text → HasRead self.new (text ++ window.now) }
         ensures count { counted self.new ≤ counted self.old + length window.now };
@@ -38,8 +38,9 @@ impl<A: Allocator> ReadsText for PlainRead<A> {
 
     ghost counted = { λ read. read.passed };
 
-    fn read_next(&mut self, window: &[u8]) {
+    fn read_next(&mut self, window: &[u8]) -> bool {
         self.read_window(window);
+        has_memory(self.fault())
     }
 }
 
@@ -53,14 +54,20 @@ struct DumpWindows<'a, A: Allocator> {
 impl<'a, A: Allocator + Clone> ReadsText for DumpWindows<'a, A> {
     ghost HasRead = { λ windows text. HasReadDump text windows.read };
 
-    ghost counted = { λ windows. windows.read.lines + length windows.read.held.items };
+    ghost counted = { λ windows. windows.read.lines + length windows.read.held };
 
-    fn read_next(&mut self, window: &[u8]) {
+    fn read_next(&mut self, window: &[u8]) -> bool {
         self.read.read_window(self.alloc, window);
+        has_memory(self.read.fault())
     }
 }
 
-/// Reads a text up to the source's end, a window at a time.
+/// Whether a reading wasn't stopped by want of memory.
+fn has_memory(fault: Option<ReadFault>) -> bool {
+    !matches!(fault, Some(ReadFault::NoMemory))
+}
+
+/// Reads a text up to the source's end, a window at a time. Where memory is refused, nothing more is read.
 fn read_all<R: Read + Drop, T: ReadsText>(
     source: &mut Source<R>,
     reader: &mut T,
@@ -71,8 +78,13 @@ fn read_all<R: Read + Drop, T: ReadsText>(
         × (length text ≤ source.old.meter.limit - source.old.meter.taken) × T.HasRead reader.new text) }
     ensures countable { OnOk result (T.counted reader.new < 2 ^ 64) }
     ensures end { OnOk result (source.old.meter.state ≡ State.Open → IsAtEnd (R.remaining source.new.reader)) }
-    ensures err { IfErr result (λ e. fault_of source.new.meter.state ≡ Some e) }
+    ensures err { IfErr result (λ e. (e ≡ IoFault.NoMemory) ⊎ (fault_of source.new.meter.state ≡ Some e)) }
     ensures stopped { IfErr result (λ e. StopsIn source.old.meter (R.remaining source.old.reader) (R.remaining source.new.reader) (IsRestCause e)) }
+
+    // Where nothing more can be read, nothing is.
+    ensures none_left { source.old.meter.state ≡ State.Ended → OnOk result (T.HasRead reader.new []) }
+    ensures lasting { IfSome (fault_of source.old.meter.state) (λ e. IsErrOf result e) }
+    ensures closed { source.old.meter.state ≢ State.Open → source.new.reader ≡ source.old.reader }
 {
     let mut window = [0u8; WINDOW];
     loop {
@@ -81,7 +93,9 @@ fn read_all<R: Read + Drop, T: ReadsText>(
             Err(fault) => return Err(fault),
         };
         let _taken = source.taken();
-        reader.read_next(&window[..count]);
+        if !reader.read_next(&window[..count]) {
+            return Err(IoFault::NoMemory);
+        }
         if count < WINDOW {
             return Ok(());
         }
@@ -89,7 +103,8 @@ fn read_all<R: Read + Drop, T: ReadsText>(
 }
 
 /// Reads the text of a dump up to the source's end: what `read_runs` answers of it. Of the text no more is held than a window and
-/// the longest line. A fault of the text is answered once the source is at its end, and one of the source as soon as it comes.
+/// what can still matter of a line, which is at most 1024 bytes. A fault of the text is answered once the source is at its end; one
+/// of the source, or want of memory, as soon as it comes.
 pub fn read_runs_from<R: Read + Drop, A: Allocator + Clone>(
     alloc: &A,
     source: &mut Source<R>,
@@ -103,6 +118,11 @@ pub fn read_runs_from<R: Read + Drop, A: Allocator + Clone>(
     // A fault of the source is the same from then on.
     ensures err { IfErr result (λ e. (e ≡ IoFault.NoMemory) ⊎ (fault_of source.new.meter.state ≡ Some e)) }
     ensures stopped { IfErr result (λ e. StopsIn source.old.meter (R.remaining source.old.reader) (R.remaining source.new.reader) (IsRestCause e)) }
+
+    // Where nothing more can be read, nothing is: no text is left.
+    ensures none_left { source.old.meter.state ≡ State.Ended → IfOk result (λ read. MatchResult read (λ v. AreRunsOf [] v.items) (IsDumpFault [])) }
+    ensures lasting { IfSome (fault_of source.old.meter.state) (λ e. IsErrOf result e ⊎ IsErrOf result IoFault.NoMemory) }
+    ensures closed { source.old.meter.state ≢ State.Open → source.new.reader ≡ source.old.reader }
 {
     let Ok(read) = DumpRead::new(alloc) else {
         return Err(IoFault::NoMemory);
@@ -125,8 +145,13 @@ pub fn read_plain_from<R: Read + Drop, A: Allocator>(
         × (length text ≤ source.old.meter.limit - source.old.meter.taken)
         × MatchResult read (λ v. plain_answer text ≡ Ok v.items) (IsPlainFault text)) }
     ensures end { OnOk result (source.old.meter.state ≡ State.Open → IsAtEnd (R.remaining source.new.reader)) }
-    ensures err { IfErr result (λ e. fault_of source.new.meter.state ≡ Some e) }
+    ensures err { IfErr result (λ e. (e ≡ IoFault.NoMemory) ⊎ (fault_of source.new.meter.state ≡ Some e)) }
     ensures stopped { IfErr result (λ e. StopsIn source.old.meter (R.remaining source.old.reader) (R.remaining source.new.reader) (IsRestCause e)) }
+
+    // Where nothing more can be read, nothing is: no text is left.
+    ensures none_left { source.old.meter.state ≡ State.Ended → IfOk result (λ read. MatchResult read (λ v. plain_answer [] ≡ Ok v.items) (IsPlainFault [])) }
+    ensures lasting { IfSome (fault_of source.old.meter.state) (λ e. IsErrOf result e ⊎ IsErrOf result IoFault.NoMemory) }
+    ensures closed { source.old.meter.state ≢ State.Open → source.new.reader ≡ source.old.reader }
 {
     let mut read = PlainRead::new(alloc);
     match read_all(source, &mut read) {

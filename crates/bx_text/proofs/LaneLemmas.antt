@@ -8,7 +8,7 @@ use Rattle.std.proofs.lemmas.List.{length-map, get_or-map, ext_get_or}
 use Rattle.std.proofs.lemmas.Simd.{zip2_splat, Each1-get_or, Each1-from_get_or, SwzOk, SwzOk-from_below, swz_l, length-swz_l, get_or-swz_l_below, pick_l_whole}
 use lib.Lanes.{zip2, Each1, pick_l, sel_l, top}
 use Rattle.bx_text.specs.Dump.{pair_of, shown_byte}
-use Rattle.bx_text.specs.inner.Dump.{hex_columns}
+use Rattle.bx_text.specs.private.Dump.{hex_columns}
 
 abbrev less : ℕ → ℕ → ℕ
 less a b = (a + (2 ^ 8 - b)) % 2 ^ 8

@@ -2,17 +2,15 @@
 use Rattle.std.proofs.Common.{◌≡◌, ℕ, zero, suc, ◌+◌, ◌-◌, ◌*◌, ◌^◌, ◌<◌, ◌≤◌, min, Bool, true, false, cond, Option, None, Some, List, [], ◌∷◌, length, get_or, take, drop, refl, arith, sym, ap, ◌∙◌, ⊎_elim}
 use Rattle.std.specs.Option.{option_map, option_and_then}
 use Rattle.std.specs.Char.{digit_value, is_digit}
-use Rattle.std.specs.Str.Parse.{digits_value}
-use Rattle.std.proofs.Math.Nat.{mul-le-mul_left}
+use Rattle.std.specs.Str.Parse.{digits_value, AllDigits}
+use Rattle.std.proofs.Math.Nat.{mul-le-mul_left, pow-le-pow_right}
 use Rattle.std.proofs.lemmas.Bool.{cases_lt, cases_eq, ne_eqb, ltb-true, lt-ltb, le-leb, eq-eqb}
 use Rattle.std.specs.List.{prefix_len}
-use Rattle.std.specs.Str.Parse.{AllDigits}
-use Rattle.std.proofs.Math.Nat.{pow-le-pow_right}
 use Rattle.std.proofs.lemmas.Int.Digits.{digits_value-lt}
 use Rattle.std.proofs.lemmas.List.{get_or-drop, drop-drop, length-drop}
 use Rattle.bx_text.specs.Number.{product_of, some_digits, hex_number}
-use Rattle.bx_text.specs.inner.Number.{factors_of}
-use Rattle.bx_text.specs.inner.Capped.{capped, capped_value}
+use Rattle.bx_text.specs.private.Number.{factors_of}
+use Rattle.bx_text.specs.private.Capped.{capped, capped_value}
 use Rattle.bx_text.specs.declared.number.size.SizeStyle.TheVariants.{Product}
 
 -- one digit more

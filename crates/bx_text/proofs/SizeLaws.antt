@@ -8,7 +8,7 @@ use Rattle.bx_text.specs.declared.number.size.SizeStyle.TheVariants.{Count, Bare
 use Rattle.bx_text.specs.declared.number.size.SizeFault.{SizeFault}
 use Rattle.bx_text.specs.declared.number.size.SizeFault.TheVariants.{Bad, TooLarge}
 use Rattle.bx_text.specs.Number.{units_of, some_digits, product_of, size_value, greatest}
-use Rattle.bx_text.specs.inner.Number.{within, in_first, factors_of}
+use Rattle.bx_text.specs.private.Number.{within, in_first, factors_of}
 use Rattle.bx_text.specs.NumberGrammar.{IsAmount}
 use Rattle.bx_text.specs.SizeGrammar.{with_x, AreFactors, IsSize, SizeHasForm}
 use Rattle.bx_text.proofs.NumberLaws.{number_has_form, unmapped, some_of, some_read}

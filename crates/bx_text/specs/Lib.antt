@@ -9,4 +9,4 @@ pub mod InPieces
 pub mod Number
 pub mod NumberGrammar
 pub mod SizeGrammar
-pub mod inner
+pub mod private

@@ -1,13 +1,13 @@
 //! One block of the input.
 ghost use Rattle.std.specs.Prelude.{◌≡◌, ℕ, ◌+◌, ◌-◌, ◌<◌, ◌≤◌, List, ◌++◌, map, replicate, OnOk, IfOk, if◌then◌else◌};
 ghost use Rattle.bx_dd.specs.Output.{cased, filler, swapped};
-ghost use Rattle.bx_dd.specs.inner.Output.{block_of};
+ghost use Rattle.bx_dd.specs.private.Output.{block_of};
 
 use crate::form::{Form, Letters, Shape};
 use std::alloc::{AllocError, Allocator};
 
 /// The block, filled up, swapped and in one case.
-#[tactic(auto, unfolding(crate::specs::inner::Output::block_of))]
+#[tactic(auto, unfolding(crate::specs::private::Output::block_of))]
 pub fn ready_block<A: Allocator>(
     alloc: A,
     block: &[u8],

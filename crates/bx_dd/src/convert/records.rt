@@ -1,9 +1,9 @@
 //! Records of a stream.
 ghost use Rattle.std.specs.Prelude.{◌≡◌, ◌≢◌, ℕ, ◌+◌, ◌-◌, ◌^◌, ◌<◌, ◌≤◌, [], ◌∷◌, ◌++◌, length, take, vec_capacity, IfOk, OnOk};
-ghost use Rattle.bx_dd.specs.inner.Output.{fitted, line_of};
-ghost use Rattle.bx_dd.specs.inner.Standing.{HoldsText, last_of};
-ghost use Rattle.bx_dd.specs.inner.Streaming.{Grows};
-ghost use Rattle.bx_dd.specs.inner.Paged.{Pushes, PushesPieces, Puts, StopsPieces, StopsPush, StopsPut, output};
+ghost use Rattle.bx_dd.specs.private.Output.{fitted, line_of};
+ghost use Rattle.bx_dd.specs.private.Standing.{HoldsText, last_of};
+ghost use Rattle.bx_dd.specs.private.Streaming.{Grows};
+ghost use Rattle.bx_dd.specs.private.Paged.{Pushes, PushesPieces, Puts, StopsPieces, StopsPush, StopsPut, output};
 ghost use Rattle.bx_dd.specs.declared.form.Shape.TheVariants.{Flat, Block, Unblock};
 
 use crate::form::{Form, Shape};

@@ -1,8 +1,8 @@
 //! Blocks converted where they were read.
 ghost use Rattle.std.specs.Prelude.{◌≡◌, ◌≢◌, ℕ, ◌+◌, ◌-◌, ◌%◌, ◌<◌, ◌≤◌, ◌++◌, length, take, drop, replicate, ◌||◌};
 ghost use Rattle.bx_dd.specs.Output.{joined};
-ghost use Rattle.bx_dd.specs.inner.Standing.{HasSizes};
-ghost use Rattle.bx_dd.specs.inner.Streaming.{unit_of};
+ghost use Rattle.bx_dd.specs.private.Standing.{HasSizes};
+ghost use Rattle.bx_dd.specs.private.Streaming.{unit_of};
 
 use crate::convert::block::{filler, turn_block};
 use crate::form::Form;

@@ -1,6 +1,6 @@
 //! Numbers as dd reads them.
 ghost use Rattle.std.specs.Prelude.{◌≡◌};
-ghost use Rattle.bx_dd.specs.inner.Number.{number_of};
+ghost use Rattle.bx_dd.specs.private.Number.{number_of};
 
 use bx_text::{SizeFault, SizeStyle, read_size};
 

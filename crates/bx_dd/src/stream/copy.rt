@@ -2,10 +2,10 @@
 ghost use Rattle.std.specs.Prelude.{◌≡◌, ◌≢◌, ℕ, ◌+◌, ◌-◌, ◌*◌, ◌^◌, ◌<◌, ◌≤◌, [], length, take, vec_capacity, true, false, Option, IfOk, IfErr, OnOk};
 ghost use Rattle.std.specs.Option.{ForSome};
 ghost use Rattle.bx_dd.specs.Plan.{form_of};
-ghost use Rattle.bx_dd.specs.inner.Standing.{HasSizes};
+ghost use Rattle.bx_dd.specs.private.Standing.{HasSizes};
 ghost use Rattle.bx_dd.specs.Streaming.{IsCopy, StopsCopy};
-ghost use Rattle.bx_dd.specs.inner.Paged.{CountsAll, Finishes, Flushes, GoesOn, IsFresh, Passes, StopsFinish, StopsFlush, StopsStageOf, output_of};
-ghost use Rattle.bx_dd.specs.inner.Streaming.{CopiesRest, Grows, StopsPass, most_of, unit_of};
+ghost use Rattle.bx_dd.specs.private.Paged.{CountsAll, Finishes, Flushes, GoesOn, IsFresh, Passes, StopsFinish, StopsFlush, StopsStageOf, output_of};
+ghost use Rattle.bx_dd.specs.private.Streaming.{CopiesRest, Grows, StopsPass, most_of, unit_of};
 ghost use Rattle.bx_dd.specs.declared.form.Shape.TheVariants.{Flat, Unblock};
 
 use crate::convert::records::{Tail, push_rest, push_shaped};

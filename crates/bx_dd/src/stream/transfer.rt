@@ -4,7 +4,7 @@ ghost use Rattle.std.specs.Io.KnownBytes.{Consumes, IsAtEnd};
 ghost use Rattle.bx_text.specs.Stream.{IsReadCause};
 ghost use Rattle.bx_dd.specs.Standing.{IsAfter};
 ghost use Rattle.bx_dd.specs.Transfer.{Copies, HasStopped, ReadsWithin};
-ghost use Rattle.bx_dd.specs.inner.Transfer.{IsStopCause, ReadsBlocks, StopsWithin, TakesBlocks};
+ghost use Rattle.bx_dd.specs.private.Transfer.{IsStopCause, ReadsBlocks, StopsWithin, TakesBlocks};
 
 use crate::convert::Convert;
 use crate::counts::Transfer;

@@ -1,8 +1,8 @@
 //! Dumps of whole inputs, a page at a time.
 ghost use Rattle.std.specs.Prelude.{◌≡◌, ℕ, ◌+◌, ◌*◌, ◌/◌, ◌^◌, ◌<◌, ◌≤◌, List, [], length, take};
 ghost use Rattle.bx_text.specs.Fold.{folded};
-ghost use Rattle.bx_text.specs.inner.Fold.{line_count, IsTaken};
-ghost use Rattle.bx_dump.specs.inner.Folded.{PutsLines, PutsNext, ShowsNext, TakesLines, TakesNext};
+ghost use Rattle.bx_text.specs.private.Fold.{line_count, IsTaken};
+ghost use Rattle.bx_dump.specs.private.Folded.{PutsLines, PutsNext, ShowsNext, TakesLines, TakesNext};
 
 use crate::driver::pages::{BLOCK, Pages};
 use bx_text::{Fold, Show};

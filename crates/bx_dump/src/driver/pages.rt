@@ -1,6 +1,6 @@
 //! Dumps of inputs, a page of text at a time.
 ghost use Rattle.std.specs.Prelude.{◌≡◌, ℕ, ◌+◌, ◌-◌, ◌^◌, ◌<◌, ◌≤◌, true, List, [], ◌++◌, length, take, Option, IfErr, IfOk, IfSome, Some};
-ghost use Rattle.bx_dump.specs.inner.Pages.{StopsNext, StopsTextOf, WritesNext, WritesTextOf, streams_of};
+ghost use Rattle.bx_dump.specs.private.Pages.{StopsNext, StopsTextOf, WritesNext, WritesTextOf, streams_of};
 
 use bx_text::{IoFault, Meter, State, emit_after};
 use std::io::{Read, Write};

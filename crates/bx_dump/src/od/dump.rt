@@ -2,8 +2,8 @@
 ghost use Rattle.std.specs.Prelude.{◌≡◌, ◌⊎◌, ℕ, ◌+◌, ◌^◌, ◌<◌, ◌≤◌, true, length, Err, IfOk, IfErr, OnOk, OnErr};
 ghost use Rattle.bx_text.specs.Stream.{Skips};
 ghost use Rattle.bx_dump.specs.OdDump.{Reaches, StopsOd, od_of};
-ghost use Rattle.bx_dump.specs.inner.Pages.{streams_of};
-ghost use Rattle.bx_dump.specs.inner.OdDump.{StopsOdLines, StopsShort, WritesOdLines};
+ghost use Rattle.bx_dump.specs.private.Pages.{streams_of};
+ghost use Rattle.bx_dump.specs.private.OdDump.{StopsOdLines, StopsShort, WritesOdLines};
 ghost use Rattle.bx_dump.specs.Pages.{WritesAll};
 
 use crate::driver::folded::FoldedPages;

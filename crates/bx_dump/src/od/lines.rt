@@ -3,9 +3,9 @@ ghost use Rattle.std.specs.Prelude.{◌≡◌, ℕ, ◌+◌, ◌-◌, ◌^◌, �
 ghost use Rattle.bx_dump.specs.Od.{address_text, od_line, od_end};
 
 use crate::driver::folded::Form;
-use bx_columns::od::octal::{put_eight, put_nine, put_seven};
-use bx_columns::od::options::{Address, Kind};
-use bx_columns::od::values::put_any;
+use bx_dump_columns::od::octal::{put_eight, put_nine, put_seven};
+use bx_dump_columns::od::options::{Address, Kind};
+use bx_dump_columns::od::values::put_any;
 use bx_text::{ShortText, dec_field, hex_field, oct_field};
 
 /// An address in digits.

@@ -1,7 +1,7 @@
 //! What od shows.
 ghost use Rattle.std.specs.Prelude.{◌≤◌, ◌^◌};
 
-use bx_columns::od::options::{Address, Kind};
+use bx_dump_columns::od::options::{Address, Kind};
 
 /// What od shows.
 #[derive(Clone, Copy, Debug, PartialEq, Eq)]

@@ -1,19 +1,18 @@
 //! The printable runs of an input.
 ghost use Rattle.std.specs.Prelude.{◌≡◌, ℕ, ◌+◌, ◌-◌, ◌*◌, ◌^◌, ◌<◌, ◌≤◌, [], List, ◌++◌, length, take, codes, not, IfOk, IfErr};
 ghost use Rattle.std.specs.List.{prefix_len};
-ghost use Rattle.bx_dump.specs.inner.Runs.{Keeps, Scans, StopsScan, known_text, waiting};
-ghost use Rattle.bx_dump.specs.inner.Scan.{scan_run, scan_text, end_text, AllPrint, EndsQuiet, IsQuiet};
-ghost use Rattle.bx_columns.specs.inner.Places.{cost_of};
+ghost use Rattle.bx_dump.specs.private.Runs.{Keeps, Scans, StopsScan, known_text, waiting};
+ghost use Rattle.bx_dump.specs.private.Scan.{scan_run, scan_text, end_text, AllPrint, EndsQuiet, IsQuiet};
+ghost use Rattle.bx_dump_columns.specs.Places.{cost_of, place_text};
 ghost use Rattle.bx_text.specs.Ascii.{is_printable};
 ghost use Rattle.bx_dump.specs.Pages.{WritesAll, WritesFrontOf};
-ghost use Rattle.bx_columns.specs.Places.{place_text};
 ghost use Rattle.bx_dump.specs.Strings.{strings_of};
 
 use crate::driver::pages::BLOCK;
 use crate::strings::options::StringsOptions;
-use bx_columns::od::options::Address;
-use bx_columns::strings::lanes::{four_in, printing_in};
-use bx_columns::strings::places::{put_at, put_place};
+use bx_dump_columns::od::options::Address;
+use bx_dump_columns::strings::lanes::{four_in, printing_in};
+use bx_dump_columns::strings::places::{put_at, put_place};
 use bx_text::{IoFault, Meter, State, emit_after};
 use std::io::{Read, Write};
 use std::simd::prelude::*;

@@ -1,7 +1,7 @@
 //! What strings shows.
 ghost use Rattle.std.specs.Prelude.{◌<◌, ◌≤◌};
 
-use bx_columns::od::options::Address;
+use bx_dump_columns::od::options::Address;
 
 /// Which runs are shown, and how.
 #[derive(Clone, Copy, Debug, PartialEq, Eq)]

@@ -1,11 +1,11 @@
 //! Lines of xxd with columns.
 ghost use Rattle.std.specs.Prelude.{◌≡◌, ℕ, ◌+◌, ◌-◌, ◌*◌, ◌/◌, ◌^◌, ◌<◌, ◌≤◌, length, take};
 ghost use Rattle.std.specs.List.{flat_map};
-ghost use Rattle.bx_dump.specs.inner.Xxd.{cell_of, cell_width, columns_line, columns_width, lines_of};
+ghost use Rattle.bx_dump.specs.private.Xxd.{cell_of, cell_width, columns_line, columns_width, lines_of};
 
 use crate::xxd::lines::{LineForm, Put};
-use bx_columns::xxd::binary::put_six;
-use bx_columns::xxd::cells::{put_at, put_bits, put_body, put_pairs};
+use bx_dump_columns::xxd::binary::put_six;
+use bx_dump_columns::xxd::cells::{put_at, put_bits, put_body, put_pairs};
 use bx_text::put_address;
 
 /// How a byte is written.

@@ -2,16 +2,16 @@
 ghost use Rattle.std.specs.Prelude.{◌≡◌, ◌+◌, ◌^◌, ◌<◌, ◌≤◌, length, IfOk, IfErr};
 ghost use Rattle.bx_dump.specs.Pages.{WritesAll, WritesFrontOf};
 ghost use Rattle.bx_dump.specs.Styles.{group_of, include_items, xxd_of, IsCountable};
-ghost use Rattle.bx_dump.specs.inner.Pages.{streams_of};
-ghost use Rattle.bx_dump.specs.inner.Styles.{columns_text, named_text, plain_text};
-ghost use Rattle.bx_dump.specs.inner.XxdDump.{StopsFront, StopsItems, StopsLines, StopsStyle, WritesLines, WritesStyle, WritesText};
+ghost use Rattle.bx_dump.specs.private.Pages.{streams_of};
+ghost use Rattle.bx_dump.specs.private.Styles.{columns_text, named_text, plain_text};
+ghost use Rattle.bx_dump.specs.private.XxdDump.{StopsFront, StopsItems, StopsLines, StopsStyle, WritesLines, WritesStyle, WritesText};
 
 use crate::driver::pages::{Part, dump_part};
 use crate::xxd::columns::{Columns, Digits};
 use crate::xxd::lines::{LineForm, Lines};
 use crate::xxd::options::{XxdOptions, XxdStyle};
 use crate::xxd::rows::{Items, Plain};
-use bx_columns::xxd::names::{emit_head, emit_tail};
+use bx_dump_columns::xxd::names::{emit_head, emit_tail};
 use bx_text::{IoFault, emit_after};
 use std::io::{Read, Write};
 

@@ -3,12 +3,12 @@ ghost use Rattle.std.specs.Prelude.{◌≡◌, ℕ, ◌+◌, ◌-◌, ◌*◌, �
 ghost use Rattle.std.specs.List.{flat_map};
 ghost use Rattle.bx_text.specs.Dump.{pair_of};
 ghost use Rattle.bx_dump.specs.Laws.{items};
-ghost use Rattle.bx_columns.specs.Lines.{in_lines};
-ghost use Rattle.bx_dump.specs.inner.Rows.{include_line, next_item, plain_line};
+ghost use Rattle.bx_dump_columns.specs.Lines.{in_lines};
+ghost use Rattle.bx_dump.specs.private.Rows.{include_line, next_item, plain_line};
 
 use crate::xxd::lines::{LineForm, Put};
-use bx_columns::hex_lanes::put_sixteen;
-use bx_columns::xxd::cells::put_pairs;
+use bx_dump_columns::hex_lanes::put_sixteen;
+use bx_dump_columns::xxd::cells::put_pairs;
 use bx_text::digits_of;
 use std::simd::prelude::*;
 

@@ -2,7 +2,7 @@
 ghost use Rattle.std.specs.Prelude.{◌≡◌, ◌↔◌, ◌+◌, ◌-◌, ◌/◌, ◌<◌, ◌≤◌, ℕ, length, min, max, is_err, if◌then◌else◌, OnOk, take};
 ghost use Rattle.bx_image.specs.Device.{GoesOn, IsPartlyWritten, IsPartlyCut};
 ghost use Rattle.bx_image.specs.Fuse.{is_blown, after_call};
-ghost use Rattle.bx_image.specs.inner.Fuse.{part_of, reached};
+ghost use Rattle.bx_image.specs.private.Fuse.{part_of, reached};
 ghost use Rattle.bx_image.specs.Image.{place, cut};
 ghost use Rattle.bx_image.specs.Power.{Follows, KeepsOutside, KeepsBelow};
 
@@ -163,8 +163,8 @@ impl<D: Device> Model for FuseImage<D> {
 }
 
 impl<D: Device> FuseImage<D> {
-    /// Passes `pass` calls of `write_at` and `set_len`, then fails the next one if `once`, else all.
-    /// `part` of a call that fails on purpose takes effect.
+    /// Passes `pass` calls of `write_at`, `set_len` and `sync`, then fails the next one if `once`, else all.
+    /// `part` of a call that fails on purpose takes effect, and of a sync nothing.
     pub fn new(device: D, pass: u64, part: Part, once: bool) -> Self
         requires { D.failures device ≡ 0 }
         ensures within { result.within ≡ device }

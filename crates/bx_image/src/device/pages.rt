@@ -2,7 +2,7 @@
 ghost use Rattle.std.specs.Prelude.{◌≡◌, ◌≢◌, ◌+◌, ◌*◌, ◌-◌, ◌<◌, ◌≤◌, ℕ, [], ◌^◌, length, take, drop, replicate, slice_index, slice_index_or, vec_len, max, ◌%◌, OnOk, IfOk, IsOk, refl};
 ghost use Rattle.bx_image.specs.Image.{image_of};
 ghost use Rattle.bx_image.specs.Pages.{byte_at, image_within};
-ghost use Rattle.bx_image.specs.inner.Pages.{IsWrittenOver, IsCleared, written_over};
+ghost use Rattle.bx_image.specs.private.Pages.{IsWrittenOver, IsCleared, written_over};
 
 use crate::{Device, DeviceFailed, NoMemory};
 use std::alloc::{AllocError, Allocator, Global};

@@ -7,7 +7,7 @@ ghost use Rattle.bx_image.specs.Image.{zeros};
 ghost use Rattle.bx_image.specs.Power.{NoMore};
 ghost use Rattle.bx_image.specs.Runs.{IsRunOf, AreRunsOf, LieBelow, HaveShape, IsSavedAnew};
 ghost use Rattle.bx_image.specs.Over.{saved_over, LieWithin};
-ghost use Rattle.bx_image.specs.inner.Spans.{StandOver};
+ghost use Rattle.bx_image.specs.private.Spans.{StandOver};
 
 use crate::record::spans::{Span, touched};
 use crate::record::{Saved, are_bytes};

@@ -4,8 +4,8 @@ ghost use Rattle.std.specs.List.Sorted.{IsPermutation, IsNonDecreasingBy};
 ghost use Rattle.bx_image.specs.declared.change.Change.{Change as ChangeOf};
 ghost use Rattle.bx_image.specs.Change.{saved, Restores};
 ghost use Rattle.bx_image.specs.Over.{saved_over, LieWithin};
-ghost use Rattle.bx_image.specs.inner.Change.{is_cut_off, is_covered};
-ghost use Rattle.bx_image.specs.inner.Spans.{are_over, with_span, AreApart};
+ghost use Rattle.bx_image.specs.private.Change.{is_cut_off, is_covered};
+ghost use Rattle.bx_image.specs.private.Spans.{are_over, with_span, AreApart};
 
 use crate::Change;
 use crate::record::Saved;

@@ -1,12 +1,11 @@
 //! The entries of a text that are marked, a row for each.
 ghost use Rattle.std.specs.Prelude.{◌≡◌, ◌<◌, ◌≤◌, ◌++◌, ℕ, All, OnOk, IfErr, length, string_bytes};
 ghost use Rattle.std.specs.Io.KnownBytes.{Appends};
-ghost use Rattle.bx_show.specs.inner.Showing.{LiesWithin, PutFault, Stays, mark_row, mark_rows, places_at, row_front};
+ghost use Rattle.bx_journal_read.specs.show.Showing.{CountsNone, LiesWithin, LookCounts, PutFault, Stays, mark_row, mark_rows, places_at, row_front};
 
-use bx_entries::Mark;
-use bx_scan::WINDOW;
-use bx_show::{ShowFault, put, put_ranges};
-use bx_store::TextStore;
+use bx_journal_format::Mark;
+use bx_journal_read::{ShowFault, WINDOW, put, put_ranges};
+use bx_journal_store::TextStore;
 use std::alloc::{AllocError, Allocator};
 use std::fmt::Write as _;
 use std::io::Write;
@@ -31,6 +30,7 @@ fn put_front<A: Allocator + Clone, W: Write>(
 ) -> Result<u64, ShowFault>
     ensures front { OnOk result (Appends (W.contents out.old) (W.contents out.new) (row_front number mark)) }
     ensures kind { IfErr result PutFault }
+    ensures counts { IfErr result CountsNone }
 {
     let mut front = String::new(alloc.clone()?);
     push_front(&mut front, number, mark)?;
@@ -40,23 +40,24 @@ fn put_front<A: Allocator + Clone, W: Write>(
 /// Writes the ranges of a change, or `-` where it saved no bytes.
 fn put_places<T: TextStore, A: Allocator + Clone, W: Write>(
     alloc: &A,
-    store: &mut T,
+    journal: &mut T,
     window: &mut [u8],
     mark: Mark,
     written: u64,
     out: &mut W,
 ) -> Result<u64, ShowFault>
-    requires countable { T.failures store.old < u64.MAX }
-    requires within { T.honest store.old → mark.to ≤ length (T.text store.old) }
+    requires countable { T.failures journal.old < u64.MAX }
+    requires within { T.honest journal.old → mark.to ≤ length (T.text journal.old) }
     requires order { mark.from ≤ mark.to }
-    ensures put { T.honest store.old → OnOk result (Appends (W.contents out.old) (W.contents out.new) (places_at (T.text store.old) mark)) }
+    ensures put { T.honest journal.old → OnOk result (Appends (W.contents out.old) (W.contents out.new) (places_at (T.text journal.old) mark)) }
     ensures kind { IfErr result PutFault }
-    ensures stays { Stays T.honest T.text T.failures result store.old store.new }
+    ensures stays { Stays T.honest T.text T.failures result journal.old journal.new }
+    ensures counts { IfErr result (λ f. LookCounts f (T.failures journal.old) 0 (T.failures journal.new) 0) }
 {
     if mark.saved == 0 {
         return put(out, written, b"-");
     }
-    put_ranges(alloc, store, window, mark, written, out)
+    put_ranges(alloc, journal, window, mark, written, out)
 }
 
 /// A change of a text: its number, and the mark of its entry.
@@ -69,37 +70,39 @@ struct Change {
 /// Writes the row of a change.
 fn put_row<T: TextStore, A: Allocator + Clone, W: Write>(
     alloc: &A,
-    store: &mut T,
+    journal: &mut T,
     window: &mut [u8],
     change: Change,
     written: u64,
     out: &mut W,
 ) -> Result<u64, ShowFault>
-    requires countable { T.failures store.old < u64.MAX }
-    requires within { T.honest store.old → change.mark.to ≤ length (T.text store.old) }
+    requires countable { T.failures journal.old < u64.MAX }
+    requires within { T.honest journal.old → change.mark.to ≤ length (T.text journal.old) }
     requires order { change.mark.from ≤ change.mark.to }
-    ensures row { T.honest store.old → OnOk result
-        (Appends (W.contents out.old) (W.contents out.new) (mark_row (T.text store.old) change.number change.mark)) }
+    ensures row { T.honest journal.old → OnOk result
+        (Appends (W.contents out.old) (W.contents out.new) (mark_row (T.text journal.old) change.number change.mark)) }
     ensures kind { IfErr result PutFault }
-    ensures stays { Stays T.honest T.text T.failures result store.old store.new }
+    ensures stays { Stays T.honest T.text T.failures result journal.old journal.new }
+    ensures counts { IfErr result (λ f. LookCounts f (T.failures journal.old) 0 (T.failures journal.new) 0) }
 {
     let front = put_front(alloc, change.number, change.mark, written, out)?;
-    let places = put_places(alloc, store, window, change.mark, front, out)?;
+    let places = put_places(alloc, journal, window, change.mark, front, out)?;
     put(out, places, b"\n")
 }
 
 /// Writes a row for each mark, in their order.
 pub fn put_rows<T: TextStore, A: Allocator + Clone, W: Write>(
     alloc: &A,
-    store: &mut T,
+    journal: &mut T,
     marks: &[Mark],
     out: &mut W,
 ) -> Result<(), ShowFault>
-    requires countable { T.failures store.old < u64.MAX }
-    requires lie { (len : ℕ) × (T.honest store.old → len ≤ length (T.text store.old)) × All (LiesWithin len) marks.now }
-    ensures rows { T.honest store.old → OnOk result (Appends (W.contents out.old) (W.contents out.new) (mark_rows (T.text store.old) 1 marks.now)) }
+    requires countable { T.failures journal.old < u64.MAX }
+    requires lie { (len : ℕ) × (T.honest journal.old → len ≤ length (T.text journal.old)) × All (LiesWithin len) marks.now }
+    ensures rows { T.honest journal.old → OnOk result (Appends (W.contents out.old) (W.contents out.new) (mark_rows (T.text journal.old) 1 marks.now)) }
     ensures kind { IfErr result PutFault }
-    ensures text { T.honest store.old → T.text store.new ≡ T.text store.old }
+    ensures stays { Stays T.honest T.text T.failures result journal.old journal.new }
+    ensures counts { IfErr result (λ f. LookCounts f (T.failures journal.old) 0 (T.failures journal.new) 0) }
 {
     let mut window = vec![in alloc.clone()?; 0u8; WINDOW as usize]?;
     let mut written: u64 = 0;
@@ -108,7 +111,7 @@ pub fn put_rows<T: TextStore, A: Allocator + Clone, W: Write>(
         let number = i as u64 + 1;
         written = put_row(
             alloc,
-            store,
+            journal,
             window.as_mut_slice(),
             Change {
                 number,

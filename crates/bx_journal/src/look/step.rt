@@ -1,14 +1,15 @@
 //! Steps over changes, as they are shown: a heading, the saved lines, and an empty line for each.
 ghost use Rattle.std.specs.Prelude.{◌≡◌, ◌+◌, ◌<◌, ◌≤◌, ℕ, All, IsTrue, length, OnOk, IfErr};
 ghost use Rattle.std.specs.Io.KnownBytes.{Appends};
-ghost use Rattle.bx_show.specs.Steps.{first_number};
-ghost use Rattle.bx_show.specs.inner.Showing.{LiesWithin, PutFault, Stays};
-ghost use Rattle.bx_show.specs.inner.Steps.{AreStepsPut, mark_step, number_at, saved_at};
+ghost use Rattle.bx_journal_read.specs.show.Steps.{first_number, AreStepsPut, mark_step, number_at, saved_at};
+ghost use Rattle.bx_journal_read.specs.show.Showing.{LiesWithin, LookCounts, PutFault, Stays};
 
-use bx_entries::Mark;
 use bx_image::Device;
-use bx_show::{ShowFault, Step, Steps, Way, Writing, put, put_differences, put_heading, put_lines};
-use bx_store::TextStore;
+use bx_journal_format::Mark;
+use bx_journal_read::{
+    ShowFault, Step, Steps, Way, Writing, put, put_differences, put_heading, put_lines,
+};
+use bx_journal_store::TextStore;
 use std::alloc::Allocator;
 use std::io::Write;
 
@@ -23,72 +24,75 @@ fn step_number(steps: Steps, entries: usize, i: u32) -> u64
     }
 }
 
-/// Writes the saved lines of an entry, as they stand or beside what the image has there.
+/// Writes the saved lines of an entry, each made from its bytes, alone or beside what the image has there.
 fn put_saved<D: Device, T: TextStore, A: Allocator + Clone, W: Write>(
-    device: &mut D,
-    store: &mut T,
+    image: &mut D,
+    journal: &mut T,
     writing: &mut Writing<A>,
     step: Step,
     out: &mut W,
 ) -> Result<(), ShowFault>
-    requires countable { D.failures device.old < u64.MAX }
-    requires also_countable { T.failures store.old < u64.MAX }
-    requires within { T.honest store.old → step.mark.to ≤ length (T.text store.old) }
+    requires countable { D.failures image.old < u64.MAX }
+    requires also_countable { T.failures journal.old < u64.MAX }
+    requires within { T.honest journal.old → step.mark.to ≤ length (T.text journal.old) }
     requires order { step.mark.from ≤ step.mark.to }
-    ensures put { T.honest store.old → (IsTrue step.steps.compares → D.honest device.old) → OnOk result
-        (Appends (W.contents out.old) (W.contents out.new) (saved_at step.steps.compares (D.image device.old) (T.text store.old) step.mark)) }
+    ensures put { T.honest journal.old → (IsTrue step.steps.compares → D.honest image.old) → OnOk result
+        (Appends (W.contents out.old) (W.contents out.new) (saved_at step.steps.compares (D.image image.old) (T.text journal.old) step.mark)) }
     ensures kind { IfErr result PutFault }
-    ensures image { Stays D.honest D.image D.failures result device.old device.new }
-    ensures stays { Stays T.honest T.text T.failures result store.old store.new }
+    ensures image { Stays D.honest D.image D.failures result image.old image.new }
+    ensures stays { Stays T.honest T.text T.failures result journal.old journal.new }
+    ensures counts { IfErr result (λ f. LookCounts f (D.failures image.old) (T.failures journal.old) (D.failures image.new) (T.failures journal.new)) }
 {
     match step.steps.compares {
-        true => put_differences(device, store, writing, step.mark, out),
-        false => put_lines(store, writing, step.mark, out),
+        true => put_differences(image, journal, writing, step.mark, out),
+        false => put_lines(journal, writing, step.mark, out),
     }
 }
 
 /// Writes the step over the change of a mark.
 fn put_step<D: Device, T: TextStore, A: Allocator + Clone, W: Write>(
-    device: &mut D,
-    store: &mut T,
+    image: &mut D,
+    journal: &mut T,
     writing: &mut Writing<A>,
     step: Step,
     out: &mut W,
 ) -> Result<(), ShowFault>
-    requires countable { D.failures device.old < u64.MAX }
-    requires also_countable { T.failures store.old < u64.MAX }
-    requires within { T.honest store.old → step.mark.to ≤ length (T.text store.old) }
+    requires countable { D.failures image.old < u64.MAX }
+    requires also_countable { T.failures journal.old < u64.MAX }
+    requires within { T.honest journal.old → step.mark.to ≤ length (T.text journal.old) }
     requires order { step.mark.from ≤ step.mark.to }
-    ensures step { T.honest store.old → (IsTrue step.steps.compares → D.honest device.old) → OnOk result
-        (Appends (W.contents out.old) (W.contents out.new) (mark_step step.steps (D.image device.old) (T.text store.old) step.number step.mark)) }
+    ensures step { T.honest journal.old → (IsTrue step.steps.compares → D.honest image.old) → OnOk result
+        (Appends (W.contents out.old) (W.contents out.new) (mark_step step.steps (D.image image.old) (T.text journal.old) step.number step.mark)) }
     ensures kind { IfErr result PutFault }
-    ensures image { Stays D.honest D.image D.failures result device.old device.new }
-    ensures stays { Stays T.honest T.text T.failures result store.old store.new }
+    ensures image { Stays D.honest D.image D.failures result image.old image.new }
+    ensures stays { Stays T.honest T.text T.failures result journal.old journal.new }
+    ensures counts { IfErr result (λ f. LookCounts f (D.failures image.old) (T.failures journal.old) (D.failures image.new) (T.failures journal.new)) }
 {
-    put_heading(store, writing, step, out)?;
-    put_saved(device, store, writing, step, out)?;
+    put_heading(journal, writing, step, out)?;
+    put_saved(image, journal, writing, step, out)?;
     writing.written = put(out, writing.written, b"\n")?;
     Ok(())
 }
 
 /// Writes the steps over the changes of the newest marks, as many as are asked for, the newest first.
 pub fn put_steps<D: Device, T: TextStore, A: Allocator + Clone, W: Write>(
-    device: &mut D,
-    store: &mut T,
+    image: &mut D,
+    journal: &mut T,
     writing: &mut Writing<A>,
     marks: &[Mark],
     steps: Steps,
     out: &mut W,
 ) -> Result<(), ShowFault>
-    requires countable { D.failures device.old < u64.MAX }
-    requires also_countable { T.failures store.old < u64.MAX }
+    requires countable { D.failures image.old < u64.MAX }
+    requires also_countable { T.failures journal.old < u64.MAX }
     requires enough { steps.count ≤ length marks.now }
-    requires lie { (len : ℕ) × (T.honest store.old → len ≤ length (T.text store.old)) × All (LiesWithin len) marks.now }
-    ensures steps { T.honest store.old → (IsTrue steps.compares → D.honest device.old) → OnOk result
-        (AreStepsPut steps (D.image device.old) (T.text store.old) steps.count marks.now (W.contents out.old) (W.contents out.new)) }
+    requires lie { (len : ℕ) × (T.honest journal.old → len ≤ length (T.text journal.old)) × All (LiesWithin len) marks.now }
+    ensures steps { T.honest journal.old → (IsTrue steps.compares → D.honest image.old) → OnOk result
+        (AreStepsPut steps (D.image image.old) (T.text journal.old) steps.count marks.now (W.contents out.old) (W.contents out.new)) }
     ensures kind { IfErr result PutFault }
-    ensures image { D.honest device.old → D.image device.new ≡ D.image device.old }
-    ensures text { T.honest store.old → T.text store.new ≡ T.text store.old }
+    ensures image { Stays D.honest D.image D.failures result image.old image.new }
+    ensures stays { Stays T.honest T.text T.failures result journal.old journal.new }
+    ensures counts { IfErr result (λ f. LookCounts f (D.failures image.old) (T.failures journal.old) (D.failures image.new) (T.failures journal.new)) }
 {
     for i in 0..steps.count {
         let mark = &marks[marks.len() - 1 - i as usize];
@@ -98,7 +102,7 @@ pub fn put_steps<D: Device, T: TextStore, A: Allocator + Clone, W: Write>(
             number,
             mark: *mark,
         };
-        put_step(device, store, writing, step, out)?;
+        put_step(image, journal, writing, step, out)?;
     }
     Ok(())
 }

@@ -1,21 +1,21 @@
 //! The rows of a log: a row for each change.
 ghost use Rattle.std.specs.Prelude.{◌≡◌, ◌+◌, ◌<◌, ◌≤◌, ◌^◌, List, ℕ, length, All, IfOk, IfErr, OnOk};
-ghost use Rattle.bx_scan.specs.Calls.{rows_of};
-ghost use Rattle.bx_entries.specs.inner.Parsed.{entries_of};
-ghost use Rattle.bx_entries.specs.Kept.{kept_of};
-ghost use Rattle.bx_entries.specs.inner.Rows.{saved_length};
-ghost use Rattle.bx_entries.specs.Text.{Entry};
-ghost use Rattle.bx_scan.specs.Undoing.{AgainFault, HasCount};
-ghost use Rattle.bx_entries.specs.Finished.{IsFinished};
+ghost use Rattle.bx_journal_read.specs.model.Calls.{rows_of};
+ghost use Rattle.bx_journal_format.specs.Parsed.{entries_of};
+ghost use Rattle.bx_journal_format.specs.Kept.{kept_of};
+ghost use Rattle.bx_journal_format.specs.count.Rows.{saved_length};
+ghost use Rattle.bx_journal_format.specs.Text.{Entry};
+ghost use Rattle.bx_journal_read.specs.model.Undoing.{AgainFault, HasCount};
+ghost use Rattle.bx_journal_format.specs.Finished.{IsFinished};
 
 mod windows;
 
 use crate::Session;
 use crate::session::log::windows::rows_in_windows;
-use bx_entries::EntryRead;
 use bx_image::{Device, Saved};
-use bx_scan::{LogRow, SessionFault, read_again};
-use bx_store::TextStore;
+use bx_journal_format::EntryRead;
+use bx_journal_read::{LogRow, SessionFault, read_again};
+use bx_journal_store::TextStore;
 use bx_text::NoMemory;
 use std::alloc::Allocator;
 
@@ -55,18 +55,18 @@ fn rows<A: Allocator + Clone>(
     Ok(rows)
 }
 
-ghost use Rattle.bx_journal.specs.inner.Rows.{FindsRows};
+ghost use Rattle.bx_journal.specs.private.Rows.{FindsRows};
 
 /// The rows of a text that is to be this many finished entries alone, and is read whole.
 fn rows_of_whole<T: TextStore, A: Allocator + Clone>(
     alloc: &A,
-    store: &mut T,
+    journal: &mut T,
     count: u32,
 ) -> Result<Vec<LogRow, A>, SessionFault>
-    requires { T.failures store.old < u64.MAX }
-    ensures { FindsRows T.honest T.text T.failures count result store.old store.new }
+    requires { T.failures journal.old < u64.MAX }
+    ensures { FindsRows T.TextStore count result journal.old journal.new }
 {
-    let read = match read_again(alloc, store, count) {
+    let read = match read_again(alloc, journal, count) {
         Ok(read) => read,
         Err(fault) => return Err(fault),
     };
@@ -77,49 +77,51 @@ fn rows_of_whole<T: TextStore, A: Allocator + Clone>(
 /// only one that can't be read so is read whole.
 fn rows_of_text<T: TextStore, A: Allocator + Clone>(
     alloc: &A,
-    store: &mut T,
+    journal: &mut T,
     count: u32,
 ) -> Result<Vec<LogRow, A>, SessionFault>
-    requires { T.failures store.old < u64.MAX }
-    ensures { FindsRows T.honest T.text T.failures count result store.old store.new }
+    requires { T.failures journal.old < u64.MAX }
+    ensures { FindsRows T.TextStore count result journal.old journal.new }
 {
-    let found = match rows_in_windows(alloc, store, count) {
+    let found = match rows_in_windows(alloc, journal, count) {
         Ok(found) => found,
         Err(fault) => return Err(fault),
     };
     match found {
         Some(rows) => Ok(rows),
-        None => rows_of_whole(alloc, store, count),
+        None => rows_of_whole(alloc, journal, count),
     }
 }
 
 impl<D: Device, T: TextStore, A: Allocator + Clone> Session<D, T, A> {
-    ghost use Rattle.bx_steps.specs.Session.{FailsSafely};
+    ghost use Rattle.bx_journal_protocol.specs.model.Power.{NothingNew};
+    ghost use Rattle.bx_journal_protocol.specs.model.Session.{FailsSafely};
 
     /// One row for each change, the oldest first. It reads the journal's text again, and changes nothing.
     pub fn log(&mut self) -> Result<Vec<LogRow, A>, SessionFault>
-        requires { T.failures self.old.store < u64.MAX }
-        ensures rows { T.honest self.old.store → (es : List Entry) → IsFinished (T.text self.old.store) es → IfOk result (λ rows. rows.items ≡ rows_of es) }
+        requires { T.failures self.old.journal < u64.MAX }
+        ensures rows { T.honest self.old.journal → (es : List Entry) → IsFinished (T.text self.old.journal) es → IfOk result (λ rows. rows.items ≡ rows_of es) }
 
-        // Nothing is changed. A broken session isn't even read.
+        // Nothing is changed, and nothing more is to be found after a loss of power. A broken session isn't even read.
         ensures safe { FailsSafely D.Device T.TextStore self.old self.new result }
-        ensures text { T.honest self.old.store → T.text self.new.store ≡ T.text self.old.store }
-        ensures device { self.new.device ≡ self.old.device }
-        ensures redo_text { self.new.redo_text ≡ self.old.redo_text }
+        ensures found_before { NothingNew D.Device T.TextStore self.old self.new }
+        ensures text { T.honest self.old.journal → T.text self.new.journal ≡ T.text self.old.journal }
+        ensures image { self.new.image ≡ self.old.image }
+        ensures redo { self.new.redo ≡ self.old.redo }
         ensures count { self.new.count ≡ self.old.count }
         ensures undone { self.new.undone ≡ self.old.undone }
         ensures is_broken { self.new.is_broken ≡ self.old.is_broken }
-        ensures fault { IfErr result (λ e. (e ≡ SessionFault.Broken → ⊥) → AgainFault (T.honest self.old.store) (T.text self.old.store) self.old.count e) }
+        ensures fault { IfErr result (λ e. (e ≡ SessionFault.Broken → ⊥) → AgainFault (T.honest self.old.journal) (T.text self.old.journal) self.old.count e) }
 
         // The text is called damaged exactly where it isn't this many finished entries alone.
-        ensures undamaged { T.honest self.old.store → HasCount (T.text self.old.store) self.old.count
+        ensures undamaged { T.honest self.old.journal → HasCount (T.text self.old.journal) self.old.count
             → IfErr result (λ e. (n : ℕ) → e ≡ SessionFault.Damaged n → ⊥) }
-        ensures whole { T.honest self.old.store → OnOk result (HasCount (T.text self.old.store) self.old.count) }
+        ensures whole { T.honest self.old.journal → OnOk result (HasCount (T.text self.old.journal) self.old.count) }
     {
         if self.is_broken {
             return Err(SessionFault::Broken);
         }
-        let rows = rows_of_text(&self.alloc, &mut self.devices.store, self.count)?;
+        let rows = rows_of_text(&self.alloc, &mut self.devices.journal, self.count)?;
         Ok(rows)
     }
 }

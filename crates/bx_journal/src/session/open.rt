@@ -1,21 +1,17 @@
 //! Opening an image with its journal and its redo text, with recovery.
-ghost use Rattle.std.specs.Prelude.{◌≡◌, ◌<◌, IfOk, IfErr, MatchResult};
+ghost use Rattle.std.specs.Prelude.{◌≡◌, ◌<◌};
+ghost use Rattle.bx_journal_protocol.specs.Devices.{AreBelow};
 
 use crate::Session;
-use crate::recovery::unfinished_entry::recover;
+use crate::recovery::recover;
 use bx_image::Device;
-use bx_scan::{How, Recovered, SessionFault};
-use bx_steps::Devices;
-use bx_store::TextStore;
+use bx_journal_protocol::Devices;
+use bx_journal_read::{Recovered, SessionFault};
+use bx_journal_store::TextStore;
 use std::alloc::Allocator;
 
 impl<D: Device, T: TextStore, A: Allocator + Clone> Session<D, T, A> {
-    ghost use Rattle.bx_scan.specs.Images.{Images};
-    ghost use Rattle.bx_steps.specs.Power.{EmptiedSurvives, Found};
-    ghost use Rattle.bx_steps.specs.Session.{IsReady};
-    ghost use Rattle.bx_scan.specs.Calls.{AfterFault};
-    ghost use Rattle.bx_scan.specs.Fault.{DeviceFault};
-    ghost use Rattle.bx_journal.specs.Opened.{AnswersFault, AsFound, CountsCalls, FindsStack, IsPairSame, IsReopened, JudgesRedo, JudgesText, OpensRedo, ShowImages, SparesDevices};
+    ghost use Rattle.bx_journal.specs.Opened.{OpensDevices, opening_of};
 
     /// Opens an image with its journal and its redo text. An unfinished entry is dropped, or its change is taken back;
     /// the redo text is then emptied first. Where a loss of power left zeros at the journal's end, what stands before them is
@@ -27,54 +23,14 @@ impl<D: Device, T: TextStore, A: Allocator + Clone> Session<D, T, A> {
     /// `DeviceFailed` of the length and `LengthDiffers`, `NoMemory` of reserving, `DeviceFailed` of putting the three on the
     /// disk, and `Interrupted` from the first write on. Each but the last changes nothing, and after that one the three can
     /// be opened again.
-    pub fn open(
+    pub fn open_devices(
         alloc: A,
-        device: D,
-        store: T,
-        redo_text: T,
-    ) -> Result<(Self, Recovered), (D, T, T, SessionFault)>
-        requires device_countable { D.failures device < u64.MAX }
-        requires store_countable { T.failures store < u64.MAX }
-        requires redo_countable { T.failures redo_text < u64.MAX }
-
-        // What is found, whatever image it is: the pair that is left stands for the recovered stack.
-        ensures found { FindsStack D.Device T.TextStore device store result }
-        ensures clean { D.honest device → T.honest store
-            → IfOk result (λ o. o.1.how ≡ How.Clean → IsPairSame D.image T.text device store o.0.device o.0.store) }
-
-        // A text that isn't accepted is never opened, and one that is accepted is never called damaged.
-        ensures text { JudgesText T.TextStore store result }
-
-        // A length differs exactly where the newest finished entry tells another one than that of the image below which it stands.
-        // An interruption comes only where something was unfinished, and no fault of another call comes at all.
-        ensures fault { AnswersFault D.Device T.TextStore device store result }
-
-        // From a sound pair the stack is kept, whatever it answers.
-        ensures keeps { D.honest device → T.honest store → AsFound (T.text store) (D.image device) (λ s. IfOk result (λ o. IsReady D.image T.text o.0 s)) }
-        ensures spares { SparesDevices D.Device T.TextStore device store redo_text result }
-
-        // Beside a finished journal the redo text stays, and stands for the undone images. What is unfinished empties it.
-        ensures redo { OpensRedo D.Device T.TextStore device store redo_text result }
-
-        // A redo text is refused exactly where it isn't one of the image and of as many changes, and then at the one line.
-        ensures redo_fault { JudgesRedo D.Device T.TextStore device store redo_text result }
-
-        // What a session left that was ready is opened with the same images, and nothing is written.
-        ensures reopens { D.honest device → T.honest store → T.honest redo_text → (s : Images) → ShowImages D.image T.text device store redo_text s
-            → MatchResult result (λ o. IsReopened D.image T.text device store redo_text s o.0 o.1.how) (λ e. DeviceFault e.3) }
-
-        // Where something was unfinished, a loss of power leaves what opening again finds: the same stack, and nothing undone.
-        ensures survives { D.honest device → T.honest store → T.honest redo_text → (s : Images) → Found (T.text store) (D.image device) (T.text redo_text) s
-            → IfOk result (λ o. (o.1.how ≡ How.Clean → ⊥) → EmptiedSurvives D.image D.survives T.text T.survives s o.0.device o.0.store o.0.redo_text) }
-        ensures survives_err { D.honest device → T.honest store → T.honest redo_text → (s : Images) → Found (T.text store) (D.image device) (T.text redo_text) s
-            → IfErr result (λ e. AfterFault e.3 (EmptiedSurvives D.image D.survives T.text T.survives s e.0 e.1 e.2) (Unit {0})) }
-        ensures devices { CountsCalls D.Device T.TextStore device store redo_text result }
+        devices: Devices<D, T>,
+    ) -> Result<(Self, Recovered), (Devices<D, T>, SessionFault)>
+        requires countable { AreBelow D.Device T.TextStore u64.MAX devices }
+        ensures { OpensDevices D.Device T.TextStore devices result }
     {
-        let mut devices = Devices {
-            device,
-            store,
-            redo_text,
-        };
+        let mut devices = devices;
         match recover(&alloc, &mut devices) {
             Ok(recovered) => {
                 let count = recovered.changes;
@@ -90,13 +46,36 @@ impl<D: Device, T: TextStore, A: Allocator + Clone> Session<D, T, A> {
                     recovered,
                 ))
             }
-            Err(fault) => {
+            Err(fault) => Err((devices, fault)),
+        }
+    }
+
+    /// Opens an image with its journal and its redo text, which are handed over one by one, as `open_devices` does.
+    pub fn open(
+        alloc: A,
+        image: D,
+        journal: T,
+        redo: T,
+    ) -> Result<(Self, Recovered), (D, T, T, SessionFault)>
+        requires image_countable { D.failures image < u64.MAX }
+        requires journal_countable { T.failures journal < u64.MAX }
+        requires redo_countable { T.failures redo < u64.MAX }
+        ensures { OpensDevices D.Device T.TextStore (record { image = image; journal = journal; redo = redo }) (opening_of result) }
+    {
+        let devices = Devices {
+            image,
+            journal,
+            redo,
+        };
+        match Session::open_devices(alloc, devices) {
+            Ok(opened) => Ok(opened),
+            Err((devices, fault)) => {
                 let Devices {
-                    device,
-                    store,
-                    redo_text,
+                    image,
+                    journal,
+                    redo,
                 } = devices;
-                Err((device, store, redo_text, fault))
+                Err((image, journal, redo, fault))
             }
         }
     }

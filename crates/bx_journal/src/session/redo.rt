@@ -1,35 +1,34 @@
 //! Redo: undone changes are made again.
 ghost use Rattle.std.specs.Prelude.{◌≡◌, ◌↔◌, ◌+◌, ◌<◌, ◌≤◌, ℕ, length, true, false, IfOk, IfErr, OnOk, IsErrOf};
 ghost use Rattle.bx_image.specs.Power.{NoMore};
-ghost use Rattle.bx_scan.specs.Images.{redo_of};
-ghost use Rattle.bx_scan.specs.inner.Looking.{LooksAt};
-ghost use Rattle.bx_entries.specs.Text.{IsPrefix};
-ghost use Rattle.bx_scan.specs.inner.Undoing.{IsLastFrom, RedoAgainFault};
+ghost use Rattle.bx_journal_read.specs.model.Images.{redo_of};
+ghost use Rattle.bx_journal_read.specs.scan.Looking.{LooksAt};
+ghost use Rattle.bx_journal_format.specs.Text.{IsPrefix};
+ghost use Rattle.bx_journal_read.specs.model.Undoing.{IsLastFrom, RedoAgainFault};
 
 use crate::Session;
 use bx_image::Device;
-use bx_prepare::prepare_redo;
-use bx_scan::{FinishedRead, SessionFault, of_redo, read_last_of};
-use bx_steps::redo_entries;
-use bx_store::TextStore;
+use bx_journal_protocol::{prepare_redo, redo_entries};
+use bx_journal_read::{FinishedRead, SessionFault, of_redo, read_last_of};
+use bx_journal_store::TextStore;
 use std::alloc::Allocator;
 
 /// Reads the last j entries of a redo text that is to be this many finished entries alone. It changes nothing.
 fn read_undone<T: TextStore, A: Allocator + Clone>(
     alloc: &A,
-    redo_text: &mut T,
+    redo: &mut T,
     undone: u32,
     j: u32,
 ) -> Result<FinishedRead<A>, SessionFault>
-    requires countable { T.failures redo_text.old < u64.MAX }
+    requires countable { T.failures redo.old < u64.MAX }
     requires few { j ≤ undone }
-    ensures read { IfOk result (λ o. IsLastFrom (T.honest redo_text.old) (T.text redo_text.old) o.len o.entries.items undone) }
+    ensures read { IfOk result (λ o. IsLastFrom (T.honest redo.old) (T.text redo.old) o.len o.entries.items undone) }
     ensures few { IfOk result (λ o. j ≤ length o.entries.items) }
-    ensures fault { IfErr result (RedoAgainFault (T.honest redo_text.old) (T.text redo_text.old) undone) }
-    ensures looks { LooksAt T.honest T.text T.failures result redo_text.old redo_text.new }
-    ensures survives { T.honest redo_text.old → NoMore (T.survives redo_text.old) (T.survives redo_text.new) }
+    ensures fault { IfErr result (RedoAgainFault (T.honest redo.old) (T.text redo.old) undone) }
+    ensures looks { LooksAt T.honest T.text T.failures result redo.old redo.new }
+    ensures survives { T.honest redo.old → NoMore (T.survives redo.old) (T.survives redo.new) }
 {
-    match read_last_of(alloc, redo_text, undone, j) {
+    match read_last_of(alloc, redo, undone, j) {
         Ok(read) => Ok(read),
         Err(fault) => Err(of_redo(fault)),
     }
@@ -53,12 +52,14 @@ fn undone_left(undone: u32, made: u32) -> u32
 }
 
 impl<D: Device, T: TextStore, A: Allocator + Clone> Session<D, T, A> {
-    ghost use Rattle.bx_scan.specs.Calls.{AfterFault};
-    ghost use Rattle.bx_steps.specs.Power.{NothingNew, StepsSurvive};
-    ghost use Rattle.bx_steps.specs.Session.{FailsSafely};
-    ghost use Rattle.bx_steps.specs.Performing.{FindsSome, GrowsByTaken, KeepsOldStack, RedoesImages, StaysRedone};
+    ghost use Rattle.bx_journal_read.specs.model.Calls.{AfterFault};
+    ghost use Rattle.bx_journal_protocol.specs.model.Power.{NothingNew, StepsSurvive};
+    ghost use Rattle.bx_journal_protocol.specs.model.SessionView.{devices_of};
+    ghost use Rattle.bx_journal_protocol.specs.protocol.Written.{AreSettled};
+    ghost use Rattle.bx_journal_protocol.specs.model.Session.{FailsSafely};
+    ghost use Rattle.bx_journal_protocol.specs.model.Performing.{FindsSome, GrowsByTaken, KeepsOldStack, RedoesImages, StaysRedone};
     ghost use Rattle.bx_journal.specs.Faults.{FaultsOfRedo};
-    ghost use Rattle.bx_scan.specs.Undoing.{LeavesFront};
+    ghost use Rattle.bx_journal_read.specs.model.Undoing.{LeavesFront};
 
     /// Makes the last j undone changes again, the one undone last first, and answers how many changes then stand.
     ///
@@ -70,14 +71,14 @@ impl<D: Device, T: TextStore, A: Allocator + Clone> Session<D, T, A> {
     /// change overwrites and of the syncs, and `Interrupted` from the first write on. Each but the last changes nothing. A redo
     /// text that is the session's own never leads to an image that is too long.
     pub fn redo(&mut self, j: u32) -> Result<u32, SessionFault>
-        requires device_countable { D.failures self.old.device < u64.MAX }
-        requires store_countable { T.failures self.old.store < u64.MAX }
-        requires redo_countable { T.failures self.old.redo_text < u64.MAX }
+        requires image_countable { D.failures self.old.image < u64.MAX }
+        requires journal_countable { T.failures self.old.journal < u64.MAX }
+        requires redo_countable { T.failures self.old.redo < u64.MAX }
 
         // Accepted, it makes the machine's step, and the session goes on.
-        ensures accepted { D.honest self.old.device → T.honest self.old.store → T.honest self.old.redo_text
+        ensures accepted { D.honest self.old.image → T.honest self.old.journal → T.honest self.old.redo
             → RedoesImages D.image T.text j self.old self.new result }
-        ensures sound { D.honest self.old.device → T.honest self.old.store → T.honest self.old.redo_text
+        ensures sound { D.honest self.old.image → T.honest self.old.journal → T.honest self.old.redo
             → StaysRedone D.image T.text j self.old self.new result }
         ensures number { IfOk result (λ n. (n ≡ self.old.count + j) × (self.new.count ≡ n)
             × (self.new.undone + j ≡ self.old.undone) × (self.new.is_broken ≡ false)) }
@@ -86,18 +87,20 @@ impl<D: Device, T: TextStore, A: Allocator + Clone> Session<D, T, A> {
         ensures stands { KeepsOldStack D.Device T.TextStore j self.old self.new result }
 
         // The redo text is then that of the other entries, and the journal goes on with what each of the j took of the image.
-        ensures text { T.honest self.old.redo_text → LeavesFront (T.text self.old.redo_text) j (T.text self.new.redo_text) result }
-        ensures grown { D.honest self.old.device → T.honest self.old.store → T.honest self.old.redo_text
+        ensures text { T.honest self.old.redo → LeavesFront (T.text self.old.redo) j (T.text self.new.redo) result }
+        ensures grown { D.honest self.old.image → T.honest self.old.journal → T.honest self.old.redo
             → GrowsByTaken D.image T.text j self.old self.new result }
-        ensures front { T.honest self.old.store → OnOk result (IsPrefix (T.text self.old.store) (T.text self.new.store)) }
+        ensures front { T.honest self.old.journal → OnOk result (IsPrefix (T.text self.old.journal) (T.text self.new.journal)) }
 
         // An interruption leaves the old stack with some of the images made again, and another fault leaves all as it was.
-        ensures finds { D.honest self.old.device → T.honest self.old.store → T.honest self.old.redo_text
+        ensures finds { D.honest self.old.image → T.honest self.old.journal → T.honest self.old.redo
             → FindsSome D.image T.text self.old self.new redo_of j result }
 
-        // So it is behind a loss of power inside the call; where it is accepted, the images behind it are on the disk.
-        ensures survives { D.honest self.old.device → T.honest self.old.store → T.honest self.old.redo_text
-            → StepsSurvive D.image D.survives T.text T.survives redo_of j self.old self.new result }
+        // So it is behind a loss of power inside the call; where it is accepted, the images behind it are on the disk,
+        // and of each of the three no more is found than what it has.
+        ensures survives { D.honest self.old.image → T.honest self.old.journal → T.honest self.old.redo
+            → StepsSurvive D.image D.survives T.text T.survives redo_of j self.old self.new result
+            × OnOk result (AreSettled D.Device T.TextStore (devices_of self.new)) }
 
         // A refusal leaves nothing to be found after a loss of power that wasn't to be found before.
         ensures found_before { IfErr result (λ e. AfterFault e (Unit {0}) (NothingNew D.Device T.TextStore self.old self.new)) }
@@ -114,7 +117,7 @@ impl<D: Device, T: TextStore, A: Allocator + Clone> Session<D, T, A> {
         if is_beyond(j, self.undone) {
             return Err(SessionFault::NothingToRedo { have: self.undone });
         }
-        let mut read = read_undone(&self.alloc, &mut self.devices.redo_text, self.undone, j)?;
+        let mut read = read_undone(&self.alloc, &mut self.devices.redo, self.undone, j)?;
         let mut again = prepare_redo(&self.alloc, &mut self.devices, &read, j, self.count + 1)?;
         match redo_entries(
             &mut self.devices,

@@ -1,14 +1,13 @@
 //! Undo: changes are taken back, the newest first.
 ghost use Rattle.std.specs.Prelude.{◌≡◌, ◌↔◌, ◌+◌, ◌<◌, ◌≤◌, ℕ, drop, true, false, IfOk, IfErr, OnOk, IsErrOf};
-ghost use Rattle.bx_scan.specs.Images.{undo_of};
-ghost use Rattle.bx_scan.specs.Machine.{UndoStep};
+ghost use Rattle.bx_journal_read.specs.model.Images.{undo_of};
+ghost use Rattle.bx_journal_read.specs.model.Machine.{UndoStep};
 
 use crate::Session;
 use bx_image::Device;
-use bx_prepare::prepare_takens;
-use bx_scan::{SessionFault, read_last_of};
-use bx_steps::undo_entries;
-use bx_store::TextStore;
+use bx_journal_protocol::{prepare_takens, undo_entries};
+use bx_journal_read::{SessionFault, read_last_of};
+use bx_journal_store::TextStore;
 use std::alloc::Allocator;
 
 /// How many changes stand when this many are undone.
@@ -21,12 +20,14 @@ fn count_left(count: u32, undone: u32) -> u32
 }
 
 impl<D: Device, T: TextStore, A: Allocator + Clone> Session<D, T, A> {
-    ghost use Rattle.bx_scan.specs.Calls.{AfterFault};
-    ghost use Rattle.bx_steps.specs.Power.{NothingNew, StepsSurvive};
-    ghost use Rattle.bx_steps.specs.Session.{FailsSafely};
-    ghost use Rattle.bx_steps.specs.Performing.{FindsSome, KeepsTaken, StaysReady, Steps, StopsUndo, UndoesImages};
+    ghost use Rattle.bx_journal_read.specs.model.Calls.{AfterFault};
+    ghost use Rattle.bx_journal_protocol.specs.model.Power.{NothingNew, StepsSurvive};
+    ghost use Rattle.bx_journal_protocol.specs.model.SessionView.{devices_of};
+    ghost use Rattle.bx_journal_protocol.specs.protocol.Written.{AreSettled};
+    ghost use Rattle.bx_journal_protocol.specs.model.Session.{FailsSafely};
+    ghost use Rattle.bx_journal_protocol.specs.model.Performing.{FindsSome, KeepsTaken, StaysReady, Steps, StopsUndo, UndoesImages};
     ghost use Rattle.bx_journal.specs.Faults.{FaultsOfUndo};
-    ghost use Rattle.bx_scan.specs.Undoing.{LeavesFront};
+    ghost use Rattle.bx_journal_read.specs.model.Undoing.{LeavesFront};
 
     /// Takes the last k changes back, the newest first, and answers how many are left. Their images are then undone, and
     /// can be made again; but an image of more than `MAX_LEN` bytes, and what was undone before it, is given up.
@@ -36,35 +37,37 @@ impl<D: Device, T: TextStore, A: Allocator + Clone> Session<D, T, A> {
     /// `NoMemory` of reading, `Damaged` where the text was changed by others, `DeviceFailed` of the lengths, `NoMemory`,
     /// `DeviceFailed` of reading the image, and `Interrupted` from the first write on. Each but the last changes nothing.
     pub fn undo(&mut self, k: u32) -> Result<u32, SessionFault>
-        requires device_countable { D.failures self.old.device < u64.MAX }
-        requires store_countable { T.failures self.old.store < u64.MAX }
-        requires redo_countable { T.failures self.old.redo_text < u64.MAX }
+        requires image_countable { D.failures self.old.image < u64.MAX }
+        requires journal_countable { T.failures self.old.journal < u64.MAX }
+        requires redo_countable { T.failures self.old.redo < u64.MAX }
 
         // Accepted, it makes the machine's step, and the session goes on.
-        ensures accepted { D.honest self.old.device → T.honest self.old.store → Steps D.image T.text self.old self.new UndoStep k drop result }
-        ensures sound { D.honest self.old.device → T.honest self.old.store → StaysReady D.image T.text self.old self.new (drop k) result }
+        ensures accepted { D.honest self.old.image → T.honest self.old.journal → Steps D.image T.text self.old self.new UndoStep k drop result }
+        ensures sound { D.honest self.old.image → T.honest self.old.journal → StaysReady D.image T.text self.old self.new (drop k) result }
         ensures left { IfOk result (λ left. (left + k ≡ self.old.count) × (self.new.count ≡ left) × (self.new.is_broken ≡ false)
             × (self.new.undone ≤ self.old.undone + k)) }
 
         // The text is then that of the other entries.
-        ensures text { T.honest self.old.store → LeavesFront (T.text self.old.store) k (T.text self.new.store) result }
+        ensures text { T.honest self.old.journal → LeavesFront (T.text self.old.journal) k (T.text self.new.journal) result }
 
         // The images that were taken back are undone, above those that were.
-        ensures undone { D.honest self.old.device → T.honest self.old.store → T.honest self.old.redo_text
+        ensures undone { D.honest self.old.image → T.honest self.old.journal → T.honest self.old.redo
             → UndoesImages D.image T.text k self.old self.new result }
 
         // The redo text has them as entries, each with what its undo took of the image.
-        ensures kept { D.honest self.old.device → T.honest self.old.store → T.honest self.old.redo_text
+        ensures kept { D.honest self.old.image → T.honest self.old.journal → T.honest self.old.redo
             → KeepsTaken D.image T.text k self.old self.new result }
 
         // An interruption leaves the stack without some of the images, and another fault leaves all as it was.
-        ensures fault { D.honest self.old.device → T.honest self.old.store → StopsUndo D.image T.text k self.old self.new result }
-        ensures finds { D.honest self.old.device → T.honest self.old.store → T.honest self.old.redo_text
+        ensures fault { D.honest self.old.image → T.honest self.old.journal → StopsUndo D.image T.text k self.old self.new result }
+        ensures finds { D.honest self.old.image → T.honest self.old.journal → T.honest self.old.redo
             → FindsSome D.image T.text self.old self.new undo_of k result }
 
-        // So it is behind a loss of power inside the call; where it is accepted, the images behind it are on the disk.
-        ensures survives { D.honest self.old.device → T.honest self.old.store → T.honest self.old.redo_text
-            → StepsSurvive D.image D.survives T.text T.survives undo_of k self.old self.new result }
+        // So it is behind a loss of power inside the call; where it is accepted, the images behind it are on the disk,
+        // and of each of the three no more is found than what it has.
+        ensures survives { D.honest self.old.image → T.honest self.old.journal → T.honest self.old.redo
+            → StepsSurvive D.image D.survives T.text T.survives undo_of k self.old self.new result
+            × OnOk result (AreSettled D.Device T.TextStore (devices_of self.new)) }
 
         // A refusal leaves nothing to be found after a loss of power that wasn't to be found before.
         ensures found_before { IfErr result (λ e. AfterFault e (Unit {0}) (NothingNew D.Device T.TextStore self.old self.new)) }
@@ -81,7 +84,7 @@ impl<D: Device, T: TextStore, A: Allocator + Clone> Session<D, T, A> {
         if k > self.count {
             return Err(SessionFault::TooFew { have: self.count });
         }
-        let read = read_last_of(&self.alloc, &mut self.devices.store, self.count, k)?;
+        let read = read_last_of(&self.alloc, &mut self.devices.journal, self.count, k)?;
         let mut taking = prepare_takens(&self.alloc, &mut self.devices, read, k)?;
         match undo_entries(
             &mut self.devices,

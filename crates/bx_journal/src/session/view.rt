@@ -3,8 +3,8 @@ ghost use Rattle.std.specs.Prelude.{◌≡◌, max};
 
 use crate::Session;
 use bx_image::Device;
-use bx_steps::Devices;
-use bx_store::TextStore;
+use bx_journal_protocol::Devices;
+use bx_journal_store::TextStore;
 use std::alloc::Allocator;
 
 impl<D: Device, T: TextStore, A: Allocator> Session<D, T, A> {
@@ -25,22 +25,22 @@ impl<D: Device, T: TextStore, A: Allocator> Session<D, T, A> {
 
     /// The greatest of the three counts of failed device calls.
     pub fn faults(&self) -> u64
-        ensures { result ≡ max (max (D.failures self.now.device) (T.failures self.now.store)) (T.failures self.now.redo_text) }
+        ensures { result ≡ max (max (D.failures self.now.image) (T.failures self.now.journal)) (T.failures self.now.redo) }
     {
         self.devices.faults()
     }
 
     /// Hands the three devices back as they are: the image's, the journal's, and the redo text's.
     pub fn close(self) -> (D, T, T)
-        ensures device { result.0 ≡ self.device }
-        ensures store { result.1 ≡ self.store }
-        ensures redo_text { result.2 ≡ self.redo_text }
+        ensures image { result.0 ≡ self.image }
+        ensures journal { result.1 ≡ self.journal }
+        ensures redo { result.2 ≡ self.redo }
     {
         let Devices {
-            device,
-            store,
-            redo_text,
+            image,
+            journal,
+            redo,
         } = self.devices;
-        (device, store, redo_text)
+        (image, journal, redo)
     }
 }

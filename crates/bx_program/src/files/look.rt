@@ -1,37 +1,49 @@
 //! What stands under a name, asked before any file is opened.
-use crate::files::mounts::refuse_mounted;
+use crate::files::dev::{refuse_image, refuse_text};
+use crate::files::guard::{Guard, admit_alone};
+use crate::files::mounts::refuse_in_use;
+use crate::files::unfit::unfit_image;
 use crate::stopped::Stopped;
-use bx_cli::Texts;
-use bx_text::Name;
+use bx_cli::Target;
+use bx_program_system::stat_of;
+use bx_program_world::image_unfit;
 use std::fs::{self, File, Metadata};
-use std::io::ErrorKind;
+use std::io::{self, ErrorKind};
 use std::os::unix::fs::FileTypeExt;
 use std::rt::Files;
 
 /// What stands in a file that is changed.
 #[derive(Clone, Copy)]
 pub enum Holds {
-    /// An image: a regular file or a block device.
+    /// An image: a regular file or a block device, behind whatever links lead to it.
     Image,
-    /// A journal or a redo text, which grows: a regular file.
-    Text,
+    /// A journal or a redo text, which grows: a regular file of one name, which is no link. The image's guard says whose it may
+    /// be; none stands for an image that is missing.
+    Text(Option<Guard>),
 }
 
 impl Holds {
-    /// Whether a file of this kind can hold it.
-    pub fn suits(self, file: &Metadata) -> bool {
-        let kind = file.file_type();
+    /// What stands under a name: of an image, what its links lead to.
+    pub fn found<R: Files<File = File>>(self, rt: &R, name: &str) -> io::Result<Metadata> {
         match self {
-            Holds::Image => kind.is_file() || kind.is_block_device(),
-            Holds::Text => kind.is_file(),
+            Holds::Image => fs::metadata(rt, name),
+            Holds::Text(_) => fs::symlink_metadata(rt, name),
         }
     }
 
-    /// What is said of a file that can't hold it.
-    fn unsuited(self) -> &'static str {
+    /// Refuses a file that can't be what it has to be.
+    pub fn admit<'a, R>(self, rt: &R, name: &'a str, file: &Metadata) -> Result<(), Stopped<'a>>
+    where
+        R: Files<File = File> + AllocGlobal,
+    {
         match self {
-            Holds::Image => "it is no regular file and no block device",
-            Holds::Text => "it is no regular file",
+            // Whether a device may be changed is asked before it is opened.
+            Holds::Image => match image_unfit(true, &stat_of(file, false)) {
+                None => Ok(()),
+                Some(unfit) => Err(unfit_image(name, unfit)),
+            },
+            Holds::Text(Some(guard)) => guard.admit(rt, name, file),
+            Holds::Text(None) => admit_alone(rt, name, file),
         }
     }
 }
@@ -40,8 +52,9 @@ impl Holds {
 const NO_JOURNAL: &str =
     "no journal is here, so no change is known; -J names one that is elsewhere, and bx revert and bx dd make one";
 
-/// What stands under a name, links followed. None is a file that is missing and may be. It is asked before any file is
-/// opened, since to open a pipe or a device may already do something to it.
+/// What stands under a name. None is a file that is missing and may be. It is asked before any file is opened, since to open a
+/// pipe or a device may already do something to it, and since whoever made a file that is no text of the image may gain by its
+/// opening.
 pub fn look<'a, R>(
     rt: &R,
     name: &'a str,
@@ -49,14 +62,16 @@ pub fn look<'a, R>(
     holds: Holds,
 ) -> Result<Option<Metadata>, Stopped<'a>>
 where
-    R: Files<File = File>,
+    R: Files<File = File> + AllocGlobal,
 {
-    match fs::metadata(rt, name) {
-        Ok(file) if holds.suits(&file) => Ok(Some(file)),
-        Ok(_) => Err(Stopped::refused(name, holds.unsuited())),
+    match holds.found(rt, name) {
+        Ok(file) => {
+            holds.admit(rt, name, &file)?;
+            Ok(Some(file))
+        }
         Err(e) if e.kind() != ErrorKind::NotFound => Err(Stopped::unopened(name, e)),
         Err(_) if may_miss => Ok(None),
-        Err(_) if matches!(holds, Holds::Text) => Err(Stopped::refused(name, NO_JOURNAL)),
+        Err(_) if matches!(holds, Holds::Text(_)) => Err(Stopped::refused(name, NO_JOURNAL)),
         Err(e) => Err(Stopped::unopened(name, e)),
     }
 }
@@ -71,31 +86,105 @@ fn is_journal_missing(image_name: &str, journal_name: &str) -> bool {
     journal_name.strip_prefix(image_name) == Some(".bxj")
 }
 
-/// Looks at all three before one is opened. What is no file of its kind, or is missing and isn't to be made, is refused here.
-/// The redo text may be missing. `writes` says whether a block device is changed.
-pub fn look_at_all<'a, R>(
+/// What is done to an image.
+#[derive(Clone, Copy)]
+pub enum Use {
+    /// It is read.
+    Read,
+    /// It is changed; a block device that is mounted is refused.
+    Change,
+    /// It is changed, mounted or not.
+    ChangeMounted,
+}
+
+impl Use {
+    /// A change, of a block device that may be mounted or not.
+    pub fn change(mounted: bool) -> Use {
+        if mounted {
+            Use::ChangeMounted
+        } else {
+            Use::Change
+        }
+    }
+}
+
+/// Looks at a block device, which is the image, before it is opened.
+fn look_at_device<'a, R>(
     rt: &R,
-    image: &'a Name,
-    texts: &'a Texts,
-    make: bool,
-    writes: bool,
+    name: &'a str,
+    journal: &str,
+    device: &Metadata,
+    used: Use,
 ) -> Result<(), Stopped<'a>>
 where
     R: Files<File = File> + AllocGlobal,
 {
-    let found = look(rt, image.as_str(), make, Holds::Image)?;
-    if let Some(device) = found.filter(|file| file.file_type().is_block_device()) {
-        if is_journal_missing(image.as_str(), texts.journal.as_str()) {
-            return Err(Stopped::refused(
-                image.as_str(),
-                "a block device wants -J and a journal elsewhere",
-            ));
-        }
-        if writes {
-            refuse_mounted(rt, image.as_str(), &device)?;
-        }
+    if is_journal_missing(name, journal) {
+        return Err(Stopped::refused(name, "a block device wants -J and a journal elsewhere"));
     }
-    look(rt, texts.journal.as_str(), make, Holds::Text)?;
-    look(rt, texts.redo.as_str(), true, Holds::Text)?;
+    match used {
+        Use::Read => Ok(()),
+        Use::Change => refuse_in_use(rt, name, device, false),
+        Use::ChangeMounted => refuse_in_use(rt, name, device, true),
+    }
+}
+
+/// Looks at a text before it is opened, or at the folder where it would be made.
+fn look_at_text<'a, R>(
+    rt: &R,
+    name: &'a str,
+    may_miss: bool,
+    makes: bool,
+    holds: Holds,
+) -> Result<(), Stopped<'a>>
+where
+    R: Files<File = File> + AllocGlobal,
+{
+    if look(rt, name, may_miss, holds)?.is_none() && makes {
+        refuse_text(rt, name)?;
+    }
     Ok(())
+}
+
+/// Which of the three a command makes, where they are missing.
+#[derive(Clone, Copy)]
+pub enum Makes {
+    /// None of them.
+    Nothing,
+    /// The redo text.
+    Redo,
+    /// All three.
+    All,
+}
+
+/// Looks at all three before one is opened. What is no file of its kind, or is missing and isn't to be made, is refused here, and
+/// a text that may not belong to the image. The redo text may be missing.
+pub fn look_at_all<'a, R>(
+    rt: &R,
+    target: &'a Target,
+    makes: Makes,
+    used: Use,
+) -> Result<(), Stopped<'a>>
+where
+    R: Files<File = File> + AllocGlobal,
+{
+    let Target { image, texts, .. } = target;
+    let (name, journal) = (image.as_str(), texts.journal.as_str());
+    let all = matches!(makes, Makes::All);
+    let redo = !matches!(makes, Makes::Nothing);
+    let found = look(rt, name, all, Holds::Image)?;
+    let guard = match &found {
+        Some(file) => {
+            if file.file_type().is_block_device() {
+                look_at_device(rt, name, journal, file, used)?;
+            }
+            Some(Guard::of(file))
+        }
+        None => {
+            refuse_image(rt, name, name)?;
+            None
+        }
+    };
+    look_at_text(rt, journal, all, all, Holds::Text(guard))?;
+    look_at_text(rt, texts.redo.as_str(), true, redo, Holds::Text(guard))
 }

@@ -1,11 +1,10 @@
 //! Opening one file, and taking away what was made.
-use crate::files::alias::is_same;
 use crate::files::links::make_linked;
-use crate::files::look::Holds;
-use crate::files::mode::Permits;
+use crate::files::look::{Holds, look};
 use crate::stopped::Stopped;
-use std::fs::{self, File, TryLockError};
-use std::io::{self, ErrorKind};
+use bx_program_system::{Permits, is_same, lock, lock_shared, open_there, take_away};
+use std::fs::{File, TryLockError};
+use std::io::ErrorKind;
 use std::rt::Files;
 
 /// What a file is opened for.
@@ -30,59 +29,96 @@ pub struct Opened<'a> {
     pub made: bool,
 }
 
-/// Opens a file that is there.
-fn open_there<R: Files<File = File>>(rt: &R, name: &str, writes: bool) -> io::Result<File> {
-    let mut how = File::options();
-    how.read(true).write(writes);
-    how.open(rt, name)
-}
-
-/// Opens a file to be read and written, or makes it, and says which.
-fn open_or_make<R>(rt: &R, name: &str, permits: Permits) -> io::Result<(File, bool)>
+/// Opens an image to be read and written, or makes it, and says which.
+fn open_or_make<'a, R>(rt: &R, name: &'a str, permits: Permits) -> Result<(File, bool), Stopped<'a>>
 where
     R: Files<File = File> + AllocGlobal,
 {
     match open_there(rt, name, true) {
+        Ok(file) => return Ok((file, false)),
         Err(e) if e.kind() == ErrorKind::NotFound => {}
-        outcome => return Ok((outcome?, false)),
+        Err(e) => return Err(Stopped::unopened(name, e)),
     }
     match permits.make(rt, name) {
+        Ok(file) => Ok((file, true)),
         // Another program made it by now, or a link leads to a file that is missing.
         Err(e) if e.kind() == ErrorKind::AlreadyExists => make_linked(rt, name, permits),
-        outcome => Ok((outcome?, true)),
+        Err(e) => Err(Stopped::unopened(name, e)),
     }
 }
 
-/// Locks a file, without waiting, up to its closing. A lock belongs to one opening, so a file that this run has open under
-/// another name is refused like one that another program holds. Those that only read hold one lock beside one another. Where
-/// the file system has no locks it goes on without.
-fn lock(file: &File, purpose: Purpose) -> Result<(), TryLockError> {
+/// Opens an image, and says whether this run made it.
+fn open_image<'a, R>(rt: &R, name: &'a str, purpose: Purpose) -> Result<(File, bool), Stopped<'a>>
+where
+    R: Files<File = File> + AllocGlobal,
+{
     let outcome = match purpose {
-        Purpose::Read => file.try_lock_shared(),
-        Purpose::Change | Purpose::Make(_) => file.try_lock(),
+        Purpose::Read => open_there(rt, name, false),
+        Purpose::Change => open_there(rt, name, true),
+        Purpose::Make(permits) => return open_or_make(rt, name, permits),
     };
     match outcome {
-        Err(TryLockError::Error(e)) if e.kind() == ErrorKind::Unsupported => Ok(()),
-        outcome => outcome,
+        Ok(file) => Ok((file, false)),
+        Err(e) => Err(Stopped::unopened(name, e)),
+    }
+}
+
+/// Makes a text that is missing. None where it is there, or another program made it by now.
+fn make_text<'a, R>(
+    rt: &R,
+    name: &'a str,
+    permits: Permits,
+    holds: Holds,
+) -> Result<Option<File>, Stopped<'a>>
+where
+    R: Files<File = File> + AllocGlobal,
+{
+    if look(rt, name, true, holds)?.is_some() {
+        return Ok(None);
+    }
+    match permits.make(rt, name) {
+        Ok(file) => Ok(Some(file)),
+        Err(e) if e.kind() == ErrorKind::AlreadyExists => Ok(None),
+        Err(e) => Err(Stopped::unopened(name, e)),
+    }
+}
+
+/// Opens a text, which is looked at right before, or makes one that is missing; no link is followed. Says whether this run made
+/// it.
+fn open_text<'a, R>(
+    rt: &R,
+    name: &'a str,
+    purpose: Purpose,
+    holds: Holds,
+) -> Result<(File, bool), Stopped<'a>>
+where
+    R: Files<File = File> + AllocGlobal,
+{
+    if let Purpose::Make(permits) = purpose {
+        if let Some(file) = make_text(rt, name, permits, holds)? {
+            return Ok((file, true));
+        }
+    }
+    look(rt, name, false, holds)?;
+    match open_there(rt, name, !matches!(purpose, Purpose::Read)) {
+        Ok(file) => Ok((file, false)),
+        Err(e) => Err(Stopped::unopened(name, e)),
+    }
+}
+
+/// Locks a file as its purpose wants it.
+fn lock_for(file: &File, purpose: Purpose) -> Result<(), TryLockError> {
+    match purpose {
+        Purpose::Read => lock_shared(file),
+        Purpose::Change | Purpose::Make(_) => lock(file),
     }
 }
 
 /// What is said of a file that is locked.
 const HELD: &str = "another program has it locked, or it is one of the others by another name";
 
-/// Whether the open file is what it has to be, and, now that it is locked, still has its name: another run may have taken it
-/// away before.
-fn is_in_place<R>(rt: &R, name: &str, file: &File, holds: Holds) -> io::Result<bool>
-where
-    R: Files<File = File>,
-{
-    let opened = file.metadata()?;
-    let named = fs::metadata(rt, name)?;
-    Ok(holds.suits(&opened) && is_same(&opened, &named))
-}
-
 impl<'a> Opened<'a> {
-    /// Opens a file, locks it, and looks at it again.
+    /// Opens a file, locks it, and looks at it again. One that was made is taken away again where it is refused.
     pub fn new<R>(
         rt: &R,
         name: &'a str,
@@ -92,25 +128,50 @@ impl<'a> Opened<'a> {
     where
         R: Files<File = File> + AllocGlobal,
     {
-        let outcome = match purpose {
-            Purpose::Read => open_there(rt, name, false).map(|file| (file, false)),
-            Purpose::Change => open_there(rt, name, true).map(|file| (file, false)),
-            Purpose::Make(permits) => open_or_make(rt, name, permits),
-        };
-        let (file, made) = match outcome {
-            Ok(opened) => opened,
-            Err(error) => return Err(Stopped::unopened(name, error)),
+        let (file, made) = match holds {
+            Holds::Image => open_image(rt, name, purpose)?,
+            Holds::Text(_) => open_text(rt, name, purpose, holds)?,
         };
         let opened = Opened { file, name, made };
         opened.hold(rt, purpose)?;
-        match is_in_place(rt, name, &opened.file, holds) {
-            Ok(true) => Ok(opened),
-            Ok(false) => Err(Stopped::refused(name, "another file has its name now")),
-            Err(error) => {
+        match opened.check(rt, holds) {
+            Ok(()) => Ok(opened),
+            Err(stopped) => {
                 opened.unmake(rt);
-                Err(Stopped::unopened(name, error))
+                Err(stopped)
             }
         }
+    }
+
+    /// Refuses a file that isn't what it has to be, now that it is locked, or hasn't its name any more: another run may have taken
+    /// it away before. What the name leads to is judged too, since it was looked at last: a text of one name is then the file that
+    /// has this name, and no other one that a link led to.
+    fn check<R>(&self, rt: &R, holds: Holds) -> Result<(), Stopped<'a>>
+    where
+        R: Files<File = File> + AllocGlobal,
+    {
+        let (found, named) = match (self.file.metadata(), holds.found(rt, self.name)) {
+            (Ok(found), Ok(named)) => (found, named),
+            (Err(e), _) | (_, Err(e)) => return Err(Stopped::unopened(self.name, e)),
+        };
+        if !is_same(&found, &named) {
+            return Err(Stopped::refused(self.name, "another file has its name now"));
+        }
+        holds.admit(rt, self.name, &found)?;
+        holds.admit(rt, self.name, &named)
+    }
+
+    /// Refuses a file that is another one of the three by a second name. Its lock shows that too, but not where the file system
+    /// has no locks.
+    pub fn is_apart(&self, other: &Opened<'_>) -> Result<(), Stopped<'a>> {
+        let is_one = match (self.file.metadata(), other.file.metadata()) {
+            (Ok(found), Ok(beside)) => is_same(&found, &beside),
+            (Err(error), _) | (_, Err(error)) => return Err(Stopped::unopened(self.name, error)),
+        };
+        if is_one {
+            return Err(Stopped::refused(self.name, "it is one of the others by another name"));
+        }
+        Ok(())
     }
 
     /// Locks the file. One that was made and that another run has locked by now stays, since that run goes on with it.
@@ -118,7 +179,7 @@ impl<'a> Opened<'a> {
     where
         R: Files<File = File> + AllocGlobal,
     {
-        match lock(&self.file, purpose) {
+        match lock_for(&self.file, purpose) {
             Ok(()) => Ok(()),
             Err(TryLockError::WouldBlock) => Err(Stopped::refused(self.name, HELD)),
             Err(TryLockError::Error(e)) => {
@@ -134,24 +195,4 @@ impl<'a> Opened<'a> {
             take_away(rt, self.name, &self.file);
         }
     }
-}
-
-/// Takes a file away that this run made, if it is still empty and still has its name. Where the name is a link to it, the link
-/// stays.
-pub fn take_away<R: Files<File = File> + AllocGlobal>(rt: &R, name: &str, file: &File) {
-    if is_untouched(rt, name, file).is_ok_and(|is| is) {
-        let _ = fs::remove_file(rt, name);
-    } else if let Ok(place) = fs::canonicalize(rt, name) {
-        let place = place.as_path().as_str();
-        if is_untouched(rt, place, file).is_ok_and(|is| is) {
-            let _ = fs::remove_file(rt, place);
-        }
-    }
-}
-
-/// Whether the file is empty, and the name its own and no link.
-fn is_untouched<R: Files<File = File>>(rt: &R, name: &str, file: &File) -> io::Result<bool> {
-    let opened = file.metadata()?;
-    let named = fs::symlink_metadata(rt, name)?;
-    Ok(opened.len() == 0 && is_same(&opened, &named))
 }

@@ -1,20 +1,26 @@
 //! What a person may want to know after a success.
 use crate::hints::commands::operands_of;
-use crate::hints::names::{image_of, is_of_text};
-use crate::hints::readers::tell_of_readers;
+use crate::hints::effect::Effect;
+use crate::hints::names::is_of_text;
+use crate::hints::products::tell_of_products;
+use crate::hints::quoted::quoted;
 use crate::hints::seen::Seen;
-use bx_cli::{Job, Texts};
+use bx_cli::{ChangeJob, Job, Target};
 use bx_dd::Counts;
-use bx_text::Name;
+use bx_image::Change;
+use bx_program_system::{Progress, Terminals};
 use std::alloc::Global;
 use std::fs::{self, File};
 use std::io::ErrorKind;
 use std::rt::Files;
+use std::time::Clock;
 
 /// What was seen of a job while it ran. Nothing is looked at where no person looks at standard error.
 #[derive(Drop)]
 pub struct Remarks {
     person: bool,
+    // a person looks at standard output too
+    on_output: bool,
     // the image was missing before
     is_new: bool,
     // something was undone before, and could be made again
@@ -27,39 +33,66 @@ pub struct Remarks {
     length: Option<u64>,
     // the line of the dump whose characters aren't those of its bytes
     unlike: Option<u64>,
+    // what the dump made of the image
+    effect: Option<Effect>,
 }
 
 impl Remarks {
-    /// Nothing was seen yet. `person` says whether a person looks at standard error.
-    pub fn new(person: bool) -> Remarks {
+    /// Nothing was seen yet, and a person looks at these streams.
+    pub fn new(terminals: Terminals) -> Remarks {
         Remarks {
-            person,
+            person: terminals.errors,
+            on_output: terminals.output,
             is_new: false,
             was_undone: false,
             is_later: false,
             is_empty: false,
             length: None,
             unlike: None,
+            effect: None,
         }
     }
 
+    /// A line on how much of this many bytes is read, for work whose output may be a terminal, where it has no place.
+    pub fn progress_of_dump<'r, R>(&self, rt: &'r R, total: Option<u64>) -> Progress<'r, R>
+    where
+        R: Clock + Eprint,
+    {
+        Progress::new(rt, self.person && !self.on_output, total)
+    }
+
+    /// The same, for work that writes nothing to standard output while it reads.
+    pub fn progress_of_input<'r, R>(&self, rt: &'r R, total: Option<u64>) -> Progress<'r, R>
+    where
+        R: Clock + Eprint,
+    {
+        Progress::new(rt, self.person, total)
+    }
+
     /// Looks whether the job's image is missing, how long it is, and whether something is undone, before the job opens a file.
-    pub fn look_before<R: Files<File = File>>(&mut self, rt: &R, job: &Job) {
+    /// What may be wrong with numbers of dd is said here.
+    pub fn look_before<R>(&mut self, rt: &R, job: &Job)
+    where
+        R: Files<File = File> + Eprint + AllocGlobal,
+    {
         if !self.person {
             return;
         }
-        if let Some((image, texts)) = image_of(job) {
-            self.is_new = is_missing(rt, image.as_str());
-            self.length = length_of(rt, image.as_str());
-            self.was_undone = is_filled(rt, texts.redo.as_str());
+        tell_of_products(rt, job);
+        if let Some(target) = job.target() {
+            let image = target.image.as_str();
+            self.is_new = is_missing(rt, image);
+            self.length = length_of(rt, image);
+            self.was_undone = is_filled(rt, target.texts.redo.as_str());
         }
     }
 
     /// Looks which of image and journal was modified later, once what was unfinished is recovered and before the command
     /// writes. A block device has no such time.
-    pub fn look_at_times<R: Files<File = File>>(&mut self, rt: &R, image: &Name, texts: &Texts) {
+    pub fn look_at_times<R: Files<File = File>>(&mut self, rt: &R, target: &Target) {
         if self.person {
-            self.is_later = is_later(rt, image.as_str(), texts.journal.as_str()) == Some(true);
+            let (image, journal) = (target.image.as_str(), target.texts.journal.as_str());
+            self.is_later = is_later(rt, image, journal) == Some(true);
         }
     }
 
@@ -77,6 +110,16 @@ impl Remarks {
         }
     }
 
+    /// Looks what the change of a dump will make of the image, which is open and not yet written.
+    pub fn look_at_change<R>(&mut self, rt: &R, target: &Target, change: &Change)
+    where
+        R: Files<File = File> + AllocGlobal,
+    {
+        if self.person {
+            self.effect = Effect::new(rt, target.image.as_str(), change);
+        }
+    }
+
     /// Looks whether dd's output has a byte.
     pub fn look_at_counts(&mut self, counts: &Counts) {
         self.is_empty = counts.whole_out == 0 && counts.part_out == 0;
@@ -90,32 +133,51 @@ impl Remarks {
         if !self.person {
             return;
         }
-        let Ok(operands) = operands_of(rt.alloc(), job) else {
+        let Some(target) = job.target() else {
+            return;
+        };
+        self.tell_of_image(rt, target);
+        match job {
+            Job::Change(job) => self.tell_of_change(rt, job),
+            Job::Dump(_) | Job::Look(_) | Job::Diff(_) | Job::Help { .. } => {}
+        }
+    }
+
+    /// What there is to say of an image that was changed.
+    fn tell_of_change<R>(&self, rt: &R, job: &ChangeJob)
+    where
+        R: Files<File = File> + Eprint + AllocGlobal,
+    {
+        let target = job.target();
+        let Ok(operands) = operands_of(rt.alloc(), target) else {
             return;
         };
         let operands = operands.as_str();
-        if let Some((image, texts)) = image_of(job) {
-            self.tell_of_image(rt, image.as_str(), texts.journal.as_str());
-            tell_of_readers(rt, image.as_str(), texts);
-        }
+        let Ok(name) = quoted(rt.alloc(), target.image.as_str()) else {
+            return;
+        };
+        let name = name.as_str();
         match job {
-            Job::Revert(_) => self.tell_of_dump(rt, operands),
-            Job::Dd(_) => self.tell_of_nothing(rt, job),
-            Job::Undo { count, image, .. } => self.tell_of_times(
-                rt, image, *count, "redo", operands,
-            ),
-            Job::Redo { count, image, .. } => self.tell_of_times(
-                rt, image, *count, "undo", operands,
-            ),
-            _ => {}
+            ChangeJob::Revert(_) => {
+                self.tell_of_dump(rt, operands);
+                self.tell_of_effect(rt, name, operands);
+            }
+            ChangeJob::Dd(_) => self.tell_of_nothing(rt, target),
+            ChangeJob::Undo(steps) => self.tell_of_times(rt, name, steps.count, "redo", operands),
+            ChangeJob::Redo(steps) => self.tell_of_times(rt, name, steps.count, "undo", operands),
         }
     }
 
     /// Whether the image was made, and what may be wrong with its name.
-    fn tell_of_image<R: Eprint>(&self, rt: &R, image: &str, journal: &str) {
+    fn tell_of_image<R: Eprint + AllocGlobal>(&self, rt: &R, target: &Target) {
+        let (image, journal) = (target.image.as_str(), target.texts.journal.as_str());
+        let alloc = rt.alloc();
+        let (Ok(name), Ok(journal)) = (quoted(alloc, image), quoted(alloc, journal)) else {
+            return;
+        };
         if self.is_new {
             let _ = eprintln!(rt;
-                "hint: {image}: it was missing, so it was made; its journal is {journal}"
+                "hint: {name}: it was missing, so it was made; its journal is {journal}"
             );
         }
         if self.is_new && image == "-" {
@@ -123,7 +185,7 @@ impl Remarks {
         }
         if is_of_text(image) {
             let _ = eprintln!(rt;
-                "hint: {image}: it has the name of a journal or a redo file, and was taken as an image"
+                "hint: {name}: it has the name of a journal or a redo file, and was taken as an image"
             );
         }
     }
@@ -137,32 +199,55 @@ impl Remarks {
         }
         if self.is_empty && self.was_undone {
             let _ = eprintln!(rt; "hint: the dump has no bytes, but what was undone is given up");
+        } else if self.is_empty {
+            let _ = eprintln!(rt; "hint: the dump has no bytes, so no byte was changed");
+        }
+    }
+
+    /// That the image became much longer, or that none of its bytes is another one.
+    fn tell_of_effect<R: Eprint>(&self, rt: &R, name: &str, operands: &str) {
+        let Some(effect) = self.effect else {
+            return;
+        };
+        let Effect {
+            before,
+            after,
+            gap,
+            ..
+        } = effect;
+        if effect.is_long() && gap > 0 {
+            let _ = eprintln!(rt;
+                "hint: {name}: it had {before} bytes and has {after} now, {gap} of them zeros that the dump doesn't give; bx undo{operands} takes this back"
+            );
+        } else if effect.is_long() {
+            let _ = eprintln!(rt;
+                "hint: {name}: it had {before} bytes and has {after} now; bx undo{operands} takes this back"
+            );
+        } else if effect.is_same && !self.is_empty {
+            let given_up = if self.was_undone {
+                ", but what was undone is given up"
+            } else {
+                ""
+            };
+            let _ = eprintln!(rt;
+                "hint: {name}: it had these bytes already, so no byte was changed{given_up}"
+            );
         }
     }
 
     /// That a dd which wrote nothing and left the length gave up what was undone.
-    fn tell_of_nothing<R: Files<File = File> + Eprint>(&self, rt: &R, job: &Job) {
-        let Some((image, _)) = image_of(job) else {
-            return;
-        };
-        if self.is_empty && self.was_undone && self.length == length_of(rt, image.as_str()) {
+    fn tell_of_nothing<R: Files<File = File> + Eprint>(&self, rt: &R, target: &Target) {
+        let length = length_of(rt, target.image.as_str());
+        if self.is_empty && self.was_undone && self.length == length {
             let _ = eprintln!(rt; "hint: nothing was written, but what was undone is given up");
         }
     }
 
     /// That another program may have written the image, and the command that goes back.
-    fn tell_of_times<R: Eprint>(
-        &self,
-        rt: &R,
-        image: &Name,
-        count: u32,
-        back: &str,
-        operands: &str,
-    ) {
+    fn tell_of_times<R: Eprint>(&self, rt: &R, name: &str, count: u32, back: &str, operands: &str) {
         if self.is_later && count > 0 {
-            let image = image.as_str();
             let _ = eprintln!(rt;
-                "hint: {image}: it was modified later than its journal, perhaps by another program; bx {back} -k {count}{operands} goes back"
+                "hint: {name}: it was modified later than its journal, perhaps by another program; bx {back} -k {count}{operands} goes back"
             );
         }
     }

@@ -3,6 +3,9 @@ use bx_cli::unlike_line;
 use std::alloc::Global;
 use std::io::{self, Read};
 
+/// The most bytes of a line that are looked at: an address, 256 pairs and the characters beside them have fewer.
+const MOST_LINE: usize = 4096;
+
 /// What was seen of a dump so far. Nothing is looked at where no person looks at standard error.
 #[derive(Drop)]
 pub struct Seen {
@@ -13,8 +16,13 @@ pub struct Seen {
     passed: u64,
     // the first line whose characters aren't those of its bytes
     unlike: Option<u64>,
+    // the last byte of the first line so far, and whether that line is whole
+    last: u8,
+    has_newline: bool,
     /// Whether there is a digit.
     pub has_digit: bool,
+    /// Whether the first line ends in CR LF.
+    pub has_returns: bool,
 }
 
 impl Seen {
@@ -26,7 +34,10 @@ impl Seen {
             line: Vec::new(alloc),
             passed: 0,
             unlike: None,
+            last: 0,
+            has_newline: false,
             has_digit: false,
+            has_returns: false,
         }
     }
 
@@ -36,9 +47,21 @@ impl Seen {
             return;
         }
         self.has_digit = self.has_digit || bytes.iter().any(|byte| byte.is_ascii_hexdigit());
+        self.look_at_returns(bytes);
         if !self.plain && self.unlike.is_none() {
             self.look_at_lines(bytes);
         }
+    }
+
+    /// Looks whether the first line ends in CR LF.
+    fn look_at_returns(&mut self, bytes: &[u8]) {
+        if self.has_newline {
+            return;
+        }
+        let line = bytes.split(|byte| *byte == b'\n').next().unwrap_or(bytes);
+        self.last = line.last().copied().unwrap_or(self.last);
+        self.has_newline = line.len() < bytes.len();
+        self.has_returns = self.has_newline && self.last == b'\r';
     }
 
     /// Looks at the lines that end in these bytes, and holds what stands behind the last of them.
@@ -51,9 +74,14 @@ impl Seen {
         }
     }
 
-    /// Holds bytes of a line. Where memory is refused, nothing more is looked at.
+    /// Holds bytes of a line, as far as it may be a dump's. Where memory is refused, nothing more is looked at.
     fn hold(&mut self, bytes: &[u8]) {
-        if self.line.extend_from_slice(bytes).is_err() {
+        let room = MOST_LINE.saturating_sub(self.line.len());
+        if self
+            .line
+            .extend_from_slice(&bytes[..bytes.len().min(room)])
+            .is_err()
+        {
             self.plain = true;
         }
     }

@@ -4,7 +4,7 @@ ghost use Rattle.std.specs.Char.{digit_value};
 ghost use Rattle.std.specs.Str.Parse.{digits_value};
 ghost use Rattle.bx_read.specs.Digits.{is_hex, pairs_of};
 ghost use Rattle.bx_read.specs.Plain.{hex_bytes};
-ghost use Rattle.bx_read.specs.inner.Lanes.{group_places};
+ghost use Rattle.bx_read.specs.private.Lanes.{group_places};
 
 use std::simd::prelude::*;
 

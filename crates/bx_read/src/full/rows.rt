@@ -1,7 +1,7 @@
 //! Full lines that go on with a run, as most lines of most dumps do.
 ghost use Rattle.std.specs.Prelude.{◌≡◌, ◌≤◌, ◌+◌, ◌==◌, length, MatchResult, IfSome};
-ghost use Rattle.bx_read.specs.inner.Full.{IsFull};
-ghost use Rattle.bx_read.specs.inner.Rows.{GoesOn};
+ghost use Rattle.bx_read.specs.private.Full.{IsFull};
+ghost use Rattle.bx_read.specs.private.Rows.{GoesOn};
 
 use crate::fault::ReadFault;
 use crate::full::{ENDED, full_line};

@@ -2,7 +2,7 @@
 ghost use Rattle.std.specs.Prelude.{◌≡◌, ◌≤◌, false, map, length};
 ghost use Rattle.bx_text.specs.Field.{hex_text};
 ghost use Rattle.bx_text.specs.Dump.{shown_byte, dump_line};
-ghost use Rattle.bx_text.specs.inner.Dump.{hex_columns};
+ghost use Rattle.bx_text.specs.private.Dump.{hex_columns};
 
 use crate::line::lanes::{put_columns, put_shown};
 use crate::line::tables::digits_of;

@@ -3,7 +3,7 @@ ghost use Rattle.std.specs.Prelude.{◌≡◌, ◌<◌, ℕ, false, map, length,
 ghost use Rattle.std.specs.Fmt.{digit_glyph};
 ghost use Rattle.std.specs.List.{flat_map};
 ghost use Rattle.bx_text.specs.Dump.{pair_of, shown_byte};
-ghost use Rattle.bx_text.specs.inner.Dump.{hex_columns};
+ghost use Rattle.bx_text.specs.private.Dump.{hex_columns};
 
 use std::simd::prelude::*;
 

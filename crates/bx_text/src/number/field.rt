@@ -1,9 +1,8 @@
 //! Short texts in fixed arrays, and numbers as text.
 ghost use Rattle.std.specs.Prelude.{◌≡◌, ◌⊎◌, false, ℕ, ◌+◌, ◌-◌, ◌^◌, ◌<◌, ◌≤◌, pos, negsuc, ◌≤ℤ◌, List, [], ◌∷◌, ◌++◌, length, take};
-ghost use Rattle.std.specs.Fmt.{digit_glyph};
-ghost use Rattle.std.specs.Fmt.{digits, signed_decimal};
+ghost use Rattle.std.specs.Fmt.{digit_glyph, digits, signed_decimal};
 ghost use Rattle.bx_text.specs.Field.{hex_text, left_filled};
-ghost use Rattle.bx_text.specs.inner.Radix.{base_of, is_upper};
+ghost use Rattle.bx_text.specs.private.Radix.{base_of, is_upper};
 
 use std::marker::Model;
 

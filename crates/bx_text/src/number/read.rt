@@ -3,8 +3,8 @@ ghost use Rattle.std.specs.Prelude.{◌≡◌, ℕ, ◌+◌, ◌-◌, ◌*◌, �
 ghost use Rattle.std.specs.Char.{digit_value};
 ghost use Rattle.std.specs.Str.Parse.{digits_value};
 ghost use Rattle.bx_text.specs.Number.{digit_count, hex_number, units_of, with_suffix, some_digits, prefixed, product_of, greatest, read_size};
-ghost use Rattle.bx_text.specs.inner.Number.{factors_of};
-ghost use Rattle.bx_text.specs.inner.Capped.{capped, capped_value};
+ghost use Rattle.bx_text.specs.private.Number.{factors_of};
+ghost use Rattle.bx_text.specs.private.Capped.{capped, capped_value};
 
 use crate::number::size::{SizeFault, SizeStyle};
 

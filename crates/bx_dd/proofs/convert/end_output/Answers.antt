@@ -1,5 +1,5 @@
 use Rattle.std.proofs.Common.{◌++◌, [], Some, arith, sym}
-use Rattle.bx_dd.specs.inner.Standing.{last_of}
+use Rattle.bx_dd.specs.private.Standing.{last_of}
 use Rattle.bx_dd.proofs.StreamLemmas.{Goes-direct, Goes-landed}
 use Rattle.bx_dd.proofs.convert.end_output.Goals as goal
 

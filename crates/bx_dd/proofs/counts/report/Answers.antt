@@ -1,6 +1,6 @@
 use Rattle.std.proofs.Common.{◌≡◌, ◌++◌, ◌∷◌, List, ℕ, codes, string_bytes, ap, append_assoc}
 use Rattle.std.specs.Fmt.{decimal}
-use Rattle.bx_dd.specs.inner.Counting.{cut_text}
+use Rattle.bx_dd.specs.private.Counting.{cut_text}
 use Rattle.bx_dd.proofs.counts.report.Goals as goal
 
 -- the parts of a report, one after another

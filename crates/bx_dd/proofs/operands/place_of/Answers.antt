@@ -1,5 +1,5 @@
 use Rattle.std.proofs.Common.{sym, ◌∙◌}
-use Rattle.bx_dd.specs.inner.Operands.{is_named}
+use Rattle.bx_dd.specs.private.Operands.{is_named}
 use Rattle.bx_dd.proofs.OperandsLemmas.{position_here, position_later}
 use Rattle.bx_dd.proofs.operands.place_of.Goals as goal
 

@@ -1,6 +1,6 @@
 use Rattle.std.proofs.Common.{◌≡◌, ◌+◌, take, drop}
 use Rattle.std.specs.List.{position_or_len}
-use Rattle.bx_dd.specs.inner.Operands.{is_named}
+use Rattle.bx_dd.specs.private.Operands.{is_named}
 use Rattle.bx_dd.proofs.operands.place_of.Given as goal
 
 -- no word so far has the name

@@ -3,7 +3,7 @@ use Rattle.bx_image.specs.Change.{HaveBytes}
 use Rattle.bx_image.specs.Device.{GoesOn}
 use Rattle.bx_image.specs.Power.{NoMore}
 use Rattle.bx_image.specs.Runs.{AreRunsOf}
-use Rattle.bx_image.specs.inner.Spans.{StandOver}
+use Rattle.bx_image.specs.private.Spans.{StandOver}
 use Rattle.bx_image.proofs.record.read_runs.Given as goal
 
 -- the runs stand over the ranges so far, and have the image's bytes

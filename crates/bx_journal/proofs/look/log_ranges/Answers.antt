@@ -1,7 +1,7 @@
 use Rattle.std.proofs.Common.{◌∙◌, List, ℕ, length, ap, subst, sym, arith}
 use Rattle.std.specs.Prelude.{All}
-use Rattle.bx_show.specs.inner.Showing.{AreAllMarks, LiesWithin}
-use Rattle.bx_show.proofs.RowTexts.{all_lie, ok_weaker, ranges_written}
+use Rattle.bx_journal_read.specs.show.Showing.{AreAllMarks, LiesWithin}
+use Rattle.bx_journal_read.proofs.RowTexts.{all_lie, ok_weaker, ranges_written}
 use Rattle.bx_journal.proofs.look.log_ranges.Goals as goal
 
 pub put_rows-requires-clause-lie : goal.put_rows-requires-clause-lie
@@ -19,7 +19,7 @@ returns-clause-rows g c h =
     let a = c.in-Ok.ensures.marks in
     let w0 = g.W.Write.contents c.args.out.now in
     let w1 = g.W.Write.contents c.put_rows.new.out in
-    let stored : List ℕ = g.T.TextStore.text c.args.store.now in
+    let stored : List ℕ = g.T.TextStore.text c.args.journal.now in
     let now : List ℕ = g.T.TextStore.text c.all_marks.new.store in
     let known : AreAllMarks (Unit {0}) stored c.in-Ok.marks.items = record { text = a.text; is = λ u. a.is h; entries = a.entries; spelled = a.spelled; marks_are = a.marks_are } in
     ok_weaker c.put_rows.result

@@ -1,8 +1,8 @@
 use Rattle.std.proofs.Common.{◌≤◌, length, subst, sym}
 use Rattle.std.specs.Prelude.{All}
-use Rattle.bx_show.specs.inner.Showing.{LiesWithin}
-use Rattle.bx_show.specs.inner.Steps.{AreStepsPut}
-use Rattle.bx_show.proofs.RowTexts.{ok_weaker}
+use Rattle.bx_journal_read.specs.show.Showing.{LiesWithin}
+use Rattle.bx_journal_read.specs.show.Steps.{AreStepsPut}
+use Rattle.bx_journal_read.proofs.RowTexts.{ok_weaker}
 use Rattle.bx_journal.proofs.look.put_found.Goals as goal
 
 pub put_steps-requires-clause-enough : goal.put_steps-requires-clause-enough
@@ -17,6 +17,6 @@ returns-clause-put g c h hd =
     (λ put. (
       g.W.Write.contents c.put_torn.new.out,
       c.in_ok-before.ensures.line,
-      subst (λ ms. AreStepsPut c.args.steps (g.D.Device.image c.args.device.now) (g.T.TextStore.text c.args.store.now) c.args.steps.count ms (g.W.Write.contents c.put_torn.new.out) (g.W.Write.contents c.put_steps.new.out)) c.as_slice.ensures.value put,
+      subst (λ ms. AreStepsPut c.args.steps (g.D.Device.image c.args.image.now) (g.T.TextStore.text c.args.journal.now) c.args.steps.count ms (g.W.Write.contents c.put_torn.new.out) (g.W.Write.contents c.put_steps.new.out)) c.as_slice.ensures.value put,
     ))
     (c.put_steps.ensures.steps h hd)

@@ -1,10 +1,9 @@
 use Rattle.std.proofs.Common.{◌≡◌, List, ℕ, refl}
 use Rattle.std.proofs.lemmas.Result.{IfErr-weaker}
-use Rattle.bx_show.specs.Steps.{RefusesSteps, StopsSteps}
-use Rattle.bx_show.specs.inner.Showing.{PutFault}
-use Rattle.bx_show.specs.inner.Steps.{AreFrontMarks}
-use Rattle.bx_show.proofs.RowTexts.{ok_weaker}
-use Rattle.bx_show.proofs.StepsShown.{front_lie, put_allows, put_stops, steps_shown}
+use Rattle.bx_journal_read.specs.show.Steps.{RefusesSteps, StopsSteps, AreFrontMarks}
+use Rattle.bx_journal_read.specs.show.Showing.{PutFault}
+use Rattle.bx_journal_read.proofs.RowTexts.{ok_weaker}
+use Rattle.bx_journal_read.proofs.StepsShown.{front_lie, put_allows, put_stops, steps_shown}
 use Rattle.bx_journal.proofs.look.show_steps.Goals as goal
 
 pub put_found-requires-clause-enough : goal.put_found-requires-clause-enough
@@ -13,25 +12,25 @@ put_found-requires-clause-enough g c = c.in-Ok.ensures.can.0
 pub put_found-requires-clause-lie : goal.put_found-requires-clause-lie
 put_found-requires-clause-lie g c =
     let f = c.in-Ok.ensures in
-    let l = front_lie (g.T.TextStore.honest c.args.store.now) (g.T.TextStore.text c.args.store.now) (g.T.TextStore.text c.find_steps.new.store) c.in-Ok.found.marks.items c.in-Ok.found.marks.items c.in-Ok.found.torn f.marks f.stays.same refl in
-    (l.0, (λ h. l.1 (f.stays.honesty.0 h)), l.2)
+    let l = front_lie (g.T.TextStore.honest c.args.journal.now) (g.T.TextStore.text c.args.journal.now) (g.T.TextStore.text c.find_steps.new.journal) c.in-Ok.found.marks.items c.in-Ok.found.marks.items c.in-Ok.found.torn f.marks f.looks.same refl in
+    (l.0, (λ h. l.1 (f.looks.honesty.0 h)), l.2)
 
 pub returns-clause-shows : goal.returns-clause-shows
 returns-clause-shows g c h hd =
     let f = c.in-Ok.ensures in
     let a = f.marks in
-    let stored : List ℕ = g.T.TextStore.text c.args.store.now in
+    let stored : List ℕ = g.T.TextStore.text c.args.journal.now in
     let known : AreFrontMarks (Unit {0}) stored c.in-Ok.found.marks.items c.in-Ok.found.torn = record { front = a.front; entries = a.entries; spelled = a.spelled; marks_are = a.marks_are; behind = λ u. a.behind h } in
     ok_weaker c.put_found.result
-    (λ put. steps_shown stored (g.T.TextStore.text c.find_steps.new.store) (g.D.Device.image c.args.device.now) c.args.steps c.in-Ok.found.marks.items c.in-Ok.found.marks.items
-    (g.W.Write.contents c.args.out.now) put.0 (g.W.Write.contents c.put_found.new.out) f.can.0 (f.stays.same h) refl put.2
+    (λ put. steps_shown stored (g.T.TextStore.text c.find_steps.new.journal) (g.D.Device.image c.args.image.now) c.args.steps c.in-Ok.found.marks.items c.in-Ok.found.marks.items
+    (g.W.Write.contents c.args.out.now) put.0 (g.W.Write.contents c.put_found.new.out) f.can.0 (f.looks.same h) refl put.2
     c.in-Ok.found.torn known f.can.1 put.1)
-    (c.put_found.ensures.put (f.stays.honesty.1 h) hd)
+    (c.put_found.ensures.put (f.looks.honesty.1 h) hd)
 
 pub returns-clause-fault : goal.returns-clause-fault
 returns-clause-fault g c =
-    IfErr-weaker c.put_found.result PutFault (StopsSteps (g.T.TextStore.honest c.args.store.now) (g.T.TextStore.text c.args.store.now) c.args.steps)
-    (λ f kind. put_stops (g.T.TextStore.honest c.args.store.now) (g.T.TextStore.text c.args.store.now) c.args.steps f kind) c.put_found.ensures.kind
+    IfErr-weaker c.put_found.result PutFault (StopsSteps (g.T.TextStore.honest c.args.journal.now) (g.T.TextStore.text c.args.journal.now) c.args.steps)
+    (λ f kind. put_stops (g.T.TextStore.honest c.args.journal.now) (g.T.TextStore.text c.args.journal.now) c.args.steps f kind) c.put_found.ensures.kind
 
 pub returns-clause-quiet : goal.returns-clause-quiet
 returns-clause-quiet g c =

@@ -1,12 +1,15 @@
 //! The rows of a log, from a text that is read in windows.
 ghost use Rattle.std.specs.Prelude.{◌≡◌, ◌<◌, ◌++◌, true, OnOk, IfOk, IfErr, IfSome};
-ghost use Rattle.bx_scan.specs.inner.Looking.{LooksAt};
-ghost use Rattle.bx_scan.specs.inner.Fault.{LacksOrFails};
-ghost use Rattle.bx_journal.specs.inner.Rows.{AreRowsOf, IsListed, IsListedIn, ended_row};
+ghost use Rattle.bx_image.specs.Power.{NoMore};
+ghost use Rattle.bx_journal_read.specs.scan.Looking.{LooksAt};
+ghost use Rattle.bx_journal_read.specs.model.Fault.{LacksOrFails};
+ghost use Rattle.bx_journal.specs.private.Rows.{AreRowsOf, IsListed, IsListedIn, ended_row};
 
-use bx_entries::{ENDED, Place, Summed, full_behind, next_end, nothing_summed, sum_full, sum_one};
-use bx_scan::{LogRow, Scan, SessionFault, Taken, WINDOW, scan_windows};
-use bx_store::TextStore;
+use bx_journal_format::{
+    ENDED, Place, Summed, full_behind, next_end, nothing_summed, sum_full, sum_one,
+};
+use bx_journal_read::{LogRow, Scan, SessionFault, Taken, WINDOW, scan_windows};
+use bx_journal_store::TextStore;
 use bx_text::NoMemory;
 use std::alloc::{Allocator, Global};
 
@@ -114,22 +117,23 @@ fn are_all(sums: Summed, count: u32) -> bool
 /// text is anything but this many finished entries, and where a line is very long.
 pub fn rows_in_windows<T: TextStore, A: Allocator + Clone>(
     alloc: &A,
-    store: &mut T,
+    journal: &mut T,
     count: u32,
 ) -> Result<Option<Vec<LogRow, A>>, SessionFault>
-    requires { T.failures store.old < u64.MAX }
-    ensures rows { IfOk result (λ found. IfSome found (λ rows. AreRowsOf (T.honest store.old) (T.text store.old) rows.items count)) }
+    requires { T.failures journal.old < u64.MAX }
+    ensures rows { IfOk result (λ found. IfSome found (λ rows. AreRowsOf (T.honest journal.old) (T.text journal.old) rows.items count)) }
     ensures fault { IfErr result LacksOrFails }
-    ensures looks { LooksAt T.honest T.text T.failures result store.old store.new }
+    ensures looks { LooksAt T.honest T.text T.failures result journal.old journal.new }
+    ensures survives { T.honest journal.old → NoMore (T.survives journal.old) (T.survives journal.new) }
 {
-    let len = store.len()?;
+    let len = journal.len()?;
     let size = WINDOW.min(len) as usize;
     let mut window = vec![in alloc.clone()?; 0u8; size]?;
     let scan = RowScan {
         rows: Vec::new(alloc.clone()?),
         sums: nothing_summed(),
     };
-    let found = scan_windows(store, window.as_mut_slice(), scan, 0, len)??;
+    let found = scan_windows(journal, window.as_mut_slice(), scan, 0, len)??;
     let Some(end) = found else {
         return Ok(None);
     };

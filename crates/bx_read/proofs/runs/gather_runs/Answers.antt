@@ -1,7 +1,7 @@
 use Rattle.std.proofs.Common.{rules, ◌≡◌, ◌+◌, subst}
 use Rattle.bx_read.specs.Text.{lines_of, answers, contents, gathered}
 use Rattle.bx_read.specs.Lines.{coming}
-use Rattle.bx_read.specs.inner.NextLine.{joined_of, taken_then}
+use Rattle.bx_read.specs.private.NextLine.{joined_of, taken_then}
 use Rattle.bx_read.proofs.DumpLemmas.{after}
 use Rattle.bx_read.proofs.RunLemmas.{one_run, run_fault}
 use Rattle.bx_read.proofs.runs.gather_runs.Goals as goal

@@ -1,7 +1,7 @@
 use Rattle.std.proofs.Common.{◌≡◌, ◌+◌}
 use Rattle.bx_read.specs.Text.{lines_of, answers, gathered, contents}
 use Rattle.bx_read.specs.Lines.{coming}
-use Rattle.bx_read.specs.inner.NextLine.{taken_then, lines_left, joined_of}
+use Rattle.bx_read.specs.private.NextLine.{taken_then, lines_left, joined_of}
 use Rattle.bx_read.proofs.DumpLemmas.{after}
 use Rattle.bx_read.proofs.runs.gather_runs.Given as goal
 

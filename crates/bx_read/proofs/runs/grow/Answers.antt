@@ -1,6 +1,6 @@
 use Rattle.std.proofs.Common.{◌≡◌, true, false, Some, length, ◌∙◌, subst, arith}
 use Rattle.bx_read.specs.Lines.{coming}
-use Rattle.bx_read.specs.inner.NextLine.{piece_of, IsNextLine}
+use Rattle.bx_read.specs.private.NextLine.{piece_of, IsNextLine}
 use Rattle.bx_read.proofs.RunLemmas.{grow_step, grow_stops, next_left, test_is}
 use Rattle.bx_read.proofs.runs.grow.Goals as goal
 

@@ -1,7 +1,7 @@
 use Rattle.std.proofs.Common.{◌≡◌, ◌≤◌, length}
 use Rattle.bx_read.specs.Text.{gathered, piece_then}
 use Rattle.bx_read.specs.Lines.{coming}
-use Rattle.bx_read.specs.inner.NextLine.{joined_of}
+use Rattle.bx_read.specs.private.NextLine.{joined_of}
 use Rattle.bx_read.proofs.runs.grow.Given as goal
 
 abbrev pub decreases-loop-line : goal.decreases-loop-line

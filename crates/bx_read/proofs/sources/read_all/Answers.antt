@@ -1,7 +1,7 @@
-use Rattle.std.proofs.Common.{◌++◌, ◌∙◌, [], length, take, refl, arith}
+use Rattle.std.proofs.Common.{◌++◌, ◌∙◌, [], length, take, refl, sym, arith}
 use Rattle.std.proofs.lemmas.List.{length-append, length-take-le}
 use Rattle.bx_text.proofs.KnownLemmas.{Consumes-trans}
-use Rattle.bx_read.proofs.SourceLemmas.{consumes_none, cause_more}
+use Rattle.bx_read.proofs.SourceLemmas.{consumes_none, cause_more, none_read}
 use Rattle.bx_read.proofs.sources.read_all.Goals as goal
 
 pub loop-count-init : goal.loop-count-init
@@ -13,6 +13,8 @@ loop-count-init g c = record {
   bytes = consumes_none _;
   few = omega (arith, c.requires.none);
   read = c.requires.new;
+  none = λ _. refl;
+  closed = λ _. refl;
 }
 
 pub returns-in-Err-clause-stopped : goal.returns-in-Err-clause-stopped
@@ -67,4 +69,17 @@ loop-count-preserved g c =
       bytes = Consumes-trans _ _ _ _ _ before.bytes read.bytes;
       few = omega (arith, before.few, c.read_next.ensures.count, long, length-append before.text part);
       read = c.read_next.ensures.read before.text before.read;
+      none = λ ended. absurd (omega (arith, none_read c.in-Ok.count c.fill.result c.in-Ok.is (c.fill.ensures.none_left (before.state ∙ ended)).0));
+      closed = λ shut. read.closed (λ was_open. shut (sym before.state ∙ was_open)) ∙ before.closed shut;
     }
+
+pub returns-then-not-read_next-clause-stopped : goal.returns-then-not-read_next-clause-stopped
+returns-then-not-read_next-clause-stopped g c was_open =
+    let before = c.loop-count.invariant in
+    let read = c.in-Ok.ensures in
+    let part = take c.in-Ok.count c.fill.new.buf in
+    let long = length-take-le c.in-Ok.count c.fill.new.buf read.bound.0 in (
+      before.text ++ part,
+      Consumes-trans _ _ _ _ _ before.bytes read.bytes,
+      omega (arith, before.taken, before.limit, read.taken, read.limit, c.fill.new.self.meter.within, long, length-append before.text part),
+    )

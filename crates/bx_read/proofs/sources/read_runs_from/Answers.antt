@@ -1,4 +1,4 @@
-use Rattle.std.proofs.Common.{arith}
+use Rattle.std.proofs.Common.{[], arith}
 use Rattle.std.proofs.lemmas.Result.{MatchResult-weaker}
 use Rattle.bx_read.proofs.WindowLemmas.{runs_near}
 use Rattle.bx_read.proofs.sources.read_runs_from.Goals as goal
@@ -13,3 +13,6 @@ pub returns-clause-near : goal.returns-clause-near
 returns-clause-near g c =
     let text = c.in-Ok-read_all.ensures.text in
     MatchResult-weaker c.finish.result (c.finish.ensures.exact text.0 text.3) (λ v are. runs_near text.0 v.items are) (λ _ _. tt)
+
+pub returns-clause-none_left : goal.returns-clause-none_left
+returns-clause-none_left g c = λ ended. c.finish.ensures.exact [] (c.in-Ok-read_all.ensures.none_left ended)

@@ -2,7 +2,7 @@ use Rattle.std.proofs.Common.{◌≡◌, arith, length, ◌/◌, ◌%◌, min, �
 use Rattle.bx_dd.specs.Counting.{counts_of}
 use Rattle.bx_dd.specs.Output.{joined, converted}
 use Rattle.bx_dd.specs.Standing.{Progress, IsAfter}
-use Rattle.bx_dd.specs.inner.Standing.{last_of}
+use Rattle.bx_dd.specs.private.Standing.{last_of}
 use Rattle.bx_dd.proofs.RecordsLemmas.{Stands_last}
 use Rattle.bx_dd.proofs.ConvertLemmas.{counts_same}
 use Rattle.bx_dd.proofs.convert.Convert.finish.Goals as goal

@@ -1,6 +1,6 @@
 use Rattle.std.proofs.Common.{◌++◌, [], ◌∷◌, refl, add-zero}
 use Rattle.bx_dd.specs.declared.form.Shape.TheVariants.{Block}
-use Rattle.bx_dd.specs.inner.Output.{fitted}
+use Rattle.bx_dd.specs.private.Output.{fitted}
 use Rattle.bx_dd.proofs.RecordsLemmas.{Stands_newline}
 use Rattle.bx_dd.proofs.FlowLemmas.{stops_flow}
 use Rattle.bx_dd.proofs.convert.records.end_record.Goals as goal

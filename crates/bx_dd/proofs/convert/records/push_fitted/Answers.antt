@@ -1,7 +1,7 @@
 use Rattle.std.proofs.Common.{◌-◌, ◌++◌, length, List, ℕ, replicate, subst}
 use Rattle.std.specs.Prelude.{OnOk, IfErr}
 use Rattle.bx_text.specs.Writing.{WritesFront}
-use Rattle.bx_dd.specs.inner.Streaming.{Goes}
+use Rattle.bx_dd.specs.private.Streaming.{Goes}
 use Rattle.bx_dd.proofs.StreamLemmas.{Grows_then, front_more}
 use Rattle.bx_dd.proofs.FlowLemmas.{fitted_text}
 use Rattle.bx_dd.proofs.convert.records.push_fitted.Goals as goal

@@ -1,7 +1,7 @@
 use Rattle.std.proofs.Common.{◌≡◌, ◌+◌, ◌++◌, [], length, ap, ◌∙◌, arith, refl}
 use Rattle.std.proofs.lemmas.List.{length-append}
 use Rattle.bx_dd.specs.declared.form.Shape.TheVariants.{Unblock}
-use Rattle.bx_dd.specs.inner.Output.{line_of}
+use Rattle.bx_dd.specs.private.Output.{line_of}
 use Rattle.bx_dd.proofs.RecordsLemmas.{Stands_piece, Stands_whole}
 use Rattle.bx_dd.proofs.FlowLemmas.{stops_flow}
 use Rattle.bx_dd.proofs.convert.records.push_piece.Goals as goal

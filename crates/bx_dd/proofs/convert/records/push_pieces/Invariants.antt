@@ -2,8 +2,8 @@ use Rattle.std.proofs.Common.{◌++◌, ◌-◌, ◌≤◌, ◌<◌, List, ℕ, 
 use Rattle.std.specs.Prelude.{vec_capacity}
 use Rattle.bx_dd.specs.declared.form.Shape.TheVariants.{Unblock}
 use Rattle.bx_dd.specs.declared.convert.records.Tail.{Tail}
-use Rattle.bx_dd.specs.inner.Paged.{output}
-use Rattle.bx_dd.specs.inner.Streaming.{Flows}
+use Rattle.bx_dd.specs.private.Paged.{output}
+use Rattle.bx_dd.specs.private.Streaming.{Flows}
 use Rattle.bx_dd.proofs.convert.records.push_pieces.Given as goal
 
 -- the bytes so far stand as records

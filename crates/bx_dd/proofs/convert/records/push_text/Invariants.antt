@@ -1,8 +1,8 @@
 use Rattle.std.proofs.Common.{◌++◌, ◌+◌, ◌-◌, ◌≤◌, List, ℕ, Option, length, take}
 use Rattle.std.specs.Prelude.{vec_capacity}
 use Rattle.bx_dd.specs.declared.form.Shape.TheVariants.{Block}
-use Rattle.bx_dd.specs.inner.Paged.{output}
-use Rattle.bx_dd.specs.inner.Streaming.{Flows}
+use Rattle.bx_dd.specs.private.Paged.{output}
+use Rattle.bx_dd.specs.private.Streaming.{Flows}
 use Rattle.bx_dd.proofs.convert.records.push_text.Given as goal
 
 -- the bytes so far stand as records

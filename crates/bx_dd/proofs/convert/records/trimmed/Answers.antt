@@ -2,7 +2,7 @@ use Rattle.std.proofs.Common.{◌≡◌, arith, take, ap}
 use Rattle.std.specs.List.{suffix_len}
 use Rattle.std.proofs.lemmas.List.Sums.{suffix_len-take_no}
 use Rattle.std.proofs.lemmas.Bool.{ne_eqb}
-use Rattle.bx_dd.specs.inner.Output.{is_space}
+use Rattle.bx_dd.specs.private.Output.{is_space}
 use Rattle.bx_dd.proofs.RecordsLemmas.{line_end}
 use Rattle.bx_dd.proofs.convert.records.trimmed.Goals as goal
 

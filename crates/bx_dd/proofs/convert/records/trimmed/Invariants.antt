@@ -1,6 +1,6 @@
 use Rattle.std.proofs.Common.{◌≡◌, ◌+◌, ◌-◌, ◌≤◌, length, take}
 use Rattle.std.specs.List.{suffix_len}
-use Rattle.bx_dd.specs.inner.Output.{is_space}
+use Rattle.bx_dd.specs.private.Output.{is_space}
 use Rattle.bx_dd.proofs.convert.records.trimmed.Given as goal
 
 -- only spaces follow

@@ -4,7 +4,7 @@ use Rattle.std.proofs.Math.Seq.{take-add}
 use Rattle.std.proofs.lemmas.List.{length-take-le, length-drop, take_all, drop-drop}
 use Rattle.bx_text.proofs.KnownLemmas.{take-put_mid_more}
 use Rattle.bx_dd.specs.Output.{joined}
-use Rattle.bx_dd.specs.inner.Output.{block_of}
+use Rattle.bx_dd.specs.private.Output.{block_of}
 use Rattle.bx_dd.proofs.ConvertLemmas.{joined_more, joined_none}
 use Rattle.bx_dd.proofs.RecordsLemmas.{mod_full}
 use Rattle.bx_dd.proofs.UnitLemmas.{block_whole, drop_behind, whole_fits}

@@ -1,7 +1,7 @@
 use Rattle.std.proofs.Common.{◌≡◌, ◌-◌, ◌<◌, ◌≤◌, ◌++◌, cond, length, take, drop, map, replicate, sym, ap, ◌∙◌, arith}
 use Rattle.std.proofs.lemmas.List.{length-take-le}
 use Rattle.bx_dd.specs.Output.{cased, filler, joined, swapped}
-use Rattle.bx_dd.specs.inner.Output.{block_of}
+use Rattle.bx_dd.specs.private.Output.{block_of}
 use Rattle.bx_dd.proofs.ConvertLemmas.{joined_none}
 use Rattle.bx_dd.proofs.UnitLemmas.{below_block, block_full, block_plain, joined_one, take_front, unit_sync}
 use Rattle.bx_dd.proofs.convert.units.turn_last.Goals as goal

@@ -1,5 +1,5 @@
 use Rattle.std.proofs.Common.{◌++◌, ◌-◌, ◌≤◌, List, ℕ, Option, replicate}
-use Rattle.bx_dd.specs.inner.Streaming.{Goes}
+use Rattle.bx_dd.specs.private.Streaming.{Goes}
 use Rattle.bx_dd.proofs.page.Page.put_spaces.Given as goal
 
 -- this many were put

@@ -9,8 +9,8 @@ use Rattle.bx_text.specs.declared.stream.State.TheVariants.{Open, Ended}
 use Rattle.bx_dd.specs.declared.form.Shape.TheVariants.{Flat, Unblock}
 use Rattle.bx_dd.specs.Output.{converted}
 use Rattle.bx_dd.specs.Streaming.{IsCopyAhead}
-use Rattle.bx_dd.specs.inner.Paged.{output_of}
-use Rattle.bx_dd.specs.inner.Streaming.{StopsPass, written_by}
+use Rattle.bx_dd.specs.private.Paged.{output_of}
+use Rattle.bx_dd.specs.private.Streaming.{StopsPass, written_by}
 use Rattle.bx_dd.proofs.CopyLemmas.{ahead_of, read_sizes, read_stops, stage_near, stage_read, stage_sent, stage_start, stage_unsent, unit_some, write_stops}
 use Rattle.bx_dd.proofs.stream.copy.copy_units.Goals as goal
 use Rattle.bx_dd.proofs.stream.copy.copy_units.Goals.{In-Ok}

@@ -3,8 +3,8 @@ use Rattle.std.specs.Prelude.{vec_capacity}
 use Rattle.std.specs.Io.KnownBytes.{Consumes}
 use Rattle.bx_text.specs.declared.stream.State.TheVariants.{Open}
 use Rattle.bx_dd.specs.declared.form.Shape.TheVariants.{Unblock}
-use Rattle.bx_dd.specs.inner.Paged.{output_of}
-use Rattle.bx_dd.specs.inner.Streaming.{Stage, unit_of}
+use Rattle.bx_dd.specs.private.Paged.{output_of}
+use Rattle.bx_dd.specs.private.Streaming.{Stage, unit_of}
 use Rattle.bx_dd.proofs.stream.copy.copy_units.Given as goal
 
 -- what was read so far stands converted

@@ -2,7 +2,7 @@ use Rattle.std.proofs.Common.{◌≡◌, ◌*◌, [], length, refl, sym, ap, ◌
 use Rattle.std.proofs.lemmas.Result.{IfErr-weaker, IfOk-weaker}
 use Rattle.bx_dd.specs.Counting.{counts_of}
 use Rattle.bx_dd.specs.Plan.{form_of}
-use Rattle.bx_dd.specs.inner.Standing.{HasSizes}
+use Rattle.bx_dd.specs.private.Standing.{HasSizes}
 use Rattle.bx_dd.proofs.CopyLemmas.{converted_none, copied_none, copied_rest, cut_none, stopped_rest, stopped_skip}
 use Rattle.bx_dd.proofs.stream.copy.copy_with.Goals as goal
 

@@ -1,7 +1,7 @@
 use Rattle.std.proofs.Common.{◌≡◌, ◌++◌, List, ℕ, ap, ◌∙◌, subst}
 use Rattle.bx_text.specs.Writing.{WritesFront}
 use Rattle.bx_dd.specs.Output.{converted, joined}
-use Rattle.bx_dd.specs.inner.Standing.{last_of}
+use Rattle.bx_dd.specs.private.Standing.{last_of}
 use Rattle.bx_dd.proofs.RecordsLemmas.{Stands_last}
 use Rattle.bx_dd.proofs.FlowLemmas.{cut_all}
 use Rattle.bx_dd.proofs.CopyLemmas.{goes_all, stage_end, stage_end_stops}

@@ -3,7 +3,7 @@ use Rattle.std.proofs.Math.Seq.{take-add}
 use Rattle.std.proofs.lemmas.List.{length-take-le}
 use Rattle.bx_dd.specs.declared.form.Form.{Form}
 use Rattle.bx_dd.specs.Output.{joined}
-use Rattle.bx_dd.specs.inner.Streaming.{unit_of}
+use Rattle.bx_dd.specs.private.Streaming.{unit_of}
 use Rattle.bx_dd.proofs.UnitLemmas.{take_front}
 use Rattle.bx_dd.proofs.CopyLemmas.{drop_front, less_whole, stage_pass, stage_stops}
 use Rattle.bx_dd.proofs.stream.copy.pass.Goals as goal

@@ -6,7 +6,7 @@ use Rattle.bx_text.specs.declared.stream.State.TheVariants.{Ended}
 use Rattle.bx_dd.specs.Counting.{counts_of}
 use Rattle.bx_dd.specs.Output.{converted}
 use Rattle.bx_dd.specs.Plan.{form_of}
-use Rattle.bx_dd.specs.inner.Transfer.{HasRead}
+use Rattle.bx_dd.specs.private.Transfer.{HasRead}
 use Rattle.bx_dd.proofs.TransferLemmas.{stopped_more, stopped_memory, has_stopped, asked_skip, asked_all, consumed_both, selected_both, within_both, read_out_both, IfOk-both}
 use Rattle.bx_dd.proofs.stream.transfer.transfer.Goals as goal
 

@@ -1,6 +1,6 @@
 use Rattle.std.proofs.Common.{◌≡◌, ◌+◌, ◌-◌, ◌*◌, ◌<◌, ◌≤◌, ◌++◌, length, take, drop, arith, ap, ◌∙◌, sym, add-zero, append-nil, append_assoc, min, suc}
 use Rattle.bx_text.specs.Fold.{line_bytes, line_text, folded}
-use Rattle.bx_text.specs.inner.Fold.{lines_to, line_count}
+use Rattle.bx_text.specs.private.Fold.{lines_to, line_count}
 use Rattle.std.proofs.lemmas.List.{length-append, length-take-le, length-drop}
 use Rattle.bx_text.proofs.KnownLemmas.{take-put_mid_more}
 use Rattle.bx_dump.proofs.FoldLemmas.{lines_stay, count_is, count_all, bytes_after, taken_stay, lines_next}

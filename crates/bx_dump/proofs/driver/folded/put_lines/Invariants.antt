@@ -1,6 +1,6 @@
 use Rattle.std.proofs.Common.{◌≡◌, ◌+◌, ◌*◌, ◌≤◌, ℕ, List, ◌++◌, length, take}
 use Rattle.bx_text.specs.Fold.{folded}
-use Rattle.bx_text.specs.inner.Fold.{lines_to, IsTaken}
+use Rattle.bx_text.specs.private.Fold.{lines_to, IsTaken}
 use Rattle.bx_dump.proofs.driver.folded.put_lines.Given as goal
 
 -- what stands for the lines so far

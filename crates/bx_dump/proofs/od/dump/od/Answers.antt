@@ -8,7 +8,7 @@ use Rattle.bx_text.specs.declared.fault.IoFault.{IoFault}
 use Rattle.bx_text.specs.declared.fault.IoFault.TheVariants.{WriteFailed, SkipPastEnd}
 use Rattle.bx_text.specs.Stream.{IsReadCause, Skips}
 use Rattle.bx_dump.specs.OdDump.{Reaches, od_of}
-use Rattle.bx_dump.specs.inner.OdDump.{StopsShort}
+use Rattle.bx_dump.specs.private.OdDump.{StopsShort}
 use Rattle.bx_dump.specs.Pages.{part_of}
 use Rattle.bx_dump.proofs.EndLemmas.{od_end_few}
 use Rattle.bx_dump.proofs.PagesLemmas.{all_of, front_of, part_whole, part_then, stop_then, front_then, front_behind}

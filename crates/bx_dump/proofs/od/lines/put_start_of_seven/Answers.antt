@@ -1,6 +1,6 @@
 use Rattle.std.proofs.Common.{◌∙◌, arith}
 use Rattle.std.proofs.lemmas.List.{take_at}
-use Rattle.bx_columns.proofs.DigitParts.{address_filled}
+use Rattle.bx_dump_columns.proofs.DigitParts.{address_filled}
 use Rattle.bx_dump.proofs.od.lines.put_start_of_seven.Goals as goal
 
 pub returns-clause-text : goal.returns-clause-text

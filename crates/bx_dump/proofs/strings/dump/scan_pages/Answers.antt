@@ -1,7 +1,7 @@
 use Rattle.std.proofs.Common.{◌≡◌, [], ◌^◌, ◌<◌, ◌≤◌, ◌++◌, length, take, arith, ap, ◌∙◌, sym, refl}
 use Rattle.std.proofs.lemmas.List.{length-append, length-take-le}
 use Rattle.bx_text.proofs.KnownLemmas.{Appends-trans, Consumes-trans, Appends-nil, Consumes-nil}
-use Rattle.bx_dump.specs.inner.Scan.{scan_text, scan_run}
+use Rattle.bx_dump.specs.private.Scan.{scan_text, scan_run}
 use Rattle.bx_dump.proofs.DumpLemmas.{read_stop, write_stop}
 use Rattle.bx_dump.proofs.ScanLemmas.{scan_goes, scan_grows, scan_text-none, kept_none, scan_run-append}
 use Rattle.bx_dump.proofs.strings.dump.scan_pages.Goals as goal

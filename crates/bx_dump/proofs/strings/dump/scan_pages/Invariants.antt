@@ -1,7 +1,7 @@
 use Rattle.std.proofs.Common.{◌≡◌, ◌-◌, ◌*◌, ◌^◌, ◌≤◌, ℕ, [], List, length}
 use Rattle.std.specs.Io.KnownBytes.{Appends, Consumes}
 use Rattle.bx_text.specs.declared.stream.State.TheVariants.{Open}
-use Rattle.bx_dump.specs.inner.Scan.{scan_text, scan_run, IsKept}
+use Rattle.bx_dump.specs.private.Scan.{scan_text, scan_run, IsKept}
 use Rattle.bx_dump.proofs.strings.dump.scan_pages.Given as goal
 
 -- whole blocks were read, and what is known of them was written

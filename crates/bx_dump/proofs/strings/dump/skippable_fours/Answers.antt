@@ -1,8 +1,8 @@
 use Rattle.std.proofs.Common.{◌≡◌, ◌+◌, ◌<◌, ◌≤◌, ℕ, false, length, take, arith, inl, inr}
 use Rattle.std.proofs.lemmas.Bool.{cases_lt}
 use Rattle.std.proofs.lemmas.List.{take-take, length-take-le}
-use Rattle.bx_columns.specs.inner.Printing.{four_print}
-use Rattle.bx_dump.specs.inner.Scan.{EndsQuiet}
+use Rattle.bx_dump_columns.specs.Printing.{four_print}
+use Rattle.bx_dump.specs.private.Scan.{EndsQuiet}
 use Rattle.bx_dump.proofs.QuietLemmas.{fours_quiet, before_four}
 use Rattle.bx_dump.proofs.strings.dump.skippable_fours.Goals as goal
 

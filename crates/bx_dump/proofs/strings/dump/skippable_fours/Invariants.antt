@@ -1,5 +1,5 @@
 use Rattle.std.proofs.Common.{◌≡◌, ◌-◌, ◌<◌, ◌≤◌, ℕ, length, false}
-use Rattle.bx_columns.specs.inner.Printing.{four_print}
+use Rattle.bx_dump_columns.specs.Printing.{four_print}
 use Rattle.bx_dump.proofs.strings.dump.skippable_fours.Given as goal
 
 abbrev pub invariant-loop-done : goal.invariant-loop-done

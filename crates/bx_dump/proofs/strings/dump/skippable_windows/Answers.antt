@@ -1,6 +1,6 @@
 use Rattle.std.proofs.Common.{◌≡◌, ◌+◌, ◌-◌, ◌≤◌, length, take, drop, refl, arith}
 use Rattle.std.proofs.lemmas.List.{take-take, length-take-le, length-drop}
-use Rattle.bx_dump.specs.inner.Scan.{EndsQuiet}
+use Rattle.bx_dump.specs.private.Scan.{EndsQuiet}
 use Rattle.bx_dump.proofs.ScanLemmas.{none_quiet, quiet_step}
 use Rattle.bx_dump.proofs.strings.dump.skippable_windows.Goals as goal
 

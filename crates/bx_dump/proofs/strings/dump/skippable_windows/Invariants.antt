@@ -1,5 +1,5 @@
 use Rattle.std.proofs.Common.{◌-◌, ◌≤◌, length, take}
-use Rattle.bx_dump.specs.inner.Scan.{IsQuiet}
+use Rattle.bx_dump.specs.private.Scan.{IsQuiet}
 use Rattle.bx_dump.proofs.strings.dump.skippable_windows.Given as goal
 
 abbrev pub invariant-loop-done : goal.invariant-loop-done

@@ -3,7 +3,7 @@ use Rattle.std.specs.Prelude.{nat_le, true, false, refl}
 use Rattle.std.proofs.lemmas.Bool.Decides.{nat_tests}
 use Rattle.std.proofs.lemmas.List.{length-append}
 use Rattle.bx_text.proofs.KnownLemmas.{Appends-trans}
-use Rattle.bx_dump.specs.inner.Scan.{scan_text, scan_run, end_text}
+use Rattle.bx_dump.specs.private.Scan.{scan_text, scan_run, end_text}
 use Rattle.bx_dump.specs.Strings.{strings_of, strings_text}
 use Rattle.bx_dump.proofs.DumpLemmas.{front_whole, write_stop}
 use Rattle.bx_dump.proofs.PagesLemmas.{front_of}

@@ -1,7 +1,7 @@
 use Rattle.std.proofs.Common.{◌≡◌, ◌*◌, ◌/◌, ◌≤◌, length, arith, sym, ap, ◌∙◌}
 use Rattle.std.proofs.Math.Nat.{mul-div-mul_left}
-use Rattle.bx_dump.specs.inner.Xxd.{cell_of, cell_width, columns_place}
-use Rattle.bx_columns.proofs.LinesLemmas.{cells_len}
+use Rattle.bx_dump.specs.private.Xxd.{cell_of, cell_width, columns_place}
+use Rattle.bx_dump_columns.proofs.LinesLemmas.{cells_len}
 use Rattle.bx_dump.proofs.ColumnsLemmas.{line_whole, place_fits, digits_even, digits_some}
 use Rattle.bx_dump.proofs.xxd.columns.put_fixed.Goals as goal
 

@@ -4,8 +4,8 @@ use Rattle.std.proofs.lemmas.Slice.{take-put_mid}
 use Rattle.std.proofs.lemmas.List.{length-take-le, length-drop}
 use Rattle.std.proofs.Math.Nat.{mul-div-le, mul-le-mul_left}
 use Rattle.bx_text.proofs.FieldLemmas.{div_mono}
-use Rattle.bx_dump.specs.inner.Xxd.{cell_of, cell_width, columns_line}
-use Rattle.bx_columns.proofs.LinesLemmas.{cells_part, lines_next_at, lines_zero}
+use Rattle.bx_dump.specs.private.Xxd.{cell_of, cell_width, columns_line}
+use Rattle.bx_dump_columns.proofs.LinesLemmas.{cells_part, lines_next_at, lines_zero}
 use Rattle.bx_dump.proofs.ColumnsLemmas.{digits_even}
 use Rattle.bx_dump.proofs.xxd.columns.put_full.Goals as goal
 

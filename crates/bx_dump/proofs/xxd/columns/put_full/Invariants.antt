@@ -1,6 +1,6 @@
 use Rattle.std.proofs.Common.{◌≡◌, ◌*◌, take}
-use Rattle.bx_columns.specs.Lines.{in_lines}
-use Rattle.bx_dump.specs.inner.Xxd.{columns_line}
+use Rattle.bx_dump_columns.specs.Lines.{in_lines}
+use Rattle.bx_dump.specs.private.Xxd.{columns_line}
 use Rattle.bx_dump.proofs.xxd.columns.put_full.Given as goal
 
 -- the lines so far

@@ -3,10 +3,10 @@ use Rattle.std.specs.Prelude.{codes}
 use Rattle.std.specs.List.{flat_map}
 use Rattle.std.proofs.lemmas.List.{length-take-le}
 use Rattle.bx_text.specs.Dump.{shown_byte}
-use Rattle.bx_columns.specs.Cells.{bits_of}
+use Rattle.bx_dump_columns.specs.Cells.{bits_of}
 use Rattle.bx_dump.specs.declared.xxd.columns.Digits.TheVariants.{Binary}
-use Rattle.bx_dump.specs.inner.Xxd.{columns_place}
-use Rattle.bx_columns.proofs.BinaryLemmas.{grouped_six}
+use Rattle.bx_dump.specs.private.Xxd.{columns_place}
+use Rattle.bx_dump_columns.proofs.BinaryLemmas.{grouped_six}
 use Rattle.bx_dump.proofs.ColumnsLemmas.{line_whole}
 use Rattle.bx_dump.proofs.xxd.columns.put_line_of_6.Goals as goal
 

@@ -2,8 +2,8 @@ use Rattle.std.proofs.Common.{◌≡◌, ◌+◌, ◌-◌, ◌*◌, ◌≤◌, l
 use Rattle.std.proofs.lemmas.Slice.{take-put_mid}
 use Rattle.std.proofs.lemmas.List.{length-take-le, length-drop, take-take}
 use Rattle.bx_dump.specs.declared.xxd.columns.Digits.TheVariants.{Binary}
-use Rattle.bx_dump.specs.inner.Xxd.{columns_line}
-use Rattle.bx_columns.proofs.LinesLemmas.{lines_next_at, lines_zero}
+use Rattle.bx_dump.specs.private.Xxd.{columns_line}
+use Rattle.bx_dump_columns.proofs.LinesLemmas.{lines_next_at, lines_zero}
 use Rattle.bx_dump.proofs.xxd.columns.put_lines_of_6.Goals as goal
 
 pub loop-k-init : goal.loop-k-init

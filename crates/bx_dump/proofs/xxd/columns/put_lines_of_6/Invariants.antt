@@ -1,7 +1,7 @@
 use Rattle.std.proofs.Common.{◌≡◌, ◌*◌, take}
-use Rattle.bx_columns.specs.Lines.{in_lines}
+use Rattle.bx_dump_columns.specs.Lines.{in_lines}
 use Rattle.bx_dump.specs.declared.xxd.columns.Digits.TheVariants.{Binary}
-use Rattle.bx_dump.specs.inner.Xxd.{columns_line}
+use Rattle.bx_dump.specs.private.Xxd.{columns_line}
 use Rattle.bx_dump.proofs.xxd.columns.put_lines_of_6.Given as goal
 
 -- the lines so far

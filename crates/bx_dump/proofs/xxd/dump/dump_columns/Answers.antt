@@ -1,8 +1,8 @@
 use Rattle.std.proofs.Common.{◌≡◌, ℕ, ◌+◌, ◌^◌, List, refl, arith}
-use Rattle.bx_columns.specs.Lines.{in_lines}
+use Rattle.bx_dump_columns.specs.Lines.{in_lines}
 use Rattle.bx_dump.specs.Pages.{part_of}
 use Rattle.bx_dump.specs.Styles.{group_of}
-use Rattle.bx_dump.specs.inner.Xxd.{columns_line}
+use Rattle.bx_dump.specs.private.Xxd.{columns_line}
 use Rattle.bx_dump.proofs.DumpLemmas.{ok_along, err_along}
 use Rattle.bx_dump.proofs.PagesLemmas.{part_along, front_along}
 use Rattle.bx_dump.proofs.xxd.dump.dump_columns.Goals as goal

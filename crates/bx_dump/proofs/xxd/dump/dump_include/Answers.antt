@@ -1,7 +1,7 @@
 use Rattle.std.proofs.Common.{◌≡◌, ℕ, ◌^◌, List, refl, arith}
 use Rattle.bx_dump.specs.Pages.{part_of}
 use Rattle.bx_dump.specs.Styles.{include_items, styled}
-use Rattle.bx_dump.specs.inner.Styles.{named_text}
+use Rattle.bx_dump.specs.private.Styles.{named_text}
 use Rattle.bx_dump.specs.declared.xxd.options.XxdStyle.TheVariants.{Include}
 use Rattle.bx_dump.proofs.DumpLemmas.{ok_along, err_along}
 use Rattle.bx_dump.proofs.PagesLemmas.{part_along, front_along}

@@ -1,10 +1,10 @@
 use Rattle.std.proofs.Common.{◌≡◌, ℕ, ◌+◌, ◌<◌, ◌≤◌, ◌^◌, List, [], ◌∷◌, ◌++◌, length, arith, refl, sym, ◌∙◌, ap, append-nil, length-append}
 use Rattle.std.specs.Prelude.{codes}
 use Rattle.bx_text.proofs.KnownLemmas.{Appends-nil}
-use Rattle.bx_columns.proofs.LinesLemmas.{in_lines-none}
-use Rattle.bx_columns.specs.Lines.{in_lines}
+use Rattle.bx_dump_columns.proofs.LinesLemmas.{in_lines-none}
+use Rattle.bx_dump_columns.specs.Lines.{in_lines}
 use Rattle.bx_dump.specs.Pages.{part_of}
-use Rattle.bx_dump.specs.inner.Rows.{include_line}
+use Rattle.bx_dump.specs.private.Rows.{include_line}
 use Rattle.bx_dump.specs.Styles.{include_items}
 use Rattle.bx_dump.proofs.PagesLemmas.{part_empty, part_then, stop_then, front_then}
 use Rattle.bx_dump.proofs.xxd.dump.dump_items.Goals as goal

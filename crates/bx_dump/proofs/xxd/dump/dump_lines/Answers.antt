@@ -1,4 +1,4 @@
-use Rattle.bx_columns.proofs.LinesLemmas.{in_lines-none}
+use Rattle.bx_dump_columns.proofs.LinesLemmas.{in_lines-none}
 use Rattle.bx_dump.proofs.xxd.dump.dump_lines.Goals as goal
 
 pub dump_part-requires-clause-empty : goal.dump_part-requires-clause-empty

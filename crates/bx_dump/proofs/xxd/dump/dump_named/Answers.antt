@@ -2,8 +2,8 @@ use Rattle.std.proofs.Common.{◌≡◌, ℕ, ◌+◌, ◌^◌, ◌≤◌, List,
 use Rattle.bx_dump.specs.declared.xxd.options.XxdOptions.{XxdOptions}
 use Rattle.bx_dump.specs.Pages.{part_of}
 use Rattle.bx_dump.specs.Styles.{include_items}
-use Rattle.bx_columns.specs.inner.Names.{include_head, include_tail}
-use Rattle.bx_dump.specs.inner.Styles.{named_text}
+use Rattle.bx_dump_columns.specs.Names.{include_head, include_tail}
+use Rattle.bx_dump.specs.private.Styles.{named_text}
 use Rattle.bx_dump.proofs.EndLemmas.{tail_few}
 use Rattle.bx_dump.proofs.PagesLemmas.{part_then, stop_then, front_then, part_after, front_after, front_head}
 use Rattle.bx_dump.proofs.xxd.dump.dump_named.Goals as goal

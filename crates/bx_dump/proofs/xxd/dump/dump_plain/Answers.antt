@@ -1,7 +1,7 @@
 use Rattle.std.proofs.Common.{◌≡◌, ℕ, ◌^◌, List, refl, arith}
-use Rattle.bx_columns.specs.Lines.{in_lines}
+use Rattle.bx_dump_columns.specs.Lines.{in_lines}
 use Rattle.bx_dump.specs.Pages.{part_of}
-use Rattle.bx_dump.specs.inner.Rows.{plain_line}
+use Rattle.bx_dump.specs.private.Rows.{plain_line}
 use Rattle.bx_dump.proofs.DumpLemmas.{err_along}
 use Rattle.bx_dump.proofs.PagesLemmas.{front_along}
 use Rattle.bx_dump.proofs.xxd.dump.dump_plain.Goals as goal

@@ -2,7 +2,7 @@ use Rattle.std.proofs.Common.{◌≡◌, ◌+◌, ◌-◌, ◌*◌, ◌/◌, ◌
 use Rattle.std.proofs.lemmas.List.{length-drop, length-take-le}
 use Rattle.std.proofs.Math.Nat.{mul-le-mul_left}
 use Rattle.bx_text.proofs.KnownLemmas.{take-put_mid_more}
-use Rattle.bx_columns.proofs.LinesLemmas.{line_begin, line_end, lines_next_at, lines_all, lines_within}
+use Rattle.bx_dump_columns.proofs.LinesLemmas.{line_begin, line_end, lines_next_at, lines_all, lines_within}
 use Rattle.bx_dump.proofs.xxd.lines.put_lines.Goals as goal
 
 pub loop-k-init : goal.loop-k-init

@@ -1,5 +1,5 @@
 use Rattle.std.proofs.Common.{◌≡◌, ◌*◌, ◌≤◌, take}
-use Rattle.bx_columns.specs.Lines.{in_lines}
+use Rattle.bx_dump_columns.specs.Lines.{in_lines}
 use Rattle.bx_dump.proofs.xxd.lines.put_lines.Given as goal
 
 -- the lines so far

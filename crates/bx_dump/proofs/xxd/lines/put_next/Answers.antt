@@ -1,6 +1,6 @@
 use Rattle.std.proofs.Common.{◌≡◌, ℕ, ◌+◌, ◌-◌, ◌*◌, ◌≤◌, length, take, drop, arith, sym, ap, ◌∙◌}
 use Rattle.std.proofs.Math.Nat.{mul-le-mul_left}
-use Rattle.bx_columns.proofs.LinesLemmas.{cells_len, cells_part}
+use Rattle.bx_dump_columns.proofs.LinesLemmas.{cells_len, cells_part}
 use Rattle.bx_dump.proofs.xxd.lines.put_next.Goals as goal
 
 pub slice_bounds-digits-end : goal.slice_bounds-digits-end

@@ -1,8 +1,8 @@
 use Rattle.std.proofs.Common.{◌≡◌, ◌+◌, ◌-◌, ◌*◌, ◌++◌, length, take, drop, arith, sym, ap, ◌∙◌}
 use Rattle.std.proofs.lemmas.List.{length-drop, take_rest}
 use Rattle.std.proofs.Math.Seq.{take-append-add}
-use Rattle.bx_columns.specs.Lines.{in_lines}
-use Rattle.bx_columns.proofs.LinesLemmas.{rest_fits, lines_join}
+use Rattle.bx_dump_columns.specs.Lines.{in_lines}
+use Rattle.bx_dump_columns.proofs.LinesLemmas.{rest_fits, lines_join}
 use Rattle.bx_dump.proofs.xxd.lines.put_text.Goals as goal
 
 pub split_at_mut-more-requires : goal.split_at_mut-more-requires

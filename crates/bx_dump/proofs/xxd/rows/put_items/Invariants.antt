@@ -1,6 +1,6 @@
 use Rattle.std.proofs.Common.{◌≡◌, ◌*◌, take}
 use Rattle.std.specs.List.{flat_map}
-use Rattle.bx_dump.specs.inner.Rows.{next_item}
+use Rattle.bx_dump.specs.private.Rows.{next_item}
 use Rattle.bx_dump.proofs.xxd.rows.put_items.Given as goal
 
 -- the items of the bytes so far

@@ -3,8 +3,8 @@ use Rattle.std.specs.Prelude.{codes}
 use Rattle.std.proofs.lemmas.Slice.{take-put_mid}
 use Rattle.std.proofs.lemmas.List.{length-take-le, length-drop, take-take}
 use Rattle.bx_dump.specs.Laws.{items}
-use Rattle.bx_dump.specs.inner.Rows.{include_line}
-use Rattle.bx_columns.proofs.LinesLemmas.{lines_next_at, lines_zero}
+use Rattle.bx_dump.specs.private.Rows.{include_line}
+use Rattle.bx_dump_columns.proofs.LinesLemmas.{lines_next_at, lines_zero}
 use Rattle.bx_dump.proofs.RowsLemmas.{row_behind}
 use Rattle.bx_dump.proofs.xxd.rows.put_lines_of_12.Goals as goal
 

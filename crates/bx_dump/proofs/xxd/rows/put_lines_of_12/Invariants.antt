@@ -1,6 +1,6 @@
 use Rattle.std.proofs.Common.{◌≡◌, ◌*◌, take}
-use Rattle.bx_columns.specs.Lines.{in_lines}
-use Rattle.bx_dump.specs.inner.Rows.{include_line}
+use Rattle.bx_dump_columns.specs.Lines.{in_lines}
+use Rattle.bx_dump.specs.private.Rows.{include_line}
 use Rattle.bx_dump.proofs.xxd.rows.put_lines_of_12.Given as goal
 
 -- the lines so far

@@ -1,8 +1,8 @@
 use Rattle.std.proofs.Common.{◌≡◌, ◌+◌, ◌-◌, ◌*◌, ◌≤◌, length, take, drop, min, arith, ap, ◌∙◌}
 use Rattle.std.proofs.lemmas.Slice.{take-put_mid}
 use Rattle.std.proofs.lemmas.List.{length-take-le, length-drop}
-use Rattle.bx_dump.specs.inner.Rows.{plain_line}
-use Rattle.bx_columns.proofs.LinesLemmas.{lines_next_at}
+use Rattle.bx_dump.specs.private.Rows.{plain_line}
+use Rattle.bx_dump_columns.proofs.LinesLemmas.{lines_next_at}
 use Rattle.bx_dump.proofs.xxd.rows.put_lines_of_30.Goals as goal
 
 pub loop-k-preserved : goal.loop-k-preserved

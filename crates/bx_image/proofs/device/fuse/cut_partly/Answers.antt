@@ -1,6 +1,6 @@
 use Rattle.std.proofs.Common.{◌≡◌, ℕ, ◌+◌, ◌-◌, true, false, nat_lt, if◌then◌else◌, List, length, ap, sym, ◌∙◌, arith}
 use Rattle.bx_image.specs.declared.device.fuse.Part.TheVariants.{Nothing}
-use Rattle.bx_image.specs.inner.Fuse.{reached}
+use Rattle.bx_image.specs.private.Fuse.{reached}
 use Rattle.bx_image.specs.Image.{cut}
 use Rattle.bx_image.proofs.Devices.{IsPartlyCut_either}
 use Rattle.bx_image.proofs.Files.{cut_self}

@@ -1,6 +1,6 @@
 use Rattle.std.proofs.Common.{◌≡◌, ◌≤◌, ◌-◌, vec_len}
 use Rattle.bx_image.specs.Pages.{byte_at}
-use Rattle.bx_image.specs.inner.Pages.{IsCleared}
+use Rattle.bx_image.specs.private.Pages.{IsCleared}
 use Rattle.bx_image.proofs.device.pages.clear.Given as goal
 
 -- zeros stand up to here

@@ -1,6 +1,6 @@
 use Rattle.std.proofs.Common.{◌≡◌, ◌≤◌, ◌-◌, length, take, vec_len}
 use Rattle.bx_image.specs.Pages.{byte_at}
-use Rattle.bx_image.specs.inner.Pages.{IsWrittenOver}
+use Rattle.bx_image.specs.private.Pages.{IsWrittenOver}
 use Rattle.bx_image.proofs.device.pages.write_over.Given as goal
 
 -- a front was written

@@ -2,7 +2,7 @@ use Rattle.std.proofs.Common.{ℕ, take}
 use Rattle.bx_image.specs.Image.{zeros}
 use Rattle.bx_image.specs.Runs.{AreRunsOf}
 use Rattle.bx_image.specs.Over.{LieWithin}
-use Rattle.bx_image.specs.inner.Spans.{StandOver}
+use Rattle.bx_image.specs.private.Spans.{StandOver}
 use Rattle.bx_image.proofs.record.fill.zero_runs.Given as goal
 
 -- the runs stand over the ranges so far

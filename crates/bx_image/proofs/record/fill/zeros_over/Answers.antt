@@ -1,7 +1,7 @@
 use Rattle.std.proofs.Common.{◌≡◌, length, map, ap, sym, ◌∙◌, subst}
 use Rattle.bx_image.specs.Image.{zeros}
 use Rattle.bx_image.specs.Over.{run_over, LieWithin}
-use Rattle.bx_image.specs.inner.Spans.{StandOver}
+use Rattle.bx_image.specs.private.Spans.{StandOver}
 use Rattle.bx_image.proofs.FillLemmas.{length-zeros, LieBelow-StandOver}
 use Rattle.bx_image.proofs.OverLemmas.{runs_are}
 use Rattle.bx_image.proofs.SpanLemmas.{AllWithin-StandOver}

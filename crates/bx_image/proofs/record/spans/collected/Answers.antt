@@ -3,7 +3,7 @@ use Rattle.std.proofs.lemmas.Grind.{common_steps}
 use Rattle.std.proofs.lemmas.List.{take_all}
 use Rattle.std.proofs.lemmas.List.Elements.{All-nil}
 use Rattle.bx_image.specs.Over.{IsWithin}
-use Rattle.bx_image.specs.inner.Spans.{is_between}
+use Rattle.bx_image.specs.private.Spans.{is_between}
 use Rattle.bx_image.proofs.Runs.{covered_more}
 use Rattle.bx_image.proofs.SpanLemmas.{over_base, are_over-with_span, LieWithin-with_span}
 use Rattle.bx_image.proofs.record.spans.collected.Goals as goal

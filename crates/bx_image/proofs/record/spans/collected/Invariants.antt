@@ -1,8 +1,8 @@
 use Rattle.std.proofs.Common.{◌≡◌, ℕ, ◌&&◌, ◌||◌, take}
 use Rattle.std.specs.Prelude.{nat_lt}
-use Rattle.bx_image.specs.inner.Change.{is_cut_off, is_covered}
+use Rattle.bx_image.specs.private.Change.{is_cut_off, is_covered}
 use Rattle.bx_image.specs.Over.{LieWithin}
-use Rattle.bx_image.specs.inner.Spans.{are_over}
+use Rattle.bx_image.specs.private.Spans.{are_over}
 use Rattle.bx_image.proofs.record.spans.collected.Given as goal
 
 -- what lies at or above the base, and what the writes so far cover

@@ -1,7 +1,7 @@
 use Rattle.std.proofs.Common.{◌≡◌, ℕ, ◌<◌, ◌≤◌, ◌||◌, ◌++◌, ◌∷◌, [], length, get_or, take}
 use Rattle.bx_image.specs.declared.record.spans.Span.{Span}
 use Rattle.bx_image.specs.Over.{LieWithin}
-use Rattle.bx_image.specs.inner.Spans.{is_between, are_over, AreApart}
+use Rattle.bx_image.specs.private.Spans.{is_between, are_over, AreApart}
 use Rattle.bx_image.proofs.record.spans.merged.Given as goal
 
 -- the ranges so far are joined, but for the last of them, which the next may yet make longer

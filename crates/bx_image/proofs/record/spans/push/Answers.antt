@@ -1,7 +1,7 @@
 use Rattle.std.proofs.Common.{◌≡◌, true, false, refl, arith}
 use Rattle.std.specs.Prelude.{nat_lt}
 use Rattle.std.proofs.lemmas.Bool.Decides.{nat_tests}
-use Rattle.bx_image.specs.inner.Spans.{with_span}
+use Rattle.bx_image.specs.private.Spans.{with_span}
 use Rattle.bx_image.proofs.record.spans.push.Goals as goal
 
 pub returns-in_ok-push : goal.returns-in_ok-push

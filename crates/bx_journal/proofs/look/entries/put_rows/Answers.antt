@@ -1,11 +1,16 @@
-use Rattle.std.proofs.Common.{◌∙◌, length, refl, ap, subst, sym, arith, None}
+use Rattle.std.proofs.lemmas.Result.{err_from_is_err_and}
+use Rattle.std.proofs.Common.{◌≡◌, ◌∙◌, length, refl, ap, subst, sym, arith, None, Result, Err}
 use Rattle.std.proofs.KnownBytes.{Appends-nil}
 use Rattle.std.specs.Io.KnownBytes.{Appends}
-use Rattle.bx_show.proofs.RowTexts.{rows_none, rows_written}
+use Rattle.bx_journal_read.proofs.RowTexts.{rows_none, rows_written}
 use Rattle.std.proofs.lemmas.List.Elements.{All-get_or}
-use Rattle.bx_entries.specs.declared.read.marks.Mark.{Mark}
-use Rattle.bx_show.specs.inner.Showing.{LiesWithin}
+use Rattle.bx_journal_format.specs.declared.read.marks.Mark.{Mark}
+use Rattle.bx_journal_read.specs.show.Showing.{LiesWithin}
+use Rattle.std.specs.Prelude.{OnOk}
 use Rattle.bx_journal.proofs.look.entries.put_rows.Goals as goal
+
+none_ok : {T E : Type 0} (P : Type 0) (r : Result T E) (e : E) → r ≡ Err e → OnOk r P
+none_ok P r e is = subst (λ q. OnOk q P) (sym is) tt
 
 -- what stands for a mark where there is none
 abbrev none : Mark
@@ -13,7 +18,7 @@ none = record { from = 0; to = 0; len = 0; after = None; saved = 0 }
 
 pub loop-i-init : goal.loop-i-init
 loop-i-init g c = record {
-  rows = λ h. subst (Appends (g.W.Write.contents c.args.out.now) (g.W.Write.contents c.args.out.now)) (sym (rows_none (g.T.TextStore.text c.args.store.now) 1)) (Appends-nil (g.W.Write.contents c.args.out.now));
+  rows = λ h. subst (Appends (g.W.Write.contents c.args.out.now) (g.W.Write.contents c.args.out.now)) (sym (rows_none (g.T.TextStore.text c.args.journal.now) 1)) (Appends-nil (g.W.Write.contents c.args.out.now));
   text = λ h. refl;
   honesty = ((λ h. h), λ h. h);
   failures = refl;
@@ -24,11 +29,21 @@ loop-i-preserved g c =
     let inv = c.loop-i.invariant in
     let now = c.in_ok-written.ensures in
     record {
-      rows = λ h. rows_written (g.W.Write.contents c.args.out.now) (g.W.Write.contents c.loop-i.out) (g.W.Write.contents c.put_row.new.out) (g.T.TextStore.text c.args.store.now) (g.T.TextStore.text c.loop-i.store)
+      rows = λ h. rows_written (g.W.Write.contents c.args.out.now) (g.W.Write.contents c.loop-i.out) (g.W.Write.contents c.put_row.new.out) (g.T.TextStore.text c.args.journal.now) (g.T.TextStore.text c.loop-i.journal)
           c.args.marks.now c.loop-i.i none (omega arith) (inv.text h) (inv.rows h) (now.row (inv.honesty.1 h));
       text = λ h. now.stays.same (inv.honesty.1 h) ∙ inv.text h;
       honesty = ((λ h. inv.honesty.0 (now.stays.honesty.0 h)), λ h. now.stays.honesty.1 (inv.honesty.1 h));
       failures = now.stays.no_failure ∙ inv.failures;
+    }
+
+pub returns-in_err-written-clause-stays : goal.returns-in_err-written-clause-stays
+returns-in_err-written-clause-stays g c =
+    let inv = c.loop-i.invariant in
+    let now = c.in_err-written.ensures in
+    record {
+      same = λ h. now.stays.same (inv.honesty.1 h) ∙ inv.text h;
+      honesty = ((λ h. inv.honesty.0 (now.stays.honesty.0 h)), λ h. now.stays.honesty.1 (inv.honesty.1 h));
+      no_failure = none_ok _ c.from_residual-in_err-written.result _ (err_from_is_err_and c.from_residual-in_err-written.result c.from_residual-in_err-written.ensures.1).1;
     }
 
 pub put_row-requires-clause-within : goal.put_row-requires-clause-within
@@ -39,8 +54,3 @@ put_row-requires-clause-within g c =
 
 pub put_row-requires-clause-order : goal.put_row-requires-clause-order
 put_row-requires-clause-order g c = (All-get_or (LiesWithin c.requires.lie.0) c.args.marks.now c.loop-i.i none (omega arith) c.requires.lie.2).0
-
-pub returns-in_err-written-clause-text : goal.returns-in_err-written-clause-text
-returns-in_err-written-clause-text g c h =
-    let inv = c.loop-i.invariant in
-    c.put_row.ensures.stays.same (inv.honesty.1 h) ∙ inv.text h

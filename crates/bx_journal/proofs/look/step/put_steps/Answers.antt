@@ -2,11 +2,10 @@ use Rattle.std.proofs.Common.{◌≡◌, ◌∙◌, ◌-◌, length, refl, ap, s
 use Rattle.std.proofs.KnownBytes.{Appends-nil}
 use Rattle.std.specs.Io.KnownBytes.{Appends}
 use Rattle.std.proofs.lemmas.List.Elements.{All-get_or}
-use Rattle.bx_entries.specs.declared.read.marks.Mark.{Mark}
-use Rattle.bx_show.specs.Steps.{first_number}
-use Rattle.bx_show.specs.inner.Showing.{LiesWithin}
-use Rattle.bx_show.specs.inner.Steps.{AreStepsPut}
-use Rattle.bx_show.proofs.StepTexts.{steps_none, steps_put}
+use Rattle.bx_journal_format.specs.declared.read.marks.Mark.{Mark}
+use Rattle.bx_journal_read.specs.show.Steps.{first_number, AreStepsPut}
+use Rattle.bx_journal_read.specs.show.Showing.{LiesWithin}
+use Rattle.bx_journal_read.proofs.StepTexts.{steps_none, steps_put}
 use Rattle.bx_journal.proofs.look.step.put_steps.Goals as goal
 
 -- what stands for a mark where there is none
@@ -16,11 +15,11 @@ none = record { from = 0; to = 0; len = 0; after = None; saved = 0 }
 pub loop-i-init : goal.loop-i-init
 loop-i-init g c = record {
   steps = λ h hd. subst (Appends (g.W.Write.contents c.args.out.now) (g.W.Write.contents c.args.out.now))
-      (sym (steps_none c.args.steps (g.D.Device.image c.args.device.now) (g.T.TextStore.text c.args.store.now) (first_number c.args.steps.way c.args.steps.changes (length c.args.marks.now)) c.args.marks.now))
+      (sym (steps_none c.args.steps (g.D.Device.image c.args.image.now) (g.T.TextStore.text c.args.journal.now) (first_number c.args.steps.way c.args.steps.changes (length c.args.marks.now)) c.args.marks.now))
       (Appends-nil (g.W.Write.contents c.args.out.now));
   image = λ h. refl;
-  device_honesty = ((λ h. h), λ h. h);
-  device_failures = refl;
+  image_honesty = ((λ h. h), λ h. h);
+  image_failures = refl;
   text = λ h. refl;
   honesty = ((λ h. h), λ h. h);
   failures = refl;
@@ -31,12 +30,12 @@ loop-i-preserved g c =
     let inv = c.loop-i.invariant in
     let now = c.in_ok-put_step.ensures in
     record {
-      steps = λ h hd. steps_put (g.W.Write.contents c.args.out.now) (g.W.Write.contents c.loop-i.out) (g.W.Write.contents c.put_step.new.out) c.args.steps (g.D.Device.image c.args.device.now) (g.D.Device.image c.loop-i.device)
-          (g.T.TextStore.text c.args.store.now) (g.T.TextStore.text c.loop-i.store) (first_number c.args.steps.way c.args.steps.changes (length c.args.marks.now)) c.loop-i.i c.step_number-number.result c.args.marks.now none
-          (omega (arith, c.requires.enough)) (λ t. inv.image (hd t)) (inv.text h) c.step_number-number.ensures (inv.steps h hd) (now.step (inv.honesty.1 h) (λ t. inv.device_honesty.1 (hd t)));
-      image = λ h. now.image.same (inv.device_honesty.1 h) ∙ inv.image h;
-      device_honesty = ((λ h. inv.device_honesty.0 (now.image.honesty.0 h)), λ h. now.image.honesty.1 (inv.device_honesty.1 h));
-      device_failures = now.image.no_failure ∙ inv.device_failures;
+      steps = λ h hd. steps_put (g.W.Write.contents c.args.out.now) (g.W.Write.contents c.loop-i.out) (g.W.Write.contents c.put_step.new.out) c.args.steps (g.D.Device.image c.args.image.now) (g.D.Device.image c.loop-i.image)
+          (g.T.TextStore.text c.args.journal.now) (g.T.TextStore.text c.loop-i.journal) (first_number c.args.steps.way c.args.steps.changes (length c.args.marks.now)) c.loop-i.i c.step_number-number.result c.args.marks.now none
+          (omega (arith, c.requires.enough)) (λ t. inv.image (hd t)) (inv.text h) c.step_number-number.ensures (inv.steps h hd) (now.step (inv.honesty.1 h) (λ t. inv.image_honesty.1 (hd t)));
+      image = λ h. now.image.same (inv.image_honesty.1 h) ∙ inv.image h;
+      image_honesty = ((λ h. inv.image_honesty.0 (now.image.honesty.0 h)), λ h. now.image.honesty.1 (inv.image_honesty.1 h));
+      image_failures = now.image.no_failure ∙ inv.image_failures;
       text = λ h. now.stays.same (inv.honesty.1 h) ∙ inv.text h;
       honesty = ((λ h. inv.honesty.0 (now.stays.honesty.0 h)), λ h. now.stays.honesty.1 (inv.honesty.1 h));
       failures = now.stays.no_failure ∙ inv.failures;
@@ -51,18 +50,8 @@ put_step-requires-clause-within g c =
 pub put_step-requires-clause-order : goal.put_step-requires-clause-order
 put_step-requires-clause-order g c = (All-get_or (LiesWithin c.requires.lie.0) c.args.marks.now (length c.args.marks.now - 1 - c.loop-i.i) none (omega (arith, c.requires.enough)) c.requires.lie.2).0
 
-pub returns-in_err-put_step-clause-text : goal.returns-in_err-put_step-clause-text
-returns-in_err-put_step-clause-text g c h =
-    let inv = c.loop-i.invariant in
-    c.put_step.ensures.stays.same (inv.honesty.1 h) ∙ inv.text h
-
-pub returns-in_err-put_step-clause-image : goal.returns-in_err-put_step-clause-image
-returns-in_err-put_step-clause-image g c h =
-    let inv = c.loop-i.invariant in
-    c.put_step.ensures.image.same (inv.device_honesty.1 h) ∙ inv.image h
-
 pub returns-clause-steps : goal.returns-clause-steps
 returns-clause-steps g c h hd =
     let all : c.loop-i.i ≡ c.args.steps.count = omega (arith, c.loop-i-test.false, c.loop-i.auto.i-end) in
-    subst (λ k. AreStepsPut c.args.steps (g.D.Device.image c.args.device.now) (g.T.TextStore.text c.args.store.now) k c.args.marks.now (g.W.Write.contents c.args.out.now) (g.W.Write.contents c.loop-i.out)) all
+    subst (λ k. AreStepsPut c.args.steps (g.D.Device.image c.args.image.now) (g.T.TextStore.text c.args.journal.now) k c.args.marks.now (g.W.Write.contents c.args.out.now) (g.W.Write.contents c.loop-i.out)) all
     (c.loop-i.invariant.steps h hd)

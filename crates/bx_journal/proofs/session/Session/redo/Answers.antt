@@ -1,26 +1,25 @@
 use Rattle.std.proofs.Common.{rules, ◌≡◌, ◌+◌, ℕ, length, length-append, refl, ap, sym, ◌∙◌, subst, arith, Err}
 use Rattle.std.specs.Prelude.{IfErr}
-use Rattle.bx_scan.specs.Fault.{DeviceFault}
+use Rattle.bx_journal_read.specs.model.Fault.{DeviceFault}
 use Rattle.std.proofs.lemmas.Grind.{common_steps}
-use Rattle.bx_scan.specs.declared.fault.SessionFault.TheVariants.{RedoDamaged}
-use Rattle.bx_entries.specs.Text.{IsPrefix}
-use Rattle.bx_scan.specs.Machine.{changes_of}
-use Rattle.bx_scan.specs.Phase.{IsAtRest}
-use Rattle.bx_scan.specs.Stack.{StandsFor}
-use Rattle.bx_scan.specs.Undoing.{IsOutOfStep}
-use Rattle.bx_scan.specs.inner.Undoing.{RedoAgainFault}
-use Rattle.bx_scan.proofs.AgainLemmas.{has_count}
+use Rattle.bx_journal_read.specs.declared.fault.SessionFault.TheVariants.{RedoDamaged}
+use Rattle.bx_journal_format.specs.Text.{IsPrefix}
+use Rattle.bx_journal_read.specs.model.Machine.{changes_of}
+use Rattle.bx_journal_read.specs.model.Phase.{IsAtRest}
+use Rattle.bx_journal_read.specs.model.Stack.{StandsFor}
+use Rattle.bx_journal_read.specs.model.Undoing.{IsOutOfStep, RedoAgainFault}
+use Rattle.bx_journal_read.proofs.AgainLemmas.{has_count}
 use Rattle.bx_journal.proofs.RedoingLemmas.{grown_since, redo_in_step, redone}
 use Rattle.std.proofs.lemmas.Result.{err_from_is_err_and}
-use Rattle.bx_steps.specs.inner.Devices.{HaveStayed}
+use Rattle.bx_journal_protocol.specs.Devices.{HaveStayed}
 use Rattle.bx_image.proofs.Survivors.{NoMore_then}
-use Rattle.bx_steps.proofs.DeviceLemmas.{one_more}
-use Rattle.bx_steps.specs.Power.{FoundBefore}
-use Rattle.bx_journal.proofs.SafeLemmas.{accepts, any_fault, device_after, interrupts, refuses}
-use Rattle.bx_prepare.proofs.LookedLemmas.{left_since, none_failed, pair_step, redo_looked_at, read_since, rest_step, standing_step}
-use Rattle.bx_scan.specs.Images.{redo_of}
-use Rattle.bx_steps.proofs.TouchedLemmas.{begun_same}
-use Rattle.bx_steps.proofs.StepSurvivors.{found_at_rest, found_of, found_some}
+use Rattle.bx_journal_protocol.proofs.DeviceLemmas.{one_more}
+use Rattle.bx_journal_protocol.specs.model.Power.{FoundBefore}
+use Rattle.bx_journal.proofs.SafeLemmas.{accepts, any_fault, image_after, interrupts, refuses}
+use Rattle.bx_journal_protocol.proofs.LookedLemmas.{left_since, none_failed, pair_step, redo_looked_at, read_since, rest_step, standing_step}
+use Rattle.bx_journal_read.specs.model.Images.{redo_of}
+use Rattle.bx_journal_protocol.proofs.TouchedLemmas.{begun_same}
+use Rattle.bx_journal_protocol.proofs.StepSurvivors.{found_at_rest, found_of, found_some}
 use Rattle.bx_journal.proofs.session.Session.redo.Goals as goal
 use Rattle.bx_journal.proofs.session.Session.redo.Goals.{After-prepare_redo}
 
@@ -36,13 +35,13 @@ returns-in_err-read-clause-faults g c =
       nothing = search rules;
       damaged =
           rw (← c.self.view_is) (λ rh.
-          let out : (line : ℕ) → c.in_err-read.field-0.0 ≡ RedoDamaged line → IsOutOfStep (g.T.TextStore.text c.self.inside.devices.redo_text) c.self.inside.undone line =
-          λ line is. subst (RedoAgainFault (g.T.TextStore.honest c.self.inside.devices.redo_text) (g.T.TextStore.text c.self.inside.devices.redo_text) c.self.inside.undone) is c.in_err-read.ensures.fault rh in
+          let out : (line : ℕ) → c.in_err-read.field-0.0 ≡ RedoDamaged line → IsOutOfStep (g.T.TextStore.text c.self.inside.devices.redo) c.self.inside.undone line =
+          λ line is. subst (RedoAgainFault (g.T.TextStore.honest c.self.inside.devices.redo) (g.T.TextStore.text c.self.inside.devices.redo) c.self.inside.undone) is c.in_err-read.ensures.fault rh in
           grind (arith, common_steps, out));
       undamaged =
           rw (← c.self.view_is) (λ rh has.
           let none : (line : ℕ) → c.in_err-read.field-0.0 ≡ RedoDamaged line → ⊥ =
-          redo_in_step (g.T.TextStore.honest c.self.inside.devices.redo_text) (g.T.TextStore.text c.self.inside.devices.redo_text) c.self.inside.undone c.in_err-read.field-0.0 rh has c.in_err-read.ensures.fault in
+          redo_in_step (g.T.TextStore.honest c.self.inside.devices.redo) (g.T.TextStore.text c.self.inside.devices.redo) c.self.inside.undone c.in_err-read.field-0.0 rh has c.in_err-read.ensures.fault in
           grind (arith, common_steps, none));
       whole = search rules;
     }
@@ -60,15 +59,15 @@ pub redo_entries-requires-clause-touched : goal.redo_entries-requires-clause-tou
 redo_entries-requires-clause-touched g c =
     let ready = c.in_ok-again.ensures.ready.touched in
     let taken = c.prepare_redo.ensures.stayed in
-    record { len = ready.len; long = λ now. let before = taken.device_honesty.0 now in ready.long before ∙ sym (ap length (taken.image_same before)); touched = ready.touched }
+    record { len = ready.len; long = λ now. let before = taken.image_honesty.0 now in ready.long before ∙ sym (ap length (taken.image_same before)); touched = ready.touched }
 
 pub redo_entries-requires-clause-begun : goal.redo_entries-requires-clause-begun
 redo_entries-requires-clause-begun g c =
     let taken = c.prepare_redo.ensures.stayed in
-    begun_same (c.self.inside.count + 1) {rs = c.in_ok-again.again.takens.items} {slice = c.in_ok-again.again.takens.items} c.in_ok-again.again.head.page.items c.in_ok-again.again.head.place taken.device_honesty.0 (λ now. taken.image_same (taken.device_honesty.0 now)) refl c.in_ok-again.ensures.ready.begun
+    begun_same (c.self.inside.count + 1) {rs = c.in_ok-again.again.takens.items} {slice = c.in_ok-again.again.takens.items} c.in_ok-again.again.head.page.items c.in_ok-again.again.head.place taken.image_honesty.0 (λ now. taken.image_same (taken.image_honesty.0 now)) refl c.in_ok-again.ensures.ready.begun
 
 pub redo_entries-requires-clause-fits : goal.redo_entries-requires-clause-fits
-redo_entries-requires-clause-fits g c th = c.in_ok-again.ensures.roomed (c.prepare_redo.ensures.stayed.store_honesty.0 th)
+redo_entries-requires-clause-fits g c th = c.in_ok-again.ensures.roomed (c.prepare_redo.ensures.stayed.journal_honesty.0 th)
 
 pub returns-in-Ok-clause-stands : goal.returns-in-Ok-clause-stands
 returns-in-Ok-clause-stands g c =
@@ -98,7 +97,7 @@ returns-in_err-again-clause-stands g c =
       ready = search rules;
       fault =
           rw (← c.self.view_is) (λ dh th stack ready.
-          device_after _ c.from_residual-in_err-again.result (subst (λ r. IfErr r DeviceFault) (sym is) c.in_err-again.ensures.kind)
+          image_after _ c.from_residual-in_err-again.result (subst (λ r. IfErr r DeviceFault) (sym is) c.in_err-again.ensures.kind)
           (record { image_same = same.image_same dh; text_same = same.text_same th; count = refl; broken = refl }));
     }
 
@@ -144,7 +143,7 @@ returns-in-Ok-clause-faults g c =
       undamaged = λ th has. tt;
       whole =
           rw (← c.self.view_is) (λ rh.
-          let last = c.in_ok-read.ensures.read in has_count (g.T.TextStore.text c.self.inside.devices.redo_text) last.text c.in_ok-read.read.entries.items c.self.inside.undone last.read (last.is rh));
+          let last = c.in_ok-read.ensures.read in has_count (g.T.TextStore.text c.self.inside.devices.redo) last.text c.in_ok-read.read.entries.items c.self.inside.undone last.read (last.is rh));
     }
 
 pub returns-in-Ok-clause-text : goal.returns-in-Ok-clause-text
@@ -158,12 +157,12 @@ returns-in-Ok-clause-grown g c =
     rw (← c.self.view_is) (λ dh th rh es finished.
     let before = stayed g (goal.at.returns-in-Ok-clause-grown g c).After-prepare_redo in
     grown_since c.self.inside.count c.in_ok-again.ensures.ready.count (before.image_same dh) (before.text_same th) (before.redo_same rh)
-    (c.in-Ok.ensures.taken (before.device_honesty.1 dh) (before.store_honesty.1 th) (before.redo_honesty.1 rh)) es finished)
+    (c.in-Ok.ensures.taken (before.image_honesty.1 dh) (before.journal_honesty.1 th) (before.redo_honesty.1 rh)) es finished)
 
 pub returns-in-Ok-clause-front : goal.returns-in-Ok-clause-front
 returns-in-Ok-clause-front g c =
     rw (← c.self.view_is) (λ th.
-    subst (λ t. IsPrefix t (g.T.TextStore.text c.redo_entries.new.devices.store)) (c.prepare_redo.ensures.stayed.text_same th) (c.in-Ok.ensures.front (c.prepare_redo.ensures.stayed.store_honesty.1 th)))
+    subst (λ t. IsPrefix t (g.T.TextStore.text c.redo_entries.new.devices.journal)) (c.prepare_redo.ensures.stayed.text_same th) (c.in-Ok.ensures.front (c.prepare_redo.ensures.stayed.journal_honesty.1 th)))
 
 pub returns-clause-finds : goal.returns-clause-finds
 returns-clause-finds g c =
@@ -193,32 +192,38 @@ returns-clause-safe g c =
 -- what is found behind an interruption
 pub returns-clause-survives : goal.returns-clause-survives
 returns-clause-survives g c =
-    rw (← c.self.view_is) (λ dh th rh s ready has y new redo image_there there redo_there.
-    let before = stayed g (goal.at.returns-clause-survives g c).After-prepare_redo in
-    let on = c.in_ok-again.ensures.settled dh th (c.in_ok-read.ensures.looks.honesty.1 rh) in
-    let rest = rest_step before (λ d t u i rest. rest) dh th rh s ready has in
-    found_some _ _ _ redo_of _ _ (rw c.in_ok-again.ensures.ready.count at
-    (c.in-Err.ensures.survives (before.device_honesty.1 dh) (before.store_honesty.1 th) (before.redo_honesty.1 rh) on s rest (omega (arith, ready.count)) y new redo image_there there redo_there)))
+    rw (← c.self.view_is) (λ dh th rh. (
+      (λ s ready has y new redo image_there there redo_there.
+          let before = stayed g (goal.at.returns-clause-survives g c).After-prepare_redo in
+          let on = c.in_ok-again.ensures.settled dh th (c.in_ok-read.ensures.looks.honesty.1 rh) in
+          let rest = rest_step before (λ d t u i rest. rest) dh th rh s ready has in
+          found_some _ _ _ redo_of _ _ (rw c.in_ok-again.ensures.ready.count at
+          (c.in-Err.ensures.survives (before.image_honesty.1 dh) (before.journal_honesty.1 th) (before.redo_honesty.1 rh) on s rest (omega (arith, ready.count)) y new redo image_there there redo_there))),
+      tt,
+    ))
 
 -- and where it is made
 pub returns-in-Ok-clause-survives : goal.returns-in-Ok-clause-survives
 returns-in-Ok-clause-survives g c =
-    rw (← c.self.view_is) (λ dh th rh s ready has y new redo image_there there redo_there.
+    rw (← c.self.view_is) (λ dh th rh.
     let before = stayed g (goal.at.returns-in-Ok-clause-survives g c).After-prepare_redo in
-    let d = before.device_honesty.1 dh in
-    let t = before.store_honesty.1 th in
+    let d = before.image_honesty.1 dh in
+    let t = before.journal_honesty.1 th in
     let u = before.redo_honesty.1 rh in
     let on = c.in_ok-again.ensures.settled dh th (c.in_ok-read.ensures.looks.honesty.1 rh) in
-    let settled = c.in-Ok.ensures.settles d t u on in
-    let done = rest_step before c.in-Ok.ensures.found dh th rh s ready has (omega (arith, ready.count)) in
-    found_of _ _ _ _ (rw c.in_ok-again.ensures.ready.count at
-    (found_at_rest _ _ _ _ _ _ (redo_of _ s) done.rest done.undone (settled.device y image_there) (settled.store new there) (settled.redo redo redo_there))))
+    let settled = c.in-Ok.ensures.settles d t u on in (
+      (λ s ready has y new redo image_there there redo_there.
+          let done = rest_step before c.in-Ok.ensures.found dh th rh s ready has (omega (arith, ready.count)) in
+          found_of _ _ _ _ (rw c.in_ok-again.ensures.ready.count at
+          (found_at_rest _ _ _ _ _ _ (redo_of _ s) done.rest done.undone (settled.image y image_there) (settled.journal new there) (settled.redo redo redo_there)))),
+      settled,
+    ))
 
 -- what a refusal leaves to be found was to be found before
 pub returns-in_err-read-clause-found_before : goal.returns-in_err-read-clause-found_before
 returns-in_err-read-clause-found_before g c =
-    let before : FoundBefore g.D.Device g.T.TextStore c.self.inside.devices (record { device = c.self.inside.devices.device; store = c.self.inside.devices.store; redo_text = c.read_undone.new.redo_text }) =
-    record { device_before = λ h x there. there; store_before = λ h x there. there; redo_before = c.read_undone.ensures.survives } in
+    let before : FoundBefore g.D.Device g.T.TextStore c.self.inside.devices (record { image = c.self.inside.devices.image; journal = c.self.inside.devices.journal; redo = c.read_undone.new.redo }) =
+    record { image_before = λ h x there. there; journal_before = λ h x there. there; redo_before = c.read_undone.ensures.survives } in
     rw (← c.self.view_is) (any_fault _ before)
 
 pub returns-in_err-again-clause-found_before : goal.returns-in_err-again-clause-found_before
@@ -226,8 +231,8 @@ returns-in_err-again-clause-found_before g c =
     let taken = c.prepare_redo.ensures.found_before in
     let before : FoundBefore g.D.Device g.T.TextStore c.self.inside.devices c.prepare_redo.new.devices =
     record {
-      device_before = taken.device_before;
-      store_before = taken.store_before;
+      image_before = taken.image_before;
+      journal_before = taken.journal_before;
       redo_before = λ h. NoMore_then _ _ _ (c.read_undone.ensures.survives h) (taken.redo_before (c.read_undone.ensures.looks.honesty.1 h));
     } in
     rw (← c.self.view_is) (any_fault _ before)

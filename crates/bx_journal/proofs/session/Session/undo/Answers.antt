@@ -1,22 +1,22 @@
 use Rattle.std.proofs.Common.{rules, ◌≡◌, ℕ, refl, ◌∙◌, sym, subst, arith, length-drop}
 use Rattle.std.proofs.lemmas.Grind.{common_steps}
-use Rattle.bx_scan.specs.declared.fault.SessionFault.TheVariants.{Damaged}
-use Rattle.bx_scan.specs.Phase.{IsAtRest}
-use Rattle.bx_scan.specs.Stack.{StandsFor}
-use Rattle.bx_scan.specs.Undoing.{AgainFault, IsOutOfStep}
-use Rattle.bx_scan.proofs.AgainLemmas.{has_count, in_step}
-use Rattle.bx_steps.proofs.TakingLemmas.{changes_left}
+use Rattle.bx_journal_read.specs.declared.fault.SessionFault.TheVariants.{Damaged}
+use Rattle.bx_journal_read.specs.model.Phase.{IsAtRest}
+use Rattle.bx_journal_read.specs.model.Stack.{StandsFor}
+use Rattle.bx_journal_read.specs.model.Undoing.{AgainFault, IsOutOfStep}
+use Rattle.bx_journal_read.proofs.AgainLemmas.{has_count, in_step}
+use Rattle.bx_journal_protocol.proofs.TakingLemmas.{changes_left}
 use Rattle.std.proofs.lemmas.Result.{err_from_is_err_and}
-use Rattle.bx_steps.specs.inner.Devices.{HaveStayed}
+use Rattle.bx_journal_protocol.specs.Devices.{HaveStayed}
 use Rattle.bx_image.proofs.Survivors.{NoMore_then}
-use Rattle.bx_steps.proofs.DeviceLemmas.{one_more}
-use Rattle.bx_steps.specs.Power.{FoundBefore}
+use Rattle.bx_journal_protocol.proofs.DeviceLemmas.{one_more}
+use Rattle.bx_journal_protocol.specs.model.Power.{FoundBefore}
 use Rattle.bx_journal.proofs.SafeLemmas.{accepts, any_fault, interrupts, refuses}
-use Rattle.bx_prepare.proofs.LookedLemmas.{left_since, looked_at, none_failed, pair_step, read_since, rest_step, standing_step, taken_step}
-use Rattle.bx_scan.specs.Images.{undo_of}
-use Rattle.bx_scan.proofs.LastLemmas.{short_before}
-use Rattle.bx_steps.proofs.LoopLemmas.{standing}
-use Rattle.bx_steps.proofs.StepSurvivors.{found_at_rest, found_of, found_some}
+use Rattle.bx_journal_protocol.proofs.LookedLemmas.{left_since, looked_at, none_failed, pair_step, read_since, rest_step, standing_step, taken_step}
+use Rattle.bx_journal_read.specs.model.Images.{undo_of}
+use Rattle.bx_journal_read.proofs.LastLemmas.{short_before}
+use Rattle.bx_journal_protocol.proofs.LoopLemmas.{standing}
+use Rattle.bx_journal_protocol.proofs.StepSurvivors.{found_at_rest, found_of, found_some}
 use Rattle.bx_journal.proofs.session.Session.undo.Goals as goal
 use Rattle.bx_journal.proofs.session.Session.undo.Goals.{After-prepare_takens}
 
@@ -32,13 +32,13 @@ returns-in_err-read-clause-faults g c =
       few = search rules;
       damaged =
           rw (← c.self.view_is) (λ th.
-          let out : (line : ℕ) → c.in_err-read.field-0.0 ≡ Damaged line → IsOutOfStep (g.T.TextStore.text c.self.inside.devices.store) c.self.inside.count line =
-          λ line is. subst (AgainFault (g.T.TextStore.honest c.self.inside.devices.store) (g.T.TextStore.text c.self.inside.devices.store) c.self.inside.count) is c.in_err-read.ensures.fault th in
+          let out : (line : ℕ) → c.in_err-read.field-0.0 ≡ Damaged line → IsOutOfStep (g.T.TextStore.text c.self.inside.devices.journal) c.self.inside.count line =
+          λ line is. subst (AgainFault (g.T.TextStore.honest c.self.inside.devices.journal) (g.T.TextStore.text c.self.inside.devices.journal) c.self.inside.count) is c.in_err-read.ensures.fault th in
           grind (arith, common_steps, out));
       undamaged =
           rw (← c.self.view_is) (λ th has.
           let none : (line : ℕ) → c.in_err-read.field-0.0 ≡ Damaged line → ⊥ =
-          in_step (g.T.TextStore.honest c.self.inside.devices.store) (g.T.TextStore.text c.self.inside.devices.store) c.self.inside.count c.in_err-read.field-0.0 th has c.in_err-read.ensures.fault in
+          in_step (g.T.TextStore.honest c.self.inside.devices.journal) (g.T.TextStore.text c.self.inside.devices.journal) c.self.inside.count c.in_err-read.field-0.0 th has c.in_err-read.ensures.fault in
           grind (arith, common_steps, none));
       whole = search rules;
     }
@@ -50,7 +50,7 @@ prepare_takens-requires-clause-read g c =
 pub prepare_takens-requires-clause-short : goal.prepare_takens-requires-clause-short
 prepare_takens-requires-clause-short g c =
     let looks = c.read_last_of.ensures.looks in
-    short_before (g.T.TextStore.honest c.read_last_of.new.store) (g.T.TextStore.honest c.self.inside.devices.store) (g.T.TextStore.text c.read_last_of.new.store) (g.T.TextStore.text c.self.inside.devices.store)
+    short_before (g.T.TextStore.honest c.read_last_of.new.store) (g.T.TextStore.honest c.self.inside.devices.journal) (g.T.TextStore.text c.read_last_of.new.store) (g.T.TextStore.text c.self.inside.devices.journal)
     c.in_ok-read.read.longest looks.honesty.0 (λ h. sym (looks.same (looks.honesty.0 h))) c.in_ok-read.ensures.short
 
 pub returns-in-Ok-clause-accepted : goal.returns-in-Ok-clause-accepted
@@ -84,14 +84,14 @@ returns-in-Ok-clause-faults g c =
       undamaged = λ th has. tt;
       whole =
           rw (← c.self.view_is) (λ th.
-          let last = c.in_ok-read.ensures.read in has_count (g.T.TextStore.text c.self.inside.devices.store) last.text c.in_ok-read.read.entries.items c.self.inside.count last.read (last.is th));
+          let last = c.in_ok-read.ensures.read in has_count (g.T.TextStore.text c.self.inside.devices.journal) last.text c.in_ok-read.read.entries.items c.self.inside.count last.read (last.is th));
     }
 
 pub returns-in-Ok-clause-text : goal.returns-in-Ok-clause-text
 returns-in-Ok-clause-text g c =
     rw (← c.self.view_is) (λ th.
     let before = stayed g (goal.at.returns-in-Ok-clause-text g c).After-prepare_takens in
-    left_since (before.text_same th) c.in_ok-taking.ensures.count (c.in-Ok.ensures.left (before.store_honesty.1 th)))
+    left_since (before.text_same th) c.in_ok-taking.ensures.count (c.in-Ok.ensures.left (before.journal_honesty.1 th)))
 
 pub returns-clause-fault : goal.returns-clause-fault
 returns-clause-fault g c =
@@ -139,32 +139,38 @@ returns-clause-safe g c =
 -- what is found behind an interruption
 pub returns-clause-survives : goal.returns-clause-survives
 returns-clause-survives g c =
-    rw (← c.self.view_is) (λ dh th rh s ready has y new redo image_there there redo_there.
-    let before = stayed g (goal.at.returns-clause-survives g c).After-prepare_takens in
-    let settled = c.in_ok-taking.ensures.settled dh (c.in_ok-read.ensures.looks.honesty.1 th) rh in
-    let rest = rest_step before (λ d t u i rest. rest) dh th rh s ready has in
-    found_some _ _ _ undo_of _ _ (rw c.in_ok-taking.ensures.count at
-    (c.in-Err.ensures.survives (before.device_honesty.1 dh) (before.store_honesty.1 th) (before.redo_honesty.1 rh) settled s rest has.counted y new redo image_there there redo_there)))
+    rw (← c.self.view_is) (λ dh th rh. (
+      (λ s ready has y new redo image_there there redo_there.
+          let before = stayed g (goal.at.returns-clause-survives g c).After-prepare_takens in
+          let settled = c.in_ok-taking.ensures.settled dh (c.in_ok-read.ensures.looks.honesty.1 th) rh in
+          let rest = rest_step before (λ d t u i rest. rest) dh th rh s ready has in
+          found_some _ _ _ undo_of _ _ (rw c.in_ok-taking.ensures.count at
+          (c.in-Err.ensures.survives (before.image_honesty.1 dh) (before.journal_honesty.1 th) (before.redo_honesty.1 rh) settled s rest has.counted y new redo image_there there redo_there))),
+      tt,
+    ))
 
 -- and where it is made
 pub returns-in-Ok-clause-survives : goal.returns-in-Ok-clause-survives
 returns-in-Ok-clause-survives g c =
-    rw (← c.self.view_is) (λ dh th rh s ready has y new redo image_there there redo_there.
+    rw (← c.self.view_is) (λ dh th rh.
     let before = stayed g (goal.at.returns-in-Ok-clause-survives g c).After-prepare_takens in
-    let d = before.device_honesty.1 dh in
-    let t = before.store_honesty.1 th in
+    let d = before.image_honesty.1 dh in
+    let t = before.journal_honesty.1 th in
     let u = before.redo_honesty.1 rh in
-    let settled = c.in-Ok.ensures.settles d t u (c.in_ok-taking.ensures.settled dh (c.in_ok-read.ensures.looks.honesty.1 th) rh) in
-    let rest = rest_step before (λ d t u i rest. rest) dh th rh s ready has in
-    let done = c.in-Ok.ensures.images d t u s (standing rest) has.counted in
-    found_of _ _ _ _ (rw c.in_ok-taking.ensures.count at
-    (found_at_rest _ _ _ _ _ _ (undo_of _ s) (c.in-Ok.ensures.ok d t s.stack rest.rest) done.1.undone (settled.device y image_there) (settled.store new there) (settled.redo redo redo_there))))
+    let settled = c.in-Ok.ensures.settles d t u (c.in_ok-taking.ensures.settled dh (c.in_ok-read.ensures.looks.honesty.1 th) rh) in (
+      (λ s ready has y new redo image_there there redo_there.
+          let rest = rest_step before (λ d t u i rest. rest) dh th rh s ready has in
+          let done = c.in-Ok.ensures.images d t u s (standing rest) has.counted in
+          found_of _ _ _ _ (rw c.in_ok-taking.ensures.count at
+          (found_at_rest _ _ _ _ _ _ (undo_of _ s) (c.in-Ok.ensures.ok d t s.stack rest.rest) done.1.undone (settled.image y image_there) (settled.journal new there) (settled.redo redo redo_there)))),
+      settled,
+    ))
 
 -- what a refusal leaves to be found was to be found before
 pub returns-in_err-read-clause-found_before : goal.returns-in_err-read-clause-found_before
 returns-in_err-read-clause-found_before g c =
-    let before : FoundBefore g.D.Device g.T.TextStore c.self.inside.devices (record { device = c.self.inside.devices.device; store = c.read_last_of.new.store; redo_text = c.self.inside.devices.redo_text }) =
-    record { device_before = λ h x there. there; store_before = c.read_last_of.ensures.survives; redo_before = λ h x there. there } in
+    let before : FoundBefore g.D.Device g.T.TextStore c.self.inside.devices (record { image = c.self.inside.devices.image; journal = c.read_last_of.new.store; redo = c.self.inside.devices.redo }) =
+    record { image_before = λ h x there. there; journal_before = c.read_last_of.ensures.survives; redo_before = λ h x there. there } in
     rw (← c.self.view_is) (any_fault _ before)
 
 pub returns-in_err-taking-clause-found_before : goal.returns-in_err-taking-clause-found_before
@@ -172,8 +178,8 @@ returns-in_err-taking-clause-found_before g c =
     let taken = c.prepare_takens.ensures.found_before in
     let before : FoundBefore g.D.Device g.T.TextStore c.self.inside.devices c.prepare_takens.new.devices =
     record {
-      device_before = taken.device_before;
-      store_before = λ h. NoMore_then _ _ _ (c.read_last_of.ensures.survives h) (taken.store_before (c.read_last_of.ensures.looks.honesty.1 h));
+      image_before = taken.image_before;
+      journal_before = λ h. NoMore_then _ _ _ (c.read_last_of.ensures.survives h) (taken.journal_before (c.read_last_of.ensures.looks.honesty.1 h));
       redo_before = taken.redo_before;
     } in
     rw (← c.self.view_is) (any_fault _ before)

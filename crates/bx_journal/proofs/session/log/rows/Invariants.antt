@@ -1,6 +1,6 @@
 use Rattle.std.proofs.Common.{◌≡◌, take}
-use Rattle.bx_scan.specs.Calls.{rows_of}
-use Rattle.bx_entries.specs.inner.Parsed.{entries_of}
+use Rattle.bx_journal_read.specs.model.Calls.{rows_of}
+use Rattle.bx_journal_format.specs.Parsed.{entries_of}
 use Rattle.bx_journal.proofs.session.log.rows.Given as goal
 
 abbrev pub invariant-loop-i : goal.invariant-loop-i

@@ -1,7 +1,7 @@
 use Rattle.std.proofs.Common.{◌≤◌, length, ap, ◌∙◌, arith, rules}
-use Rattle.bx_scan.specs.Calls.{rows_of}
-use Rattle.bx_entries.specs.inner.Parsed.{entries_of}
-use Rattle.bx_entries.proofs.ReadLemmas.{length-entries_of}
+use Rattle.bx_journal_read.specs.model.Calls.{rows_of}
+use Rattle.bx_journal_format.specs.Parsed.{entries_of}
+use Rattle.bx_journal_format.proofs.ReadLemmas.{length-entries_of}
 use Rattle.bx_journal.proofs.SavedBound.{saved_countable}
 use Rattle.bx_journal.proofs.session.log.rows_of_whole.Goals as goal
 
@@ -28,4 +28,5 @@ returns g c =
       };
       fault = tt;
       looks = search rules;
+      found_before = c.read_again.ensures.survives;
     }

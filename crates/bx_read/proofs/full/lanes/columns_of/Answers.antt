@@ -2,7 +2,7 @@ use Rattle.std.proofs.Common.{◌≡◌, ◌+◌, ◌++◌, get_or, map, Some, s
 use Rattle.std.proofs.lemmas.List.{take_rest, get_or-drop}
 use Rattle.bx_read.specs.Digits.{pairs_of}
 use Rattle.bx_read.specs.Plain.{hex_bytes}
-use Rattle.bx_read.specs.inner.Lanes.{group_places}
+use Rattle.bx_read.specs.private.Lanes.{group_places}
 use Rattle.bx_read.proofs.LaneLemmas.{columns_are, some_weaker}
 use Rattle.bx_read.proofs.full.lanes.columns_of.Goals as goal
 

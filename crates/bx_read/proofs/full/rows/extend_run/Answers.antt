@@ -1,6 +1,6 @@
 use Rattle.std.proofs.Common.{◌≡◌, ◌+◌, ◌++◌, length, subst, arith}
 use Rattle.std.proofs.lemmas.Grind.{common_steps}
-use Rattle.bx_read.specs.inner.Full.{IsFull}
+use Rattle.bx_read.specs.private.Full.{IsFull}
 use Rattle.bx_read.proofs.GoesOnLemmas.{goes_none, goes_more}
 use Rattle.bx_read.proofs.full.rows.extend_run.Goals as goal
 

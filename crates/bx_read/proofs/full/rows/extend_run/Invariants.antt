@@ -1,5 +1,5 @@
 use Rattle.std.proofs.Common.{length}
-use Rattle.bx_read.specs.inner.Rows.{GoesOn}
+use Rattle.bx_read.specs.private.Rows.{GoesOn}
 use Rattle.bx_read.proofs.full.rows.extend_run.Given as goal
 
 abbrev pub decreases-loop-more : goal.decreases-loop-more

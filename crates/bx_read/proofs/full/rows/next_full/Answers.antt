@@ -1,6 +1,6 @@
 use Rattle.std.proofs.Common.{◌+◌, sym, ◌∙◌, subst}
 use Rattle.std.proofs.lemmas.Bool.{eqb-true}
-use Rattle.bx_read.specs.inner.Full.{IsFull}
+use Rattle.bx_read.specs.private.Full.{IsFull}
 use Rattle.bx_read.proofs.full.rows.next_full.Goals as goal
 
 pub returns-clause-full : goal.returns-clause-full

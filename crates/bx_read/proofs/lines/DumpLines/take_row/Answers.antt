@@ -1,7 +1,7 @@
 use Rattle.std.proofs.Common.{◌≡◌, ◌+◌, ◌≤◌, length, ap, ◌∙◌, subst, arith}
 use Rattle.bx_read.specs.Text.{lines_of, answers, gathered, piece_then}
 use Rattle.bx_read.specs.Lines.{coming}
-use Rattle.bx_read.specs.inner.NextLine.{joined_of}
+use Rattle.bx_read.specs.private.NextLine.{joined_of}
 use Rattle.bx_read.proofs.lines.DumpLines.take_row.Goals as goal
 
 pub returns-clause-run : goal.returns-clause-run

@@ -1,11 +1,10 @@
-use Rattle.bx_read.proofs.WindowLemmas.{fault_at_end, last_runs, last_fault, not_known}
+use Rattle.std.proofs.Common.{ap, sym, ◌∙◌}
+use Rattle.bx_read.specs.Window.{DumpView}
+use Rattle.bx_read.proofs.WindowLemmas.{fault_at_end, fault_of_read}
 use Rattle.bx_read.proofs.window.DumpRead.finish.Goals as goal
 
 pub returns-in-Some : goal.returns-in-Some
-returns-in-Some g c = record { exact = λ text is. fault_at_end text c.args.self c.in-Some.fault c.in-Some.is is }
-
-pub returns-in-Err : goal.returns-in-Err
-returns-in-Err g c = record { exact = λ text is. last_fault text c.args.self (not_known c.args.self.fault c.in_default.not-Some) is c.in-Err.fault c.in-Err.ensures.fault }
-
-pub returns : goal.returns
-returns g c = record { exact = λ text is. last_runs text c.args.self (not_known c.args.self.fault c.in_default.not-Some) is c.take_held.new.self.runs.items c.in-Ok.ensures.runs }
+returns-in-Some g c = record {
+  exact = λ text is.
+      fault_at_end text c.in-Some.fault (fault_of_read text c.args.self c.in-Some.fault (ap (λ (v : DumpView). v.fault) (sym c.self.view_is) ∙ c.in-Some.is) is);
+}

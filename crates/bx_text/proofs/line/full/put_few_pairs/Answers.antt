@@ -4,7 +4,7 @@ use Rattle.std.proofs.lemmas.List.FromFn.{fill_by_all}
 use Rattle.bx_text.proofs.FieldLemmas.{put_pair}
 use Rattle.bx_text.specs.Field.{char_at}
 use Rattle.bx_text.specs.Dump.{pair_of}
-use Rattle.bx_text.specs.inner.Dump.{hex_place}
+use Rattle.bx_text.specs.private.Dump.{hex_place}
 use Rattle.bx_text.proofs.line.full.put_few_pairs.Goals as goal
 
 both : (xs : List ℕ) (b : ℕ) → xs ≡ pair_of false b → pair_of false b ≡ get_or xs 0 0 ∷ get_or xs 1 0 ∷ []

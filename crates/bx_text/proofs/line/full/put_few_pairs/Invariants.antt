@@ -1,7 +1,7 @@
 use Rattle.std.proofs.Common.{◌≡◌, ℕ, ◌<◌, length, get_or, false}
 use Rattle.bx_text.specs.Field.{char_at}
 use Rattle.bx_text.specs.Dump.{pair_of}
-use Rattle.bx_text.specs.inner.Dump.{hex_place}
+use Rattle.bx_text.specs.private.Dump.{hex_place}
 use Rattle.bx_text.proofs.line.full.put_few_pairs.Given as goal
 
 -- the bytes so far stand at their places

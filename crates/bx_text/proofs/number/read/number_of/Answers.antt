@@ -2,7 +2,7 @@ use Rattle.std.proofs.Common.{arith, sym, ap, ◌∙◌, ◌-◌, ◌^◌, get_o
 use Rattle.std.specs.Char.{digit_value}
 use Rattle.std.specs.Str.Parse.{digits_value}
 use Rattle.std.proofs.lemmas.Int.Digits.{digits_value_more}
-use Rattle.bx_text.specs.inner.Capped.{capped}
+use Rattle.bx_text.specs.private.Capped.{capped}
 use Rattle.bx_text.proofs.NumberLemmas.{digit_more}
 use Rattle.bx_text.proofs.number.read.number_of.Goals as goal
 

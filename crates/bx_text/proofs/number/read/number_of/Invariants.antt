@@ -1,6 +1,6 @@
 use Rattle.std.proofs.Common.{◌≡◌, take}
 use Rattle.std.specs.Str.Parse.{digits_value}
-use Rattle.bx_text.specs.inner.Capped.{capped}
+use Rattle.bx_text.specs.private.Capped.{capped}
 use Rattle.bx_text.proofs.number.read.number_of.Given as goal
 
 -- the number that the digits so far write

@@ -1,8 +1,8 @@
 use Rattle.std.proofs.Common.{arith, sym, ◌∙◌, ◌-◌, length, take, drop, refl}
 use Rattle.std.proofs.lemmas.List.{take_rest}
 use Rattle.bx_text.specs.Number.{product_of}
-use Rattle.bx_text.specs.inner.Number.{factors_of}
-use Rattle.bx_text.specs.inner.Capped.{capped_value}
+use Rattle.bx_text.specs.private.Number.{factors_of}
+use Rattle.bx_text.specs.private.Capped.{capped_value}
 use Rattle.bx_text.proofs.NumberLemmas.{factor_more, factor_bad, last_more, last_bad, none_more}
 use Rattle.bx_text.proofs.number.read.product.Goals.{then-byte-eq120+in_ok-some_digits, else-byte-eq120}
 use Rattle.bx_text.proofs.number.read.product.Goals as goal

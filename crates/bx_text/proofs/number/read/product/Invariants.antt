@@ -1,8 +1,8 @@
 use Rattle.std.proofs.Common.{◌≡◌, ◌≤◌, ◌<◌, ◌*◌, ℕ, get_or, drop}
 use Rattle.std.specs.Option.{option_map}
-use Rattle.bx_text.specs.inner.Capped.{capped, capped_value}
+use Rattle.bx_text.specs.private.Capped.{capped, capped_value}
 use Rattle.bx_text.specs.Number.{product_of}
-use Rattle.bx_text.specs.inner.Number.{factors_of}
+use Rattle.bx_text.specs.private.Number.{factors_of}
 use Rattle.bx_text.proofs.number.read.product.Given as goal
 
 -- the product so far, times that of the rest, is all

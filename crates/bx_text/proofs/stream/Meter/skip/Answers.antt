@@ -54,3 +54,22 @@ loop-left-preserved g c =
         Consumes-trans _ _ _ _ _ now.3 fill.bytes,
       );
     }
+
+pub returns-in-Err-clause-counted : goal.returns-in-Err-clause-counted
+returns-in-Err-clause-counted g c =
+    let before = c.loop-left.invariant in
+    let now = before.so_far in
+    let more = c.in-Err.ensures.counted in
+    (now.0 ++ more.0, Consumes-trans _ _ _ _ _ now.3 more.1, omega (arith, more.2, now.2, before.limit, length-append now.0 more.0))
+
+pub returns-then-n-want-clause-counted : goal.returns-then-n-want-clause-counted
+returns-then-n-want-clause-counted g c =
+    let before = c.loop-left.invariant in
+    let now = before.so_far in
+    let fill = c.in-Ok.ensures in
+    let chunk = take c.in-Ok.n c.fill.new.buf in
+    let count : length chunk ≡ c.in-Ok.n = length-take-le c.in-Ok.n c.fill.new.buf (omega (arith, fill.bound)) in (
+      now.0 ++ chunk,
+      Consumes-trans _ _ _ _ _ now.3 fill.bytes,
+      omega (arith, length-append now.0 chunk, count, now.2, fill.taken, fill.limit, before.limit, c.fill.new.self.within),
+    )

@@ -1,6 +1,6 @@
 use Rattle.std.proofs.Common.{◌≡◌, ◌-◌, length, drop, arith, ◌∙◌}
 use Rattle.std.proofs.lemmas.List.{length-drop, length-take-le}
-use Rattle.bx_columns.proofs.OdLemmas.{line_parts}
+use Rattle.bx_dump_columns.proofs.OdLemmas.{line_parts}
 use Rattle.bx_dump.proofs.od.lines.OdLinesForm.put.Goals as goal
 
 pub returns-clause-text : goal.returns-clause-text

@@ -1,7 +1,7 @@
 use Rattle.std.proofs.Common.{◌≡◌, ℕ, ◌<◌, ◌≤◌, List, [], ◌∷◌, length, take, true, slice_set, refl, ◌∙◌, sym, arith}
 use Rattle.std.specs.Prelude.{nat_le}
 use Rattle.std.proofs.lemmas.Bool.Decides.{nat_tests}
-use Rattle.bx_dump.specs.inner.Scan.{end_text}
+use Rattle.bx_dump.specs.private.Scan.{end_text}
 use Rattle.bx_dump.proofs.strings.dump.Runs.end.Goals as goal
 
 newline : (page : List ℕ) → 0 < length page → take 1 (slice_set page 0 10) ≡ 10 ∷ []

@@ -1,5 +1,5 @@
 use Rattle.std.proofs.Common.{◌≡◌, ◌+◌, ◌-◌, ◌<◌, ◌≤◌, ◌++◌, length, take, sym, ap, ◌∙◌, arith, append_assoc}
-use Rattle.bx_columns.specs.Places.{place_text}
+use Rattle.bx_dump_columns.specs.Places.{place_text}
 use Rattle.bx_dump.proofs.ScanLemmas.{scan_long, scan_short, scan_crossing}
 use Rattle.bx_dump.proofs.strings.dump.Runs.grow.Goals as goal
 

@@ -1,7 +1,7 @@
 use Rattle.std.proofs.Common.{◌≡◌, ◌+◌, ◌-◌, ◌≤◌, length, take, drop, arith, refl, ◌∙◌}
 use Rattle.std.proofs.lemmas.List.{length-take-le}
 use Rattle.bx_text.proofs.KnownLemmas.{take-put_mid_more, part_more}
-use Rattle.bx_dump.specs.inner.Scan.{pending, scan_run}
+use Rattle.bx_dump.specs.private.Scan.{pending, scan_run}
 use Rattle.bx_dump.proofs.ScanLemmas.{scan_text-none, scan_run-stays, scan_step, run_step, cost_step, cost_fits, pending_most}
 use Rattle.bx_dump.proofs.strings.dump.Runs.put.Goals as goal
 

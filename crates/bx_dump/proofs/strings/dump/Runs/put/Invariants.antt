@@ -1,6 +1,6 @@
 use Rattle.std.proofs.Common.{◌≡◌, ◌+◌, ◌-◌, ◌*◌, ◌≤◌, ℕ, List, length, take}
-use Rattle.bx_dump.specs.inner.Scan.{scan_text, scan_run, IsKept, pending}
-use Rattle.bx_columns.specs.inner.Places.{cost_of}
+use Rattle.bx_dump.specs.private.Scan.{scan_text, scan_run, IsKept, pending}
+use Rattle.bx_dump_columns.specs.Places.{cost_of}
 use Rattle.bx_dump.proofs.strings.dump.Runs.put.Given as goal
 
 -- what is known of the bytes so far is put

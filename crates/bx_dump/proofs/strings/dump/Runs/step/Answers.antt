@@ -1,9 +1,9 @@
 use Rattle.std.proofs.Common.{◌≡◌, ◌≤◌, ℕ, length, take, sym, refl, inl, inr, ◌∙◌, arith}
 use Rattle.std.proofs.lemmas.List.{length-take-le}
-use Rattle.bx_columns.specs.declared.od.options.Address.{Address}
-use Rattle.bx_columns.specs.declared.od.options.Address.TheVariants.{Octal, Decimal, Hexadecimal, Without}
-use Rattle.bx_dump.specs.inner.Scan.{pending, AllPrint, NonePrints}
-use Rattle.bx_columns.specs.inner.Places.{cost_of}
+use Rattle.bx_dump_columns.specs.declared.od.options.Address.{Address}
+use Rattle.bx_dump_columns.specs.declared.od.options.Address.TheVariants.{Octal, Decimal, Hexadecimal, Without}
+use Rattle.bx_dump.specs.private.Scan.{pending, AllPrint, NonePrints}
+use Rattle.bx_dump_columns.specs.Places.{cost_of}
 use Rattle.bx_dump.proofs.ScanLemmas.{front_prints, front_none, front_some, scan_run-print, scan_run-none, scan_end, both}
 use Rattle.std.specs.Prelude.{nat_lt}
 use Rattle.bx_dump.proofs.strings.dump.Runs.step.Goals as goal

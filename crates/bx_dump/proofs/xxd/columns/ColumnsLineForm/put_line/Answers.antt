@@ -2,8 +2,8 @@ use Rattle.std.proofs.Common.{◌≡◌, ◌+◌, ◌*◌, false, length, take, 
 use Rattle.std.proofs.lemmas.List.{take_at}
 use Rattle.std.proofs.Math.Nat.{mul-div-mul_left}
 use Rattle.bx_text.specs.Field.{hex_text}
-use Rattle.bx_dump.specs.inner.Xxd.{cell_of, cell_width}
-use Rattle.bx_columns.proofs.LinesLemmas.{cells_len}
+use Rattle.bx_dump.specs.private.Xxd.{cell_of, cell_width}
+use Rattle.bx_dump_columns.proofs.LinesLemmas.{cells_len}
 use Rattle.bx_dump.proofs.ColumnsLemmas.{line_parts, place_fits, digits_even, digits_some}
 use Rattle.bx_dump.proofs.xxd.columns.ColumnsLineForm.put_line.Goals as goal
 

@@ -1,6 +1,6 @@
 use Rattle.std.proofs.Common.{◌+◌, length}
-use Rattle.bx_columns.specs.Lines.{in_lines}
-use Rattle.bx_columns.proofs.LinesLemmas.{in_lines-append}
+use Rattle.bx_dump_columns.specs.Lines.{in_lines}
+use Rattle.bx_dump_columns.proofs.LinesLemmas.{in_lines-append}
 use Rattle.bx_dump.proofs.xxd.lines.LinesPages.grows.Goals as goal
 
 pub returns : goal.returns

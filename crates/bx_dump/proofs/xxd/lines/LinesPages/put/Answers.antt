@@ -1,8 +1,8 @@
 use Rattle.std.proofs.Common.{◌≡◌, ◌+◌, ◌-◌, ◌*◌, ◌/◌, ◌≤◌, ◌++◌, length, take, arith, sym, ap, ◌∙◌}
 use Rattle.std.proofs.lemmas.List.{length-append, take-append-le}
 use Rattle.std.proofs.Math.Nat.{mul-le-mul_left}
-use Rattle.bx_columns.specs.Lines.{in_lines}
-use Rattle.bx_columns.proofs.LinesLemmas.{in_lines-append, count_most}
+use Rattle.bx_dump_columns.specs.Lines.{in_lines}
+use Rattle.bx_dump_columns.proofs.LinesLemmas.{in_lines-append, count_most}
 use Rattle.bx_dump.proofs.xxd.lines.LinesPages.put.Goals as goal
 
 pub put_text-requires-clause-cells : goal.put_text-requires-clause-cells

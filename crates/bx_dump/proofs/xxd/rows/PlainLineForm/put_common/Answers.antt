@@ -1,5 +1,5 @@
-use Rattle.bx_dump.specs.inner.Rows.{plain_line}
-use Rattle.bx_columns.proofs.LinesLemmas.{lines_zero}
+use Rattle.bx_dump.specs.private.Rows.{plain_line}
+use Rattle.bx_dump_columns.proofs.LinesLemmas.{lines_zero}
 use Rattle.bx_dump.proofs.xxd.rows.PlainLineForm.put_common.Goals as goal
 
 pub returns-clause-text : goal.returns-clause-text

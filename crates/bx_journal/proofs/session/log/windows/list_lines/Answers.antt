@@ -1,7 +1,7 @@
 use Rattle.std.proofs.Common.{◌≡◌, ◌+◌, ◌*◌, ◌++◌, List, ℕ, length, take, drop, refl, ap, ◌∙◌, subst, arith, length-drop}
-use Rattle.bx_entries.proofs.ReadLoop.{drop_twice}
-use Rattle.bx_entries.proofs.TallyLemmas.{IsFirstLine}
-use Rattle.bx_journal.specs.inner.Rows.{IsListed}
+use Rattle.bx_journal_format.proofs.ReadLoop.{drop_twice}
+use Rattle.bx_journal_format.proofs.TallyLemmas.{IsFirstLine}
+use Rattle.bx_journal.specs.private.Rows.{IsListed}
 use Rattle.bx_journal.proofs.ListLemmas.{listed_full, listed_more, listed_same}
 use Rattle.bx_journal.proofs.session.log.windows.list_lines.Goals as goal
 

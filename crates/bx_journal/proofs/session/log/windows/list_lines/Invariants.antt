@@ -1,5 +1,5 @@
 use Rattle.std.proofs.Common.{◌≡◌, ◌≤◌, List, ℕ, ◌++◌, length, take, drop}
-use Rattle.bx_journal.specs.inner.Rows.{IsListed}
+use Rattle.bx_journal.specs.private.Rows.{IsListed}
 use Rattle.bx_journal.proofs.session.log.windows.list_lines.Given as goal
 
 -- the lines that were taken have their rows

@@ -1,7 +1,0 @@
-//! The five kinds of cases, and what they share.
-pub mod commands;
-pub mod looks;
-pub mod reading;
-pub mod texts;
-pub mod told;
-pub mod words;

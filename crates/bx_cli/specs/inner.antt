@@ -1,2 +1,0 @@
--- What no public contract names.
-pub mod Beside

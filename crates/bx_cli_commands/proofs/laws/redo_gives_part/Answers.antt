@@ -1,0 +1,5 @@
+use Rattle.bx_cli_commands.proofs.GivesBack.{redo_gives_part}
+use Rattle.bx_cli_commands.proofs.laws.redo_gives_part.Goals as goal
+
+pub returns : goal.returns
+returns g c = redo_gives_part g.row.A.Denot g.R.Read.remaining

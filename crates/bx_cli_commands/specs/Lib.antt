@@ -1,0 +1,16 @@
+pub mod Command
+pub mod Copy
+pub mod Fault
+pub mod Standing
+pub mod Run
+pub mod Reading
+pub mod Replies
+pub mod Power
+pub mod Obeys
+pub mod Tells
+pub mod SessionRun
+pub mod Refusal
+pub mod Laws
+pub mod Listing
+pub mod RoundTrip
+pub mod jobs

@@ -1,0 +1,36 @@
+-- The log of a session as text.
+use Rattle.std.specs.Prelude.{ℕ, List, ◌++◌, codes, decimal}
+use Rattle.bx_journal_read.specs.declared.show.fault.ShowFault.TheVariants as look
+use Rattle.bx_journal_read.specs.declared.answers.LogRow.{LogRow}
+use Rattle.bx_journal_read.specs.declared.show.way.Steps.{Steps}
+use Rattle.bx_journal.specs.Showing.{LookCounts, StopsLog}
+use Rattle.bx_journal.specs.Steps.{RefusesSteps, StopsSteps}
+use Rattle.bx_cli_commands.specs.declared.fault.Fault.{Fault}
+use Rattle.bx_cli_commands.specs.declared.fault.Fault.TheVariants as of
+
+-- a change's number, the length before it, and how many bytes were saved
+abbrev pub log_line : LogRow → List ℕ
+log_line row = decimal row.number ++ codes " " ++ decimal row.old_len ++ codes " " ++ decimal row.saved ++ codes "\n"
+
+-- which fault a log with ranges answers: one of a look at the changes of the text
+abbrev pub StopsListing : Type 0 → List ℕ → Fault → Type 0
+StopsListing honest text (of.Session fault) = StopsLog honest text (look.Text fault)
+StopsListing honest text (of.Io fault) = StopsLog honest text (look.Io fault)
+StopsListing honest text _ = ⊥
+
+-- how the counts of failed calls of two devices go on: as behind a look's fault
+abbrev pub ListCounts : Fault → ℕ → ℕ → ℕ → ℕ → Type 0
+ListCounts (of.Session fault) d t d_new t_new = LookCounts (look.Text fault) d t d_new t_new
+ListCounts (of.Io fault) d t d_new t_new = LookCounts (look.Io fault) d t d_new t_new
+ListCounts _ d t d_new t_new = ⊥
+
+-- which fault a list of steps answers: one of a look at the steps
+abbrev pub StopsShowing : Type 0 → List ℕ → Steps → Fault → Type 0
+StopsShowing honest text s (of.Session fault) = StopsSteps honest text s (look.Text fault)
+StopsShowing honest text s (of.Io fault) = StopsSteps honest text s (look.Io fault)
+StopsShowing honest text s _ = ⊥
+
+-- the fault is of the text and the number of steps: nothing is written before it
+abbrev pub RefusesShowing : Fault → Type 0
+RefusesShowing (of.Session fault) = RefusesSteps (look.Text fault)
+RefusesShowing _ = ⊥

@@ -1,0 +1,8 @@
+-- Jobs, and the dumps and copies that they make.
+pub mod CopyOut
+pub mod Dump
+pub mod Job
+pub mod JobDump
+pub mod Passing
+pub mod Values
+pub mod XxdLaws

@@ -1,0 +1,92 @@
+-- What the values of options are, by their words.
+use Rattle.std.specs.Prelude.{◌≡◌, ℕ, Bool, true, false, ◌++◌, ◌^◌, ◌==◌, ◌&&◌, nat_le, if◌then◌else◌, List, [], ◌∷◌, Option, None, Some, Result, Ok, Err, codes}
+use Rattle.bx_text.specs.declared.number.size.SizeFault.{SizeFault}
+use Rattle.bx_text.specs.declared.number.size.SizeStyle.{SizeStyle}
+use Rattle.bx_text.specs.declared.number.size.SizeStyle.TheVariants.{Bare}
+use Rattle.bx_text.specs.Number.{read_size}
+use Rattle.bx_dump_columns.specs.declared.od.options.Address.{Address}
+use Rattle.bx_dump_columns.specs.declared.od.options.Address.TheVariants.{Octal, Decimal, Hexadecimal, Without}
+use Rattle.bx_dump_columns.specs.declared.od.options.Kind.{Kind}
+use Rattle.bx_dump_columns.specs.declared.od.options.Kind.TheVariants.{Chars, Number}
+use Rattle.bx_dump_columns.specs.declared.od.options.NumForm.{NumForm}
+use Rattle.bx_dump_columns.specs.declared.od.options.NumForm.TheVariants as form
+use Rattle.bx_dump_columns.specs.declared.od.options.Size.{Size}
+use Rattle.bx_dump_columns.specs.declared.od.options.Size.TheVariants as size
+use Rattle.bx_cli_commands.specs.declared.fault.Fault.{Fault}
+use Rattle.bx_cli_commands.specs.declared.fault.Fault.TheVariants.{Usage}
+
+-- ---- numbers
+
+-- a number that was read, at most 2 ^ 62
+abbrev pub number_in : Result ℕ SizeFault → Result (Option ℕ) Fault
+number_in (Ok n) = if nat_le n (2 ^ 62) then Ok (Some n) else Err Usage
+number_in (Err e) = Err Usage
+
+-- the number that a word writes in a style; none where there is no word
+abbrev pub option_value : SizeStyle → Option (List ℕ) → Result (Option ℕ) Fault
+option_value style None = Ok None
+option_value style (Some text) = number_in (read_size style text)
+
+-- a number that may be missing, or another in its place
+abbrev pub given_or : ℕ → Result (Option ℕ) Fault → Result ℕ Fault
+given_or default (Ok None) = Ok default
+given_or default (Ok (Some n)) = Ok n
+given_or default (Err e) = Err e
+
+-- the number that a word writes in a style; the default where there is no word
+abbrev pub option_value_or : SizeStyle → ℕ → Option (List ℕ) → Result ℕ Fault
+option_value_or style default text = given_or default (option_value style text)
+
+-- a number of columns, 1 to 256
+abbrev pub few_columns : Result ℕ Fault → Result ℕ Fault
+few_columns (Ok n) = if nat_le 1 n && nat_le n 256 then Ok n else Err Usage
+few_columns (Err e) = Err e
+
+-- the columns that a word gives, which has no suffix; the default where there is no word
+abbrev pub columns_of : ℕ → Option (List ℕ) → Result ℕ Fault
+columns_of default text = few_columns (option_value_or Bare default text)
+
+-- ---- letters
+
+-- the base that a letter names: d, o, x, or where it may be n
+abbrev pub base_named : Bool → ℕ → Result Address Fault
+base_named with_n c = if c == 100 then Ok Decimal else if c == 111 then Ok Octal else if c == 120 then Ok Hexadecimal else
+    if (c == 110) && with_n then Ok Without else Err Usage
+
+-- the base that a word of one letter names; `none` where there is no word
+abbrev pub base_in : Address → Bool → Option (List ℕ) → Result Address Fault
+base_in none with_n None = Ok none
+base_in none with_n (Some (c ∷ [])) = base_named with_n c
+base_in none with_n (Some text) = Err Usage
+
+-- how numbers are written: d, o, u or x
+abbrev pub form_named : ℕ → Option NumForm
+form_named c = if c == 100 then Some form.Signed else if c == 111 then Some form.Octal else if c == 117 then Some form.Unsigned else
+    if c == 120 then Some form.Hexadecimal else None
+
+-- how many bytes a number has: 1, 2, 4 or 8
+abbrev pub size_named : ℕ → Option Size
+size_named c = if c == 49 then Some size.One else if c == 50 then Some size.Two else if c == 52 then Some size.Four else
+    if c == 56 then Some size.Eight else None
+
+-- numbers of a form and a size
+abbrev pub kind_named : Option NumForm → Option Size → Result Kind Fault
+kind_named (Some f) (Some s) = Ok (Number f s)
+kind_named f s = Err Usage
+
+-- the values that a word names: c, or a letter and a digit
+abbrev pub kind_in : List ℕ → Result Kind Fault
+kind_in (c ∷ []) = if c == 99 then Ok Chars else Err Usage
+kind_in (c ∷ d ∷ []) = kind_named (form_named c) (size_named d)
+kind_in text = Err Usage
+
+-- ---- names
+
+-- the journal of an image, by its own name or else by the image's
+abbrev pub journal_of : List ℕ → Option (List ℕ) → List ℕ
+journal_of image None = image ++ codes ".bxj"
+journal_of image (Some journal) = journal
+
+-- neither the journal nor the redo file beside it is the image
+abbrev pub IsApart : List ℕ → List ℕ → Type 0
+IsApart image journal = (journal ≡ image → ⊥) × (journal ++ codes ".redo" ≡ image → ⊥)

@@ -1,0 +1,69 @@
+//! What a list asks for, and what is answered.
+ghost use Rattle.std.specs.Prelude.{◌≡◌};
+
+use crate::Fault;
+use bx_dd::{Counts, Plan};
+use bx_text::{Bytes, Words};
+use std::alloc::{Allocator, Global};
+use std::io::Empty;
+
+/// One command on an image. `R` is what dd reads.
+#[derive(Drop)]
+pub enum Command<R = Empty, A: Allocator = Global> {
+    /// Puts the bytes of a dump onto the image, each at its address plus `offset`.
+    Revert { text: Bytes<A>, offset: u64 },
+    /// Puts the bytes of plain hexadecimal onto the image from `at` on.
+    RevertPlain { text: Bytes<A>, at: u64 },
+    /// Puts what dd's operands make of the input onto the image; the files that they name are not looked at.
+    Dd { operands: Words<A>, input: R },
+    /// The same by a plan, as `bx_dd::parse` makes one of operands.
+    Copy { plan: Plan<A>, input: R },
+    /// Takes the last `k` changes back.
+    Undo { k: u32 },
+    /// Makes the last `j` undone changes again.
+    Redo { j: u32 },
+}
+
+/// The answer to one command.
+#[derive(Clone, Copy, Debug, PartialEq, Eq)]
+pub enum Reply {
+    /// The change was made, and has this number.
+    Changed { number: u32 },
+    /// dd's change was made, and has this number; the counts are dd's.
+    Copied { number: u32, counts: Counts },
+    /// This many changes are left.
+    Undone { left: u32 },
+    /// This many changes then stand.
+    Redone { changes: u32 },
+    /// Nothing was done, unless the fault says otherwise.
+    Refused(Fault),
+}
+
+impl Reply {
+    ghost use Rattle.bx_cli_commands.specs.Replies.{counted_by, stands_by};
+
+    /// How many changes stand behind the command, which it tells; or the fault that it was refused for.
+    pub fn standing(self) -> Result<u32, Fault>
+        ensures { result ≡ stands_by self }
+    {
+        match self {
+            Reply::Changed { number } | Reply::Copied { number, .. } => Ok(number),
+            Reply::Undone { left } => Ok(left),
+            Reply::Redone { changes } => Ok(changes),
+            Reply::Refused(fault) => Err(fault),
+        }
+    }
+
+    /// What dd counted; none of another command, and where it was refused.
+    pub fn counts(self) -> Option<Counts>
+        ensures { result ≡ counted_by self }
+    {
+        match self {
+            Reply::Copied { counts, .. } => Some(counts),
+            Reply::Changed { .. }
+            | Reply::Undone { .. }
+            | Reply::Redone { .. }
+            | Reply::Refused(_) => None,
+        }
+    }
+}

@@ -1,0 +1,163 @@
+//! The faults of all crates, with their numbers.
+ghost use Rattle.std.specs.Prelude.{◌≡◌};
+ghost use Rattle.bx_cli_commands.specs.Fault.{number_of};
+ghost use Rattle.bx_cli_commands.specs.declared.fault.Fault.TheVariants as of;
+ghost use Rattle.bx_text.specs.declared.fault.IoFault.TheVariants as io;
+
+use bx_dd::DdFault;
+use bx_journal::SessionFault;
+use bx_read::ReadFault;
+use bx_text::{IoFault, NoMemory};
+use std::alloc::AllocError;
+use thiserror::Error;
+
+/// What can stop the program; its text is what the program shows. Want of memory is a fault of each crate's own, with one
+/// number and one text: who asks for the kind alone compares numbers.
+#[derive(Clone, Copy, Debug, PartialEq, Eq, Error)]
+pub enum Fault {
+    /// What stopped the reading of an input or the writing of an output; or a growth was refused, of the program's own too.
+    #[error(transparent)]
+    Io(IoFault),
+    /// What is wrong with a dump's text, or with plain hexadecimal; or a growth was refused where it is read.
+    #[error(transparent)]
+    Read(ReadFault),
+    /// What is wrong with dd's operands, or stopped the reading of its input onto an image.
+    #[error(transparent)]
+    Dd(DdFault),
+    /// What stopped a call of a session, or its opening.
+    #[error(transparent)]
+    Session(SessionFault),
+    /// The words of the command line are wrong.
+    #[error("bad arguments")]
+    Usage,
+    /// A file could not be opened.
+    #[error("cannot open file")]
+    OpenFailed,
+}
+
+impl Fault {
+    /// The number by which documents name the fault.
+    pub fn number(&self) -> u8
+        ensures { result ≡ number_of self.now }
+    {
+        match *self {
+            Fault::Io(fault) => io_number(fault),
+            Fault::Read(fault) => read_number(fault),
+            Fault::Dd(fault) => dd_number(fault),
+            Fault::Session(fault) => session_number(fault),
+            Fault::Usage => 50,
+            Fault::OpenFailed => 51,
+        }
+    }
+}
+
+fn io_number(fault: IoFault) -> u8
+    ensures { result ≡ number_of (of.Io fault) }
+{
+    match fault {
+        IoFault::NoMemory => 1,
+        IoFault::ReadFailed => 2,
+        IoFault::WriteFailed { .. } => 3,
+        IoFault::InputTooLong => 4,
+        IoFault::SkipPastEnd => 5,
+    }
+}
+
+fn read_number(fault: ReadFault) -> u8
+    ensures { result ≡ number_of (of.Read fault) }
+{
+    match fault {
+        ReadFault::NoMemory => 1,
+        ReadFault::BadAddress { .. } => 10,
+        ReadFault::MissingColon { .. } => 11,
+        ReadFault::BadPair { .. } => 12,
+        ReadFault::NoData { .. } => 13,
+        ReadFault::TooWide { .. } => 14,
+        ReadFault::AddressTooLarge { .. } => 15,
+        ReadFault::OddDigits { .. } => 16,
+    }
+}
+
+fn dd_number(fault: DdFault) -> u8
+    ensures { result ≡ number_of (of.Dd fault) }
+{
+    match fault {
+        DdFault::NoMemory => 1,
+        DdFault::ReadFailed => 2,
+        DdFault::InputTooLong => 4,
+        DdFault::UnknownOperand(_) => 20,
+        DdFault::BadNumber(_) => 21,
+        DdFault::NumberTooLarge(_) => 22,
+        DdFault::ZeroSize(_) => 23,
+        DdFault::Conflict => 24,
+        DdFault::MissingCbs => 25,
+        DdFault::Repeated(_) => 26,
+        DdFault::SeekWithoutOutput => 27,
+    }
+}
+
+fn session_number(fault: SessionFault) -> u8
+    ensures { result ≡ number_of (of.Session fault) }
+{
+    match fault {
+        SessionFault::NoMemory => 1,
+        SessionFault::TooLarge => 30,
+        SessionFault::DeviceFailed => 31,
+        SessionFault::Damaged { .. } => 40,
+        SessionFault::TooFew { .. } => 41,
+        SessionFault::JournalFull => 42,
+        SessionFault::Interrupted => 43,
+        SessionFault::Broken => 44,
+        SessionFault::LengthDiffers { .. } => 45,
+        SessionFault::NothingToRedo { .. } => 46,
+        SessionFault::RedoDamaged { .. } => 47,
+    }
+}
+
+impl From<NoMemory> for Fault {
+    ghost from_gives = { λ _ f. f ≡ of.Io io.NoMemory };
+
+    fn from(_: NoMemory) -> Self {
+        Fault::Io(IoFault::NoMemory)
+    }
+}
+
+impl From<AllocError> for Fault {
+    ghost from_gives = { λ _ f. f ≡ of.Io io.NoMemory };
+
+    fn from(_: AllocError) -> Self {
+        Fault::Io(IoFault::NoMemory)
+    }
+}
+
+impl From<IoFault> for Fault {
+    ghost from_gives = { λ e f. f ≡ of.Io e };
+
+    fn from(fault: IoFault) -> Self {
+        Fault::Io(fault)
+    }
+}
+
+impl From<ReadFault> for Fault {
+    ghost from_gives = { λ e f. f ≡ of.Read e };
+
+    fn from(fault: ReadFault) -> Self {
+        Fault::Read(fault)
+    }
+}
+
+impl From<DdFault> for Fault {
+    ghost from_gives = { λ e f. f ≡ of.Dd e };
+
+    fn from(fault: DdFault) -> Self {
+        Fault::Dd(fault)
+    }
+}
+
+impl From<SessionFault> for Fault {
+    ghost from_gives = { λ e f. f ≡ of.Session e };
+
+    fn from(fault: SessionFault) -> Self {
+        Fault::Session(fault)
+    }
+}

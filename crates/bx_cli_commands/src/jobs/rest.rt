@@ -1,0 +1,77 @@
+//! What is left to ask of an input behind bytes that were passed, as a seek passes them.
+ghost use Rattle.std.specs.Prelude.{◌≡◌, ◌+◌, ◌*◌, ◌%◌, ◌^◌, ◌≤◌};
+ghost use Rattle.bx_dd.specs.Behind.{IsRest};
+ghost use Rattle.bx_dump.specs.Behind.{IsHexdumpRest, IsOdRest, IsXxdRest};
+
+use bx_dd::Plan;
+use bx_dump::hexdump::HexdumpOptions;
+use bx_dump::od::OdOptions;
+use bx_dump::xxd::XxdOptions;
+
+/// The options of od behind passed bytes.
+pub fn od_rest(o: &OdOptions, passed: u64) -> OdOptions
+    requires skip { passed ≤ o.now.skip }
+    requires first { o.now.first + passed ≤ 2 ^ 62 }
+    ensures { IsOdRest passed o.now result }
+{
+    OdOptions {
+        address: o.address,
+        kind: o.kind,
+        first: o.first + passed,
+        skip: o.skip - passed,
+        limit: o.limit,
+        all: o.all,
+    }
+}
+
+/// The options of hexdump behind passed bytes.
+pub fn hexdump_rest(o: &HexdumpOptions, passed: u64) -> HexdumpOptions
+    requires skip { passed ≤ o.now.skip }
+    requires first { o.now.first + passed ≤ 2 ^ 62 }
+    ensures { IsHexdumpRest passed o.now result }
+{
+    HexdumpOptions {
+        first: o.first + passed,
+        skip: o.skip - passed,
+        limit: o.limit,
+        all: o.all,
+    }
+}
+
+/// The options of xxd behind passed bytes.
+pub fn xxd_rest(o: &XxdOptions, passed: u64) -> XxdOptions
+    requires { passed ≤ o.now.seek }
+    ensures { IsXxdRest passed o.now result }
+{
+    XxdOptions {
+        cols: o.cols,
+        group: o.group,
+        limit: o.limit,
+        seek: o.seek - passed,
+        shift: o.shift + passed,
+        upper: o.upper,
+    }
+}
+
+/// The plan of dd behind passed blocks. It names no files.
+pub fn plan_rest(plan: &Plan, passed: u64) -> Plan
+    requires skip { passed ≤ plan.now.skip * plan.now.ibs }
+    requires whole { passed % plan.now.ibs ≡ 0 }
+    ensures { IsRest passed plan.now result }
+{
+    Plan {
+        input: None,
+        output: None,
+        ibs: plan.ibs,
+        obs: plan.obs,
+        cbs: plan.cbs,
+        skip: plan.skip - passed / plan.ibs,
+        seek: plan.seek,
+        count: plan.count,
+        swab: plan.swab,
+        sync: plan.sync,
+        notrunc: plan.notrunc,
+        letters: plan.letters,
+        shape: plan.shape,
+    }
+}

@@ -1,0 +1,150 @@
+//! The values of options, read from their words.
+ghost use Rattle.std.specs.Prelude.{◌≡◌, ◌⊎◌, ◌≤◌, ◌^◌, IfOk, IfErr, IfSome};
+ghost use Rattle.std.specs.Option.{option_copied};
+ghost use Rattle.bx_cli_commands.specs.jobs.Values.{IsApart, base_in, columns_of, journal_of, kind_in, option_value, option_value_or};
+ghost use Rattle.bx_text.specs.declared.fault.IoFault.{IoFault};
+
+use crate::{Fault, Texts};
+use bx_dump::od::{Address, Kind, NumForm, Size};
+use bx_text::{Name, SizeStyle, read_size};
+use std::alloc::Global;
+
+/// The most bytes on a line of `xxd`.
+pub const MOST_COLUMNS: u64 = 256;
+
+const MOST_NUMBER: u64 = 1 << 62;
+
+/// The largest minimum length of a run of `strings`.
+pub const MOST_LEAST: u64 = 4096;
+
+/// The most changes that `undo`, `redo` and `show` take at once.
+pub const MOST_STEPS: u64 = 65_535;
+
+/// The number that a text is, at most 2^62; none where there is no text.
+pub fn number(text: Option<&str>, style: SizeStyle) -> Result<Option<u64>, Fault>
+    ensures value { result ≡ option_value style (option_copied text.entry) }
+    ensures most { IfOk result (λ o. IfSome o (λ n. n ≤ 2 ^ 62)) }
+{
+    match text {
+        None => Ok(None),
+        Some(text) => match read_size(text.as_bytes(), style) {
+            Ok(n) if n <= MOST_NUMBER => Ok(Some(n)),
+            Ok(_) | Err(_) => Err(Fault::Usage),
+        },
+    }
+}
+
+/// The number that a text is, at most 2^62; the default where there is no text.
+pub fn number_or(text: Option<&str>, style: SizeStyle, default: u64) -> Result<u64, Fault>
+    requires { default ≤ 2 ^ 62 }
+    ensures value { result ≡ option_value_or style default (option_copied text.entry) }
+    ensures most { IfOk result (λ n. n ≤ 2 ^ 62) }
+{
+    match number(text, style)? {
+        Some(n) => Ok(n),
+        None => Ok(default),
+    }
+}
+
+/// A number of decimal digits alone, at most `most`; the default where there is no text.
+pub fn count_or(text: Option<&str>, default: u64, most: u64) -> Result<u64, Fault>
+    requires { default ≤ most }
+    ensures { IfOk result (λ n. n ≤ most) }
+{
+    let Some(text) = text else {
+        return Ok(default);
+    };
+    if text.is_empty() || !text.bytes().all(|b| b.is_ascii_digit()) {
+        return Err(Fault::Usage);
+    }
+    match text.parse::<u64>() {
+        Ok(n) if n <= most => Ok(n),
+        _ => Err(Fault::Usage),
+    }
+}
+
+/// The bytes on a line, 1 to 256; the default where there is no text.
+pub fn columns(text: Option<&str>, default: u64) -> Result<u16, Fault>
+    requires least { 1 ≤ default }
+    requires most { default ≤ 256 }
+    ensures value { result ≡ columns_of default (option_copied text.entry) }
+    ensures range { IfOk result (λ n. (1 ≤ n) × (n ≤ 256)) }
+{
+    match number_or(text, SizeStyle::Bare, default)? {
+        n @ 1..=MOST_COLUMNS => Ok(n as u16),
+        _ => Err(Fault::Usage),
+    }
+}
+
+/// The base of a letter, d, o or x, or with `with_n` n for no numbers; `none` where there is no text.
+pub fn radix(text: Option<&str>, none: Address, with_n: bool) -> Result<Address, Fault>
+    ensures { result ≡ base_in none with_n (option_copied text.entry) }
+{
+    let Some(text) = text else {
+        return Ok(none);
+    };
+    match text.as_bytes() {
+        [b'd'] => Ok(Address::Decimal),
+        [b'o'] => Ok(Address::Octal),
+        [b'x'] => Ok(Address::Hexadecimal),
+        [b'n'] if with_n => Ok(Address::Without),
+        _ => Err(Fault::Usage),
+    }
+}
+
+/// The values that the word of a type names, as c or x1.
+pub fn kind_word(text: &str) -> Result<Kind, Fault>
+    ensures { result ≡ kind_in text.now }
+{
+    let (form, size) = match text.as_bytes() {
+        [b'c'] => return Ok(Kind::Chars),
+        [form, size] => (*form, *size),
+        _ => return Err(Fault::Usage),
+    };
+    let form = match form {
+        b'd' => NumForm::Signed,
+        b'o' => NumForm::Octal,
+        b'u' => NumForm::Unsigned,
+        b'x' => NumForm::Hexadecimal,
+        _ => return Err(Fault::Usage),
+    };
+    let size = match size {
+        b'1' => Size::One,
+        b'2' => Size::Two,
+        b'4' => Size::Four,
+        b'8' => Size::Eight,
+        _ => return Err(Fault::Usage),
+    };
+    Ok(Kind::Number { form, size })
+}
+
+/// The name that a text is.
+pub fn name_of(alloc: Global, text: &str) -> Result<Name, Fault>
+    ensures name { IfOk result (λ n. n ≡ text.now) }
+    ensures fault { IfErr result (λ e. e ≡ Fault.Io IoFault.NoMemory) }
+{
+    Ok(Name::from_string(String::from_str(alloc, text)?))
+}
+
+/// The journal of an image, by its own name or else by the image's, and the redo file beside it: neither is the image.
+pub fn texts_of(alloc: Global, journal: Option<&str>, image: &str) -> Result<Texts, Fault>
+    ensures journal { IfOk result (λ t. t.journal ≡ journal_of image.now (option_copied journal.entry)) }
+    ensures apart { IfOk result (λ t. IsApart image.now t.journal) }
+    ensures fault { IfErr result (λ e. (e ≡ Fault.Io IoFault.NoMemory) ⊎ (e ≡ Fault.Usage)) }
+{
+    let journal = match journal {
+        Some(journal) => String::from_str(alloc, journal)?,
+        None => format!(in alloc; "{image}.bxj")?,
+    };
+    if journal.as_str() == image {
+        return Err(Fault::Usage);
+    }
+    let redo = format!(in alloc; "{journal}.redo")?;
+    if redo.as_str() == image {
+        return Err(Fault::Usage);
+    }
+    Ok(Texts {
+        journal: Name::from_string(journal),
+        redo: Name::from_string(redo),
+    })
+}

@@ -1,0 +1,51 @@
+//! Laws of commands, over their definitions alone.
+ghost use Rattle.bx_cli_commands.specs.Laws.{KChangesAndUndo, RedoGivesBack, RedoGivesPart, RunsJoin, StackRunsJoin, StopsInPart, UndoGivesBack, UnfailedRuns};
+
+use bx_image::Device;
+use bx_journal_store::TextStore;
+use std::alloc::Allocator;
+use std::io::Read;
+
+/// Undo is exact: behind k changes that were made, one after the other, an undo of k that is made leads back to the stack
+/// of whole images before them, so to the same image, its bytes and its length.
+pub fn undo_gives_back<R: Read, A: Allocator>()
+    ensures { UndoGivesBack R A R.remaining }
+{}
+
+/// The same of devices: on faithful ones, none of whose calls fails, behind k changes that were made an undo of k that is made gives the
+/// image of the device back.
+pub fn k_changes_and_undo<D: Device, T: TextStore, R: Read, A: Allocator>()
+    ensures { KChangesAndUndo D.Device T.TextStore R A R.remaining }
+{}
+
+/// Redo is exact: an undo of k and a redo of k behind it that are both made lead back to the same images, those that stand
+/// and those that were undone before, so to the same image, its bytes and its length.
+pub fn redo_gives_back<R: Read, A: Allocator>()
+    ensures { RedoGivesBack R A R.remaining }
+{}
+
+/// Redo goes in order: an undo of k that is made, and a redo of j after it that is made, where j is at most k, lead to the same
+/// images as an undo of k - j.
+pub fn redo_gives_part<R: Read, A: Allocator>()
+    ensures { RedoGivesPart R A R.remaining }
+{}
+
+/// The runs of two lists, one from where the other ends, are a run of both: so it does not matter whether the session
+/// is closed and opened again between them. This holds of runs in which no device fails, from images to images, and of
+/// those in which devices fail.
+pub fn runs_join<R: Read, A: Allocator>()
+    ensures stacks { StackRunsJoin R A R.remaining }
+    ensures standings { RunsJoin R A R.remaining }
+{}
+
+/// A run in which no device fails goes from whole images to whole images.
+pub fn unfailed_runs<R: Read, A: Allocator>()
+    ensures { UnfailedRuns R A R.remaining }
+{}
+
+/// A command is done in whole, or in whole steps. Whatever moment the power is lost at, or a device fails at, the next opening finds
+/// the images after the last command that was answered; or, where one was stopped, those before it, those after it, or those with
+/// i of the k changes that it takes back or makes again. That what is found is an end of the run is said by `run_all`.
+pub fn stops_in_part<R: Read, A: Allocator>()
+    ensures { StopsInPart R A R.remaining }
+{}

@@ -1,0 +1,31 @@
+//! What command lines ask for, as jobs and commands, and their runs: dumps and copies, and commands on a session; with a fault that holds
+//! those of all crates. An inner part of `bx_cli`, which exports all of it.
+#![tactic(auto)]
+
+mod changes;
+mod command;
+mod fault;
+pub mod jobs;
+pub mod laws;
+mod listing;
+mod reading;
+pub mod round_trip;
+mod run;
+
+pub use command::{Command, Reply};
+pub use fault::Fault;
+pub use jobs::diff::DiffJob;
+pub use jobs::dump::{Done, run_dump};
+pub use jobs::dumps::{DdJob, DumpJob, HexdumpJob, OdJob, StringsJob, XxdJob, XxdLook};
+pub use jobs::images::{ChangeJob, DdImageJob, LogJob, LookJob, RevertJob, ShowJob, StepsJob};
+pub use jobs::job::Job;
+pub use jobs::rest::plan_rest;
+pub use jobs::skip::Skip;
+pub use jobs::target::{Access, Durability, Target, Texts};
+pub use jobs::values::{
+    MOST_COLUMNS, MOST_LEAST, MOST_STEPS, columns, count_or, kind_word, name_of, number, number_or,
+    radix, texts_of,
+};
+pub use listing::{list_ranges, list_steps, log_text};
+pub use reading::{Form, change_from};
+pub use run::{change_if_read, run_all, run_one};

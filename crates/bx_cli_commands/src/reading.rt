@@ -1,0 +1,108 @@
+//! The changes of texts that are read from a source, a window at a time.
+ghost use Rattle.std.specs.Prelude.{◌≡◌, ◌≢◌, ◌⊎◌, ◌-◌, ◌+◌, ◌^◌, ◌<◌, ◌≤◌, [], ℕ, List, length, Some, Err, MatchResult, IfOk, IfErr, IfSome, OnOk, IsErrOf};
+ghost use Rattle.std.specs.Io.KnownBytes.{Consumes, IsAtEnd};
+ghost use Rattle.bx_text.specs.Stream.{fault_of, IsRestCause, StopsIn};
+ghost use Rattle.bx_text.specs.declared.stream.State.{State};
+ghost use Rattle.bx_text.specs.declared.fault.IoFault.{IoFault};
+ghost use Rattle.bx_cli_commands.specs.Reading.{IsChangeOf, IsFaultOf};
+
+use crate::changes::{change_of_bytes, change_of_runs};
+use bx_image::Change;
+use bx_read::{ReadFault, read_plain_from, read_runs_from};
+use bx_text::{IoFault, Source};
+use std::alloc::Allocator;
+use std::io::Read;
+
+/// How the text of a revert is written.
+#[derive(Clone, Copy, Debug, PartialEq, Eq)]
+pub enum Form {
+    /// Lines with addresses.
+    Dump,
+    /// Plain hexadecimal.
+    Plain,
+}
+
+/// The change that a text asks for, which is read up to the source's end: `at` is added to the addresses of a dump, and is the place of
+/// plain hexadecimal. No more is held than the bytes, a window, and what can still matter of a line of a dump. A fault of the text is
+/// answered once the source is at its end; one of the source, or want of memory, as soon as it comes, and nothing more is read.
+pub fn change_from<R: Read + Drop, A: Allocator + Clone>(
+    alloc: &A,
+    source: &mut Source<R>,
+    form: Form,
+    at: u64,
+) -> Result<Result<Change<A>, ReadFault>, IoFault>
+    requires { at ≤ 2 ^ 62 }
+
+    // What was read is the text, up to the end.
+    ensures change { IfOk result (λ read. (text : List ℕ) × Consumes (R.remaining source.old.reader) (R.remaining source.new.reader) text
+        × MatchResult read (IsChangeOf form text at) (IsFaultOf form text)) }
+    ensures end { OnOk result (source.old.meter.state ≡ State.Open → IsAtEnd (R.remaining source.new.reader)) }
+
+    // A fault of the source is the same from then on.
+    ensures err { IfErr result (λ e. (e ≡ IoFault.NoMemory) ⊎ (fault_of source.new.meter.state ≡ Some e)) }
+    ensures stopped { IfErr result (λ e. StopsIn source.old.meter (R.remaining source.old.reader) (R.remaining source.new.reader) (IsRestCause e)) }
+
+    // Where nothing more can be read, nothing is: no text is left.
+    ensures none_left { source.old.meter.state ≡ State.Ended → IfOk result (λ read. MatchResult read (IsChangeOf form [] at) (IsFaultOf form [])) }
+    ensures lasting { IfSome (fault_of source.old.meter.state) (λ e. IsErrOf result e ⊎ IsErrOf result IoFault.NoMemory) }
+    ensures closed { source.old.meter.state ≢ State.Open → source.new.reader ≡ source.old.reader }
+{
+    match form {
+        Form::Dump => dump_from(alloc, source, at),
+        Form::Plain => plain_from(alloc, source, at),
+    }
+}
+
+/// The change of a dump.
+fn dump_from<R: Read + Drop, A: Allocator + Clone>(
+    alloc: &A,
+    source: &mut Source<R>,
+    offset: u64,
+) -> Result<Result<Change<A>, ReadFault>, IoFault>
+    requires { offset ≤ 2 ^ 62 }
+    ensures change { IfOk result (λ read. (text : List ℕ) × Consumes (R.remaining source.old.reader) (R.remaining source.new.reader) text
+        × MatchResult read (IsChangeOf Form.Dump text offset) (IsFaultOf Form.Dump text)) }
+    ensures end { OnOk result (source.old.meter.state ≡ State.Open → IsAtEnd (R.remaining source.new.reader)) }
+    ensures err { IfErr result (λ e. (e ≡ IoFault.NoMemory) ⊎ (fault_of source.new.meter.state ≡ Some e)) }
+    ensures stopped { IfErr result (λ e. StopsIn source.old.meter (R.remaining source.old.reader) (R.remaining source.new.reader) (IsRestCause e)) }
+    ensures none_left { source.old.meter.state ≡ State.Ended
+        → IfOk result (λ read. MatchResult read (IsChangeOf Form.Dump [] offset) (IsFaultOf Form.Dump [])) }
+    ensures lasting { IfSome (fault_of source.old.meter.state) (λ e. IsErrOf result e ⊎ IsErrOf result IoFault.NoMemory) }
+    ensures closed { source.old.meter.state ≢ State.Open → source.new.reader ≡ source.old.reader }
+{
+    match read_runs_from(alloc, source) {
+        Ok(Ok(runs)) => Ok(Ok(change_of_runs(runs, offset))),
+        Ok(Err(ReadFault::NoMemory)) => Err(IoFault::NoMemory),
+        Ok(Err(fault)) => Ok(Err(fault)),
+        Err(fault) => Err(fault),
+    }
+}
+
+/// The change of plain hexadecimal.
+fn plain_from<R: Read + Drop, A: Allocator + Clone>(
+    alloc: &A,
+    source: &mut Source<R>,
+    at: u64,
+) -> Result<Result<Change<A>, ReadFault>, IoFault>
+    ensures change { IfOk result (λ read. (text : List ℕ) × Consumes (R.remaining source.old.reader) (R.remaining source.new.reader) text
+        × MatchResult read (IsChangeOf Form.Plain text at) (IsFaultOf Form.Plain text)) }
+    ensures end { OnOk result (source.old.meter.state ≡ State.Open → IsAtEnd (R.remaining source.new.reader)) }
+    ensures err { IfErr result (λ e. (e ≡ IoFault.NoMemory) ⊎ (fault_of source.new.meter.state ≡ Some e)) }
+    ensures stopped { IfErr result (λ e. StopsIn source.old.meter (R.remaining source.old.reader) (R.remaining source.new.reader) (IsRestCause e)) }
+    ensures none_left { source.old.meter.state ≡ State.Ended → IfOk result (λ read. MatchResult read (IsChangeOf Form.Plain [] at) (IsFaultOf Form.Plain [])) }
+    ensures lasting { IfSome (fault_of source.old.meter.state) (λ e. IsErrOf result e ⊎ IsErrOf result IoFault.NoMemory) }
+    ensures closed { source.old.meter.state ≢ State.Open → source.new.reader ≡ source.old.reader }
+{
+    let Ok(memory) = alloc.clone() else {
+        return Err(IoFault::NoMemory);
+    };
+    match read_plain_from(memory, source) {
+        Ok(Ok(bytes)) => match change_of_bytes(alloc, bytes, at) {
+            Ok(change) => Ok(Ok(change)),
+            Err(_) => Err(IoFault::NoMemory),
+        },
+        Ok(Err(ReadFault::NoMemory)) => Err(IoFault::NoMemory),
+        Ok(Err(fault)) => Ok(Err(fault)),
+        Err(fault) => Err(fault),
+    }
+}

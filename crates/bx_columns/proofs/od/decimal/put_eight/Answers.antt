@@ -1,6 +1,0 @@
-use Rattle.std.proofs.Common.{arith, refl}
-use Rattle.bx_columns.proofs.DigitParts.{fixed_two}
-use Rattle.bx_columns.proofs.od.decimal.put_eight.Goals as goal
-
-pub returns : goal.returns
-returns c = rw (c.put_four.ensures, c.put_four-2.ensures) (fixed_two 4 4 c.args.v 10000 refl (omega arith) (omega (arith, c.requires.small)) (omega arith) (omega arith) (omega arith) (omega (arith, c.requires.small)))

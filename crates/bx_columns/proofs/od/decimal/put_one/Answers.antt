@@ -1,6 +1,0 @@
-use Rattle.std.proofs.Common.{◌∙◌}
-use Rattle.bx_columns.proofs.DigitParts.{one_digit}
-use Rattle.bx_columns.proofs.od.decimal.put_one.Goals as goal
-
-pub returns : goal.returns
-returns c = c.copy_from_slice.ensures.after ∙ one_digit c.args.v c.requires.small

@@ -1,7 +1,0 @@
-use Rattle.std.proofs.Common.{◌++◌, length-append, ◌∙◌, arith}
-use Rattle.std.proofs.lemmas.Simd.{pick_l_whole}
-use Rattle.bx_columns.proofs.od.decimal_twos.all_of.Goals as goal
-
-pub returns : goal.returns
-returns c =
-    pick_l_whole 0 (c.args.front ++ c.args.back) 32 (length-append c.args.front c.args.back ∙ omega (arith, c.fits-front.0, c.fits-back.0))

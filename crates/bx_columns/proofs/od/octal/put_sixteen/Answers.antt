@@ -1,6 +1,0 @@
-use Rattle.std.proofs.Common.{arith, refl}
-use Rattle.bx_columns.proofs.DigitParts.{octal_two}
-use Rattle.bx_columns.proofs.od.octal.put_sixteen.Goals as goal
-
-pub returns : goal.returns
-returns c = rw (c.put_eight.ensures, c.put_eight-2.ensures) (octal_two 8 8 c.args.v 16777216 refl (omega arith) (omega (arith, c.requires.small)) (omega arith) (omega arith) (omega arith) (omega (arith, c.requires.small)))

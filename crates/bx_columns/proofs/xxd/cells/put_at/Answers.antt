@@ -1,7 +1,0 @@
-use Rattle.std.proofs.Common.{◌∙◌}
-use Rattle.std.proofs.lemmas.List.{take_at}
-use Rattle.bx_columns.proofs.xxd.cells.put_at.Goals as goal
-
-pub returns-then-at-clause-text : goal.returns-then-at-clause-text
-returns-then-at-clause-text c =
-    take_at c.put_address.new.field c.split_at_mut-front.result.1.now 8 (c.put_address.auto.field ∙ c.split_at_mut-front.ensures.front_len) ∙ c.put_address.ensures

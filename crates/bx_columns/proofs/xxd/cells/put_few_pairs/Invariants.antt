@@ -1,8 +1,0 @@
-use Rattle.std.proofs.Common.{◌≡◌, ◌*◌, take}
-use Rattle.std.specs.List.{flat_map}
-use Rattle.bx_text.specs.Dump.{pair_of}
-use Rattle.bx_columns.proofs.xxd.cells.put_few_pairs.Given as goal
-
--- the digits of the bytes so far
-abbrev pub invariant-loop-i : goal.invariant-loop-i
-invariant-loop-i l = take (2 * l.i) l.cells ≡ flat_map (pair_of l.upper) (take l.i l.bytes)

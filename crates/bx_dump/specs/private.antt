@@ -1,0 +1,13 @@
+-- What the functions of this crate need among themselves.
+pub mod Dumped
+pub mod Folded
+pub mod Hexdump
+pub mod OdDump
+pub mod Pages
+pub mod Rows
+pub mod Runs
+pub mod Scan
+pub mod Strings
+pub mod Styles
+pub mod Xxd
+pub mod XxdDump

@@ -1,0 +1,6 @@
+use Rattle.std.proofs.Common.{arith, refl}
+use Rattle.bx_dump_columns.proofs.DigitParts.{fixed_two}
+use Rattle.bx_dump_columns.proofs.od.decimal.put_four.Goals as goal
+
+pub returns : goal.returns
+returns c = rw (c.put_two.ensures, c.put_two-2.ensures) (fixed_two 2 2 c.args.v 100 refl (omega arith) (omega (arith, c.requires.small)) (omega arith) (omega arith) (omega arith) (omega (arith, c.requires.small)))

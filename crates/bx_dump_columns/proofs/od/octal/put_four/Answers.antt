@@ -1,0 +1,6 @@
+use Rattle.std.proofs.Common.{arith, refl}
+use Rattle.bx_dump_columns.proofs.DigitParts.{octal_two}
+use Rattle.bx_dump_columns.proofs.od.octal.put_four.Goals as goal
+
+pub returns : goal.returns
+returns c = rw (c.put_pair.ensures, c.put_pair-2.ensures) (octal_two 2 2 c.args.v 64 refl (omega arith) (omega (arith, c.requires.small)) (omega arith) (omega arith) (omega arith) (omega (arith, c.requires.small)))

@@ -1,0 +1,34 @@
+use Rattle.std.proofs.Common.{arith}
+use Rattle.bx_dump_columns.proofs.PlaceLemmas.{count_is, one_is}
+use Rattle.bx_dump_columns.proofs.strings.places.hexadecimal_len.Goals as goal
+
+pub returns-in_default : goal.returns-in_default
+returns-in_default c = one_is 16 (omega arith) c.args.v (omega (arith, c.in_default))
+
+pub returns-in-16-to-4294967295 : goal.returns-in-16-to-4294967295
+returns-in-16-to-4294967295 c =
+    count_is 16 (omega arith) 1 63 c.args.v (omega arith) (omega arith) (omega arith) (omega (arith, c.ranges.v.fits)) (omega arith) (omega (arith, c.ranges.v.fits, c.in-16-to-4294967295)) (omega (arith, c.in-16-to-4294967295))
+
+pub returns-in-256-to-4294967295 : goal.returns-in-256-to-4294967295
+returns-in-256-to-4294967295 c =
+    count_is 16 (omega arith) 2 62 c.args.v (omega arith) (omega arith) (omega arith) (omega (arith, c.ranges.v.fits)) (omega arith) (omega (arith, c.ranges.v.fits, c.in-256-to-4294967295)) (omega (arith, c.in-256-to-4294967295))
+
+pub returns-in-4096-to-4294967295 : goal.returns-in-4096-to-4294967295
+returns-in-4096-to-4294967295 c =
+    count_is 16 (omega arith) 3 61 c.args.v (omega arith) (omega arith) (omega arith) (omega (arith, c.ranges.v.fits)) (omega arith) (omega (arith, c.ranges.v.fits, c.in-4096-to-4294967295)) (omega (arith, c.in-4096-to-4294967295))
+
+pub returns-in-65536-to-4294967295 : goal.returns-in-65536-to-4294967295
+returns-in-65536-to-4294967295 c =
+    count_is 16 (omega arith) 4 60 c.args.v (omega arith) (omega arith) (omega arith) (omega (arith, c.ranges.v.fits)) (omega arith) (omega (arith, c.ranges.v.fits, c.in-65536-to-4294967295)) (omega (arith, c.in-65536-to-4294967295))
+
+pub returns-in-1048576-to-4294967295 : goal.returns-in-1048576-to-4294967295
+returns-in-1048576-to-4294967295 c =
+    count_is 16 (omega arith) 5 59 c.args.v (omega arith) (omega arith) (omega arith) (omega (arith, c.ranges.v.fits)) (omega arith) (omega (arith, c.ranges.v.fits, c.in-1048576-to-4294967295)) (omega (arith, c.in-1048576-to-4294967295))
+
+pub returns-in-16777216-to-4294967295 : goal.returns-in-16777216-to-4294967295
+returns-in-16777216-to-4294967295 c =
+    count_is 16 (omega arith) 6 58 c.args.v (omega arith) (omega arith) (omega arith) (omega (arith, c.ranges.v.fits)) (omega arith) (omega (arith, c.ranges.v.fits, c.in-16777216-to-4294967295)) (omega (arith, c.in-16777216-to-4294967295))
+
+pub returns-in-268435456-to-4294967295 : goal.returns-in-268435456-to-4294967295
+returns-in-268435456-to-4294967295 c =
+    count_is 16 (omega arith) 7 57 c.args.v (omega arith) (omega arith) (omega arith) (omega (arith, c.ranges.v.fits)) (omega arith) (omega (arith, c.ranges.v.fits, c.in-268435456-to-4294967295)) (omega (arith, c.in-268435456-to-4294967295))

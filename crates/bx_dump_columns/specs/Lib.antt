@@ -1,0 +1,10 @@
+pub mod Lines
+pub mod Cells
+pub mod Values
+pub mod Places
+pub mod Names
+pub mod Bits
+pub mod Decimal
+pub mod Emitting
+pub mod Hexdump
+pub mod Printing

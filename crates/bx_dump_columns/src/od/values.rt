@@ -1,0 +1,191 @@
+//! The values of a line.
+ghost use Rattle.std.specs.Prelude.{◌≡◌, ℕ, ◌+◌, ◌-◌, ◌*◌, ◌^◌, ◌<◌, ◌≤◌, ◌∷◌, length, take, drop, min};
+ghost use Rattle.bx_dump_columns.specs.Lines.{in_lines};
+ghost use Rattle.bx_dump_columns.specs.Values.{value_of, width_of, field_text, field_width, value_text, values_text};
+
+use crate::od::byte_tables::char_of;
+use crate::od::decimal_fours::{put_signed_fours, put_unsigned_fours};
+use crate::od::decimal_twos::{put_signed_twos, put_unsigned_twos};
+use crate::od::fixed::put_cell;
+use crate::od::hexadecimal::put_hexadecimal_line;
+use crate::od::octal_lanes::put_octal_twos;
+use crate::od::options::{Kind, NumForm, Size};
+
+/// The value of bytes, the lowest first (little-endian).
+#[inline(always)]
+fn value_of(bytes: &[u8]) -> u64
+    requires { length bytes.now ≤ 8 }
+    ensures value { result ≡ value_of bytes.now }
+    ensures below { result < 256 ^ length bytes.now }
+{
+    if let Some(all) = bytes.first_chunk::<8>() {
+        return u64::from_le_bytes(*all);
+    }
+    if bytes.len() == 4
+        && let Some(all) = bytes.first_chunk::<4>()
+    {
+        return u32::from_le_bytes(*all) as u64;
+    }
+    let mut at = bytes.len();
+    let mut value = 0u64;
+    while at > 0 {
+        at -= 1;
+        value = 256 * value + bytes[at] as u64;
+    }
+    value
+}
+
+/// Puts a space and the field for the bytes of one value.
+#[inline(always)]
+fn put_value(text: &mut [u8], kind: Kind, bytes: &[u8])
+    requires room { length text.old ≡ field_width kind + 1 }
+    requires fits { length bytes.now ≤ width_of kind }
+    ensures { text.new ≡ 32 ∷ field_text kind (value_of bytes.now) }
+{
+    let value = value_of(bytes);
+    match kind {
+        Kind::Chars => text.copy_from_slice(&char_of(value as u8)),
+        Kind::Number { form, size } => put_cell(text, form, size, value),
+    }
+}
+
+/// Puts the value that begins at place `begin` of the bytes, and answers how long its text is.
+#[inline(always)]
+fn put_next(text: &mut [u8], kind: Kind, bytes: &[u8], begin: usize) -> usize
+    requires room { field_width kind + 1 ≤ length text.old }
+    requires inside { begin < length bytes.now }
+    requires few { length bytes.now ≤ 16 }
+    ensures value { result ≡ field_width kind + 1 }
+    ensures text { take result text.new ≡ value_text kind (0 + begin) (take (min (begin + width_of kind) (length bytes.now) - begin) (drop begin bytes.now)) }
+{
+    let end = (begin + kind.width()).min(bytes.len());
+    let (value, _) = text.split_at_mut(kind.field() + 1);
+    put_value(value, kind, &bytes[begin..end]);
+    kind.field() + 1
+}
+
+/// Puts the values of a line, and answers how long their text is.
+#[inline(always)]
+fn put_values(text: &mut [u8], kind: Kind, bytes: &[u8]) -> usize
+    requires room { 80 ≤ length text.old }
+    requires few { length bytes.now ≤ 16 }
+    ensures most { result ≤ 80 }
+    ensures text { take result text.new ≡ in_lines (value_text kind) (width_of kind) 0 bytes.now }
+{
+    let width = kind.width();
+    let count = (bytes.len() + width - 1) / width;
+    let mut used = 0;
+    for k in 0..count {
+        used += put_next(&mut text[used..], kind, bytes, width * k);
+    }
+    used
+}
+
+/// Puts the value whose bytes are all there, from place `begin` on, and answers how long its text is.
+#[inline(always)]
+fn put_exact(text: &mut [u8], kind: Kind, bytes: &[u8], begin: usize) -> usize
+    requires room { field_width kind + 1 ≤ length text.old }
+    requires inside { begin + width_of kind ≤ length bytes.now }
+    ensures value { result ≡ field_width kind + 1 }
+    ensures text { take result text.new ≡ value_text kind (0 + begin) (take (min (begin + width_of kind) (length bytes.now) - begin) (drop begin bytes.now)) }
+{
+    let end = begin + kind.width();
+    let (value, _) = text.split_at_mut(kind.field() + 1);
+    put_value(value, kind, &bytes[begin..end]);
+    kind.field() + 1
+}
+
+/// Puts the values of a full line, and answers how long their text is.
+#[inline(always)]
+fn put_whole(text: &mut [u8], kind: Kind, bytes: &[u8]) -> usize
+    requires room { 80 ≤ length text.old }
+    requires full { length bytes.now ≡ 16 }
+    ensures most { result ≤ 80 }
+    ensures text { take result text.new ≡ in_lines (value_text kind) (width_of kind) 0 bytes.now }
+{
+    let width = kind.width();
+    let count = (bytes.len() + width - 1) / width;
+    let mut used = 0;
+    for k in 0..count {
+        used += put_exact(&mut text[used..], kind, bytes, width * k);
+    }
+    used
+}
+
+/// Puts the numbers of a full line, with a loop of its own for each size.
+#[inline(always)]
+fn put_sized(text: &mut [u8], form: NumForm, size: Size, bytes: &[u8; 16]) -> usize
+    requires room { 80 ≤ length text.old }
+    ensures most { result ≤ 80 }
+    ensures text { take result text.new ≡ values_text (Kind.Number form size) bytes.now }
+{
+    match size {
+        Size::One => put_whole(
+            text,
+            Kind::Number {
+                form,
+                size: Size::One,
+            },
+            bytes,
+        ),
+        Size::Two => put_whole(
+            text,
+            Kind::Number {
+                form,
+                size: Size::Two,
+            },
+            bytes,
+        ),
+        Size::Four => put_whole(
+            text,
+            Kind::Number {
+                form,
+                size: Size::Four,
+            },
+            bytes,
+        ),
+        Size::Eight => put_whole(
+            text,
+            Kind::Number {
+                form,
+                size: Size::Eight,
+            },
+            bytes,
+        ),
+    }
+}
+
+/// Puts the values of a full line.
+pub fn put_full(text: &mut [u8], kind: Kind, bytes: &[u8; 16]) -> usize
+    requires room { 80 ≤ length text.old }
+    ensures most { result ≤ 80 }
+    ensures text { take result text.new ≡ in_lines (value_text kind) (width_of kind) 0 bytes.now }
+{
+    match kind {
+        Kind::Chars => put_whole(text, Kind::Chars, bytes),
+        Kind::Number { form, size } => match form {
+            NumForm::Signed if size == Size::Two => put_signed_twos(text, bytes),
+            NumForm::Signed if size == Size::Four => put_signed_fours(text, bytes),
+            NumForm::Signed => put_sized(text, NumForm::Signed, size, bytes),
+            NumForm::Octal if size == Size::Two => put_octal_twos(text, bytes),
+            NumForm::Octal => put_sized(text, NumForm::Octal, size, bytes),
+            NumForm::Unsigned if size == Size::Two => put_unsigned_twos(text, bytes),
+            NumForm::Unsigned if size == Size::Four => put_unsigned_fours(text, bytes),
+            NumForm::Unsigned => put_sized(text, NumForm::Unsigned, size, bytes),
+            NumForm::Hexadecimal => put_hexadecimal_line(text, size, bytes),
+        },
+    }
+}
+
+/// Puts the values of a line that may be short.
+pub fn put_any(text: &mut [u8], kind: Kind, bytes: &[u8]) -> usize
+    requires room { 80 ≤ length text.old }
+    requires few { length bytes.now ≤ 16 }
+    ensures most { result ≤ 80 }
+    ensures text { take result text.new ≡ in_lines (value_text kind) (width_of kind) 0 bytes.now }
+{
+    match bytes.first_chunk::<16>() {
+        Some(full) => put_full(text, kind, full),
+        None => put_values(text, kind, bytes),
+    }
+}

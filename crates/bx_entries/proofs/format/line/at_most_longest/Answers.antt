@@ -1,5 +1,0 @@
-use Rattle.std.proofs.Common.{rules}
-use Rattle.bx_entries.proofs.format.line.at_most_longest.Goals as goal
-
-pub returns-then-n-le-MAX_LEN : goal.returns-then-n-le-MAX_LEN
-returns-then-n-le-MAX_LEN c = search rules

@@ -1,5 +1,0 @@
-use Rattle.bx_entries.proofs.GrammarLemmas.{journal_has_form}
-use Rattle.bx_entries.proofs.laws.journal_has_form.Goals as goal
-
-pub returns : goal.returns
-returns c = journal_has_form

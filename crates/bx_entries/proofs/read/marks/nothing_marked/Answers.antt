@@ -1,5 +1,0 @@
-use Rattle.bx_entries.proofs.MarkLemmas.{marked_none}
-use Rattle.bx_entries.proofs.read.marks.nothing_marked.Goals as goal
-
-pub returns : goal.returns
-returns c = marked_none c.nothing_summed.result c.nothing_summed.ensures

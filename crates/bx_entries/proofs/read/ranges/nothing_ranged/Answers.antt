@@ -1,5 +1,0 @@
-use Rattle.bx_entries.proofs.RangeSteps.{none_ranged}
-use Rattle.bx_entries.proofs.read.ranges.nothing_ranged.Goals as goal
-
-pub returns-clause-ranged : goal.returns-clause-ranged
-returns-clause-ranged c = none_ranged

@@ -1,6 +1,0 @@
-use Rattle.std.proofs.Common.{false}
-use Rattle.bx_entries.proofs.SumLemmas.{summed_none}
-use Rattle.bx_entries.proofs.read.rows.nothing_summed.Goals as goal
-
-pub returns : goal.returns
-returns c = summed_none c.no_entries.result (c.no_entries.ensures.tallied false)

@@ -1,6 +1,0 @@
-use Rattle.std.proofs.Common.{Some}
-use Rattle.bx_entries.proofs.ReadLemmas.{told-last}
-use Rattle.bx_entries.proofs.read.take_line.told_length.Goals as goal
-
-pub returns : goal.returns
-returns g c = told-last c.args.entries.now (Some c.in_ok-last.last.now) c.in_ok-last.ensures.value

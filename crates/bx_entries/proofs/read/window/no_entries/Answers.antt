@@ -1,5 +1,0 @@
-use Rattle.bx_entries.proofs.TallyLemmas.{tallied_none}
-use Rattle.bx_entries.proofs.read.window.no_entries.Goals as goal
-
-pub returns-clause-tallied : goal.returns-clause-tallied
-returns-clause-tallied c only = tallied_none only

@@ -1,3 +1,0 @@
-pub mod XxdRows
-pub mod XxdReverts
-pub mod BehindLemmas

@@ -1,4 +1,0 @@
--- What no public contract names.
-pub mod CopyOut
-pub mod JobDump
-pub mod JobBehind

@@ -1,0 +1,10 @@
+use Rattle.std.proofs.Common.{arith}
+use Rattle.bx_journal_protocol.proofs.StepSurvivors.{left_of}
+use Rattle.bx_journal.proofs.forget.empty_text.Goals as goal
+
+pub returns-in_err-cut-clause-survives : goal.returns-in_err-cut-clause-survives
+returns-in_err-cut-clause-survives g c honest only = left_of _ 0 _ _ (omega arith) only (c.in_err-cut.ensures.fades honest)
+
+pub returns-clause-survives : goal.returns-clause-survives
+returns-clause-survives g c honest only y there =
+    left_of _ 0 _ _ (omega arith) only (c.in_ok-cut.ensures.fades honest) y (c.sync.ensures.survives (c.in_ok-cut.ensures.goes_on.honesty.1 honest) y there)

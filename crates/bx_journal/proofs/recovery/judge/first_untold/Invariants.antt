@@ -1,6 +1,0 @@
-use Rattle.std.proofs.Common.{take}
-use Rattle.bx_scan.specs.inner.Judging.{AllTold}
-use Rattle.bx_journal.proofs.recovery.judge.first_untold.Given as goal
-
-abbrev pub invariant-loop-entry : goal.invariant-loop-entry
-invariant-loop-entry g l = AllTold (take l.entry-index l.entries)

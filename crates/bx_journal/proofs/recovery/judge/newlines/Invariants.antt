@@ -1,9 +1,0 @@
-use Rattle.std.proofs.Common.{◌≡◌, ◌≤◌, length, take}
-use Rattle.bx_entries.specs.Text.{split}
-use Rattle.bx_journal.proofs.recovery.judge.newlines.Given as goal
-
-abbrev pub invariant-loop-byte : goal.invariant-loop-byte
-invariant-loop-byte l = record {
-  counted : l.count ≡ length (split (take l.byte-index l.text)).lines;
-  most : l.count ≤ l.byte-index;
-}

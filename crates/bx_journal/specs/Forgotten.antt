@@ -1,0 +1,130 @@
+-- Forgetting: all changes are accepted, and the history is dropped.
+use Rattle.std.specs.Prelude.{◌≡◌, ◌⊎◌, ℕ, List, [], ◌∷◌, Result, Ok, Err, IfOk, IfErr, MatchResult}
+use Rattle.bx_image.specs.Power.{AllFade, Only}
+use Rattle.bx_image.specs.declared.device.Device.{Ghosts as DeviceViews}
+use Rattle.bx_journal_store.specs.Store.{IsPartlyCut}
+use Rattle.bx_journal_store.specs.declared.store.TextStore.{Ghosts as StoreViews}
+use Rattle.bx_journal_protocol.specs.declared.devices.Devices.{Devices}
+use Rattle.bx_journal_protocol.specs.model.Performing.{FindsBehind}
+use Rattle.bx_journal_protocol.specs.model.Power.{Found, Survive}
+use Rattle.bx_journal_protocol.specs.model.Session.{HasUndone, IsReady, SessionFinds}
+use Rattle.bx_journal_protocol.specs.model.SessionView.{SessionView}
+use Rattle.bx_journal_protocol.specs.model.Standing.{IsStanding}
+use Rattle.bx_journal_protocol.specs.protocol.Written.{AreSettled}
+use Rattle.bx_journal_read.specs.declared.fault.SessionFault.{SessionFault}
+use Rattle.bx_journal_read.specs.declared.fault.SessionFault.TheVariants.{Broken, DeviceFailed, Interrupted}
+use Rattle.bx_journal_read.specs.model.Calls.{AfterFault}
+use Rattle.bx_journal_read.specs.model.Images.{Images}
+use Rattle.bx_journal_read.specs.model.Machine.{changes_of, top}
+use Rattle.bx_journal_read.specs.model.Phase.{IsAtRest}
+use Rattle.bx_journal_read.specs.model.Redo.{IsRedoOf}
+use Rattle.bx_journal.specs.Losses.{emptied}
+
+-- the newest image alone
+abbrev pub alone : List (List ℕ) → List (List ℕ)
+alone stack = top stack ∷ []
+
+-- the images behind forgetting: the newest alone, and nothing undone
+abbrev pub forgotten : Images → Images
+forgotten s = record { stack = alone s.stack; undone = [] }
+
+-- forgetting: the answer is how many changes stood
+abbrev pub ForgetStep : List (List ℕ) → Result ℕ SessionFault → List (List ℕ) → Type 0
+ForgetStep old (Ok n) new = (n ≡ changes_of old) × (new ≡ alone old)
+ForgetStep old (Err e) new = ⊥
+
+-- which fault forgetting may answer
+abbrev pub ForgetFault : SessionFault → Type 0
+ForgetFault Broken = Unit {0}
+ForgetFault DeviceFailed = Unit {0}
+ForgetFault Interrupted = Unit {0}
+ForgetFault e = ⊥
+
+-- which fault forgetting may answer without a session
+abbrev pub ForgetDevicesFault : SessionFault → Type 0
+ForgetDevicesFault DeviceFailed = Unit {0}
+ForgetDevicesFault Interrupted = Unit {0}
+ForgetDevicesFault e = ⊥
+
+-- what a text is that was to be emptied, where a cut to nothing is never found half made: as it was, or empty
+abbrev pub IsWhole : List ℕ → List ℕ → Type 0
+IsWhole old new = (new ≡ old) ⊎ (new ≡ [])
+
+-- an image alone, with nothing undone
+abbrev pub only : List ℕ → Images
+only x = record { stack = x ∷ []; undone = [] }
+
+-- it holds of the old images, of the same with nothing undone, or of those that are left
+abbrev pub OfSome : Images → Images → (Images → Type 0) → Type 0
+OfSome s left Holds = Holds s ⊎ (Holds (emptied s) ⊎ Holds left)
+
+-- What a call that was stopped leaves of both texts: fronts, and of the journal all, unless the redo text is empty
+pub record LeavesTexts (journal redo journal_new redo_new : List ℕ) : Type 0 where
+  pub journal_part : IsPartlyCut 0 journal journal_new
+  pub redo_part : IsPartlyCut 0 redo redo_new
+  pub redo_first : (journal_new ≡ journal) ⊎ (redo_new ≡ [])
+
+-- And what is found of them after a loss of power
+pub record FadesInOrder (journal redo : List ℕ) (survives redo_survives : List ℕ → Type 0) : Type 0 where
+  pub journal_part : AllFade 0 journal survives
+  pub redo_part : AllFade 0 redo redo_survives
+  pub redo_first : Only journal survives ⊎ Only [] redo_survives
+
+-- Of sessions whose device has an image, given by `image`, and whose stores have a text, given by `text`.
+module _ {D T : Type 0} (image : D → List ℕ) (text : T → List ℕ) where
+  -- where it is accepted, the machine makes its step from the stack for which the session stands
+  abbrev pub ForgetsStack : SessionView D T → SessionView D T → Result ℕ SessionFault → Type 0
+  ForgetsStack old new result = (stack : List (List ℕ)) → IsStanding image text old stack →
+      IfOk result (λ n. ForgetStep stack (Ok n) (alone stack) × IsStanding image text new (alone stack))
+
+  -- behind an interruption, where no text was cut in part, opening finds the old images, the same with nothing undone, or the newest alone
+  abbrev pub FindsForgotten : {V : Type 0} → SessionView D T → SessionView D T → Result V SessionFault → Type 0
+  FindsForgotten old new = FindsBehind image text old (λ s.
+      IsWhole (text old.journal) (text new.journal) → IsWhole (text old.redo) (text new.redo) → OfSome s (forgotten s) (SessionFinds image text new))
+
+-- Of sessions whose devices lose what wasn't put on the disk.
+module _ {D T : Type 0} (d : DeviceViews D) (t : StoreViews T) where
+  -- behind a loss of power: the image as it was, and of the texts what is left where the redo text is emptied first
+  pub record KeepsImage (old new : SessionView D T) : Type 0 where
+    pub image : Only (d.image old.image) (d.survives new.image)
+    pub texts : FadesInOrder (t.text old.journal) (t.text old.redo) (t.survives new.journal) (t.survives new.redo)
+
+  -- the newest image alone where it was accepted, and behind an interruption, where no text is found cut in part, the old images, the same with
+  -- nothing undone, or the newest alone
+  abbrev pub ForgettingSurvives : SessionView D T → SessionView D T → Result ℕ SessionFault → Type 0
+  ForgettingSurvives old new result = (s : Images) → IsReady d.image t.text old s.stack → HasUndone d.image t.text old s.undone →
+      MatchResult result
+      (λ n. Survive d.image d.survives t.text t.survives new (λ text x redo. Found text x redo (forgotten s)))
+      (λ e. AfterFault e (Survive d.image d.survives t.text t.survives new (λ text x redo.
+      IsWhole (t.text old.journal) text → IsWhole (t.text old.redo) redo → OfSome s (forgotten s) (Found text x redo))) (Unit {0}))
+
+-- behind an interruption both texts are fronts of what they were
+abbrev pub HaveLost : {D T : Type 0} → StoreViews T → Devices D T → Devices D T → Type 0
+HaveLost t old new = LeavesTexts (t.text old.journal) (t.text old.redo) (t.text new.journal) (t.text new.redo)
+
+-- Where no text of three is cut in part, opening finds the images that it found in the three before, the same with nothing undone, or the old
+-- image alone
+abbrev pub IsFoundInPart : {D T : Type 0} → DeviceViews D → StoreViews T → Devices D T → Images → List ℕ → List ℕ → List ℕ → Type 0
+IsFoundInPart d t old s text x redo =
+    IsWhole (t.text old.journal) text → IsWhole (t.text old.redo) redo → OfSome s (only (d.image old.image)) (Found text x redo)
+
+-- Of three devices, whatever their texts are.
+module _ {D T : Type 0} (d : DeviceViews D) (t : StoreViews T) where
+  -- both texts are empty, with the image they stand for it alone, with nothing undone, and all three are on the disk
+  pub record AreAlone (x : List ℕ) (new : Devices D T) : Type 0 where
+    pub journal : t.text new.journal ≡ []
+    pub redo : t.text new.redo ≡ []
+    pub rest : IsAtRest (t.text new.journal) (d.image new.image) (x ∷ [])
+    pub undone : IsRedoOf (t.text new.redo) (d.image new.image) 0 []
+    pub settled : AreSettled d t new
+
+  -- behind a loss of power: the image as it was, and of the texts what is left where the redo text is emptied first
+  pub record KeepImage (old new : Devices D T) : Type 0 where
+    pub image : Only (d.image old.image) (d.survives new.image)
+    pub texts : FadesInOrder (t.text old.journal) (t.text old.redo) (t.survives new.journal) (t.survives new.redo)
+
+  -- what is found behind an interruption, and behind a loss of power
+  abbrev pub ForgetsInPart : {V : Type 0} → Devices D T → Devices D T → Result V SessionFault → Type 0
+  ForgetsInPart old new result = (s : Images) → Found (t.text old.journal) (d.image old.image) (t.text old.redo) s → IfErr result (λ e. AfterFault e
+      (IsFoundInPart d t old s (t.text new.journal) (d.image new.image) (t.text new.redo) × ((x text redo : List ℕ) → d.survives new.image x
+      → t.survives new.journal text → t.survives new.redo redo → IsFoundInPart d t old s text x redo)) (Unit {0}))

@@ -1,4 +1,0 @@
--- What no public contract names.
-pub mod Recovering
-pub mod RedoFound
-pub mod Rows

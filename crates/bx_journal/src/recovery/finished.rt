@@ -1,0 +1,141 @@
+//! Opening beside a journal of committed entries alone: the redo text is read and judged.
+ghost use Rattle.std.specs.Prelude.{◌≡◌, ◌↔◌, ◌+◌, ◌<◌, ◌≤◌, ℕ, OnOk, IfOk, IfErr, IfSome, MatchResult};
+ghost use Rattle.bx_journal_read.specs.model.Opening.{RefusesLength};
+ghost use Rattle.bx_image.specs.Power.{NoMore};
+ghost use Rattle.bx_journal_read.specs.scan.Looking.{FaultCounts, LooksAt};
+ghost use Rattle.bx_journal_read.specs.model.Fault.{LacksOrFails};
+ghost use Rattle.bx_journal_read.specs.scan.Recovery.{FaultBeside, HasOtherLength, HasToldLength, RefusesBeside, TellsCount};
+ghost use Rattle.bx_journal.specs.private.RedoFound.{IsRedoCountedIn, IsRedoIn};
+
+use crate::recovery::length::check_length;
+use crate::recovery::redo::{RedoFound, judge_redo};
+use bx_image::Device;
+use bx_journal_format::{Counted, MOST_CHANGES};
+use bx_journal_read::{
+    CountedText, How, Recovered, SessionFault, count_text, of_text, text_damage,
+};
+use bx_journal_store::TextStore;
+use std::alloc::Allocator;
+
+/// Counts the entries of the redo text, where it is one beside this many changes. It changes nothing.
+fn count_redo<T: TextStore, A: Allocator + Clone>(
+    alloc: &A,
+    redo: &mut T,
+    changes: u32,
+) -> Result<Option<CountedText>, SessionFault>
+    requires countable { T.failures redo.old < u64.MAX }
+    requires few { changes ≤ 65535 }
+    ensures counted { IfOk result (λ found. IfSome found (IsRedoCountedIn (T.honest redo.old) (T.text redo.old) changes)) }
+    ensures fault { IfErr result LacksOrFails }
+    ensures looks { LooksAt T.honest T.text T.failures result redo.old redo.new }
+    ensures found_before { T.honest redo.old → NoMore (T.survives redo.old) (T.survives redo.new) }
+{
+    let found = match count_text(alloc, redo, true) {
+        Ok(found) => found,
+        Err(fault) => return Err(fault),
+    };
+    let Some(text) = found else {
+        return Ok(None);
+    };
+    if text.counted.count > MOST_CHANGES - changes {
+        return Ok(None);
+    }
+    Ok(Some(text))
+}
+
+/// What a redo text is that wasn't counted: the line at which it is damaged is found in windows, and only where it isn't found so the text is
+/// read whole. It changes nothing.
+fn read_redo<T: TextStore, A: Allocator + Clone>(
+    alloc: &A,
+    redo: &mut T,
+    changes: u32,
+) -> Result<RedoFound<A>, SessionFault>
+    requires countable { T.failures redo.old < u64.MAX }
+    ensures found { IfOk result (IsRedoIn (T.honest redo.old) (T.text redo.old) changes) }
+    ensures fault { IfErr result LacksOrFails }
+    ensures looks { LooksAt T.honest T.text T.failures result redo.old redo.new }
+    ensures found_before { T.honest redo.old → NoMore (T.survives redo.old) (T.survives redo.new) }
+{
+    let damage = match text_damage(alloc, redo) {
+        Ok(damage) => damage,
+        Err(fault) => return Err(fault),
+    };
+    if let Some(line) = damage {
+        return Ok(RedoFound::Damaged { line });
+    }
+    match redo.read_all(alloc.clone()?) {
+        Ok(bytes) => Ok(RedoFound::Text(bytes)),
+        Err(fault) => Err(of_text(fault)),
+    }
+}
+
+/// What the redo text is beside this many changes: counted in windows, and read otherwise only where it isn't counted so. It
+/// changes nothing.
+fn find_redo<T: TextStore, A: Allocator + Clone>(
+    alloc: &A,
+    redo: &mut T,
+    changes: u32,
+) -> Result<RedoFound<A>, SessionFault>
+    requires countable { T.failures redo.old < u64.MAX }
+    requires few { changes ≤ 65535 }
+    ensures found { IfOk result (IsRedoIn (T.honest redo.old) (T.text redo.old) changes) }
+    ensures fault { IfErr result LacksOrFails }
+    ensures looks { LooksAt T.honest T.text T.failures result redo.old redo.new }
+    ensures found_before { T.honest redo.old → NoMore (T.survives redo.old) (T.survives redo.new) }
+{
+    let counted = match count_redo(alloc, redo, changes) {
+        Ok(counted) => counted,
+        Err(fault) => return Err(fault),
+    };
+    if let Some(text) = counted {
+        return Ok(RedoFound::Counted(text));
+    }
+    read_redo(alloc, redo, changes)
+}
+
+/// Compares the image's length with the one that the last finished entry tells, and judges the redo text. Nothing is
+/// changed.
+pub fn open_finished<D: Device, T: TextStore, A: Allocator + Clone>(
+    alloc: &A,
+    image: &mut D,
+    redo: &mut T,
+    found: Counted,
+) -> Result<Recovered, SessionFault>
+    requires image_countable { D.failures image.old < u64.MAX }
+    requires redo_countable { T.failures redo.old < u64.MAX }
+    requires few { found.count ≤ 65535 }
+    ensures clean { IfOk result (λ o. (o.how ≡ How.Clean) × (o.changes ≡ found.count)) }
+    ensures same_length { D.honest image.old → OnOk result (HasToldLength found.told (D.image image.old)) }
+    ensures undone { D.honest image.old → T.honest redo.old → TellsCount (T.text redo.old) (D.image image.old) found.count result }
+    ensures sum { IfOk result (λ o. o.changes + o.undone ≤ 65535) }
+    ensures fault { IfErr result (FaultBeside (D.honest image.old) (T.honest redo.old)
+        (T.text redo.old) (D.image image.old) found.count found.told) }
+    ensures differs { D.honest image.old → (n : ℕ) → HasOtherLength found.told (D.image image.old) n → MatchResult result (λ _. ⊥) (RefusesLength n) }
+    ensures unfit { D.honest image.old → T.honest redo.old
+        → RefusesBeside (T.text redo.old) (D.image image.old) found.count found.told result }
+    ensures image { D.honest image.old → D.image image.new ≡ D.image image.old }
+    ensures redo_same { T.honest redo.old → T.text redo.new ≡ T.text redo.old }
+    ensures image_before { D.honest image.old → NoMore (D.survives image.old) (D.survives image.new) }
+    ensures redo_before { T.honest redo.old → NoMore (T.survives redo.old) (T.survives redo.new) }
+    ensures image_honesty { D.honest image.new ↔ D.honest image.old }
+    ensures redo_honesty { T.honest redo.new ↔ T.honest redo.old }
+    ensures no_failure { OnOk result ((D.failures image.new ≡ D.failures image.old) × (T.failures redo.new ≡ T.failures redo.old)) }
+    ensures counts { IfErr result (λ e. FaultCounts e (D.failures image.old) (T.failures redo.old) (D.failures image.new) (T.failures redo.new)) }
+{
+    let text = match find_redo(alloc, redo, found.count) {
+        Ok(text) => text,
+        Err(fault) => return Err(fault),
+    };
+    if let Err(fault) = check_length(image, found.told) {
+        return Err(fault);
+    }
+    let undone = match judge_redo(alloc, image, text, found.count) {
+        Ok(undone) => undone,
+        Err(fault) => return Err(fault),
+    };
+    Ok(Recovered {
+        how: How::Clean,
+        changes: found.count,
+        undone,
+    })
+}

@@ -1,0 +1,14 @@
+-- Lines of a dump as runs, without their newlines.
+use Rattle.std.specs.Prelude.{ℕ, List, Option}
+use Rattle.std.specs.Option.{option_map}
+use Rattle.bx_read.specs.Line.{line_piece}
+use Rattle.bx_read.specs.Laws.{line_text}
+use Rattle.bx_journal_format.specs.Kept.{Run}
+
+-- xxd's default line for at most 16 bytes
+unfoldable pub dump_line : ℕ → List ℕ → List ℕ
+dump_line at bytes = line_text at bytes
+
+-- what a line gives, if it is a line of a dump
+unfoldable pub piece_of : List ℕ → Option Run
+piece_of line = option_map (λ read. record { at = read.0; bytes = read.1 }) (line_piece line)

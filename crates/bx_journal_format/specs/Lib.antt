@@ -1,0 +1,16 @@
+pub mod DumpLine
+pub mod Kept
+pub mod Entry
+pub mod Hex
+pub mod Line
+pub mod Parsed
+pub mod Text
+pub mod Finished
+pub mod Spelled
+pub mod Ranges
+pub mod Grammar
+pub mod Shown
+pub mod Fault
+pub mod Form
+pub mod count
+pub mod read

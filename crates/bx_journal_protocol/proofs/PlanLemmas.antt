@@ -1,0 +1,164 @@
+-- What some undos take before their first write: the places of their entries, what is overwritten, and records of zeros.
+use Rattle.std.proofs.Common.{◌≡◌, ℕ, zero, suc, ◌+◌, ◌-◌, ◌<◌, ◌≤◌, List, [], ◌∷◌, ◌++◌, length, length-append, length-take, take, drop, map, refl, ap, sym, ◌∙◌, subst, arith, Result, Ok, Err}
+use Rattle.std.specs.Prelude.{reverse, slice_index_or, OnOk}
+use Rattle.std.specs.List.{All}
+use Rattle.std.proofs.lemmas.List.{take_more, length-reverse, reverse-append, take-append-drop}
+use Rattle.bx_image.specs.declared.record.Saved.{Saved}
+use Rattle.bx_image.specs.Image.{zeros}
+use Rattle.bx_image.specs.Over.{saved_over, LieWithin}
+use Rattle.bx_image.specs.Runs.{LieBelow}
+use Rattle.bx_image.proofs.FillLemmas.{length-zeros}
+use Rattle.bx_journal_format.specs.Kept.{kept_of}
+use Rattle.bx_journal_format.specs.Text.{Entry, split}
+use Rattle.bx_journal_format.specs.declared.read.types.EntryRead.{EntryRead}
+use Rattle.bx_journal_format.specs.count.Mark.{HasMarks}
+use Rattle.bx_journal_format.specs.Parsed.{entry_of, AreMarked}
+use Rattle.bx_journal_protocol.specs.declared.protocol.undo_entry.Placed.{Placed}
+use Rattle.bx_journal_protocol.specs.declared.before.overwritten.Overwritten.{Overwritten}
+use Rattle.bx_journal_protocol.specs.before.Overwritten.{AreAllWithin, AreOrdered, AreOverwritten, HaveZeros, IsOrdered, IsOverwritten, place_in}
+use Rattle.bx_journal_protocol.specs.protocol.Placed.{AllFit, ArePlaced, IsPlaced}
+use Rattle.bx_journal_read.specs.scan.Restoring.{AllShorter, StandsAt}
+use Rattle.bx_journal_protocol.specs.protocol.Takens.{AreZeros, IsZeros, length_at}
+use Rattle.bx_journal_read.specs.scan.Windows.{HasShortLines}
+use Rattle.bx_journal_read.proofs.StandLemmas.{stands_of}
+use Rattle.bx_journal_protocol.proofs.TakenLemmas.{reverse_last}
+use Rattle.bx_journal_protocol.proofs.TakingLemmas.{length_here}
+use Rattle.bx_journal_read.proofs.WalkLemmas.{window_shorter}
+use Rattle.bx_journal_format.proofs.Splits.{split-append}
+
+-- what restoring the next entry overwrites
+pub overwritten_push : {A B : Type 0} (len : ℕ) (es : List (EntryRead A)) (os : List (Overwritten B)) (place : ℕ) (d : EntryRead A) (o : Overwritten B) → place < length es
+    → AreOverwritten (length_at (drop place es) len) (reverse (take place es)) (reverse os) → IsOverwritten (length_at (drop (place + 1) es) len) (slice_index_or es place d) o
+    → AreOverwritten (length_at (drop (place + 1) es) len) (reverse (take (place + 1) es)) (reverse (os ++ o ∷ []))
+overwritten_push len es os place d o inside all one =
+    let e = slice_index_or es place d in
+    let above : ℕ = length_at (drop (place + 1) es) len in
+    let more : reverse (take (place + 1) es) ≡ e ∷ reverse (take place es) = ap reverse (take_more es place d inside) ∙ reverse_last (take place es) e in
+    let rest : AreOverwritten e.kept.len (reverse (take place es)) (reverse os) = subst (λ n. AreOverwritten n (reverse (take place es)) (reverse os)) (length_here es place len d inside) all in
+    subst (λ fs. AreOverwritten above fs (reverse (os ++ o ∷ []))) (sym more) (subst (λ us. AreOverwritten above (e ∷ reverse (take place es)) us) (sym (reverse_last os o)) (one, rest))
+
+pub within_of : {A B : Type 0} {len : ℕ} {e : EntryRead A} {o : Overwritten B} → IsOverwritten len e o → LieWithin o.len o.ranges.items
+within_of {o = o} one = subst (λ n. LieWithin n o.ranges.items) (sym one.len_is) one.within
+
+pub within_push : {B : Type 0} (os : List (Overwritten B)) (o : Overwritten B) → AreAllWithin os → LieWithin o.len o.ranges.items → AreAllWithin (os ++ o ∷ [])
+within_push [] o all one = (one, tt)
+within_push (u ∷ os) o all one = (all.0, within_push os o all.1 one)
+
+pub within_at : {B : Type 0} (os : List (Overwritten B)) (i : ℕ) (d : Overwritten B) → i < length os → AreAllWithin os → LieWithin (slice_index_or os i d).len (slice_index_or os i d).ranges.items
+within_at [] i d inside all = absurd (omega (arith, inside))
+within_at (o ∷ os) zero d inside all = all.0
+within_at (o ∷ os) (suc i) d inside all = within_at os i d (omega (arith, inside)) all.1
+
+-- a record of zeros for the next
+zeros_of : {A B : Type 0} (len : ℕ) (e : EntryRead A) (o : Overwritten B) (t : Saved A) → IsOverwritten len e o → t ≡ saved_over (zeros o.len) o.ranges.items → LieBelow o.len t.runs → IsZeros len e t
+zeros_of len e o t over is below = record {
+  len_is = ap (λ (s : Saved _). s.len) is ∙ length-zeros o.len ∙ over.len_is;
+  below = subst (λ n. LieBelow n t.runs) over.len_is below;
+  zeros = λ few c back. is ∙ ap (λ n. saved_over (zeros n) o.ranges.items) over.len_is ∙ over.saved few c back (zeros len) (length-zeros len);
+}
+
+pub zeros_next : {A : Type 0} (os : List (Overwritten A)) (ts : List (Saved A)) (o : Overwritten A) (t : Saved A) → HaveZeros os ts → t ≡ saved_over (zeros o.len) o.ranges.items → LieBelow o.len t.runs
+    → HaveZeros (os ++ o ∷ []) (ts ++ t ∷ [])
+zeros_next {A = A} os ts o t all is below len es over =
+    subst (AreZeros len es) (sym (reverse_last ts t)) (go es (subst (AreOverwritten len es) (reverse_last os o) over))
+  where
+    go : (fs : List (EntryRead A)) → AreOverwritten len fs (o ∷ reverse os) → AreZeros len fs (t ∷ reverse ts)
+    go [] here = absurd here
+    go (e ∷ fs) here = (zeros_of len e o t here.0 is below, all e.kept.len fs here.1)
+
+-- the save line of each ends behind its first line
+pub ordered_at : {A : Type 0} (es : List (EntryRead A)) (i : ℕ) (d : EntryRead A) → i < length es → AreOrdered es → IsOrdered (slice_index_or es i d)
+ordered_at [] i d inside all = absurd (omega (arith, inside))
+ordered_at (e ∷ es) zero d inside all = all.0
+ordered_at (e ∷ es) (suc i) d inside all = ordered_at es i d (omega (arith, inside)) all.1
+
+pub ordered_drop : {A : Type 0} (n : ℕ) (es : List (EntryRead A)) → AreOrdered es → AreOrdered (drop n es)
+ordered_drop zero es all = all
+ordered_drop (suc n) [] all = tt
+ordered_drop (suc n) (e ∷ es) all = ordered_drop n es all.1
+
+stands_here : {A : Type 0} (text : List ℕ) (done : List Entry) (e : EntryRead A) (most : ℕ) → HasMarks text done e.version (entry_of e) e.begins e.saved → AllShorter most (split (take e.saved text)).lines
+    → StandsAt text (place_in most e).mark (kept_of e.kept)
+stands_here text done e most marks short = stands_of text done e.version (kept_of e.kept) e.begins e.saved most marks.beginning marks.saving marks.order short
+
+pub marked_ordered : {A : Type 0} (text : List ℕ) (done : List Entry) (from to : ℕ) (es : List (EntryRead A)) → AreMarked text done from es to → AreOrdered es
+marked_ordered text done from to [] marked = tt
+marked_ordered text done from to (e ∷ es) marked =
+    let bytes : List ℕ = take e.saved text in
+    ((stands_here text done e (length bytes) marked.1 (window_shorter bytes (length bytes) (omega arith))).order, marked_ordered text (entry_of e ∷ done) e.saved to es marked.2)
+
+-- no line of a front of a text is longer than those of the text
+shorter_front : (most : ℕ) (a b : List (List ℕ)) → AllShorter most (a ++ b) → AllShorter most a
+shorter_front most [] b h = tt
+shorter_front most (l ∷ a) b h = (h.0, shorter_front most a b h.1)
+
+front_shorter : (text : List ℕ) (n most : ℕ) → (split (take n text)).rest ≡ [] → AllShorter most (split text).lines → AllShorter most (split (take n text)).lines
+front_shorter text n most whole short =
+    let lines : (split text).lines ≡ (split (take n text)).lines ++ (split (drop n text)).lines =
+    ap (λ t. (split t).lines) (sym (take-append-drop n text)) ∙ ap (λ s. s.lines) (split-append (take n text) (drop n text) whole) in
+    shorter_front most (split (take n text)).lines (split (drop n text)).lines (subst (AllShorter most) lines short)
+
+-- where the last entries stand
+placed_one : {A : Type 0} (honest : Type 0) (stored text : List ℕ) (done : List Entry) (e : EntryRead A) (most : ℕ) → (honest → stored ≡ text) → HasShortLines honest stored most
+    → HasMarks text done e.version (entry_of e) e.begins e.saved → IsPlaced honest stored e (place_in most e)
+placed_one honest stored text done e most is short marks = record {
+  begins = refl;
+  saved = refl;
+  len = refl;
+  stands = λ h. subst (λ u. StandsAt u (place_in most e).mark (kept_of e.kept)) (sym (is h))
+      (stands_here text done e most marks (front_shorter text e.saved most marks.saving.whole (subst (λ u. AllShorter most (split u).lines) (is h) (short h))));
+}
+
+placed_more : {A : Type 0} (honest : Type 0) (stored : List ℕ) (es fs : List (EntryRead A)) (ps : List Placed) → ArePlaced honest stored es ps → ArePlaced honest stored (es ++ fs) ps
+placed_more honest stored es fs [] placed = tt
+placed_more honest stored [] fs (p ∷ ps) placed = absurd placed
+placed_more honest stored (e ∷ es) fs (p ∷ ps) placed = (placed.0, placed_more honest stored es fs ps placed.1)
+
+placed_next : {A : Type 0} (honest : Type 0) (stored : List ℕ) (es : List (EntryRead A)) (ps : List Placed) (e : EntryRead A) (p : Placed) → length ps ≡ length es → ArePlaced honest stored es ps
+    → IsPlaced honest stored e p → ArePlaced honest stored (es ++ e ∷ []) (ps ++ p ∷ [])
+placed_next honest stored [] [] e p long placed one = (one, tt)
+placed_next honest stored [] (q ∷ ps) e p long placed one = absurd placed
+placed_next honest stored (f ∷ es) [] e p long placed one = absurd (omega (arith, long))
+placed_next honest stored (f ∷ es) (q ∷ ps) e p long placed one = (placed.0, placed_next honest stored es ps e p (omega (arith, long)) placed.1 one)
+
+length_map : {X Y : Type 0} (f : X → Y) (xs : List X) → length (map f xs) ≡ length xs
+length_map f [] = refl
+length_map f (x ∷ xs) = ap suc (length_map f xs)
+
+pub placed_last : {A : Type 0} (honest : Type 0) (stored text : List ℕ) (done : List Entry) (from to : ℕ) (es : List (EntryRead A)) (most n : ℕ) → (honest → stored ≡ text) → HasShortLines honest stored most
+    → AreMarked text done from es to → ArePlaced honest stored (reverse es) (reverse (map (place_in most) (drop n es)))
+placed_last honest stored text done from to [] most zero is short marked = tt
+placed_last honest stored text done from to [] most (suc n) is short marked = tt
+placed_last honest stored text done from to (e ∷ es) most zero is short marked =
+    let ps : List Placed = map (place_in most) es in
+    let long : length (reverse ps) ≡ length (reverse es) = length-reverse ps ∙ length_map (place_in most) es ∙ sym (length-reverse es) in
+    let rest : ArePlaced honest stored (reverse es) (reverse ps) = placed_last honest stored text (entry_of e ∷ done) e.saved to es most zero is short marked.2 in
+    subst (λ fs. ArePlaced honest stored fs (reverse (place_in most e ∷ ps))) (sym (reverse-append (e ∷ []) es))
+    (subst (ArePlaced honest stored (reverse es ++ e ∷ [])) (sym (reverse-append (place_in most e ∷ []) ps))
+    (placed_next honest stored (reverse es) (reverse ps) e (place_in most e) long rest (placed_one honest stored text done e most is short marked.1)))
+placed_last honest stored text done from to (e ∷ es) most (suc n) is short marked =
+    let ps : List Placed = reverse (map (place_in most) (drop n es)) in
+    let rest : ArePlaced honest stored (reverse es) ps = placed_last honest stored text (entry_of e ∷ done) e.saved to es most n is short marked.2 in
+    subst (λ fs. ArePlaced honest stored fs ps) (sym (reverse-append (e ∷ []) es)) (placed_more honest stored (reverse es) (e ∷ []) ps rest)
+
+-- they lie in order, within the room of an image
+pub places_fit : {A : Type 0} (es : List (EntryRead A)) (most window longest room : ℕ) → AreOrdered es → All (λ (e : EntryRead A). e.kept.len ≤ longest) es → longest ≤ room → most ≤ window
+    → AllFit room window (map (place_in most) es)
+places_fit [] most window longest room order below le fits = tt
+places_fit (e ∷ es) most window longest room order below le fits =
+    (omega arith, order.0, omega (arith, below 0 e (omega arith), le), fits, places_fit es most window longest room order.1 (λ k d h. below (suc k) d (omega (arith, h))) le fits)
+
+pub places_many : {A : Type 0} (es : List (EntryRead A)) (most k : ℕ) (ps : List Placed) → k ≤ length es → ps ≡ map (place_in most) (drop (length es - k) es) → length ps ≡ k
+places_many es most k ps few is =
+    let n : ℕ = length es - k in
+    let whole : length es ≡ length (take n es) + length (drop n es) = ap length (sym (take-append-drop n es)) ∙ length-append (take n es) (drop n es) in
+    ap length is ∙ length_map (place_in most) (drop n es) ∙ omega (arith, whole, length-take n es, few)
+
+pub fit_more : (room more window : ℕ) (ps : List Placed) → room ≤ more → AllFit room window ps → AllFit more window ps
+fit_more room more window [] le fit = tt
+fit_more room more window (p ∷ ps) le fit = (fit.0, fit.1, omega (arith, fit.2, le), fit.3, fit_more room more window ps le fit.4)
+
+-- what holds of the answers that are none, and of the others
+pub on_ok : {V E P Q : Type 0} (r : Result V E) → OnOk r P → (P → Q) → OnOk r Q
+on_ok (Ok v) p f = f p
+on_ok (Err e) p f = tt

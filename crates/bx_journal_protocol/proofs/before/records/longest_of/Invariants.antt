@@ -1,0 +1,7 @@
+use Rattle.std.proofs.Common.{◌≤◌, take}
+use Rattle.std.specs.Prelude.{All}
+use Rattle.bx_journal_format.specs.declared.read.types.EntryRead.{EntryRead}
+use Rattle.bx_journal_protocol.proofs.before.records.longest_of.Given as goal
+
+abbrev pub invariant-loop-entry : goal.invariant-loop-entry
+invariant-loop-entry g l = All (λ (e : EntryRead g.row.A.Denot). e.kept.len ≤ l.longest) (take l.entry-index l.entries)

@@ -1,0 +1,5 @@
+pub mod Devices
+pub mod before
+pub mod model
+pub mod protocol
+pub mod write

@@ -1,0 +1,4 @@
+-- What is taken before the first write.
+pub mod Again
+pub mod Overwritten
+pub mod Plan

@@ -1,0 +1,64 @@
+-- What some undos will take of the image: for each entry, the newest first, a record.
+use Rattle.std.specs.Prelude.{◌≡◌, ◌≤◌, ℕ, ◌+◌, List, [], ◌∷◌, length, reverse}
+use Rattle.bx_image.specs.declared.change.Change.{Change}
+use Rattle.bx_image.specs.declared.change.TheConstants.{MAX_LEN}
+use Rattle.bx_image.specs.declared.record.Saved.{Saved}
+use Rattle.bx_image.specs.Change.{saved, AllWithin, IsOf, Restores}
+use Rattle.bx_image.specs.Image.{zeros}
+use Rattle.bx_image.specs.Runs.{LieBelow}
+use Rattle.bx_journal_store.specs.declared.store.TextStore.{Ghosts as StoreViews}
+use Rattle.bx_journal_format.specs.Kept.{kept_of}
+use Rattle.bx_journal_format.specs.Entry.{entry_text}
+use Rattle.bx_journal_format.specs.declared.read.types.EntryRead.{EntryRead}
+
+-- a record with zeros of what restoring an entry overwrites in an image of this length, if an entry can tell it
+pub record IsZeros {A : Type 0} (len : ℕ) (e : EntryRead A) (t : Saved A) : Type 0 where
+  pub len_is : t.len ≡ len
+  pub below : LieBelow len t.runs
+  pub zeros : len ≤ MAX_LEN → (c : Change A) → Restores c e.kept → t ≡ saved c (zeros len)
+
+-- the same, with the bytes of the image
+pub record IsTakenBy {A : Type 0} (x : List ℕ) (e : EntryRead A) (t : Saved A) : Type 0 where
+  pub len : t.len ≡ length x
+  pub of_x : IsOf t x
+  pub is : length x ≤ MAX_LEN → (c : Change A) → Restores c e.kept → t ≡ saved c x
+
+-- records for the newest of the entries, from an image of this length on
+abbrev pub AreZeros : {A : Type 0} → ℕ → List (EntryRead A) → List (Saved A) → Type 0
+AreZeros len es [] = Unit {0}
+AreZeros len [] (t ∷ ts) = ⊥
+AreZeros len (e ∷ es) (t ∷ ts) = IsZeros len e t × AreZeros e.kept.len es ts
+
+-- the first of them is filled
+abbrev pub AreReady : {A : Type 0} → List ℕ → List (EntryRead A) → List (Saved A) → Type 0
+AreReady x es [] = Unit {0}
+AreReady x [] (t ∷ ts) = ⊥
+AreReady x (e ∷ es) (t ∷ ts) = IsTakenBy x e t × AreZeros e.kept.len es ts
+
+-- the last record was filled from the image x: whatever entries the records are for, they are ready
+abbrev pub AreFilled : {A : Type 0} → List ℕ → List (Saved A) → List (Saved A) → Type 0
+AreFilled {A = A} x old new = (es : List (EntryRead A)) → AreZeros (length x) es (reverse old) → AreReady x es (reverse new)
+
+-- the runs of each end within its length
+abbrev pub AllShaped : {A : Type 0} → List (Saved A) → Type 0
+AllShaped [] = Unit {0}
+AllShaped (t ∷ ts) = AllWithin t.len t.runs × AllShaped ts
+
+-- how long their entries are
+abbrev pub entries_len : {A : Type 0} → List (Saved A) → ℕ
+entries_len [] = 0
+entries_len (t ∷ ts) = length (entry_text 0 (kept_of t) 0) + entries_len ts
+
+-- a store has room for them behind its text
+abbrev pub HasRoomForEntries : {T A : Type 0} → StoreViews T → T → List (Saved A) → Type 0
+HasRoomForEntries t s takens = length (t.text s) + entries_len takens ≤ t.room s
+
+-- the first record lies below a length
+abbrev pub IsFirstBelow : {A : Type 0} → ℕ → List (Saved A) → Type 0
+IsFirstBelow len [] = Unit {0}
+IsFirstBelow len (t ∷ ts) = LieBelow len t.runs
+
+-- the length that the image has below these entries, the oldest first, where it has `len` above them all
+abbrev pub length_at : {A : Type 0} → List (EntryRead A) → ℕ → ℕ
+length_at [] len = len
+length_at (e ∷ es) len = e.kept.len

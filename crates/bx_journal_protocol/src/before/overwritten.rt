@@ -1,0 +1,96 @@
+//! What some undos will overwrite: the ranges of the image, and then records of zeros over them.
+ghost use Rattle.std.specs.Prelude.{◌≡◌, ◌+◌, ◌<◌, ◌≤◌, length, drop, reverse, IfOk, IfErr};
+ghost use Rattle.bx_journal_protocol.specs.before.Overwritten.{AreAllWithin, AreOverwritten, HaveZeros, IsOverwritten};
+ghost use Rattle.bx_journal_protocol.specs.protocol.Takens.{AllShaped, length_at};
+
+use bx_image::{MAX_LEN, Saved, Span, touched_to_restore, zeros_over};
+use bx_journal_format::EntryRead;
+use bx_journal_read::SessionFault;
+use std::alloc::{Allocator, Global};
+
+/// The ranges that restoring an entry overwrites of an image of `len` bytes.
+#[derive(Drop)]
+pub struct Overwritten<A: Allocator = Global> {
+    pub len: u64,
+    pub ranges: Vec<Span, A>,
+}
+
+/// What restoring an entry overwrites of an image of this length. Of an image that is longer than an entry can tell it is
+/// nothing.
+fn overwritten_of<A: Allocator + Clone>(
+    alloc: A,
+    entry: &EntryRead<A>,
+    len: u64,
+) -> Result<Overwritten<A>, SessionFault>
+    ensures overwritten { IfOk result (IsOverwritten len entry.now) }
+    ensures kind { IfErr result (λ e. e ≡ SessionFault.NoMemory) }
+{
+    if len > MAX_LEN {
+        return Ok(Overwritten {
+            len,
+            ranges: Vec::new(alloc),
+        });
+    }
+    match touched_to_restore(alloc, &entry.kept, len) {
+        Ok(ranges) => Ok(Overwritten { len, ranges }),
+        Err(_) => Err(SessionFault::NoMemory),
+    }
+}
+
+/// The length of the image that restoring the entry at a place starts from, where `len` is that of the image now: the
+/// entries above it are restored before.
+pub fn length_above<A: Allocator>(entries: &[EntryRead<A>], place: usize, len: u64) -> u64
+    requires { place < length entries.now }
+    ensures { result ≡ length_at (drop (place + 1) entries.now) len }
+{
+    match entries.get(place + 1) {
+        Some(above) => above.kept.len,
+        None => len,
+    }
+}
+
+/// What restoring each of the last k entries overwrites, in their order, where the image has `len` bytes.
+pub fn all_overwritten<A: Allocator + Clone>(
+    alloc: &A,
+    entries: &[EntryRead<A>],
+    k: u32,
+    len: u64,
+) -> Result<Vec<Overwritten<A>, A>, SessionFault>
+    requires few { k ≤ length entries.now }
+    ensures overwritten { IfOk result (λ os. AreOverwritten len (reverse entries.now) (reverse os.items)) }
+    ensures within { IfOk result (λ os. AreAllWithin os.items) }
+    ensures count { IfOk result (λ os. length os.items ≡ k) }
+    ensures kind { IfErr result (λ e. e ≡ SessionFault.NoMemory) }
+{
+    let count = entries.len();
+    let mut all = Vec::with_capacity(alloc.clone()?, k as usize)?;
+    for place in count - k as usize..count {
+        let above = length_above(entries, place, len);
+        let one = overwritten_of(alloc.clone()?, &entries[place], above)?;
+        if all.push(one).is_err() {
+            return Err(SessionFault::NoMemory);
+        }
+    }
+    Ok(all)
+}
+
+/// A record of zeros for each, in their order.
+pub fn all_zeros<A: Allocator + Clone>(
+    alloc: &A,
+    overwritten: &[Overwritten<A>],
+) -> Result<Vec<Saved<A>, A>, SessionFault>
+    requires within { AreAllWithin overwritten.now }
+    ensures zeros { IfOk result (λ ts. HaveZeros overwritten.now ts.items) }
+    ensures shaped { IfOk result (λ ts. AllShaped ts.items) }
+    ensures count { IfOk result (λ ts. length ts.items ≡ length overwritten.now) }
+    ensures kind { IfErr result (λ e. e ≡ SessionFault.NoMemory) }
+{
+    let mut takens = Vec::with_capacity(alloc.clone()?, overwritten.len())?;
+    for one in overwritten {
+        let taken = zeros_over(alloc.clone()?, one.ranges.as_slice(), one.len)?;
+        if takens.push(taken).is_err() {
+            return Err(SessionFault::NoMemory);
+        }
+    }
+    Ok(takens)
+}

@@ -1,0 +1,161 @@
+//! The entry of a change: its head (the undo record), its end (the commit mark), and both with the change of the image between them, which cuts the redo text.
+ghost use Rattle.std.specs.Prelude.{◌≡◌, ◌↔◌, ◌⊎◌, ◌+◌, ◌<◌, ◌≤◌, [], ◌++◌, ℕ, length, take, OnOk, OnErr, is_err};
+ghost use Rattle.bx_journal_format.specs.Kept.{kept_of};
+ghost use Rattle.bx_image.specs.Change.{effect, saved, IsAsGood};
+ghost use Rattle.bx_image.specs.Device.{GoesOn};
+ghost use Rattle.bx_image.specs.Power.{NoMore, Only};
+ghost use Rattle.bx_journal_format.specs.Entry.{head_text};
+ghost use Rattle.bx_journal_format.specs.Text.{IsPrefix};
+ghost use Rattle.bx_journal_protocol.specs.write.Begun.{rest_of, IsBegunOver, IsHead, KeepsBuffers};
+ghost use Rattle.bx_journal_protocol.specs.Devices.{AreBelow, ImageIsFirst, StepsOn};
+ghost use Rattle.bx_journal_read.specs.scan.Looking.{OneMore};
+ghost use Rattle.bx_journal_protocol.specs.protocol.Fading.{AllStayOpenFor, EndSurvives, HeadSurvives};
+ghost use Rattle.bx_journal_read.specs.model.Phase.{StaysOpenFor};
+ghost use Rattle.bx_journal_protocol.specs.write.Ranges.{kept_over};
+ghost use Rattle.bx_journal_read.specs.scan.Step.{EndRests, EndStops, HeadOpens, HeadStops};
+ghost use Rattle.bx_journal_protocol.specs.protocol.Turns.{place_of};
+ghost use Rattle.bx_journal_protocol.specs.protocol.Written.{entry_on, head_on, EntrySettles, LeavesBoth, RestsBehind, StopsEither, SurvivesBoth};
+
+use crate::devices::Devices;
+use crate::protocol::image::change_image;
+use crate::protocol::redo_text::{RedoCut, cut_redo};
+use crate::write::head::Head;
+use crate::write::ranges::put_head_from;
+use bx_image::{Change, Device, DeviceFailed, Span};
+use bx_journal_store::TextStore;
+use std::alloc::Allocator;
+
+/// Appends an entry up to its save line, page by page, with the image's own bytes in some ranges, and puts it on the disk. Its
+/// first page is made already; the lines after that are read from the image page by page, and no more of them is held.
+pub fn append_head_of<D: Device, T: TextStore, A: Allocator>(
+    image: &mut D,
+    journal: &mut T,
+    head: &mut Head<A>,
+    ranges: &[Span],
+) -> Result<(), DeviceFailed>
+    requires image_countable { D.failures image.old < u64.MAX }
+    requires journal_countable { T.failures journal.old < u64.MAX }
+    requires head { IsHead ranges.now head.old }
+    requires some { 0 < length head.old.page.items }
+    requires begun { D.honest image.old → IsBegunOver (D.image image.old) ranges.now head.old }
+    requires fits { T.honest journal.old → length (T.text journal.old) + rest_of ranges.now head.old ≤ T.room journal.old }
+    ensures ok { D.honest image.old → HeadOpens T.TextStore journal.old (head_on D.image image.old ranges.now head.old) journal.new result }
+    ensures fault { D.honest image.old → HeadStops T.TextStore journal.old (head_on D.image image.old ranges.now head.old) journal.new result }
+    ensures text { D.honest image.old → T.honest journal.old → OnOk result (T.text journal.new ≡ T.text journal.old ++ head_on D.image image.old ranges.now head.old) }
+    ensures settled { T.honest journal.old → OnOk result (Only (T.text journal.new) (T.survives journal.new)) }
+    ensures survives { D.honest image.old → T.honest journal.old → Only (T.text journal.old) (T.survives journal.old)
+        → HeadSurvives (T.text journal.old) (head_text head.old.number (kept_over (D.image image.old) ranges.now)) (T.survives journal.new) }
+    ensures long { T.honest journal.old → OnOk result (length (T.text journal.new) ≡ length (T.text journal.old) + rest_of ranges.now head.old) }
+    ensures front { T.honest journal.old → OnOk result (IsPrefix (T.text journal.old) (T.text journal.new)) }
+    ensures emptied { OnOk result (head.new.page.items ≡ []) }
+    ensures kept { KeepsBuffers head.old head.new }
+    ensures image { D.honest image.old → D.image image.new ≡ D.image image.old }
+    ensures image_survives { D.honest image.old → NoMore (D.survives image.old) (D.survives image.new) }
+    ensures image_honesty { D.honest image.new ↔ D.honest image.old }
+    ensures image_room { D.room image.old ≤ D.room image.new }
+    ensures journal_honesty { T.honest journal.new ↔ T.honest journal.old }
+    ensures journal_room { T.room journal.old ≤ T.room journal.new }
+    ensures no_failure { OnOk result ((D.failures image.new ≡ D.failures image.old) × (T.failures journal.new ≡ T.failures journal.old)) }
+    ensures failure { OnErr result (OneMore (D.failures image.old) (T.failures journal.old) (D.failures image.new) (T.failures journal.new)) }
+{
+    put_head_from(image, journal, head, ranges)?;
+    journal.sync()
+}
+
+/// Appends the line that ends an entry, and puts it on the disk.
+pub fn append_end<T: TextStore>(journal: &mut T, end: &[u8]) -> Result<(), DeviceFailed>
+    requires countable { T.failures journal.old < u64.MAX }
+    requires fits { T.honest journal.old → length (T.text journal.old) + length end.now ≤ T.room journal.old }
+    ensures ok { T.honest journal.old → EndRests (T.text journal.old) end.now (T.text journal.new) result }
+    ensures fault { T.honest journal.old → EndStops (T.text journal.old) end.now (T.text journal.new) result }
+    ensures settled { T.honest journal.old → OnOk result (Only (T.text journal.new) (T.survives journal.new)) }
+    ensures survives { T.honest journal.old → Only (T.text journal.old) (T.survives journal.old)
+        → EndSurvives (T.text journal.old) end.now (T.survives journal.new) }
+    ensures text { T.honest journal.old → OnOk result (T.text journal.new ≡ T.text journal.old ++ end.now) }
+    ensures goes_on { GoesOn T.honest T.room T.failures (is_err result) journal.old journal.new }
+{
+    journal.append(end)?;
+    journal.sync()
+}
+
+/// Changes the image, and cuts the redo text. Whatever it answers, a pair that is open on what the change takes
+/// stays open.
+pub fn change_with<D: Device, T: TextStore, A: Allocator>(
+    image: &mut D,
+    redo: &mut T,
+    change: &Change<A>,
+    part: RedoCut,
+) -> Result<(), DeviceFailed>
+    requires image_countable { D.failures image.old < u64.MAX }
+    requires redo_countable { T.failures redo.old < u64.MAX }
+    requires room { length (effect change.now []) ≤ D.room image.old }
+    requires within { T.honest redo.old → place_of part ≤ length (T.text redo.old) }
+    ensures phase { D.honest image.old → StaysOpenFor change.now (D.image image.old) (D.image image.new) }
+    ensures settled { D.honest image.old → OnOk result (Only (D.image image.new) (D.survives image.new)) }
+    ensures redo_settled { T.honest redo.old → OnOk result (Only (T.text redo.new) (T.survives redo.new)) }
+    ensures survives { D.honest image.old → Only (D.image image.old) (D.survives image.old)
+        → AllStayOpenFor change.now (D.image image.old) (D.survives image.new) }
+    ensures image { D.honest image.old → OnOk result (D.image image.new ≡ effect change.now (D.image image.old)) }
+    ensures back { D.honest image.old → OnOk result (IsAsGood (kept_of (saved change.now (D.image image.old))) (D.image image.old) (D.image image.new)) }
+    ensures redo { T.honest redo.old → OnOk result (T.text redo.new ≡ take (place_of part) (T.text redo.old)) }
+    ensures emptied_first { T.honest redo.old → part ≡ RedoCut.All → OnErr result ((image.new ≡ image.old) ⊎ (T.text redo.new ≡ [])) }
+    ensures order { (n : ℕ) → part ≡ RedoCut.From n → ImageIsFirst D.honest D.image result (effect change.now) image.old image.new redo.old redo.new }
+    ensures image_room { D.room image.old ≤ D.room image.new }
+    ensures image_honesty { D.honest image.new ↔ D.honest image.old }
+    ensures redo_honesty { T.honest redo.new ↔ T.honest redo.old }
+    ensures no_failure { OnOk result ((D.failures image.new ≡ D.failures image.old) × (T.failures redo.new ≡ T.failures redo.old)) }
+    ensures failure { OnErr result (OneMore (D.failures image.old) (T.failures redo.old) (D.failures image.new) (T.failures redo.new)) }
+{
+    match part {
+        RedoCut::All => {
+            cut_redo(redo, 0)?;
+            change_image(image, change)
+        }
+        RedoCut::From(begins) => {
+            change_image(image, change)?;
+            cut_redo(redo, begins)
+        }
+    }
+}
+
+/// Appends the entry of a change with the image's own bytes in some ranges, and changes the image and the redo text in between.
+pub fn write_change<D: Device, T: TextStore, A: Allocator>(
+    devices: &mut Devices<D, T>,
+    head: &mut Head<A>,
+    ranges: &[Span],
+    change: &Change<A>,
+    end: &[u8],
+    part: RedoCut,
+) -> Result<(), DeviceFailed>
+    requires countable { AreBelow D.Device T.TextStore u64.MAX devices.old }
+    requires head { IsHead ranges.now head.old }
+    requires some { 0 < length head.old.page.items }
+    requires begun { D.honest devices.old.image → IsBegunOver (D.image devices.old.image) ranges.now head.old }
+    requires image_room { length (effect change.now []) ≤ D.room devices.old.image }
+    requires text_room { T.honest devices.old.journal
+        → length (T.text devices.old.journal) + rest_of ranges.now head.old + length end.now ≤ T.room devices.old.journal }
+    requires within { T.honest devices.old.redo → place_of part ≤ length (T.text devices.old.redo) }
+    ensures ok { RestsBehind D.Device T.TextStore change.now (entry_on D.image devices.old ranges.now head.old end.now) devices.old devices.new result }
+    ensures fault { StopsEither D.Device T.TextStore change.now (entry_on D.image devices.old ranges.now head.old end.now) devices.old devices.new result }
+    ensures left { LeavesBoth D.Device T.TextStore change.now (entry_on D.image devices.old ranges.now head.old end.now) part devices.old devices.new result }
+    ensures survives { SurvivesBoth D.Device T.TextStore change.now (entry_on D.image devices.old ranges.now head.old end.now) part devices.old devices.new }
+    ensures settles { EntrySettles D.Device T.TextStore devices.old devices.new result }
+    ensures image { D.honest devices.old.image → OnOk result (D.image devices.new.image ≡ effect change.now (D.image devices.old.image)) }
+    ensures back { D.honest devices.old.image
+        → OnOk result (IsAsGood (kept_of (saved change.now (D.image devices.old.image))) (D.image devices.old.image) (D.image devices.new.image)) }
+    ensures text { D.honest devices.old.image → T.honest devices.old.journal → OnOk result (T.text devices.new.journal
+        ≡ T.text devices.old.journal ++ head_text head.old.number (kept_over (D.image devices.old.image) ranges.now) ++ end.now) }
+    ensures redo { T.honest devices.old.redo → OnOk result (T.text devices.new.redo ≡ take (place_of part) (T.text devices.old.redo)) }
+    ensures long { T.honest devices.old.journal
+        → OnOk result (length (T.text devices.new.journal) ≡ length (T.text devices.old.journal) + rest_of ranges.now head.old + length end.now) }
+    ensures front { T.honest devices.old.journal → OnOk result (IsPrefix (T.text devices.old.journal) (T.text devices.new.journal)) }
+    ensures emptied { OnOk result (head.new.page.items ≡ []) }
+    ensures kept { KeepsBuffers head.old head.new }
+    ensures room { D.room devices.old.image ≤ D.room devices.new.image }
+    ensures journal_room { T.room devices.old.journal ≤ T.room devices.new.journal }
+    ensures steps_on { StepsOn D.Device T.TextStore result devices.old devices.new }
+{
+    append_head_of(&mut devices.image, &mut devices.journal, head, ranges)?;
+    change_with(&mut devices.image, &mut devices.redo, change, part)?;
+    append_end(&mut devices.journal, end)
+}

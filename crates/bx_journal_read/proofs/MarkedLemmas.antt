@@ -1,0 +1,77 @@
+-- The marks of a text that is read in windows.
+use Rattle.std.proofs.Common.{◌≡◌, ℕ, List, [], ◌++◌, length, map, take, ap, sym, ◌∙◌, subst, inl, arith, append-nil, Some, Result, Ok}
+use Rattle.std.specs.Prelude.{Vec}
+use Rattle.std.proofs.lemmas.List.{take_all}
+use Rattle.std.proofs.lemmas.Result.{IfErr-weaker, IfOk-weaker}
+use Rattle.bx_journal_format.specs.Shown.{shown}
+use Rattle.bx_journal_read.specs.declared.fault.SessionFault.{SessionFault}
+use Rattle.bx_journal_read.specs.declared.fault.SessionFault.TheVariants.{NoMemory, TooLarge, DeviceFailed, Damaged, TooFew, JournalFull, Interrupted, Broken, LengthDiffers, NothingToRedo, RedoDamaged}
+use Rattle.bx_journal_read.specs.scan.Looking.{LooksAt}
+use Rattle.bx_journal_read.specs.scan.Recovery.{FindFault}
+use Rattle.bx_journal_read.proofs.WindowLemmas.{looks_before}
+use Rattle.bx_journal_format.specs.declared.read.count.Place.TheVariants.{Between as BetweenPlace}
+use Rattle.bx_journal_format.specs.declared.read.marks.Mark.{Mark}
+use Rattle.bx_journal_format.specs.declared.read.rows.Summed.{Summed}
+use Rattle.bx_journal_format.specs.Spelled.{entry_in, lines_of}
+use Rattle.bx_journal_format.specs.Text.{Between, IsDamagedAt, split, start, after_lines}
+use Rattle.bx_journal_format.specs.count.Marks.{GoOnWith, IsMarked}
+use Rattle.bx_journal_format.proofs.TallyLemmas.{HasForm, has_form}
+use Rattle.bx_journal_read.specs.declared.show.marks.MarkScan.{MarkScan}
+use Rattle.bx_journal_read.specs.declared.scan.windows.Reached.{Reached}
+use Rattle.bx_journal_read.specs.show.Showing.{AreAllMarks, AreMarksOf, FindsMarks}
+use Rattle.bx_journal_read.specs.scan.Windows.{IsReached}
+
+-- a text that stands between two entries is finished entries alone
+pub marked_all : {A : Type 0} → (honest : Type 0) (stored : List ℕ) (size len : ℕ) (r : Reached (MarkScan A)) → IsReached honest stored (λ s text. IsMarked text s.marking s.marks.items) size 0 len r → r.at ≡ len
+    → r.scan.marking.sums.tally.place ≡ BetweenPlace → AreMarksOf honest stored len r.scan.marks.items
+marked_all honest stored size len r reached all place =
+    let h = reached.led.leads in
+    let m = r.scan.marking in
+    let between : h.reading.stage ≡ Between = subst (HasForm h.reading.stage) place (has_form h.reading.stage m.sums.tally.place (ap (λ (s : Summed). s.tally.place) h.is)) in
+    let none : h.behind ≡ [] = subst (λ s. GoOnWith h.entries s h.behind m.from m.to) between h.goes_on in
+    let lines : after_lines start (split reached.led.text).lines ≡ Some (record { entries = map entry_in h.entries; stage = Between }) =
+    h.reads ∙ ap (λ s. Some (record { entries = h.reading.entries; stage = s })) between ∙ ap (λ es. Some (record { entries = es; stage = Between })) (sym h.are) in
+    record {
+      front = reached.led.text;
+      is = λ h. reached.led.is h ∙ ap (λ n. take n stored) all;
+      entries = h.entries;
+      spelled = record {
+        finished = record { reads = record { lines = lines; rest = inl h.whole }; whole = h.whole };
+        lines = h.lines ∙ ap (λ ls. lines_of h.entries ++ ls) none ∙ append-nil (lines_of h.entries);
+        runs = h.runs;
+      };
+      marks_are = h.marks_are;
+    }
+
+-- the marks of a whole text, behind a call that only looked at it
+pub marks_all : (honest now : Type 0) (stored text : List ℕ) (len : ℕ) (marks : List Mark) → (honest → now) → (honest → text ≡ stored) → (honest → len ≡ length stored) → AreMarksOf now text len marks → AreAllMarks honest stored marks
+marks_all honest now stored text len marks still same long of = record {
+  text = of.front;
+  is = λ h. sym (of.is (still h) ∙ ap (take len) (same h) ∙ take_all len stored (omega (arith, long h)));
+  entries = of.entries;
+  spelled = of.spelled;
+  marks_are = of.marks_are;
+}
+
+-- what is said of a text behind a call that only looked at it
+module _ {T V : Type 0} {honest : T → Type 0} {text : T → List ℕ} {failures : T → ℕ} {v : V} {old now : T} (first : LooksAt honest text failures (Ok v) old now) where
+  pub fault_is : (e : SessionFault) → FindFault (honest now) (shown (text now)) e → FindFault (honest old) (shown (text old)) e
+  fault_is NoMemory f = tt
+  fault_is DeviceFailed f = tt
+  fault_is (Damaged line) f = λ h. subst (λ t. IsDamagedAt (shown t) line) (first.same h) (f (first.honesty.1 h))
+  fault_is TooLarge f = f
+  fault_is (TooFew have) f = f
+  fault_is JournalFull f = f
+  fault_is Interrupted f = f
+  fault_is Broken f = f
+  fault_is (LengthDiffers n) f = f
+  fault_is (NothingToRedo have) f = f
+  fault_is (RedoDamaged line) f = f
+
+  pub marks_behind : {A : Type 0} {new : T} → (r : Result (Vec Mark A) SessionFault) → FindsMarks honest text failures r now new → FindsMarks honest text failures r old new
+  marks_behind r next = record {
+    marks = IfOk-weaker r (λ m. AreAllMarks (honest now) (text now) m.items) (λ m. AreAllMarks (honest old) (text old) m.items)
+        (λ m a. record { text = a.text; is = λ h. sym (first.same h) ∙ a.is (first.honesty.1 h); entries = a.entries; spelled = a.spelled; marks_are = a.marks_are }) next.marks;
+    fault = IfErr-weaker r (FindFault (honest now) (shown (text now))) (FindFault (honest old) (shown (text old))) fault_is next.fault;
+    looks = looks_before first next.looks;
+  }

@@ -1,0 +1,302 @@
+-- A record that is restored from its text a window at a time.
+use Rattle.std.proofs.Common.{◌≡◌, ℕ, zero, suc, ◌+◌, ◌-◌, ◌<◌, ◌≤◌, ◌⊎◌, inl, inr, Bool, true, false, List, [], ◌∷◌, ◌++◌, length, length-append, length-take, min, take, drop, refl, ap, sym, ◌∙◌, subst, arith, append_assoc, Option, Some, None, map, slice_index_or}
+use Rattle.std.specs.Prelude.{if◌then◌else◌, option_map, All}
+use Rattle.std.specs.Option.{option_or}
+use Rattle.std.specs.Str.{bytes_eq}
+use Rattle.std.proofs.lemmas.Grind.{common_steps}
+use Rattle.std.proofs.lemmas.List.{take-append-drop}
+use Rattle.std.proofs.Math.Seq.{take-append-add}
+use Rattle.bx_image.specs.Image.{place, cut, end_of}
+use Rattle.bx_image.specs.Change.{AllWithin, byte_in, placed, restore}
+use Rattle.bx_image.specs.private.Change.{byte_of}
+use Rattle.bx_image.proofs.Lengths.{length-placed, placed_len}
+use Rattle.bx_image.proofs.Records.{placed-cut, placed_len_within}
+use Rattle.bx_journal_format.specs.Kept.{Kept, Run, with_run, with_runs}
+use Rattle.bx_journal_format.specs.Line.{save_line, saved_in}
+use Rattle.bx_journal_format.specs.Text.{Entry, Stage, Saving, Ending, Between, Reading, joined, split, start, next_at, after_lines}
+use Rattle.bx_journal_format.specs.declared.format.version.Version.{Version}
+use Rattle.bx_journal_format.specs.declared.read.parts.Part.{Part}
+use Rattle.bx_journal_format.specs.count.Mark.{IsMark}
+use Rattle.bx_journal_format.specs.count.Parts.{GivesParts, IsIn, LiesIn, TakesSome, part_run}
+use Rattle.bx_journal_format.proofs.Foreign.{joined_lines, lines_plain}
+use Rattle.bx_journal_format.proofs.Gathered.{with_run-byte}
+use Rattle.bx_journal_format.proofs.Inverse.{bind_some, map_some, next_between, next_ending, next_saving}
+use Rattle.bx_journal_format.proofs.RowLemmas.{or_assoc, or_none, restore_same}
+use Rattle.bx_journal_format.proofs.Runs.{after_lines-append}
+use Rattle.bx_journal_format.proofs.Splits.{AllPlain, split-append}
+use Rattle.bx_journal_format.proofs.TallyLemmas.{take_sum}
+use Rattle.bx_journal_read.specs.declared.scan.mark.Mark.{Mark}
+use Rattle.bx_journal_read.specs.model.Phase.{IsCutOf, IsPartOf}
+use Rattle.bx_journal_read.specs.scan.Restoring.{AllShorter, AreNamed, IsRestoredTo, Names, RestoresWindow, StandsAt}
+use Rattle.bx_journal_read.proofs.WindowLemmas.{front_of}
+
+with_runs-byte : (ps runs : List Run) (i : ℕ) → byte_in (with_runs runs ps) i ≡ option_or (byte_in ps i) (byte_in runs i)
+unfolding with_runs byte_in
+with_runs-byte [] runs i = refl
+with_runs-byte (p ∷ ps) runs i =
+    with_runs-byte ps (with_run runs p) i ∙ ap (option_or (byte_in ps i)) (with_run-byte runs p i) ∙ sym (or_assoc (byte_in ps i) (byte_of p i) (byte_in runs i))
+
+pub placed-append : (a b : List Run) (x : List ℕ) → placed (a ++ b) x ≡ placed b (placed a x)
+unfolding placed
+placed-append [] b x = refl
+placed-append (p ∷ a) b x = placed-append a b (place x p.at p.bytes)
+
+pub within-append : (len : ℕ) (a b : List Run) → AllWithin len a → AllWithin len b → AllWithin len (a ++ b)
+within-append len [] b h k = k
+within-append len (p ∷ a) b h k = (h.0, within-append len a b h.1 k)
+
+pub with_runs-append : (runs a b : List Run) → with_runs runs (a ++ b) ≡ with_runs (with_runs runs a) b
+unfolding with_runs
+with_runs-append runs [] b = refl
+with_runs-append runs (p ∷ a) b = with_runs-append (with_run runs p) a b
+
+-- no line makes the finished entries fewer
+next_more : (es : List Entry) (stage : Stage) (line : List ℕ) (q : Reading) → next_at es stage line ≡ Some q → length es ≤ length q.entries
+next_more es Between line q e = let b = next_between es line q e in omega (arith, ap (λ (p : Reading). length p.entries) b.2)
+next_more es (Saving v s) line q e =
+    elim (next_saving es v s line q e) [
+      | inl is ↦ omega (arith, ap (λ (p : Reading). length p.entries) is.1)
+      | inr is ↦ omega (arith, ap (λ (p : Reading). length p.entries) is.2)
+    ]
+next_more es (Ending v s) line q e = let n = next_ending es v s line q e in omega (arith, ap (λ (p : Reading). length p.entries) n.1)
+
+pub lines_more : (ls : List (List ℕ)) (r q : Reading) → after_lines r ls ≡ Some q → length r.entries ≤ length q.entries
+unfolding after_lines
+lines_more [] r q e = let same : r ≡ q = cc in omega (arith, ap (λ (p : Reading). length p.entries) same)
+lines_more (l ∷ ls) r q e =
+    let b = bind_some (λ p. after_lines p ls) (next_at r.entries r.stage l) q e in
+    omega (arith, next_more r.entries r.stage l b.0 b.1, lines_more ls b.0 q b.2)
+
+pub same_reading : (q r : Reading) → Some q ≡ Some r → q ≡ r
+same_reading q r e = cc
+
+same_saved : (v : Version) (k s : Kept) → Ending v k ≡ Ending v s → s ≡ k
+same_saved v k s e = cc
+
+apart_stages : (v : Version) (k s : Kept) → Saving v k ≡ Ending v s → ⊥
+apart_stages v k s e = cc
+
+-- behind a save line the entry ends, or nothing follows
+ending_stays : (es : List Entry) (v : Version) (k s : Kept) (ls : List (List ℕ)) → after_lines (record { entries = es; stage = Ending v k }) ls ≡ Some (record { entries = es; stage = Ending v s }) → s ≡ k
+unfolding after_lines
+ending_stays es v k s [] e = same_saved v k s (ap (λ (r : Reading). r.stage) (same_reading (record { entries = es; stage = Ending v k }) (record { entries = es; stage = Ending v s }) e))
+ending_stays es v k s (l ∷ ls) e =
+    let b = bind_some (λ q. after_lines q ls) (next_at es (Ending v k) l) (record { entries = es; stage = Ending v s }) e in
+    let n = next_ending es v k l b.0 b.1 in
+    absurd (omega (arith, lines_more ls b.0 (record { entries = es; stage = Ending v s }) b.2, ap (λ (p : Reading). length p.entries) n.1))
+
+saving_not_ending : (es : List Entry) (v : Version) (k s : Kept) (q r : Reading) → q ≡ record { entries = es; stage = Saving v k } → r ≡ record { entries = es; stage = Ending v s } → Some q ≡ Some r → ⊥
+saving_not_ending es v k s q r a b e = apart_stages v k s (sym (ap (λ (p : Reading). p.stage) a) ∙ ap (λ (p : Reading). p.stage) (same_reading q r e) ∙ ap (λ (p : Reading). p.stage) b)
+
+-- a line among saved lines is the save line, or gives a run
+abbrev pub SavesOrGives : List Entry → Version → Kept → List ℕ → Reading → Type 0
+SavesOrGives es v s line q = (q ≡ record { entries = es; stage = Ending v s })
+    ⊎ ((piece : Run) × (saved_in s.len line ≡ Some piece) × (q ≡ record { entries = es; stage = Saving v (record { len = s.len; runs = with_run s.runs piece }) }))
+
+pub line_gives : (es : List Entry) (v : Version) (s : Kept) (line : List ℕ) (q : Reading) → next_at es (Saving v s) line ≡ Some q → SavesOrGives es v s line q
+unfolding next_at
+line_gives es v s line q e = by_test (bytes_eq line (save_line (suc (length es)))) e
+  where
+    by_test : (b : Bool)
+        → (if b then Some (record { entries = es; stage = Ending v s }) else option_map (λ (piece : Run). (record { entries = es; stage = Saving v (record { len = s.len; runs = with_run s.runs piece }) })) (saved_in s.len line)) ≡ Some q
+        → SavesOrGives es v s line q
+    by_test true e = inl (cc)
+    by_test false e =
+        let some = map_some (λ (piece : Run). (record { entries = es; stage = Saving v (record { len = s.len; runs = with_run s.runs piece }) })) (saved_in s.len line) q e in
+        inr (some.0, some.1, sym some.2)
+
+-- what the lines up to the save line give is behind what was there
+saving_ends : (es : List Entry) (v : Version) (k s : Kept) (ls : List (List ℕ)) → after_lines (record { entries = es; stage = Saving v k }) ls ≡ Some (record { entries = es; stage = Ending v s })
+    → (rest : List Run) × (s.runs ≡ with_runs k.runs rest)
+unfolding after_lines with_runs
+saving_ends es v k s [] e = absurd (saving_not_ending es v k s (record { entries = es; stage = Saving v k }) (record { entries = es; stage = Ending v s }) refl refl e)
+saving_ends es v k s (l ∷ ls) e =
+    let b = bind_some (λ q. after_lines q ls) (next_at es (Saving v k) l) (record { entries = es; stage = Ending v s }) e in
+    elim (line_gives es v k l b.0 b.1) [
+      | inl is ↦
+          let same = ending_stays es v k s ls (subst (λ q. after_lines q ls ≡ Some (record { entries = es; stage = Ending v s })) is b.2) in
+          ([], ap (λ (t : Kept). t.runs) same)
+      | inr is ↦
+          let more = saving_ends es v (record { len = k.len; runs = with_run k.runs is.0 }) s ls (subst (λ q. after_lines q ls ≡ Some (record { entries = es; stage = Ending v s })) is.2 b.2) in
+          (is.0 ∷ more.0, more.1)
+    ]
+
+-- the lines between a place among saved lines and the end of the save line
+record LinesTo (text : List ℕ) (es : List Entry) (v : Version) (k s : Kept) (n m : ℕ) : Type 0 where
+  lines : after_lines (record { entries = es; stage = Saving v k }) (split (take (m - n) (drop n text))).lines ≡ Some (record { entries = es; stage = Ending v s })
+  whole : (split (take (m - n) (drop n text))).rest ≡ []
+  parts : (split (take m text)).lines ≡ (split (take n text)).lines ++ (split (take (m - n) (drop n text))).lines
+
+lines_to : (text : List ℕ) (es : List Entry) (v : Version) (k s : Kept) (n m : ℕ) → IsIn (take n text) es v k → IsMark text m (record { entries = es; stage = Ending v s }) → n ≤ m → LinesTo text es v k s n m
+lines_to text es v k s n m inside mark le =
+    let a : List ℕ = take n text in
+    let b : List ℕ = take (m - n) (drop n text) in
+    let count : n + (m - n) ≡ m = omega (arith, le) in
+    let is : take m text ≡ a ++ b = ap (λ i. take i text) (sym count) ∙ take_sum n (m - n) text in
+    let both = ap split is ∙ split-append a b inside.whole in
+    let lines : (split (take m text)).lines ≡ (split a).lines ++ (split b).lines = ap (λ s. s.lines) both in
+    record {
+      lines = sym (after_lines-append start (record { entries = es; stage = Saving v k }) (split a).lines (split b).lines inside.lines) ∙ ap (after_lines start) (sym lines) ∙ mark.lines;
+      whole = sym (ap (λ s. s.rest) both) ∙ mark.whole;
+      parts = lines;
+    }
+
+-- the runs of a record are those that are given up to a place, and more
+pub runs_to : (text : List ℕ) (es : List Entry) (v : Version) (k s : Kept) (n m : ℕ) → IsIn (take n text) es v k → IsMark text m (record { entries = es; stage = Ending v s }) → n ≤ m
+    → (rest : List Run) × (s.runs ≡ with_runs k.runs rest)
+runs_to text es v k s n m inside mark le =
+    saving_ends es v k s (split (take (m - n) (drop n text))).lines (lines_to text es v k s n m inside mark le).lines
+
+or_some : {A : Type 0} (a b : Option A) → option_or a b ≡ None → (a ≡ None) × (b ≡ None)
+or_some None b e = (refl, e)
+or_some (Some x) b e = absurd (cc)
+
+byte_there : (run : Run) (i : ℕ) → run.at ≤ i → i < run.at + length run.bytes → byte_of run i ≡ None → ⊥
+byte_there run i low high none = grind (arith, common_steps)
+
+-- each address of runs that a record has is named by one that names the record
+named_each : (r s : Kept) (qs : List Run) → Names r s → ((i : ℕ) → byte_in s.runs i ≡ None → byte_in qs i ≡ None) → AreNamed r qs
+unfolding byte_in
+named_each r s [] names h = tt
+named_each r s (q ∷ qs) names h = (
+  λ i low high below none. byte_there q i low high (or_some (byte_in qs i) (byte_of q i) (h i (names i below none).1)).1,
+  named_each r s qs names (λ i none. (or_some (byte_in qs i) (byte_of q i) (h i none)).0),
+)
+
+pub runs_named : (r s : Kept) (old runs rest : List Run) → s.runs ≡ with_runs (with_runs old runs) rest → Names r s → AreNamed r runs
+runs_named r s old runs rest is names = named_each r s runs names (λ i none.
+    let all : option_or (byte_in rest i) (byte_in (with_runs old runs) i) ≡ None = sym (with_runs-byte rest (with_runs old runs) i) ∙ sym (ap (λ rs. byte_in rs i) is) ∙ none in
+    let before : option_or (byte_in runs i) (byte_in old i) ≡ None = sym (with_runs-byte runs old i) ∙ (or_some (byte_in rest i) (byte_in (with_runs old runs) i) all).1 in
+    (or_some (byte_in runs i) (byte_in old i) before).0)
+
+shorter_behind : (most : ℕ) (a b : List (List ℕ)) → AllShorter most (a ++ b) → AllShorter most b
+shorter_behind most [] b h = h
+shorter_behind most (l ∷ a) b h = shorter_behind most a b h.1
+
+-- a window that is longer than the first line begins with it
+window_begins : (l r : List ℕ) (w : ℕ) → length l < w → take w (l ++ 10 ∷ r) ≡ l ++ 10 ∷ take (w - (length l + 1)) r
+window_begins l r w less =
+    let count : length l + suc (w - (length l + 1)) ≡ w = omega (arith, less) in
+    ap (λ n. take n (l ++ 10 ∷ r)) (sym count) ∙ take-append-add l (10 ∷ r) (suc (w - (length l + 1)))
+
+given_lines : (es : List Entry) (v : Version) (k s : Kept) (ls : List (List ℕ)) (text : List ℕ) (n most size room : ℕ)
+    → after_lines (record { entries = es; stage = Saving v k }) ls ≡ Some (record { entries = es; stage = Ending v s })
+    → AllShorter most ls → AllPlain ls → joined ls ≡ take n text → 0 < room → most ≤ size → TakesSome k.len (take (min size n) text) room 0 → s.runs ≡ k.runs
+unfolding after_lines
+given_lines es v k s [] text n most size room e short plain is some longest takes = absurd (saving_not_ending es v k s (record { entries = es; stage = Saving v k }) (record { entries = es; stage = Ending v s }) refl refl e)
+given_lines es v k s (l ∷ ls) text n most size room e short plain is some longest takes =
+    let b = bind_some (λ q. after_lines q ls) (next_at es (Saving v k) l) (record { entries = es; stage = Ending v s }) e in
+    elim (line_gives es v k l b.0 b.1) [
+      | inl ended ↦
+          let same = ending_stays es v k s ls (subst (λ q. after_lines q ls ≡ Some (record { entries = es; stage = Ending v s })) ended b.2) in
+          ap (λ (t : Kept). t.runs) same
+      | inr gives ↦
+          let r : List ℕ = joined ls ++ drop n text in
+          let all : text ≡ l ++ 10 ∷ r =
+          sym (take-append-drop n text) ∙ ap (λ t. t ++ drop n text) (sym is) ∙ append_assoc (l ++ 10 ∷ []) (joined ls) (drop n text) ∙ append_assoc l (10 ∷ []) r in
+          let long : length l + 1 ≤ n = omega (arith, ap length is, length-take n text, length-append (l ++ 10 ∷ []) (joined ls), length-append l (10 ∷ [])) in
+          let begins = ap (take (min size n)) all ∙ window_begins l r (min size n) (omega (arith, long, short.0, longest)) in
+          let none = takes l (take (min size n - (length l + 1)) r) gives.0 some plain.0 begins gives.1 in
+          absurd (omega (arith, none))
+    ]
+
+-- where nothing is taken the save line comes next, so all is restored
+pub all_given : (text : List ℕ) (m : Mark) (s : Kept) (st : StandsAt text m s) (runs : List Run) (at size room : ℕ) → IsIn (take at text) st.entries st.version (record { len = m.len; runs = runs })
+    → at ≤ m.saved → 0 < room → m.longest ≤ size → TakesSome m.len (take (min size (m.saved - at)) (drop at text)) room 0 → s.runs ≡ runs
+all_given text m s st runs at size room inside le some longest takes =
+    let k : Kept = record { len = m.len; runs = runs } in
+    let b : List ℕ = take (m.saved - at) (drop at text) in
+    let to = lines_to text st.entries st.version k s at m.saved inside st.ends le in
+    let short : AllShorter m.longest (split b).lines = shorter_behind m.longest (split (take at text)).lines (split b).lines (subst (AllShorter m.longest) to.parts st.short) in
+    given_lines st.entries st.version k s (split b).lines (drop at text) (m.saved - at) m.longest size room to.lines short (lines_plain b) (joined_lines b to.whole) some longest takes
+
+-- the save line's end isn't among saved lines
+pub not_ended : (text : List ℕ) (m : Mark) (s : Kept) (st : StandsAt text m s) (runs : List Run) → IsIn (take m.saved text) st.entries st.version (record { len = m.len; runs = runs }) → ⊥
+not_ended text m s st runs inside =
+    saving_not_ending st.entries st.version (record { len = m.len; runs = runs }) s (record { entries = st.entries; stage = Saving st.version (record { len = m.len; runs = runs }) }) (record { entries = st.entries; stage = Ending st.version s }) refl refl (sym inside.lines ∙ st.ends.lines)
+
+-- runs that were placed on an image of their record's length restore it
+pub placed_restores : (s : Kept) (runs : List Run) (len : ℕ) (x y z : List ℕ) → s.len ≡ len → AllWithin len runs → s.runs ≡ with_runs [] runs → z ≡ placed runs y → y ≡ cut x len → z ≡ restore s x
+unfolding byte_in
+placed_restores s runs len x y z long within is placed_is cut_is =
+    let k : Kept = record { len = len; runs = runs } in
+    let same : (i : ℕ) → byte_in runs i ≡ byte_in s.runs i = λ i. sym (or_none (byte_in runs i)) ∙ sym (with_runs-byte runs [] i) ∙ sym (ap (λ rs. byte_in rs i) is) in
+    placed_is ∙ ap (placed runs) cut_is ∙ placed-cut k x within ∙ restore_same len runs s.runs x same ∙ ap (λ n. restore (record { len = n; runs = s.runs }) x) (sym long)
+
+-- and leave it its length, whatever they are
+pub placed_long : (len : ℕ) (runs : List Run) (x y : List ℕ) → AllWithin len runs → length x ≡ len → y ≡ placed runs x → length y ≡ len
+placed_long len runs x y within long is = ap length is ∙ length-placed runs x ∙ ap (placed_len runs) long ∙ placed_len_within runs len within
+
+-- before the first line nothing is restored
+pub restored_none : (text : List ℕ) (m : Mark) (s : Kept) (st : StandsAt text m s) (x : List ℕ) → IsRestoredTo text st.entries st.version m.len m.lines x x
+unfolding placed with_runs
+restored_none text m s st x = record { runs = []; within = tt; inside = record { lines = st.begins.lines; whole = st.begins.whole }; image = refl }
+
+-- a window more
+pub restored_on : (text : List ℕ) (es : List Entry) (v : Version) (len size room at n : ℕ) (x y z : List ℕ) → IsRestoredTo text es v len at x y → RestoresWindow text len size room at n y z
+    → IsRestoredTo text es v len (at + n) x z
+restored_on text es v len size room at n x y z to more = record {
+  runs = to.runs ++ more.runs;
+  within = within-append len to.runs more.runs to.within more.within;
+  inside = subst (λ rs. IsIn (take (at + n) text) es v (record { len = len; runs = rs })) (sym (with_runs-append [] to.runs more.runs)) (more.leads es v (with_runs [] to.runs) to.inside);
+  image = more.image ∙ ap (placed more.runs) to.image ∙ sym (placed-append to.runs more.runs x);
+}
+
+-- what a window gives is named by what names the record
+pub window_named : (text : List ℕ) (m : Mark) (s r : Kept) (st : StandsAt text m s) → Names r s → (at n : ℕ) (x y : List ℕ) (to : IsRestoredTo text st.entries st.version m.len at x y) (runs : List Run)
+    → at + n ≤ m.saved → IsIn (take (at + n) text) st.entries st.version (record { len = m.len; runs = with_runs (with_runs [] to.runs) runs }) → AreNamed r runs
+window_named text m s r st names at n x y to runs le inside =
+    let k : Kept = record { len = m.len; runs = with_runs (with_runs [] to.runs) runs } in
+    let rest = runs_to text st.entries st.version k s (at + n) m.saved inside st.ends le in
+    runs_named r s (with_runs [] to.runs) runs rest.0 rest.1 names
+
+-- the parts of a window are runs within the length
+pub parts_within : (len size : ℕ) (window : List ℕ) (parts : List Part) → length window ≡ size → All (LiesIn size len) parts → AllWithin len (map (part_run window) parts)
+parts_within len size window parts long lie = by parts (λ k d less. (lie k d less).1)
+  where
+    end : (at : ℕ) (bytes : List ℕ) → at + length bytes ≤ len → end_of at bytes ≤ len
+    end at [] h = omega arith
+    end at (b ∷ bytes) h = h
+
+    by : (ps : List Part) → ((k : ℕ) (d : Part) → k < length ps → (slice_index_or ps k d).at + (slice_index_or ps k d).count ≤ len) → AllWithin len (map (part_run window) ps)
+    by [] h = tt
+    by (p ∷ ps) h = (end p.at (take p.count (drop p.from window)) (omega (arith, h 0 p (omega arith), length-take p.count (drop p.from window))), by ps (λ k d less. h (suc k) d (omega (arith, less))))
+
+-- what a window of a text gives, behind a place
+pub given_on : (text : List ℕ) (len at size taken : ℕ) (old new : List ℕ) (parts : List Part) → old ≡ take size (drop at text) → GivesParts len old new parts taken
+    → (es : List Entry) (v : Version) (runs : List Run) → IsIn (take at text) es v (record { len = len; runs = runs })
+    → IsIn (take (at + taken) text) es v (record { len = len; runs = with_runs runs (map (part_run new) parts) })
+given_on text len at size taken old new parts is gives es v runs inside =
+    let same : take at text ++ take taken old ≡ take (at + taken) text =
+    ap (λ t. take at text ++ t) (front_of taken size old (drop at text) gives.within is) ∙ sym (take_sum at taken text) in
+    subst (λ t. IsIn t es v (record { len = len; runs = with_runs runs (map (part_run new) parts) })) same (gives.leads (take at text) es v runs inside)
+
+-- the parts of a window, one after another
+pub part_placed : (window : List ℕ) (parts : List Part) (i : ℕ) (d : Part) (x : List ℕ) → i < length parts
+    → placed (drop i (map (part_run window) parts)) x ≡ placed (drop (suc i) (map (part_run window) parts)) (place x (slice_index_or parts i d).at (take (slice_index_or parts i d).count (drop (slice_index_or parts i d).from window)))
+unfolding placed
+part_placed window [] i d x less = absurd (omega arith)
+part_placed window (p ∷ ps) zero d x less = refl
+part_placed window (p ∷ ps) (suc i) d x less = part_placed window ps i d x (omega arith)
+
+pub placed_end : (window : List ℕ) (parts : List Part) (i : ℕ) (x : List ℕ) → length parts ≤ i → placed (drop i (map (part_run window) parts)) x ≡ x
+unfolding placed
+placed_end window [] zero x le = refl
+placed_end window [] (suc i) x le = refl
+placed_end window (p ∷ ps) zero x le = absurd (omega arith)
+placed_end window (p ∷ ps) (suc i) x le = placed_end window ps i x (omega arith)
+
+pub named_at : (r : Kept) (window : List ℕ) (parts : List Part) (i : ℕ) (d : Part) → AreNamed r (map (part_run window) parts) → i < length parts
+    → IsPartOf r (slice_index_or parts i d).at (length (take (slice_index_or parts i d).count (drop (slice_index_or parts i d).from window)))
+named_at r window [] i d named less = absurd (omega arith)
+named_at r window (p ∷ ps) zero d named less = named.0
+named_at r window (p ∷ ps) (suc i) d named less = named_at r window ps i d named.1 (omega arith)
+
+pub cut_named : (r s : Kept) (n : ℕ) → s.len ≡ n → Names r s → IsCutOf r n
+cut_named r s n is names i from below none = omega (arith, (names i below none).0, is, from)
+
+pub takes_room : (len : ℕ) (window : List ℕ) (room n : ℕ) → n ≡ 0 → TakesSome len window room n → TakesSome len window room 0
+takes_room len window room n none takes = subst (TakesSome len window room) none takes
+
+pub names_itself : (s : Kept) → Names s s
+names_itself s i below none = (below, none)

@@ -1,0 +1,102 @@
+-- Counting in windows.
+use Rattle.std.proofs.Common.{◌≡◌, ℕ, ◌+◌, ◌-◌, ◌≤◌, Bool, List, length, take, ap, sym, ◌∙◌, subst, arith, length-take, Result, Ok}
+use Rattle.bx_image.specs.Power.{NoMore}
+use Rattle.bx_image.proofs.Survivors.{NoMore_then}
+use Rattle.bx_journal_store.specs.declared.store.TextStore.{Ghosts as StoreViews}
+use Rattle.bx_journal_format.specs.Shown.{shown}
+use Rattle.bx_journal_format.proofs.TallyLemmas.{take_less}
+use Rattle.std.specs.Prelude.{IfErr, OnOk}
+use Rattle.std.proofs.lemmas.List.{take_all}
+use Rattle.std.proofs.lemmas.Result.{IfErr-weaker, IfOk-weaker}
+use Rattle.bx_journal_format.specs.Text.{IsDamagedAt}
+use Rattle.bx_journal_format.specs.declared.read.types.Front.{Front}
+use Rattle.bx_journal_read.specs.declared.scan.journal.Found.{Found}
+use Rattle.bx_journal_read.specs.declared.scan.journal.Found.TheVariants.{Finished, Unfinished}
+use Rattle.bx_journal_read.specs.declared.fault.SessionFault.{SessionFault}
+use Rattle.bx_journal_read.specs.declared.fault.SessionFault.TheVariants.{NoMemory, TooLarge, DeviceFailed, Damaged, TooFew, JournalFull, Interrupted, Broken, LengthDiffers, NothingToRedo, RedoDamaged}
+use Rattle.bx_journal_read.specs.model.Undoing.{AgainFault, IsOutOfStep}
+use Rattle.bx_journal_read.specs.scan.Looking.{FaultCounts, LooksAt}
+use Rattle.bx_journal_read.specs.scan.Recovery.{FindFault, FindsText, IsFoundIn, IsTornIn}
+use Rattle.bx_journal_read.specs.scan.Windows.{IsFrontCounted, IsAllCounted}
+
+-- a front of a window that was filled
+pub front_of : (n m : ℕ) (window from : List ℕ) → n ≤ length window → window ≡ take m from → take n window ≡ take n from
+front_of n m window from less is =
+    let more : n + (m - n) ≡ m = omega (arith, less, ap length is, length-take m from) in
+    ap (take n) is ∙ ap (λ k. take n (take k from)) (sym more) ∙ take_less n (m - n) from
+
+-- what was counted of a store is so of it later
+pub front_after : (H now : Type 0) (stored text : List ℕ) (only : Bool) (f : Front) → (now → H) → (H → text ≡ stored) → IsFrontCounted H stored only f → IsFrontCounted now text only f
+front_after H now stored text only f back same c = record {
+  front = c.front;
+  is = λ n. c.is (back n) ∙ ap (take f.at) (sym (same (back n)));
+  long = c.long;
+  counted = c.counted;
+  lines = c.lines;
+  few = c.few;
+}
+
+-- all of a text was counted
+pub all_of : (honest : Type 0) (stored : List ℕ) (only : Bool) (f : Front) (len : ℕ) → IsFrontCounted honest stored only f → (honest → len ≡ length stored) → f.at ≡ len
+    → IsAllCounted honest stored only (record { counted = record { count = f.count; told = f.told }; lines = f.lines })
+all_of honest stored only f len c long all = record {
+  text = c.front;
+  is = λ h. sym (c.is h ∙ take_all f.at stored (omega (arith, long h, all)));
+  counted = c.counted;
+  few = c.few;
+}
+
+-- a call that only looks, behind another that did
+pub looks_before : {D V W : Type 0} {honest : D → Type 0} {view : D → List ℕ} {failures : D → ℕ} {v : V} {r : Result W SessionFault} {old now new : D} → LooksAt honest view failures (Ok v) old now
+    → LooksAt honest view failures r now new → LooksAt honest view failures r old new
+looks_before {failures = failures} {r = r} {new = new} first next = record {
+  same = λ h. next.same (first.honesty.1 h) ∙ first.same h;
+  honesty = (λ h. first.honesty.0 (next.honesty.0 h), λ h. next.honesty.1 (first.honesty.1 h));
+  no_failure = subst (λ n. OnOk r (failures new ≡ n)) first.no_failure next.no_failure;
+  counts = subst (λ n. IfErr r (λ e. FaultCounts e n 0 (failures new) 0)) first.no_failure next.counts;
+}
+
+-- what is said of a text behind a call that only looked at it
+module _ {T V : Type 0} {honest : T → Type 0} {text : T → List ℕ} {failures : T → ℕ} {v : V} {old now : T} (first : LooksAt honest text failures (Ok v) old now) where
+  found_is : (f : Found) → IsFoundIn (honest now) (text now) f → IsFoundIn (honest old) (text old) f
+  found_is (Finished counted) f = record { text = f.text; is = λ h. sym (first.same h) ∙ f.is (first.honesty.1 h); counted = f.counted; few = f.few }
+  found_is (Unfinished torn) f = record { torn = λ h. subst (λ t. IsTornIn t torn) (first.same h) (f.torn (first.honesty.1 h)); few = f.few; order = f.order }
+
+  fault_is : (e : SessionFault) → FindFault (honest now) (shown (text now)) e → FindFault (honest old) (shown (text old)) e
+  fault_is NoMemory f = tt
+  fault_is DeviceFailed f = tt
+  fault_is (Damaged line) f = λ h. subst (λ t. IsDamagedAt (shown t) line) (first.same h) (f (first.honesty.1 h))
+  fault_is TooLarge f = f
+  fault_is (TooFew have) f = f
+  fault_is JournalFull f = f
+  fault_is Interrupted f = f
+  fault_is Broken f = f
+  fault_is (LengthDiffers n) f = f
+  fault_is (NothingToRedo have) f = f
+  fault_is (RedoDamaged line) f = f
+
+  again_is : (count : ℕ) (e : SessionFault) → AgainFault (honest now) (text now) count e → AgainFault (honest old) (text old) count e
+  again_is count NoMemory f = tt
+  again_is count DeviceFailed f = tt
+  again_is count (Damaged line) f = λ h. subst (λ t. IsOutOfStep t count line) (first.same h) (f (first.honesty.1 h))
+  again_is count TooLarge f = f
+  again_is count (TooFew have) f = f
+  again_is count JournalFull f = f
+  again_is count Interrupted f = f
+  again_is count Broken f = f
+  again_is count (LengthDiffers n) f = f
+  again_is count (NothingToRedo have) f = f
+  again_is count (RedoDamaged line) f = f
+
+  pub again_behind : {W : Type 0} → (count : ℕ) (r : Result W SessionFault) → IfErr r (AgainFault (honest now) (text now) count) → IfErr r (AgainFault (honest old) (text old) count)
+  again_behind count r fault = IfErr-weaker r (AgainFault (honest now) (text now) count) (AgainFault (honest old) (text old) count) (again_is count) fault
+
+-- what a text was found to be behind a call that only looked at it
+pub text_behind : {T V : Type 0} (t : StoreViews T) {v : V} {old now new : T} → LooksAt t.honest t.text t.failures (Ok v) old now → (t.honest old → NoMore (t.survives old) (t.survives now))
+    → (r : Result Found SessionFault) → FindsText t r now new → FindsText t r old new
+text_behind t {old = old} {now = now} first before r next = record {
+  found = IfOk-weaker r (IsFoundIn (t.honest now) (t.text now)) (IsFoundIn (t.honest old) (t.text old)) (found_is first) next.found;
+  fault = IfErr-weaker r (FindFault (t.honest now) (shown (t.text now))) (FindFault (t.honest old) (shown (t.text old))) (fault_is first) next.fault;
+  looks = looks_before first next.looks;
+  found_before = λ h. NoMore_then _ _ _ (before h) (next.found_before (first.honesty.1 h));
+}

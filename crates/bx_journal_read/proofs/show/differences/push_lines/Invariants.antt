@@ -1,0 +1,19 @@
+use Rattle.std.proofs.Common.{◌≡◌, ◌≤◌, length, drop}
+use Rattle.std.specs.Prelude.{◌↔◌}
+use Rattle.bx_journal_read.specs.show.Differences.{diff_line, AreAdded, IsCache}
+use Rattle.bx_journal_read.proofs.show.differences.push_lines.Given as goal
+
+-- the lines that were taken are added
+abbrev pub invariant-loop-rest : goal.invariant-loop-rest
+invariant-loop-rest g l = record {
+  added : g.D.Device.honest l.fn.device → AreAdded (diff_line (g.D.Device.image l.fn.device) l.before) l.window l.taken l.fn.text.items l.text.items;
+  cache : IsCache (g.D.Device.honest l.fn.device) (g.D.Device.image l.fn.device) l.page l.now;
+  left : l.rest ≡ drop l.taken l.window;
+  within : l.taken ≤ length l.window;
+  image : g.D.Device.honest l.fn.device → g.D.Device.image l.device ≡ g.D.Device.image l.fn.device;
+  honesty : g.D.Device.honest l.device ↔ g.D.Device.honest l.fn.device;
+  failures : g.D.Device.failures l.device ≡ g.D.Device.failures l.fn.device;
+}
+
+abbrev pub decreases-loop-rest : goal.decreases-loop-rest
+decreases-loop-rest g l = length l.rest

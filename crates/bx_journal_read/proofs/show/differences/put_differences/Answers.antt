@@ -1,0 +1,34 @@
+use Rattle.std.proofs.Common.{rules, length, refl, ap, sym, ◌∙◌, subst, arith}
+use Rattle.std.specs.Io.KnownBytes.{Appends}
+use Rattle.bx_journal_format.specs.Text.{split}
+use Rattle.bx_journal_read.specs.show.Differences.{diff_text}
+use Rattle.bx_journal_read.specs.show.Showing.{lines_at}
+use Rattle.bx_journal_read.proofs.BesideLemmas.{counts_behind, stays_behind}
+use Rattle.bx_journal_read.proofs.RowTexts.{ok_weaker}
+use Rattle.bx_journal_read.proofs.show.differences.put_differences.Goals as goal
+
+pub put_windows-requires-clause-cache : goal.put_windows-requires-clause-cache
+put_windows-requires-clause-cache g c =
+    let honesty = c.len.ensures.goes_on.honesty in
+    record {
+      long = λ h. c.in_ok-len.ensures.len (honesty.0 h) ∙ sym (ap length (c.len.ensures.image (honesty.0 h)));
+      are = λ h. refl;
+      inside = omega arith;
+      room = omega (arith, ap length c.as_mut_slice.ensures.value, c.in_ok-page.ensures.len);
+    }
+
+pub returns-clause-put : goal.returns-clause-put
+returns-clause-put g c h k =
+    ok_weaker c.put_windows.result
+    (λ compared. subst (λ im. Appends (g.W.Write.contents c.args.out.now) (g.W.Write.contents c.put_windows.new.out) (diff_text im c.args.mark.len (split (lines_at (g.T.TextStore.text c.args.store.now) c.args.mark)).lines))
+    (c.len.ensures.image h) compared.written)
+    (c.put_windows.ensures.put (c.len.ensures.goes_on.honesty.1 h) k)
+
+pub returns-in_err-len-clause-image : goal.returns-in_err-len-clause-image
+returns-in_err-len-clause-image g c = record { same = λ h. c.len.ensures.image h; honesty = c.len.ensures.goes_on.honesty; no_failure = search rules }
+
+pub returns-clause-image : goal.returns-clause-image
+returns-clause-image g c = stays_behind (λ h. c.len.ensures.image h) c.len.ensures.goes_on.honesty c.in_ok-len.ensures.goes_on.counted c.put_windows.ensures.image
+
+pub returns-clause-counts : goal.returns-clause-counts
+returns-clause-counts g c = counts_behind _ _ c.put_windows.result c.in_ok-len.ensures.goes_on.counted refl c.put_windows.ensures.counts

@@ -1,0 +1,3 @@
+pub mod model
+pub mod scan
+pub mod show

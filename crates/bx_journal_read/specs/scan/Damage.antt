@@ -1,0 +1,25 @@
+-- The lines of a text that are in place, and where it is damaged behind them.
+use Rattle.std.specs.Prelude.{◌≡◌, ◌≤◌, ℕ, ◌+◌, ◌-◌, false, List, length, take, drop}
+use Rattle.bx_journal_read.specs.declared.scan.damage.PlaceScan.{PlaceScan}
+use Rattle.bx_journal_format.specs.count.Tally.{IsTallied}
+use Rattle.bx_journal_format.specs.Text.{IsDamagedAt}
+use Rattle.bx_journal_format.specs.read.Plain.{HasNoNewline}
+
+-- the lines of a text are in place, and were counted
+pub record IsInPlace (now : PlaceScan) (text : List ℕ) : Type 0 where
+  pub tallied : IsTallied false text now.tally now.lines
+  pub lines : now.lines ≤ length text
+  pub few : now.tally.count ≤ 65535
+
+-- a text is damaged at a line: the store's, where that is honest
+pub record IsDamagedIn (honest : Type 0) (stored : List ℕ) (line : ℕ) : Type 0 where
+  pub text : List ℕ
+  pub is : honest → stored ≡ text
+  pub damaged : IsDamagedAt text line
+
+-- the bytes of a text between two places have no newline: the store's, where that is honest
+pub record IsPlainTo (honest : Type 0) (stored : List ℕ) (from at : ℕ) : Type 0 where
+  pub bytes : List ℕ
+  pub is : honest → bytes ≡ take (at - from) (drop from stored)
+  pub long : from + length bytes ≡ at
+  pub plain : HasNoNewline bytes

@@ -1,0 +1,29 @@
+-- Calls that only look at a device, and which faults come before the first write.
+use Rattle.std.specs.Prelude.{◌≡◌, ◌↔◌, ◌≤◌, ℕ, ◌+◌, List, Result, OnOk, IfErr}
+use Rattle.bx_journal_read.specs.declared.fault.SessionFault.{SessionFault}
+use Rattle.bx_journal_read.specs.declared.fault.SessionFault.TheVariants.{DeviceFailed, Interrupted, LengthDiffers}
+use Rattle.bx_journal_read.specs.model.Fault.{DeviceFault}
+use Rattle.bx_journal_read.specs.model.Calls.{Differs}
+use Rattle.bx_journal_format.specs.Text.{Entry}
+
+-- one more failed call on one of two devices: no count falls, and both together rise by one
+abbrev pub OneMore : ℕ → ℕ → ℕ → ℕ → Type 0
+OneMore d t d_new t_new = (d ≤ d_new) × (t ≤ t_new) × (d_new + t_new ≡ d + t + 1)
+
+-- how the counts of failed calls go on: a device's fault raises one of them by one, and another fault none
+abbrev pub FaultCounts : SessionFault → ℕ → ℕ → ℕ → ℕ → Type 0
+FaultCounts DeviceFailed d t d_new t_new = OneMore d t d_new t_new
+FaultCounts Interrupted d t d_new t_new = OneMore d t d_new t_new
+FaultCounts e d t d_new t_new = (d_new ≡ d) × (t_new ≡ t)
+
+-- a call that only looks at a device, the image's or a text's: it changes nothing, and its fault tells whether the device failed
+pub record LooksAt {D R : Type 0} (honest : D → Type 0) (view : D → List ℕ) (failures : D → ℕ) (result : Result R SessionFault) (old new : D) : Type 0 where
+  pub same : honest old → view new ≡ view old
+  pub honesty : honest new ↔ honest old
+  pub no_failure : OnOk result (failures new ≡ failures old)
+  pub counts : IfErr result (λ e. FaultCounts e (failures old) 0 (failures new) 0)
+
+-- which fault may come between reading the text and the first write
+abbrev pub LookFault : Type 0 → List Entry → List ℕ → SessionFault → Type 0
+LookFault honest es x (LengthDiffers n) = honest → Differs es x n
+LookFault honest es x e = DeviceFault e

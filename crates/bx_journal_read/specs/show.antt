@@ -1,0 +1,4 @@
+-- What looks write.
+pub mod Differences
+pub mod Showing
+pub mod Steps

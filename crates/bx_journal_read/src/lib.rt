@@ -1,0 +1,26 @@
+//! A journal's text, read from its store and shown; memory is taken, and nothing is written to a device. An inner part of `bx_journal`.
+#![tactic(auto)]
+
+mod answers;
+mod fault;
+mod scan;
+mod show;
+
+pub use answers::{How, LogRow, Recovered};
+pub use fault::{SessionFault, of_redo, of_text};
+pub use scan::count::{CountedText, count_text};
+pub use scan::damage::text_damage;
+pub use scan::entries::{FinishedRead, read_again, read_last_of};
+pub use scan::journal::{Found, Torn, read_text};
+pub use scan::mark::{Mark, start_size};
+pub use scan::whole::read_journal;
+pub use scan::windows::{Scan, Taken, WINDOW, scan_windows};
+pub use show::differences::put_differences;
+pub use show::fault::ShowFault;
+pub use show::heading::put_heading;
+pub use show::lines::put_lines;
+pub use show::marks::all_marks;
+pub use show::ranges::put_ranges;
+pub use show::unfinished::{Marked, front_marks, put_torn};
+pub use show::way::{Step, Steps, Way};
+pub use show::writing::{Writing, begin_writing, put};

@@ -1,0 +1,204 @@
+//! A text that is counted in windows.
+ghost use Rattle.std.specs.Prelude.{◌≡◌, ◌<◌, ◌≤◌, length, take, min, is_err, IfOk, IfErr, IfSome};
+ghost use Rattle.bx_image.specs.Device.{GoesOn};
+ghost use Rattle.bx_image.specs.Power.{NoMore};
+ghost use Rattle.bx_journal_read.specs.scan.Looking.{LooksAt};
+ghost use Rattle.bx_journal_read.specs.model.Fault.{LacksOrFails};
+ghost use Rattle.bx_journal_read.specs.scan.Windows.{HasShortLines, IsAllCounted, IsCountedBy, IsFrontCounted, IsWalkedTo};
+
+use crate::fault::SessionFault;
+use crate::scan::windows::{Scan, Taken, WINDOW, scan_windows};
+use bx_image::DeviceFailed;
+use bx_journal_format::{Counted, Front, MOST_CHANGES, Tally, count_lines, counted_by, no_entries};
+use bx_journal_store::TextStore;
+use bx_text::NoMemory;
+use std::alloc::Allocator;
+
+/// More entries than a text can have.
+pub const ALL: u32 = MOST_CHANGES + 1;
+
+/// What a text's entries were counted as, and how many lines it has.
+#[derive(Clone, Copy)]
+pub struct CountedText {
+    pub counted: Counted,
+    pub lines: u64,
+}
+
+/// How far the lines of a text were walked along: up to the place `at` they are this many, and lead to a tally.
+#[derive(Clone, Copy)]
+pub struct Walk {
+    pub tally: Tally,
+    pub at: u64,
+    pub lines: u64,
+}
+
+/// The lines of a text, counted up to the end of the entry whose number is the limit.
+#[derive(Clone, Copy)]
+pub struct CountScan {
+    pub tally: Tally,
+    pub lines: u64,
+    pub only_second: bool,
+    pub limit: u32,
+}
+
+impl Scan for CountScan {
+    ghost Leads = { IsCountedBy };
+
+    fn is_done(&self) -> bool {
+        self.tally.count >= self.limit
+    }
+
+    fn take_lines(
+        self,
+        _at: u64,
+        _left: u64,
+        window: &mut [u8],
+    ) -> Result<Option<Taken<CountScan>>, NoMemory> {
+        let Some(passed) = count_lines(self.tally, window, self.only_second, self.limit) else {
+            return Ok(None);
+        };
+        Ok(Some(Taken {
+            scan: CountScan {
+                tally: passed.tally,
+                lines: self.lines + passed.lines,
+                only_second: self.only_second,
+                limit: self.limit,
+            },
+            taken: passed.taken,
+        }))
+    }
+
+    ghost whole = { λ first now text h. h.tallied.whole };
+}
+
+/// Walks along the lines of a text's first `len` bytes, a window at a time: up to the end of the entry whose number is the limit, or as far as
+/// whole lines go. What is left of a window's last line is read again with the next one. It answers none where a line is out of
+/// place, with `only_second` also where an entry tells no length.
+pub fn walk_windows<T: TextStore>(
+    store: &mut T,
+    window: &mut [u8],
+    len: u64,
+    only_second: bool,
+    limit: u32,
+) -> Result<Option<Walk>, DeviceFailed>
+    requires countable { T.failures store.old < u64.MAX }
+    requires within { T.honest store.old → len ≤ length (T.text store.old) }
+    ensures walked { IfOk result (λ found. IfSome found (IsWalkedTo (T.honest store.old) (T.text store.old) only_second (length window.old) len)) }
+    ensures window { length window.new ≡ length window.old }
+    ensures text { T.honest store.old → T.text store.new ≡ T.text store.old }
+    ensures survives { T.honest store.old → NoMore (T.survives store.old) (T.survives store.new) }
+    ensures goes_on { GoesOn T.honest T.room T.failures (is_err result) store.old store.new }
+{
+    let scan = CountScan {
+        tally: no_entries(),
+        lines: 0,
+        only_second,
+        limit,
+    };
+    let scanned = scan_windows(store, window, scan, 0, len)?;
+    let Ok(found) = scanned else {
+        return Ok(None);
+    };
+    let Some(end) = found else {
+        return Ok(None);
+    };
+    Ok(Some(Walk {
+        tally: end.scan.tally,
+        at: end.at,
+        lines: end.scan.lines,
+    }))
+}
+
+/// Counts the first entries in a text's first `len` bytes, a window at a time: as many as the limit says, or all. It answers none where the
+/// text is anything but finished entries up to there, with `only_second` also where one tells no length, and where a line is
+/// longer than the window.
+pub fn count_windows<T: TextStore>(
+    store: &mut T,
+    window: &mut [u8],
+    len: u64,
+    only_second: bool,
+    limit: u32,
+) -> Result<Option<Front>, DeviceFailed>
+    requires countable { T.failures store.old < u64.MAX }
+    requires within { T.honest store.old → len ≤ length (T.text store.old) }
+    ensures counted { IfOk result (λ found. IfSome found (IsFrontCounted (T.honest store.old) (T.text store.old) only_second)) }
+    ensures short { IfOk result (λ found. IfSome found (λ f. HasShortLines (T.honest store.old) (take f.at (T.text store.old)) (length window.old))) }
+    ensures window { length window.new ≡ length window.old }
+    ensures within { IfOk result (λ found. IfSome found (λ f. f.at ≤ len)) }
+    ensures text { T.honest store.old → T.text store.new ≡ T.text store.old }
+    ensures survives { T.honest store.old → NoMore (T.survives store.old) (T.survives store.new) }
+    ensures goes_on { GoesOn T.honest T.room T.failures (is_err result) store.old store.new }
+{
+    let found = walk_windows(store, window, len, only_second, limit)?;
+    let Some(walk) = found else {
+        return Ok(None);
+    };
+    if walk.at < len && walk.tally.count < limit {
+        return Ok(None);
+    }
+    let Some(counted) = counted_by(walk.tally) else {
+        return Ok(None);
+    };
+    Ok(Some(Front {
+        count: counted.count,
+        told: counted.told,
+        at: walk.at,
+        lines: walk.lines,
+    }))
+}
+
+/// Counts the first entries of a text of `len` bytes, as many as the limit says or all, in as much memory for any length. It
+/// answers none where they can't be counted so: where they aren't finished entries, with `only_second` also where one tells
+/// no length, and where a line is very long.
+pub fn count_front<T: TextStore, A: Allocator + Clone>(
+    alloc: &A,
+    store: &mut T,
+    len: u64,
+    only_second: bool,
+    limit: u32,
+) -> Result<Option<Front>, SessionFault>
+    requires countable { T.failures store.old < u64.MAX }
+    requires long { T.honest store.old → len ≡ length (T.text store.old) }
+    ensures counted { IfOk result (λ found. IfSome found (IsFrontCounted (T.honest store.old) (T.text store.old) only_second)) }
+    ensures short { IfOk result (λ found. IfSome found (λ f. HasShortLines (T.honest store.old) (take f.at (T.text store.old)) (min WINDOW len))) }
+    ensures within { IfOk result (λ found. IfSome found (λ f. f.at ≤ len)) }
+    ensures fault { IfErr result LacksOrFails }
+    ensures looks { LooksAt T.honest T.text T.failures result store.old store.new }
+    ensures survives { T.honest store.old → NoMore (T.survives store.old) (T.survives store.new) }
+{
+    let size = WINDOW.min(len) as usize;
+    let mut window = vec![in alloc.clone()?; 0u8; size]?;
+    let found = count_windows(store, window.as_mut_slice(), len, only_second, limit)?;
+    Ok(found)
+}
+
+/// Counts the entries of a text in as much memory for any length. It answers none where it can't be counted so: where it is
+/// anything but finished entries, with `only_second` also where one tells no length, and where a line is very long.
+pub fn count_text<T: TextStore, A: Allocator + Clone>(
+    alloc: &A,
+    store: &mut T,
+    only_second: bool,
+) -> Result<Option<CountedText>, SessionFault>
+    requires { T.failures store.old < u64.MAX }
+    ensures counted { IfOk result (λ found. IfSome found (IsAllCounted (T.honest store.old) (T.text store.old) only_second)) }
+    ensures fault { IfErr result LacksOrFails }
+    ensures looks { LooksAt T.honest T.text T.failures result store.old store.new }
+    ensures survives { T.honest store.old → NoMore (T.survives store.old) (T.survives store.new) }
+{
+    let len = store.len()?;
+    let found = count_front(alloc, store, len, only_second, ALL)?;
+    let Some(front) = found else {
+        return Ok(None);
+    };
+    if front.at != len {
+        return Ok(None);
+    }
+    let counted = Counted {
+        count: front.count,
+        told: front.told,
+    };
+    Ok(Some(CountedText {
+        counted,
+        lines: front.lines,
+    }))
+}

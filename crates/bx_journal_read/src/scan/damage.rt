@@ -1,0 +1,266 @@
+//! At which line a text is damaged: found a window at a time, however long the text or the line is.
+ghost use Rattle.std.specs.Prelude.{◌≡◌, ◌+◌, ◌<◌, ◌≤◌, length, take, false, IsTrue, is_err, IfOk, IfErr, IfSome};
+ghost use Rattle.bx_image.specs.Device.{GoesOn};
+ghost use Rattle.bx_image.specs.Power.{NoMore};
+ghost use Rattle.bx_journal_format.specs.Shown.{shown};
+ghost use Rattle.bx_journal_read.specs.model.Fault.{LacksOrFails};
+ghost use Rattle.bx_journal_read.specs.scan.Damage.{IsDamagedIn, IsInPlace, IsPlainTo};
+ghost use Rattle.bx_journal_read.specs.scan.Looking.{LooksAt};
+ghost use Rattle.bx_journal_read.specs.scan.Windows.{IsWalkedTo};
+
+use crate::fault::SessionFault;
+use crate::scan::count::Walk;
+use crate::scan::shown::shown_in;
+use crate::scan::windows::{Scan, Taken, WINDOW, scan_windows};
+use bx_image::DeviceFailed;
+use bx_journal_format::{SURELY_LONG, Tally, is_damaged, line_end, lines_in_place, no_entries};
+use bx_journal_store::TextStore;
+use bx_text::NoMemory;
+use std::alloc::Allocator;
+
+/// The lines of a text that are in place: how many they are, and their tally.
+#[derive(Clone, Copy)]
+pub struct PlaceScan {
+    pub tally: Tally,
+    pub lines: u64,
+}
+
+impl Scan for PlaceScan {
+    ghost Leads = { λ first now text. IsInPlace now text };
+
+    fn take_lines(
+        self,
+        _at: u64,
+        _left: u64,
+        window: &mut [u8],
+    ) -> Result<Option<Taken<PlaceScan>>, NoMemory> {
+        let passed = lines_in_place(self.tally, window);
+        Ok(Some(Taken {
+            scan: PlaceScan {
+                tally: passed.tally,
+                lines: self.lines + passed.lines,
+            },
+            taken: passed.taken,
+        }))
+    }
+
+    ghost whole = { λ first now text h. h.tallied.whole };
+}
+
+/// Walks along the lines of a text's first `len` bytes that are in place, a window at a time: up to the first that isn't, to one that is
+/// longer than the window, or as far as whole lines go.
+fn walk_in_place<T: TextStore>(
+    store: &mut T,
+    window: &mut [u8],
+    len: u64,
+) -> Result<Option<Walk>, DeviceFailed>
+    requires countable { T.failures store.old < u64.MAX }
+    requires within { T.honest store.old → len ≤ length (T.text store.old) }
+    ensures walked { IfOk result (λ found. IfSome found (IsWalkedTo (T.honest store.old) (T.text store.old) false (length window.old) len)) }
+    ensures window { length window.new ≡ length window.old }
+    ensures text { T.honest store.old → T.text store.new ≡ T.text store.old }
+    ensures survives { T.honest store.old → NoMore (T.survives store.old) (T.survives store.new) }
+    ensures goes_on { GoesOn T.honest T.room T.failures (is_err result) store.old store.new }
+{
+    let scan = PlaceScan {
+        tally: no_entries(),
+        lines: 0,
+    };
+    let scanned = scan_windows(store, window, scan, 0, len)?;
+    let Ok(found) = scanned else {
+        return Ok(None);
+    };
+    let Some(end) = found else {
+        return Ok(None);
+    };
+    Ok(Some(Walk {
+        tally: end.scan.tally,
+        at: end.at,
+        lines: end.scan.lines,
+    }))
+}
+
+/// Whether a text's first `len` bytes are damaged at the line behind those that were walked along: by all that follows there, or by as much
+/// as a window holds.
+fn is_damaged_behind<T: TextStore>(
+    store: &mut T,
+    window: &mut [u8],
+    len: u64,
+    walk: Walk,
+) -> Result<bool, DeviceFailed>
+    requires countable { T.failures store.old < u64.MAX }
+    requires within { T.honest store.old → len ≤ length (T.text store.old) }
+    requires walked { IsWalkedTo (T.honest store.old) (T.text store.old) false (length window.old) len walk }
+    ensures damaged { IfOk result (λ b. IsTrue b → IsDamagedIn (T.honest store.old) (take len (T.text store.old)) (walk.lines + 1)) }
+    ensures window { length window.new ≡ length window.old }
+    ensures text { T.honest store.old → T.text store.new ≡ T.text store.old }
+    ensures survives { T.honest store.old → NoMore (T.survives store.old) (T.survives store.new) }
+    ensures goes_on { GoesOn T.honest T.room T.failures (is_err result) store.old store.new }
+{
+    let left = len - walk.at;
+    let size = (window.len() as u64).min(left) as usize;
+    let (bytes, _) = window.split_at_mut(size);
+    store.read_at(walk.at, bytes)?;
+    Ok(is_damaged(walk.tally, bytes, size as u64 == left))
+}
+
+/// Whether a text's first `len` bytes have no newline from a place on.
+fn is_endless<T: TextStore>(
+    store: &mut T,
+    window: &mut [u8],
+    from: u64,
+    len: u64,
+) -> Result<bool, DeviceFailed>
+    requires countable { T.failures store.old < u64.MAX }
+    requires within { T.honest store.old → len ≤ length (T.text store.old) }
+    requires below { from ≤ len }
+    requires some { 0 < length window.old }
+    ensures plain { IfOk result (λ b. IsTrue b → IsPlainTo (T.honest store.old) (T.text store.old) from len) }
+    ensures window { length window.new ≡ length window.old }
+    ensures text { T.honest store.old → T.text store.new ≡ T.text store.old }
+    ensures survives { T.honest store.old → NoMore (T.survives store.old) (T.survives store.new) }
+    ensures goes_on { GoesOn T.honest T.room T.failures (is_err result) store.old store.new }
+{
+    let mut at = from;
+    while at < len {
+        let count = (len - at).min(window.len() as u64) as usize;
+        let (part, _) = window.split_at_mut(count);
+        store.read_at(at, part)?;
+        if let Some(_) = line_end(part) {
+            return Ok(false);
+        }
+        at += count as u64;
+    }
+    Ok(true)
+}
+
+/// Whether a text's first `len` bytes end in a line that is surely too long to stand there, behind those that were walked along.
+fn ends_long<T: TextStore>(
+    store: &mut T,
+    window: &mut [u8],
+    len: u64,
+    walk: Walk,
+) -> Result<bool, DeviceFailed>
+    requires countable { T.failures store.old < u64.MAX }
+    requires within { T.honest store.old → len ≤ length (T.text store.old) }
+    requires walked { IsWalkedTo (T.honest store.old) (T.text store.old) false (length window.old) len walk }
+    ensures damaged { IfOk result (λ b. IsTrue b → IsDamagedIn (T.honest store.old) (take len (T.text store.old)) (walk.lines + 1)) }
+    ensures text { T.honest store.old → T.text store.new ≡ T.text store.old }
+    ensures survives { T.honest store.old → NoMore (T.survives store.old) (T.survives store.new) }
+    ensures goes_on { GoesOn T.honest T.room T.failures (is_err result) store.old store.new }
+{
+    if len - walk.at < SURELY_LONG as u64 {
+        return Ok(false);
+    }
+    if window.is_empty() {
+        return Ok(false);
+    }
+    is_endless(store, window, walk.at, len)
+}
+
+/// Whether a text's first `len` bytes are damaged at the line behind those that were walked along.
+fn is_damaged_at<T: TextStore>(
+    store: &mut T,
+    window: &mut [u8],
+    len: u64,
+    walk: Walk,
+) -> Result<bool, DeviceFailed>
+    requires countable { T.failures store.old < u64.MAX }
+    requires within { T.honest store.old → len ≤ length (T.text store.old) }
+    requires walked { IsWalkedTo (T.honest store.old) (T.text store.old) false (length window.old) len walk }
+    ensures damaged { IfOk result (λ b. IsTrue b → IsDamagedIn (T.honest store.old) (take len (T.text store.old)) (walk.lines + 1)) }
+    ensures text { T.honest store.old → T.text store.new ≡ T.text store.old }
+    ensures survives { T.honest store.old → NoMore (T.survives store.old) (T.survives store.new) }
+    ensures goes_on { GoesOn T.honest T.room T.failures (is_err result) store.old store.new }
+{
+    let damaged = is_damaged_behind(store, window, len, walk)?;
+    if damaged {
+        return Ok(true);
+    }
+    ends_long(store, window, len, walk)
+}
+
+/// The line, from 1, at which a text's first `len` bytes are damaged. It answers none where they aren't, and where a saved line that is in
+/// place is longer than the window.
+fn find_line<T: TextStore>(
+    store: &mut T,
+    window: &mut [u8],
+    len: u64,
+) -> Result<Option<u64>, DeviceFailed>
+    requires countable { T.failures store.old < u64.MAX }
+    requires within { T.honest store.old → len ≤ length (T.text store.old) }
+    ensures line { IfOk result (λ found. IfSome found (IsDamagedIn (T.honest store.old) (take len (T.text store.old)))) }
+    ensures text { T.honest store.old → T.text store.new ≡ T.text store.old }
+    ensures survives { T.honest store.old → NoMore (T.survives store.old) (T.survives store.new) }
+    ensures goes_on { GoesOn T.honest T.room T.failures (is_err result) store.old store.new }
+{
+    let found = walk_in_place(store, window, len)?;
+    let Some(walk) = found else {
+        return Ok(None);
+    };
+    if walk.at >= len {
+        return Ok(None);
+    }
+    let damaged = is_damaged_at(store, window, len, walk)?;
+    if damaged {
+        return Ok(Some(walk.lines + 1));
+    }
+    Ok(None)
+}
+
+/// The line at which what is read of a journal's text of `len` bytes is damaged, if it is found so.
+fn find_shown<T: TextStore>(
+    store: &mut T,
+    window: &mut [u8],
+    len: u64,
+) -> Result<Option<u64>, DeviceFailed>
+    requires countable { T.failures store.old < u64.MAX }
+    requires long { T.honest store.old → len ≡ length (T.text store.old) }
+    ensures line { IfOk result (λ found. IfSome found (IsDamagedIn (T.honest store.old) (shown (T.text store.old)))) }
+    ensures text { T.honest store.old → T.text store.new ≡ T.text store.old }
+    ensures survives { T.honest store.old → NoMore (T.survives store.old) (T.survives store.new) }
+    ensures goes_on { GoesOn T.honest T.room T.failures (is_err result) store.old store.new }
+{
+    if window.is_empty() {
+        return Ok(None);
+    }
+    let shown = shown_in(store, window, len)?;
+    find_line(store, window, shown)
+}
+
+/// The line at which what is read of a journal's text is damaged, in as much memory for any length. It answers none where it isn't damaged, and
+/// where a saved line that is in place is very long.
+pub fn journal_damage<T: TextStore, A: Allocator + Clone>(
+    alloc: &A,
+    store: &mut T,
+) -> Result<Option<u64>, SessionFault>
+    requires { T.failures store.old < u64.MAX }
+    ensures line { IfOk result (λ found. IfSome found (IsDamagedIn (T.honest store.old) (shown (T.text store.old)))) }
+    ensures fault { IfErr result LacksOrFails }
+    ensures looks { LooksAt T.honest T.text T.failures result store.old store.new }
+    ensures survives { T.honest store.old → NoMore (T.survives store.old) (T.survives store.new) }
+{
+    let len = store.len()?;
+    let size = WINDOW.min(len) as usize;
+    let mut window = vec![in alloc.clone()?; 0u8; size]?;
+    let found = find_shown(store, window.as_mut_slice(), len)?;
+    Ok(found)
+}
+
+/// The line at which a text is damaged, as `journal_damage` finds it, where all of the text is read.
+pub fn text_damage<T: TextStore, A: Allocator + Clone>(
+    alloc: &A,
+    store: &mut T,
+) -> Result<Option<u64>, SessionFault>
+    requires { T.failures store.old < u64.MAX }
+    ensures line { IfOk result (λ found. IfSome found (IsDamagedIn (T.honest store.old) (T.text store.old))) }
+    ensures fault { IfErr result LacksOrFails }
+    ensures looks { LooksAt T.honest T.text T.failures result store.old store.new }
+    ensures survives { T.honest store.old → NoMore (T.survives store.old) (T.survives store.new) }
+{
+    let len = store.len()?;
+    let size = WINDOW.min(len) as usize;
+    let mut window = vec![in alloc.clone()?; 0u8; size]?;
+    let found = find_line(store, window.as_mut_slice(), len)?;
+    Ok(found)
+}

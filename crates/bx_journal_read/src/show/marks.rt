@@ -1,0 +1,135 @@
+//! The marks of a text's entries, from a text that is read in windows.
+ghost use Rattle.std.specs.Prelude.{◌≡◌, ◌<◌, ◌≤◌, length, true, IfOk, IfErr, IfSome};
+ghost use Rattle.bx_journal_format.specs.count.Marks.{IsMarked};
+ghost use Rattle.bx_journal_read.specs.scan.Looking.{LooksAt};
+ghost use Rattle.bx_journal_read.specs.model.Fault.{LacksOrFails};
+ghost use Rattle.bx_journal_read.specs.show.Showing.{AreAllMarks, AreMarksOf, FindsMarks};
+
+use crate::{Scan, SessionFault, Taken, WINDOW, read_text, scan_windows};
+use bx_journal_format::{Mark, Marking, Place, mark_lines, nothing_marked};
+use bx_journal_store::TextStore;
+use bx_text::NoMemory;
+use std::alloc::{Allocator, Global};
+
+/// The marks of a text's lines so far, and where they lead.
+#[derive(Drop)]
+pub struct MarkScan<A: Allocator = Global> {
+    pub marks: Vec<Mark, A>,
+    pub marking: Marking,
+}
+
+impl<A: Allocator> Scan for MarkScan<A> {
+    ghost Leads = { λ first now text. IsMarked text now.marking now.marks.items };
+
+    fn take_lines(
+        self,
+        at: u64,
+        _left: u64,
+        window: &mut [u8],
+    ) -> Result<Option<Taken<MarkScan<A>>>, NoMemory> {
+        let MarkScan { mut marks, marking } = self;
+        let Some(lines) = mark_lines(&mut marks, marking, at, window)? else {
+            return Ok(None);
+        };
+        Ok(Some(Taken {
+            scan: MarkScan {
+                marks,
+                marking: lines.marking,
+            },
+            taken: lines.taken,
+        }))
+    }
+
+    ghost whole = { λ first now text h. h.whole };
+}
+
+/// Whether a text stands between two entries.
+fn is_between(marking: Marking) -> bool
+    ensures { result ≡ true → marking.sums.tally.place ≡ Place.Between }
+{
+    match marking.sums.tally.place {
+        Place::Between => true,
+        Place::Saving { .. } => false,
+        Place::Ending { .. } => false,
+    }
+}
+
+/// The marks of the entries that are the first `len` bytes of a text. It answers none where these are anything but finished
+/// entries, and where a line is longer than a window.
+pub fn marks_to<T: TextStore, A: Allocator + Clone>(
+    alloc: &A,
+    store: &mut T,
+    len: u64,
+) -> Result<Option<Vec<Mark, A>>, SessionFault>
+    requires countable { T.failures store.old < u64.MAX }
+    requires long { T.honest store.old → len ≤ length (T.text store.old) }
+    ensures marks { IfOk result (λ found. IfSome found (λ marks. AreMarksOf (T.honest store.old) (T.text store.old) len marks.items)) }
+    ensures fault { IfErr result LacksOrFails }
+    ensures looks { LooksAt T.honest T.text T.failures result store.old store.new }
+{
+    let size = WINDOW.min(len) as usize;
+    let mut window = vec![in alloc.clone()?; 0u8; size]?;
+    let scan = MarkScan {
+        marks: Vec::new(alloc.clone()?),
+        marking: nothing_marked(),
+    };
+    let found = scan_windows(store, window.as_mut_slice(), scan, 0, len)??;
+    let Some(end) = found else {
+        return Ok(None);
+    };
+    if end.at < len {
+        return Ok(None);
+    }
+    if !is_between(end.scan.marking) {
+        return Ok(None);
+    }
+    Ok(Some(end.scan.marks))
+}
+
+/// The marks of the entries of a text, in as much memory beside them for any length. It answers none where they can't be had
+/// so: where the text is anything but finished entries, and where a line is longer than a window.
+pub fn marks_in_windows<T: TextStore, A: Allocator + Clone>(
+    alloc: &A,
+    store: &mut T,
+) -> Result<Option<Vec<Mark, A>>, SessionFault>
+    requires { T.failures store.old < u64.MAX }
+    ensures marks { IfOk result (λ found. IfSome found (λ marks. AreAllMarks (T.honest store.old) (T.text store.old) marks.items)) }
+    ensures fault { IfErr result LacksOrFails }
+    ensures looks { LooksAt T.honest T.text T.failures result store.old store.new }
+{
+    let len = store.len()?;
+    let found = marks_to(alloc, store, len)?;
+    Ok(found)
+}
+
+/// Why a text can't be marked: as opening reads it, or a line is longer than a window.
+fn refuse_marks<T: TextStore, A: Allocator + Clone>(
+    alloc: &A,
+    store: &mut T,
+) -> Result<Vec<Mark, A>, SessionFault>
+    requires { T.failures store.old < u64.MAX }
+    ensures { FindsMarks T.honest T.text T.failures result store.old store.new }
+{
+    match read_text(alloc, store) {
+        Ok(_) => Err(SessionFault::NoMemory),
+        Err(fault) => Err(fault),
+    }
+}
+
+/// The marks of the entries of a text that is to be finished entries alone. It changes nothing.
+pub fn all_marks<T: TextStore, A: Allocator + Clone>(
+    alloc: &A,
+    store: &mut T,
+) -> Result<Vec<Mark, A>, SessionFault>
+    requires { T.failures store.old < u64.MAX }
+    ensures { FindsMarks T.honest T.text T.failures result store.old store.new }
+{
+    let found = match marks_in_windows(alloc, store) {
+        Ok(found) => found,
+        Err(fault) => return Err(fault),
+    };
+    match found {
+        Some(marks) => Ok(marks),
+        None => refuse_marks(alloc, store),
+    }
+}

@@ -1,0 +1,84 @@
+//! The saved lines of an entry that is marked, as ranges.
+ghost use Rattle.std.specs.Prelude.{◌≡◌, ◌+◌, ◌<◌, ◌≤◌, length, OnOk, IfOk, IfErr};
+ghost use Rattle.std.specs.Io.KnownBytes.{Appends};
+ghost use Rattle.bx_journal_read.specs.show.Showing.{LookCounts, PutFault, PutsOn, Stays, ranges_at};
+
+use crate::SessionFault;
+use crate::show::fault::ShowFault;
+use crate::show::writing::put;
+use bx_journal_format::{Mark, RangedLines, Ranging, nothing_ranged, range_last, range_lines};
+use bx_journal_store::TextStore;
+use std::alloc::Allocator;
+use std::io::Write;
+
+/// What is done of an entry's lines: what the ranges are so far, where reading stands, and how many bytes were written.
+#[derive(Clone, Copy)]
+pub struct Done {
+    pub ranging: Ranging,
+    pub at: u64,
+    pub written: u64,
+}
+
+/// Writes the ranges that the whole lines of the window at a place end.
+fn put_window<T: TextStore, A: Allocator + Clone, W: Write>(
+    alloc: &A,
+    store: &mut T,
+    window: &mut [u8],
+    mark: Mark,
+    done: Done,
+    out: &mut W,
+) -> Result<Done, ShowFault>
+    requires countable { T.failures store.old < u64.MAX }
+    requires within { T.honest store.old → mark.to ≤ length (T.text store.old) }
+    requires at { done.at ≤ mark.to }
+    requires below { done.ranging.at + done.ranging.count ≤ mark.len }
+    ensures put { IfOk result (λ next. PutsOn (T.honest store.old) (T.text store.old) mark done next (W.contents out.old) (W.contents out.new)) }
+    ensures kind { IfErr result PutFault }
+    ensures stays { Stays T.honest T.text T.failures result store.old store.new }
+    ensures counts { IfErr result (λ f. LookCounts f (T.failures store.old) 0 (T.failures store.new) 0) }
+{
+    let more = (window.len() as u64).min(mark.to - done.at) as usize;
+    let (now, _) = window.split_at_mut(more);
+    store.read_at(done.at, now)?;
+    let mut text = String::new(alloc.clone()?);
+    let lines = range_lines(&mut text, done.ranging, mark.len, now)?;
+    if lines.taken == 0 {
+        return Err(ShowFault::Text(SessionFault::NoMemory));
+    }
+    let written = put(out, done.written, text.as_bytes())?;
+    Ok(Done {
+        ranging: lines.ranging,
+        at: done.at + lines.taken as u64,
+        written,
+    })
+}
+
+/// Writes the ranges of an entry's saved lines.
+pub fn put_ranges<T: TextStore, A: Allocator + Clone, W: Write>(
+    alloc: &A,
+    store: &mut T,
+    window: &mut [u8],
+    mark: Mark,
+    written: u64,
+    out: &mut W,
+) -> Result<u64, ShowFault>
+    requires countable { T.failures store.old < u64.MAX }
+    requires within { T.honest store.old → mark.to ≤ length (T.text store.old) }
+    requires order { mark.from ≤ mark.to }
+    ensures put { T.honest store.old → OnOk result (Appends (W.contents out.old) (W.contents out.new) (ranges_at (T.text store.old) mark)) }
+    ensures kind { IfErr result PutFault }
+    ensures stays { Stays T.honest T.text T.failures result store.old store.new }
+    ensures counts { IfErr result (λ f. LookCounts f (T.failures store.old) 0 (T.failures store.new) 0) }
+{
+    let mut done = Done {
+        ranging: nothing_ranged(),
+        at: mark.from,
+        written,
+    };
+    while done.at < mark.to {
+        done = put_window(alloc, store, window, mark, done, out)?;
+    }
+    let mut text = String::new(alloc.clone()?);
+    range_last(&mut text, done.ranging)?;
+    put(out, done.written, text.as_bytes())
+}

@@ -1,0 +1,4 @@
+pub mod Counting
+pub mod InFile
+pub mod Memory
+pub mod Store

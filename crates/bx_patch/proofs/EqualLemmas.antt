@@ -1,0 +1,31 @@
+-- Equal lists of bytes have no text, and others have one.
+use Rattle.std.proofs.Common.{◌≡◌, ℕ, zero, suc, ◌+◌, ◌*◌, List, [], ◌∷◌, ◌++◌, length, refl, sym, ap, ◌∙◌, arith}
+use Rattle.std.specs.Prelude.{codes}
+use Rattle.std.specs.List.{flat_map}
+use Rattle.bx_text.specs.Fold.{line_bytes}
+use Rattle.bx_patch.specs.Laws.{EqualIsEmpty}
+use Rattle.bx_patch.specs.declared.diff.row.Extent.{Extent}
+use Rattle.bx_patch.specs.Text.{PatchLine, headed, length_text, line_text, patch_lines, patch_text, row_count, row_lines, rows_from}
+use Rattle.bx_patch.proofs.WritingLemmas.{no_more}
+use Rattle.bx_patch.proofs.MakesLemmas.{no_lines}
+use Rattle.bx_patch.proofs.PushLemmas.{equal_rows, flat_more}
+
+none_from : (extent : Extent) (x : List ℕ) (k n : ℕ) → flat_map line_text (rows_from extent x x k n) ≡ []
+none_from extent x k zero = refl
+none_from extent x k (suc n) =
+    let row = row_lines extent (16 * k) (line_bytes x k) (line_bytes x k) in
+    flat_more line_text row (rows_from extent x x (k + 1) n) ∙ ap (λ t. t ++ flat_map line_text (rows_from extent x x (k + 1) n)) (equal_rows extent (16 * k) (line_bytes x k) (line_bytes x k) refl)
+    ∙ none_from extent x (k + 1) n
+
+same_none : (extent : Extent) (x : List ℕ) → patch_lines extent x x ≡ []
+same_none extent x = no_more (patch_lines extent x x) (ap length (none_from extent x 0 (row_count x x)))
+
+no_text : (old new : ℕ) (lines : List PatchLine) → headed (length_text old new ++ codes "\n") lines ≡ [] → lines ≡ []
+no_text old new [] e = refl
+no_text old new (l ∷ lines) e = absurd (omega (arith, ap length e))
+
+pub equal_is_empty : EqualIsEmpty
+equal_is_empty extent x y = (
+  λ empty. no_lines extent x y (no_text (length x) (length y) (patch_lines extent x y) empty),
+  λ same. ap (patch_text extent x) (sym same) ∙ ap (headed (length_text (length x) (length x) ++ codes "\n")) (same_none extent x),
+)

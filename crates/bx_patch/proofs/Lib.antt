@@ -1,0 +1,14 @@
+pub mod UniqueLemmas
+pub mod LineLemmas
+pub mod SpanLemmas
+pub mod RowLemmas
+pub mod MakesLemmas
+pub mod LeastLemmas
+pub mod PushLemmas
+pub mod WritingLemmas
+pub mod DiffLemmas
+pub mod LengthLemmas
+pub mod ReadLemmas
+pub mod RefusalLemmas
+pub mod EqualLemmas
+pub mod OtherLemmas

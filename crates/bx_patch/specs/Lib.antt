@@ -1,0 +1,9 @@
+pub mod Patch
+pub mod Text
+pub mod Grammar
+pub mod Fault
+pub mod Laws
+pub mod Diff
+pub mod Other
+pub mod Read
+pub mod private

@@ -1,0 +1,5 @@
+-- What the functions of this crate need among themselves.
+pub mod Diff
+pub mod Other
+pub mod Read
+pub mod Row

@@ -1,0 +1,69 @@
+//! The patch from one device to another.
+ghost use Rattle.std.specs.Prelude.{◌<◌, IfErr, OnOk, MatchResult};
+ghost use Rattle.std.specs.Io.KnownBytes.{Appends};
+ghost use Rattle.bx_patch.specs.Text.{patch_text};
+ghost use Rattle.bx_patch.specs.Diff.{AreShort, IsFaultFor, OnlyReads, WritesPart, fails, of_new, of_old};
+
+mod compare;
+mod device;
+pub mod fault;
+mod lines;
+mod memory;
+pub mod row;
+mod writing;
+
+use bx_image::Device;
+use compare::{Place, compare_devices};
+use device::lengths_of;
+use fault::DiffFault;
+use memory::memory_for;
+use row::Extent;
+use std::alloc::Allocator;
+use std::io::Write;
+
+/// Writes the patch from one device to another: with it `old` becomes `new`, as `patch_makes_new` says, and equal ones have no text. Both
+/// are only read, once and a window at a time; windows that are equal take no more than their comparison. It takes memory for two windows
+/// and for the lines of one.
+///
+/// # Errors
+/// `TooLarge` where one of the two is longer than an image can be, `OldFailed` and `NewFailed` where a call of that device fails,
+/// `NoMemory`, and `WriteFailed`. A prefix of the text was written then.
+pub fn write_patch<D: Device, E: Device, W: Write, A: Allocator + Clone>(
+    alloc: &A,
+    old: &mut D,
+    new: &mut E,
+    out: &mut W,
+    extent: Extent,
+) -> Result<(), DiffFault>
+    requires old_countable { D.failures old.old < u64.MAX }
+    requires new_countable { E.failures new.old < u64.MAX }
+    // Where it succeeds, exactly the text was written.
+    ensures text { D.honest old.old → E.honest new.old
+        → OnOk result (Appends (W.contents out.old) (W.contents out.new) (patch_text extent (D.image old.old) (E.image new.old))) }
+    // After a fault a prefix of it was, and a failed write tells how long that is.
+    ensures part { D.honest old.old → E.honest new.old
+        → IfErr result (WritesPart (W.contents out.old) (W.contents out.new) (patch_text extent (D.image old.old) (E.image new.old))) }
+    // It is too large exactly where one of the two is, unless a length couldn't be read.
+    ensures fault { D.honest old.old → E.honest new.old
+        → MatchResult result (λ _. AreShort (D.image old.old) (E.image new.old)) (IsFaultFor (D.image old.old) (E.image new.old)) }
+    // Each of the two counts a failure exactly where the fault says that it failed.
+    ensures old { OnlyReads D.honest D.image D.room D.failures D.survives (fails of_old result) old.old old.new }
+    ensures new { OnlyReads E.honest E.image E.room E.failures E.survives (fails of_new result) new.old new.new }
+{
+    let lengths = match lengths_of(old, new) {
+        Ok(lengths) => lengths,
+        Err(fault) => return Err(fault),
+    };
+    let mut memory = match memory_for(alloc, lengths) {
+        Ok(memory) => memory,
+        Err(fault) => return Err(fault),
+    };
+    let place = Place {
+        at: 0,
+        lengths,
+        extent,
+        head: memory.head.as_bytes(),
+    };
+    let buffer = memory.buffer.as_mut_slice();
+    compare_devices(old, new, out, buffer, &mut memory.writing, place)
+}

@@ -1,0 +1,139 @@
+//! Two devices that are compared, a window at a time.
+ghost use Rattle.std.specs.Prelude.{◌≡◌, ◌<◌, ◌≤◌, ◌+◌, ◌++◌, ◌^◌, ℕ, max, false, List, Option, length, take, IfErr, OnOk};
+ghost use Rattle.std.specs.Io.KnownBytes.{Appends};
+ghost use Rattle.bx_patch.specs.Text.{PatchLine, headed, patch_lines, row_count};
+ghost use Rattle.bx_patch.specs.Diff.{OnlyReads, WritesPart, fails, of_new, of_old};
+ghost use Rattle.bx_patch.specs.private.Diff.{HasPut, IsLate, IsOfText, lines_at};
+ghost use Rattle.bx_patch.specs.private.Row.{window_lines};
+
+use crate::diff::device::{Lengths, WINDOW, fill_window};
+use crate::diff::fault::DiffFault;
+use crate::diff::lines::gather;
+use crate::diff::row::Extent;
+use crate::diff::writing::{Writing, put_text};
+use bx_image::Device;
+use std::alloc::Allocator;
+use std::io::Write;
+
+/// Where a comparison stands: at an address, of two devices of these lengths. The text begins with a line, and has these bytes of a row.
+#[derive(Clone, Copy)]
+pub struct Place<'a> {
+    pub at: u64,
+    pub lengths: Lengths,
+    pub extent: Extent,
+    pub head: &'a [u8],
+}
+
+/// The first bytes of a window.
+fn front(window: &[u8], count: usize) -> &[u8]
+    requires { count ≤ length window.now }
+    ensures bytes { result.now ≡ take count window.now }
+    ensures most { length result.now ≤ length window.now }
+{
+    &window[..count]
+}
+
+/// Writes the lines for two windows at a place, behind those that were written.
+fn put_window<W: Write, A: Allocator>(
+    out: &mut W,
+    writing: &mut Writing<A>,
+    place: Place<'_>,
+    old: &[u8],
+    new: &[u8],
+) -> Result<(), DiffFault>
+    requires small { place.at + length old.now + 32 < 2 ^ 64 }
+    requires little { place.at + length new.now + 32 < 2 ^ 64 }
+    ensures put { (lines : List PatchLine) (first : Option (List ℕ))
+        → HasPut place.entry.head.now lines writing.old.begun writing.old.written first (W.contents out.old)
+        → OnOk result (HasPut place.entry.head.now
+        (lines ++ window_lines place.entry.extent place.entry.at old.now new.now (row_count old.now new.now))
+        writing.new.begun writing.new.written first (W.contents out.new)) }
+    ensures part { (lines : List PatchLine) (first : Option (List ℕ))
+        → HasPut place.entry.head.now lines writing.old.begun writing.old.written first (W.contents out.old)
+        → IfErr result (WritesPart first (W.contents out.new) (headed place.entry.head.now
+        (lines ++ window_lines place.entry.extent place.entry.at old.now new.now (row_count old.now new.now)))) }
+    ensures kind { IfErr result IsOfText }
+{
+    match gather(&mut writing.text, place.extent, place.at, old, new) {
+        Ok(()) => put_text(out, writing, place.head),
+        Err(_) => Err(DiffFault::NoMemory),
+    }
+}
+
+/// Writes the lines for the window at a place, behind those that were written.
+fn put_next<D: Device, E: Device, W: Write, A: Allocator>(
+    old: &mut D,
+    new: &mut E,
+    out: &mut W,
+    buffer: &mut [u8],
+    writing: &mut Writing<A>,
+    place: Place<'_>,
+) -> Result<(), DiffFault>
+    requires old_countable { D.failures old.old < u64.MAX }
+    requires new_countable { E.failures new.old < u64.MAX }
+    requires old_len { D.honest old.old → place.lengths.old ≡ length (D.image old.old) }
+    requires new_len { E.honest new.old → place.lengths.new ≡ length (E.image new.old) }
+    requires room { length buffer.old ≡ 65536 }
+    requires small { place.at ≤ 2 ^ 48 }
+    ensures put { D.honest old.old → E.honest new.old → (lines : List PatchLine) (first : Option (List ℕ))
+        → HasPut place.entry.head.now lines writing.old.begun writing.old.written first (W.contents out.old)
+        → OnOk result (HasPut place.entry.head.now
+        (lines ++ lines_at place.entry.extent (D.image old.old) (E.image new.old) place.entry.at)
+        writing.new.begun writing.new.written first (W.contents out.new)) }
+    ensures part { D.honest old.old → E.honest new.old → (lines : List PatchLine) (first : Option (List ℕ))
+        → HasPut place.entry.head.now lines writing.old.begun writing.old.written first (W.contents out.old)
+        → IfErr result (WritesPart first (W.contents out.new)
+        (headed place.entry.head.now (lines ++ lines_at place.entry.extent (D.image old.old) (E.image new.old) place.entry.at))) }
+    ensures kind { IfErr result IsLate }
+    ensures old { OnlyReads D.honest D.image D.room D.failures D.survives (fails of_old result) old.old old.new }
+    ensures new { OnlyReads E.honest E.image E.room E.failures E.survives (fails of_new result) new.old new.new }
+{
+    let (old_window, new_window) = buffer.split_at_mut(WINDOW);
+    let Ok(old_count) = fill_window(old, place.lengths.old, place.at, old_window) else {
+        return Err(DiffFault::OldFailed);
+    };
+    let Ok(new_count) = fill_window(new, place.lengths.new, place.at, new_window) else {
+        return Err(DiffFault::NewFailed);
+    };
+    let old_bytes = front(old_window, old_count);
+    let new_bytes = front(new_window, new_count);
+    put_window(out, writing, place, old_bytes, new_bytes)
+}
+
+/// Writes the lines of two devices from a place at their start on, where none were written.
+pub fn compare_devices<D: Device, E: Device, W: Write, A: Allocator>(
+    old: &mut D,
+    new: &mut E,
+    out: &mut W,
+    buffer: &mut [u8],
+    writing: &mut Writing<A>,
+    place: Place<'_>,
+) -> Result<(), DiffFault>
+    requires old_countable { D.failures old.old < u64.MAX }
+    requires new_countable { E.failures new.old < u64.MAX }
+    requires old_len { D.honest old.old → place.lengths.old ≡ length (D.image old.old) }
+    requires new_len { E.honest new.old → place.lengths.new ≡ length (E.image new.old) }
+    requires room { length buffer.old ≡ 65536 }
+    requires small { max place.lengths.old place.lengths.new ≤ 2 ^ 48 }
+    requires fresh { writing.old.begun ≡ false }
+    requires none { writing.old.written ≡ 0 }
+    ensures text { D.honest old.old → E.honest new.old
+        → OnOk result (Appends (W.contents out.old) (W.contents out.new)
+        (headed place.entry.head.now (patch_lines place.entry.extent (D.image old.old) (E.image new.old)))) }
+    ensures part { D.honest old.old → E.honest new.old
+        → IfErr result (WritesPart (W.contents out.old) (W.contents out.new)
+        (headed place.entry.head.now (patch_lines place.entry.extent (D.image old.old) (E.image new.old)))) }
+    ensures kind { IfErr result IsLate }
+    ensures old { OnlyReads D.honest D.image D.room D.failures D.survives (fails of_old result) old.old old.new }
+    ensures new { OnlyReads E.honest E.image E.room E.failures E.survives (fails of_new result) new.old new.new }
+{
+    let end = place.lengths.old.max(place.lengths.new);
+    let mut at: u64 = 0;
+    while at < end {
+        match put_next(old, new, out, buffer, writing, Place { at, ..place }) {
+            Ok(()) => at += (WINDOW as u64).min(end - at),
+            Err(fault) => return Err(fault),
+        }
+    }
+    Ok(())
+}

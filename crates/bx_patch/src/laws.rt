@@ -1,0 +1,52 @@
+//! Laws of patches, over definitions alone.
+ghost use Rattle.bx_patch.specs.Fault.{FaultIsOfPatch};
+ghost use Rattle.bx_patch.specs.Other.{OtherDisagrees};
+ghost use Rattle.bx_patch.specs.Laws.{EqualIsEmpty, PatchIsLeast, PatchIsStrict, PatchIsUnique, PatchMakesNew, PatchReversed, PatchTellsLength};
+
+use std::alloc::Allocator;
+
+/// No text asks two different things.
+pub fn patch_is_unique()
+    ensures { PatchIsUnique }
+{}
+
+/// A text that has a fault, as `read_patch` answers it, is no patch.
+pub fn fault_is_of_patch()
+    ensures { FaultIsOfPatch }
+{}
+
+/// The text of the patch from one image to another is a patch; it agrees with the first, and makes the second of it, bytes and length.
+pub fn patch_makes_new<A: Allocator>()
+    ensures { PatchMakesNew A }
+{}
+
+/// The other way round the patch agrees with the second, and makes the first of it.
+pub fn patch_reversed<A: Allocator>()
+    ensures { PatchReversed A }
+{}
+
+/// Where the patch from one image to another agrees with an image, that has the length of the first, and its byte at each address where
+/// the two differ.
+pub fn patch_is_strict()
+    ensures { PatchIsStrict }
+{}
+
+/// Any patch that tells lengths makes an image of the new length of each image that agrees with it.
+pub fn patch_tells_length<A: Allocator>()
+    ensures { PatchTellsLength A }
+{}
+
+/// The patch from one image to another names no address at which they are equal, where it has only the bytes that differ.
+pub fn patch_is_least()
+    ensures { PatchIsLeast }
+{}
+
+/// Two images have no text between them exactly where they are equal.
+pub fn equal_is_empty()
+    ensures { EqualIsEmpty }
+{}
+
+/// An image in which anything is found otherwise than a patch expects doesn't agree with it.
+pub fn other_disagrees()
+    ensures { OtherDisagrees }
+{}

@@ -1,0 +1,15 @@
+//! Patches that can be read: the text of what differs between two images, and what such a text asks of an image.
+#![tactic(auto)]
+
+mod diff;
+pub mod laws;
+mod other;
+mod read;
+
+pub use diff::fault::DiffFault;
+pub use diff::row::Extent;
+pub use diff::write_patch;
+pub use other::{Other, find_other};
+pub use read::fault::PatchFault;
+pub use read::patch::{Patch, PatchLengths};
+pub use read::read_patch;

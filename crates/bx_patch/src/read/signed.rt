@@ -1,0 +1,55 @@
+//! A line of a dump behind a sign.
+ghost use Rattle.std.specs.Prelude.{◌≡◌, ◌⊎◌, ◌+◌, ◌<◌, ◌^◌, length, drop, IfOk, IfErr};
+ghost use Rattle.bx_patch.specs.Grammar.{IsSigned};
+ghost use Rattle.bx_patch.specs.private.Read.{Gives, HasSign, IsFaultBehind};
+
+use crate::read::fault::PatchFault;
+use bx_read::Line;
+use bx_text::{Bytes, Piece};
+use std::alloc::Allocator;
+
+/// The piece of a line that stands behind a sign.
+fn piece_of<A: Allocator>(alloc: A, line: &[u8], number: u64) -> Result<Piece<A>, PatchFault>
+    ensures ok { IfOk result (λ piece. Gives line.now piece.at piece.bytes) }
+    ensures err { IfErr result (λ e. (e ≡ PatchFault.NoMemory) ⊎ IsFaultBehind number line.now e) }
+{
+    match Line::parse(line, number) {
+        Err(fault) => Err(PatchFault::Line(fault)),
+        Ok(read) => {
+            let mut out = [0u8; 256];
+            let count = read.decode(&mut out);
+            match Vec::from_slice(alloc, &out[..count]) {
+                Ok(bytes) => Ok(Piece {
+                    at: read.at,
+                    bytes: Bytes::from_vec(bytes),
+                }),
+                Err(_) => Err(PatchFault::NoMemory),
+            }
+        }
+    }
+}
+
+/// A line without its first character.
+fn behind(line: &[u8]) -> &[u8]
+    ensures { result.now ≡ drop 1 line.now }
+{
+    match line.split_first() {
+        Some((_, rest)) => rest,
+        None => line,
+    }
+}
+
+/// The piece of a line that begins with a sign.
+pub fn signed_piece<A: Allocator>(
+    alloc: A,
+    line: &[u8],
+    new: bool,
+    number: u64,
+) -> Result<Piece<A>, PatchFault>
+    requires { HasSign new line.now }
+    ensures ok { IfOk result (λ piece. IsSigned new line.now (piece.at, piece.bytes)) }
+    ensures small { IfOk result (λ piece. piece.at + length piece.bytes < 2 ^ 63) }
+    ensures err { IfErr result (λ e. (e ≡ PatchFault.NoMemory) ⊎ IsFaultBehind number (drop 1 line.now) e) }
+{
+    piece_of(alloc, behind(line), number)
+}

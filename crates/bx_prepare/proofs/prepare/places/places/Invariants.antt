@@ -1,7 +1,0 @@
-use Rattle.std.proofs.Common.{◌≡◌, map, take}
-use Rattle.bx_prepare.specs.inner.Overwritten.{place_in}
-use Rattle.bx_prepare.proofs.prepare.places.places.Given as goal
-
--- the places of the entries so far
-abbrev pub invariant-loop-entry : goal.invariant-loop-entry
-invariant-loop-entry g l = l.placed.items ≡ map (place_in l.longest) (take l.entry-index l.entries)

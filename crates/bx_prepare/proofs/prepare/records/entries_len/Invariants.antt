@@ -1,7 +1,0 @@
-use Rattle.std.proofs.Common.{◌≡◌, ◌-◌, ◌^◌, min, take}
-use Rattle.bx_steps.specs.inner.Takens.{entries_len}
-use Rattle.bx_prepare.proofs.prepare.records.entries_len.Given as goal
-
--- how long the entries of the first records are
-abbrev pub invariant-loop-taken : goal.invariant-loop-taken
-invariant-loop-taken g l = l.total ≡ min (entries_len (take l.taken-index l.takens)) (2 ^ 64 - 1)

@@ -1,4 +1,0 @@
--- What no public contract names.
-pub mod Again
-pub mod Overwritten
-pub mod Plan

@@ -1,0 +1,83 @@
+//! What is said of a file that may not be opened.
+use crate::stopped::{Reason, Stopped};
+use bx_cli::Fault;
+use bx_program_world::{Classes, Stat, Unfit};
+
+/// What is said of a file that can't be an image, and of what can't be a text of one.
+const NO_IMAGE: &str = "it is no regular file and no block device";
+
+const NO_TEXT: &str = "it is no regular file";
+
+const IS_LINK: &str =
+    "it is a link, and neither a journal nor a redo file may be one; -J names the journal that lies behind it, or one elsewhere";
+
+const HAS_NAMES: &str =
+    "it has a second name, and neither a journal nor a redo file may have one; -J names a journal elsewhere";
+
+/// What is said of a text that somebody else may have put there.
+const NOT_OF_A_WRITER: &str =
+    "it belongs neither to you, root or the image's owner nor, by its group, to a group that may read and write the image; -J names a journal elsewhere";
+
+/// What is said of a device that is mounted.
+const IS_MOUNTED: &str =
+    "it is mounted, or a part of it is, or it is used as swap; unmount it, or give --mounted";
+
+/// What is said of a device that can't be written.
+const IS_READ_ONLY: &str = "the device is read-only; blockdev --setrw may change that";
+
+/// By an image that may not be opened.
+pub fn unfit_image<'a>(name: &'a str, unfit: Unfit) -> Stopped<'a> {
+    if unfit == Unfit::Kind {
+        return Stopped::refused(name, NO_IMAGE);
+    }
+    unfit_text(name, unfit, 0)
+}
+
+/// By a text that may not be opened. It may have at most these permission bits.
+pub fn unfit_text<'a>(name: &'a str, unfit: Unfit, bits: u32) -> Stopped<'a> {
+    let reason = match unfit {
+        Unfit::Link => Reason::Told(IS_LINK),
+        Unfit::Kind => Reason::Told(NO_TEXT),
+        Unfit::Names => Reason::Told(HAS_NAMES),
+        Unfit::Owner => Reason::Told(NOT_OF_A_WRITER),
+        Unfit::Readers | Unfit::Writers => Reason::Wide { bits },
+        Unfit::Mounted => Reason::Told(IS_MOUNTED),
+        Unfit::ReadOnly => Reason::Told(IS_READ_ONLY),
+    };
+    Stopped {
+        fault: Fault::OpenFailed,
+        file: Some(name),
+        reason,
+    }
+}
+
+/// The bits that a text of this group may have for its group and the others. Where it isn't the image's group, each of these
+/// two may have people of the image's group and others in it, so they may do what both of the image may.
+pub fn allowed(image: &Stat, group: u32) -> u32 {
+    if group == image.group {
+        bits_of(image.reads, image.writes)
+    } else {
+        bits_of(both(image.reads), both(image.writes))
+    }
+}
+
+/// The bits of the group and of the others to read and to write.
+fn bits_of(reads: Classes, writes: Classes) -> u32 {
+    bit(reads.group, 0o040)
+        | bit(writes.group, 0o020)
+        | bit(reads.others, 0o004)
+        | bit(writes.others, 0o002)
+}
+
+fn bit(is_set: bool, bit: u32) -> u32 {
+    if is_set { bit } else { 0 }
+}
+
+/// A permission that both classes have, for each of them.
+fn both(classes: Classes) -> Classes {
+    let both = classes.group && classes.others;
+    Classes {
+        group: both,
+        others: both,
+    }
+}

@@ -1,0 +1,203 @@
+//! The three files of a session.
+ghost use Rattle.std.specs.Prelude.{◌≡◌, ◌↔◌, OnOk, IfOk, OnErr};
+ghost use Rattle.bx_program_files.specs.Files.{AreOpened, LeavesFiles};
+ghost use Rattle.bx_program_files.specs.Numbers.{numbers_of};
+
+use crate::Names;
+use crate::look::look_at_all;
+use crate::opened::{open_image, open_journal, open_redo, unmake};
+use crate::unopened::{Unopened, Which};
+use bx_program_world::{Stat, World, image_unfit, text_unfit};
+
+/// The three files of a session: open, locked, and each a file of its own.
+#[derive(Drop)]
+pub struct Files<F> {
+    /// The image.
+    pub image: F,
+    /// Its journal.
+    pub journal: F,
+    /// Its redo text.
+    pub redo: F,
+    /// Whether this run made the redo text.
+    pub made: bool,
+}
+
+/// Refuses a file that is another one by a second name.
+fn is_apart<W: World>(
+    world: &mut W,
+    which: Which,
+    file: &W::File,
+    other: &W::File,
+) -> Result<(), Unopened>
+    ensures apart { W.honest world.old → OnOk result (W.number file.now ≡ W.number other.now → ⊥) }
+    ensures same { W.honest world.old → W.sight world.new ≡ W.sight world.old }
+    ensures honesty { W.honest world.new ↔ W.honest world.old }
+{
+    match world.is_same(file, other) {
+        Ok(false) => Ok(()),
+        Ok(true) => Err(which.alias()),
+        Err(refusal) => Err(which.refused(refusal)),
+    }
+}
+
+/// What the system tells of an open file.
+fn stat_of<W: World>(world: &mut W, which: Which, file: &W::File) -> Result<Stat, Unopened>
+    ensures same { W.honest world.old → W.sight world.new ≡ W.sight world.old }
+    ensures honesty { W.honest world.new ↔ W.honest world.old }
+{
+    match world.stat(file) {
+        Ok(stat) => Ok(stat),
+        Err(refusal) => Err(which.refused(refusal)),
+    }
+}
+
+/// Looks again at an image that is open, whose name may have been given to another file by now.
+fn look_again<W: World>(world: &mut W, image: &W::File, mounted: bool) -> Result<Stat, Unopened>
+    ensures same { W.honest world.old → W.sight world.new ≡ W.sight world.old }
+    ensures honesty { W.honest world.new ↔ W.honest world.old }
+{
+    let stat = stat_of(world, Which::Image, image)?;
+    match image_unfit(mounted, &stat) {
+        None => Ok(stat),
+        Some(unfit) => Err(Which::Image.unfit(unfit)),
+    }
+}
+
+/// Looks again at a text that is open.
+fn look_again_at_text<W: World>(
+    world: &mut W,
+    which: Which,
+    text: &W::File,
+    image: &Stat,
+) -> Result<(), Unopened>
+    ensures same { W.honest world.old → W.sight world.new ≡ W.sight world.old }
+    ensures honesty { W.honest world.new ↔ W.honest world.old }
+{
+    let stat = stat_of(world, which, text)?;
+    let caller = world.caller();
+    match text_unfit(caller, image, false, &stat) {
+        None => Ok(()),
+        Some(unfit) => Err(which.unfit(unfit)),
+    }
+}
+
+/// Looks again at all three.
+fn are_fit<W: World>(
+    world: &mut W,
+    image: &W::File,
+    mounted: bool,
+    journal: &W::File,
+    redo: &W::File,
+) -> Result<(), Unopened>
+    ensures same { W.honest world.old → W.sight world.new ≡ W.sight world.old }
+    ensures honesty { W.honest world.new ↔ W.honest world.old }
+{
+    let stat = look_again(world, image, mounted)?;
+    look_again_at_text(world, Which::Journal, journal, &stat)?;
+    look_again_at_text(world, Which::Redo, redo, &stat)
+}
+
+/// Refuses three files where two are one.
+fn are_apart<W: World>(
+    world: &mut W,
+    image: &W::File,
+    journal: &W::File,
+    redo: &W::File,
+) -> Result<(), Unopened>
+    ensures journal { W.honest world.old → OnOk result (W.number journal.now ≡ W.number image.now → ⊥) }
+    ensures redo_of_image { W.honest world.old → OnOk result (W.number redo.now ≡ W.number image.now → ⊥) }
+    ensures redo_of_journal { W.honest world.old → OnOk result (W.number redo.now ≡ W.number journal.now → ⊥) }
+    ensures same { W.honest world.old → W.sight world.new ≡ W.sight world.old }
+    ensures honesty { W.honest world.new ↔ W.honest world.old }
+{
+    is_apart(world, Which::Journal, journal, image)?;
+    is_apart(world, Which::Redo, redo, image)?;
+    is_apart(world, Which::Redo, redo, journal)
+}
+
+/// Refuses three open files that are not three, or none that may be opened.
+fn are_three<W: World>(
+    world: &mut W,
+    image: &W::File,
+    mounted: bool,
+    journal: &W::File,
+    redo: &W::File,
+) -> Result<(), Unopened>
+    ensures journal { W.honest world.old → OnOk result (W.number journal.now ≡ W.number image.now → ⊥) }
+    ensures redo_of_image { W.honest world.old → OnOk result (W.number redo.now ≡ W.number image.now → ⊥) }
+    ensures redo_of_journal { W.honest world.old → OnOk result (W.number redo.now ≡ W.number journal.now → ⊥) }
+    ensures same { W.honest world.old → W.sight world.new ≡ W.sight world.old }
+    ensures honesty { W.honest world.new ↔ W.honest world.old }
+{
+    are_fit(world, image, mounted, journal, redo)?;
+    are_apart(world, image, journal, redo)
+}
+
+/// Puts the names of an image and its texts on the disk, whoever made them: a run that was killed may have, and their names be
+/// lost with the power.
+fn keep_names<W: World>(world: &mut W, names: &Names) -> Result<(), Unopened>
+    ensures same { W.honest world.old → W.sight world.new ≡ W.sight world.old }
+    ensures honesty { W.honest world.new ↔ W.honest world.old }
+{
+    if let Err(refusal) = world.keep_name(names.journal.as_str()) {
+        return Err(Which::Journal.refused(refusal));
+    }
+    match world.keep_name(names.image.as_str()) {
+        Ok(()) => Ok(()),
+        Err(refusal) => Err(Which::Image.refused(refusal)),
+    }
+}
+
+/// Refuses three open files that are not three, that may not be opened, or whose names can't be put on the disk.
+fn are_ready<W: World>(
+    world: &mut W,
+    names: &Names,
+    mounted: bool,
+    image: &W::File,
+    journal: &W::File,
+    redo: &W::File,
+) -> Result<(), Unopened>
+    ensures journal { W.honest world.old → OnOk result (W.number journal.now ≡ W.number image.now → ⊥) }
+    ensures redo_of_image { W.honest world.old → OnOk result (W.number redo.now ≡ W.number image.now → ⊥) }
+    ensures redo_of_journal { W.honest world.old → OnOk result (W.number redo.now ≡ W.number journal.now → ⊥) }
+    ensures same { W.honest world.old → W.sight world.new ≡ W.sight world.old }
+    ensures honesty { W.honest world.new ↔ W.honest world.old }
+{
+    are_three(world, image, mounted, journal, redo)?;
+    keep_names(world, names)
+}
+
+/// Opens the image, its journal and its redo text, which is made where it is missing. All three are looked at before one is
+/// opened: a text is no link, has one name, belongs to somebody who may write the image, and has no reader or writer who is none
+/// of the image.
+///
+/// # Errors
+/// Where one can't be opened or locked, is none that may be opened, or is another one by a second name, and where its name can't
+/// be put on the disk. No file is then made or changed.
+pub fn open_trio<W: World>(
+    world: &mut W,
+    names: &Names,
+    mounted: bool,
+) -> Result<Files<W::File>, Unopened>
+    ensures ok { W.honest world.old
+        → IfOk result (λ f. AreOpened names.now mounted (numbers_of W.number f) f.made (W.sight world.old) (W.sight world.new)) }
+    ensures err { W.honest world.old → OnErr result (LeavesFiles (W.sight world.old) (W.sight world.new)) }
+    ensures honesty { W.honest world.new ↔ W.honest world.old }
+{
+    look_at_all(world, names, mounted)?;
+    let image = open_image(world, names.image.as_str(), mounted)?;
+    let journal = open_journal(world, names.journal.as_str(), &image)?;
+    let redo = open_redo(world, names.redo.as_str(), &image)?;
+    match are_ready(world, names, mounted, &image, &journal, &redo.file) {
+        Ok(()) => Ok(Files {
+            image,
+            journal,
+            redo: redo.file,
+            made: redo.made,
+        }),
+        Err(unopened) => {
+            unmake(world, names.redo.as_str(), &redo.file, redo.made);
+            Err(unopened)
+        }
+    }
+}

@@ -1,0 +1,5 @@
+pub mod Obeyed
+pub mod Refused
+pub mod Files
+pub mod Moved
+pub mod Lines

@@ -1,0 +1,183 @@
+-- What an undo and a redo answer, from what their commands make of the files.
+use Rattle.std.proofs.Common.{◌≡◌, ◌⊎◌, ◌∙◌, ◌≤◌, ℕ, Option, Some, None, refl, sym, ap, subst, inl, inr}
+use Rattle.std.specs.Prelude.{Result, Ok, Err, IfOk, IfErr, IfSome}
+use Rattle.bx_journal.specs.Fault.{DeviceFault}
+use Rattle.bx_journal.specs.Images.{Images, redo_of, undo_of}
+use Rattle.bx_journal.specs.Machine.{RedoStep, UndoStep}
+use Rattle.bx_journal_read.specs.declared.fault.SessionFault.{SessionFault}
+use Rattle.bx_journal_read.specs.declared.fault.SessionFault.TheVariants.{NoMemory, TooLarge, DeviceFailed, Damaged, TooFew, JournalFull, Interrupted, Broken, LengthDiffers, NothingToRedo, RedoDamaged}
+use Rattle.bx_program_world.specs.World.{Sight}
+use Rattle.bx_program_files.specs.Files.{LeavesFiles}
+use Rattle.bx_program_files.specs.declared.names.Names.{Names}
+use Rattle.bx_program_files.specs.declared.unopened.Unopened.{Unopened}
+use Rattle.bx_cli_commands.specs.Refusal.{IsWholeRefusal}
+use Rattle.bx_cli_commands.specs.Replies.{stands_by}
+use Rattle.bx_cli_commands.specs.Run.{CallStep, RedoesStep, UndoesStep, answered}
+use Rattle.bx_cli_commands.specs.Standing.{MovesUp, Standing}
+use Rattle.bx_cli_commands.specs.declared.command.Reply.{Reply}
+use Rattle.bx_cli_commands.specs.declared.command.Reply.TheVariants.{Changed, Copied, Redone, Refused, Undone}
+use Rattle.bx_cli_commands.specs.declared.fault.Fault.{Fault}
+use Rattle.bx_cli_commands.specs.declared.fault.Fault.TheVariants.{OpenFailed, Session}
+use Rattle.bx_program_sessions.specs.Contents.{Contents, EndsAt, FindsIn, IsUnopened}
+use Rattle.bx_program_sessions.specs.Moves.{Course, IsMoved, MayNotMove, RefusesMove, again, back}
+use Rattle.bx_program_sessions.specs.Named.{contents_of}
+
+abbrev number_or : ℕ → Result ℕ Fault → ℕ
+number_or m (Ok n) = n
+number_or m (Err e) = m
+
+ok_injective : (m n : ℕ) → ◌≡◌ {A = Result ℕ Fault} (Ok m) (Ok n) → m ≡ n
+ok_injective m n is = ap (number_or m) is
+
+-- why a command was refused, whether its files were opened or not
+pub reason : (P Why : Type 0) (u : Option Unopened) (reply : Reply) → IfSome u (λ _. (reply ≡ Refused OpenFailed) × P)
+    → (u ≡ None → IsWholeRefusal reply → Why) → IsWholeRefusal reply → (reply ≡ Refused OpenFailed) ⊎ Why
+reason P Why None reply un why whole = inr (why refl whole)
+reason P Why (Some x) reply un why whole = inl un.0
+
+-- a device, or want of memory
+device_may : (k : ℕ) (course : Course) (e : SessionFault) → DeviceFault e → MayNotMove k course (Session e)
+device_may k course NoMemory is = tt
+device_may k course DeviceFailed is = tt
+device_may k course Interrupted is = tt
+device_may k course e is = absurd is
+
+module _ (s : Images) (k : ℕ) (course : Course) (moved : ℕ → Images → Images) (made : ℕ → Reply)
+    (Step : Images → ℕ → Result ℕ SessionFault → Images → Type 0) (course_is : (i : ℕ) → moved i s ≡ course.moved i)
+    (made_is : (n : ℕ) → stands_by (made n) ≡ Ok n)
+    (enough : (n : ℕ) (new : Images) → Step s k (Ok n) new → (k ≤ course.most) × (n ≡ course.left k))
+    (refuses : (e : SessionFault) → Step s k (Err e) s → MayNotMove k course (Session e)) where
+  abbrev Call : Reply → Standing → Type 0
+  Call reply after = CallStep made (MovesUp Step moved k) (Standing.Up s) reply after
+
+  -- a reply that tells a number
+  answered_ok : (reply : Reply) (n : ℕ) (c : Contents) (r : Result ℕ SessionFault) (after : Standing) → reply ≡ answered made r → stands_by reply ≡ Ok n
+      → MovesUp Step moved k s r after → EndsAt c after → IsMoved k course n c
+  answered_ok reply n c (Ok m) after is tells moves ends =
+      let step = enough m moves.0 moves.2 in
+      let same : n ≡ m = ok_injective n m (sym tells ∙ ap stands_by is ∙ made_is m) in
+      record {
+        enough = step.0;
+        left_is = same ∙ step.1;
+        files = subst (λ a. EndsAt c a) (moves.1 ∙ ap Standing.Up (moves.3 ∙ course_is k)) ends;
+      }
+  answered_ok reply n c (Err e) after is tells moves ends = absurd (let wrong : Ok n ≡ Err (Session e) = sym tells ∙ ap stands_by is in cc)
+
+  -- one that tells of an interruption
+  answered_down : (c : Contents) (r : Result ℕ SessionFault) (after : Standing) → Refused (Session Interrupted) ≡ answered made r
+      → MovesUp Step moved k s r after → EndsAt c after → (i : ℕ) × (i ≤ k) × FindsIn c (course.moved i)
+  answered_down c (Ok m) after is moves ends =
+      absurd (let wrong : Err (Session Interrupted) ≡ Ok m = ap stands_by is ∙ made_is m in cc)
+  answered_down c (Err Interrupted) after is moves ends =
+      (moves.0, moves.1, subst (λ a. EndsAt c a) (moves.2 ∙ ap Standing.Down (course_is moves.0)) ends)
+  answered_down c (Err e) after is moves ends = absurd (let wrong : Refused (Session Interrupted) ≡ Refused (Session e) = is in cc)
+
+  told : (reply : Reply) (n : ℕ) (c : Contents) → stands_by reply ≡ Ok n → ((after : Standing) × Call reply after × EndsAt c after) → IsMoved k course n c
+  told reply n c tells step = answered_ok reply n c step.1.0 step.0 step.1.1 tells step.1.2 step.2
+
+  pub answers_ok : (reply : Reply) (c : Contents) → ((IsWholeRefusal reply → ⊥) → (after : Standing) × Call reply after × EndsAt c after)
+      → IfOk (stands_by reply) (λ left. IsMoved k course left c)
+  answers_ok (Changed n) c steps = told (Changed n) n c refl (steps (λ whole. whole))
+  answers_ok (Copied n counts) c steps = told (Copied n counts) n c refl (steps (λ whole. whole))
+  answers_ok (Undone n) c steps = told (Undone n) n c refl (steps (λ whole. whole))
+  answers_ok (Redone n) c steps = told (Redone n) n c refl (steps (λ whole. whole))
+  answers_ok (Refused e) c steps = tt
+
+  down : (c : Contents) → ((after : Standing) × Call (Refused (Session Interrupted)) after × EndsAt c after) → (i : ℕ) × (i ≤ k) × FindsIn c (course.moved i)
+  down c step = answered_down c step.1.0 step.0 step.1.1 step.1.2 step.2
+
+  stop_may : (after : Standing) (e : SessionFault) → MovesUp Step moved k s (Err e) after → MayNotMove k course (Session e)
+  stop_may after DeviceFailed moves = tt
+  stop_may after Interrupted moves = tt
+  stop_may after e moves = refuses e moves.1
+
+  call_may : (e : Fault) (r : Result ℕ SessionFault) (after : Standing) → Refused e ≡ answered made r → MovesUp Step moved k s r after
+      → MayNotMove k course e
+  call_may e (Ok m) after is moves = absurd (let wrong : Err e ≡ Ok m = ap stands_by is ∙ made_is m in cc)
+  call_may e (Err f) after is moves = let same : e ≡ Session f = cc in subst (MayNotMove k course) (sym same) (stop_may after f moves)
+
+  may : (e : Fault) → (Refused e ≡ Refused OpenFailed) ⊎ (IsUnopened (Refused e) ⊎ ((after : Standing) × Call (Refused e) after)) → MayNotMove k course e
+  may e why = elim why [
+    | inl is ↦ let same : e ≡ OpenFailed = cc in subst (MayNotMove k course) (sym same) tt
+    | inr rest ↦ elim rest [
+      | inl un ↦ let is = un.1 in let same : e ≡ Session un.0 = cc in subst (MayNotMove k course) (sym same) (device_may k course un.0 un.2)
+      | inr step ↦ call_may e step.1.0 step.0 step.1.1 step.1.2
+    ]
+  ]
+
+  pub answers_err : (names : Names) (old new : Sight) (reply : Reply)
+      → ((IsWholeRefusal reply → ⊥) → (after : Standing) × Call reply after × EndsAt (contents_of names new) after)
+      → (IsWholeRefusal reply → LeavesFiles old new)
+      → (IsWholeRefusal reply → (reply ≡ Refused OpenFailed) ⊎ (IsUnopened reply ⊎ ((after : Standing) × Call reply after)))
+      → IfErr (stands_by reply) (RefusesMove names k course old new)
+  answers_err names old new (Changed n) steps leaves why = tt
+  answers_err names old new (Copied n counts) steps leaves why = tt
+  answers_err names old new (Undone n) steps leaves why = tt
+  answers_err names old new (Redone n) steps leaves why = tt
+  answers_err names old new (Refused (Session Interrupted)) steps leaves why = down (contents_of names new) (steps (λ whole. whole refl))
+  answers_err names old new (Refused e) steps leaves why = (may e (why (λ wrong. cc)), leaves (λ wrong. cc))
+
+-- an undo that is refused
+undo_refuses : (s : Images) (k : ℕ) (e : SessionFault) → UndoStep s.stack k (Err e) s.stack → MayNotMove k (back s) (Session e)
+undo_refuses s k NoMemory step = tt
+undo_refuses s k TooLarge step = absurd step
+undo_refuses s k DeviceFailed step = tt
+undo_refuses s k (Damaged line) step = absurd step
+undo_refuses s k (TooFew have) step = (step.0, ap TooFew step.1)
+undo_refuses s k JournalFull step = absurd step
+undo_refuses s k Interrupted step = tt
+undo_refuses s k Broken step = absurd step
+undo_refuses s k (LengthDiffers expected) step = absurd step
+undo_refuses s k (NothingToRedo have) step = absurd step
+undo_refuses s k (RedoDamaged line) step = absurd step
+
+-- a redo
+redo_refuses : (s : Images) (k : ℕ) (e : SessionFault) → RedoStep s k (Err e) s → MayNotMove k (again s) (Session e)
+redo_refuses s k NoMemory step = tt
+redo_refuses s k TooLarge step = absurd step
+redo_refuses s k DeviceFailed step = tt
+redo_refuses s k (Damaged line) step = absurd step
+redo_refuses s k (TooFew have) step = absurd step
+redo_refuses s k JournalFull step = absurd step
+redo_refuses s k Interrupted step = tt
+redo_refuses s k Broken step = absurd step
+redo_refuses s k (LengthDiffers expected) step = absurd step
+redo_refuses s k (NothingToRedo have) step = (step.0, ap NothingToRedo step.1)
+redo_refuses s k (RedoDamaged line) step = absurd step
+
+module _ (s : Images) (k : ℕ) where
+  abbrev Undoing : Reply → Standing → Type 0
+  Undoing reply after = UndoesStep (Standing.Up s) k reply after
+
+  pub undone_ok : (reply : Reply) (c : Contents) → ((IsWholeRefusal reply → ⊥) → (after : Standing) × Undoing reply after × EndsAt c after)
+      → IfOk (stands_by reply) (λ left. IsMoved k (back s) left c)
+  undone_ok reply c steps =
+      answers_ok s k (back s) undo_of Undone (λ s k r t. UndoStep s.stack k r t.stack) (λ i. refl) (λ n. refl) (λ n new step. (step.0, step.1))
+      (undo_refuses s k) reply c steps
+
+  pub undone_err : (names : Names) (old new : Sight) (reply : Reply)
+      → ((IsWholeRefusal reply → ⊥) → (after : Standing) × Undoing reply after × EndsAt (contents_of names new) after)
+      → (IsWholeRefusal reply → LeavesFiles old new)
+      → (IsWholeRefusal reply → (reply ≡ Refused OpenFailed) ⊎ (IsUnopened reply ⊎ ((after : Standing) × Undoing reply after)))
+      → IfErr (stands_by reply) (RefusesMove names k (back s) old new)
+  undone_err names old new reply steps leaves why =
+      answers_err s k (back s) undo_of Undone (λ s k r t. UndoStep s.stack k r t.stack) (λ i. refl) (λ n. refl) (λ n new step. (step.0, step.1))
+      (undo_refuses s k) names old new reply steps leaves why
+
+module _ (s : Images) (k : ℕ) where
+  abbrev Redoing : Reply → Standing → Type 0
+  Redoing reply after = RedoesStep (Standing.Up s) k reply after
+
+  pub redone_ok : (reply : Reply) (c : Contents) → ((IsWholeRefusal reply → ⊥) → (after : Standing) × Redoing reply after × EndsAt c after)
+      → IfOk (stands_by reply) (λ left. IsMoved k (again s) left c)
+  redone_ok reply c steps =
+      answers_ok s k (again s) redo_of Redone RedoStep (λ i. refl) (λ n. refl) (λ n new step. (step.0, step.1)) (redo_refuses s k) reply c steps
+
+  pub redone_err : (names : Names) (old new : Sight) (reply : Reply)
+      → ((IsWholeRefusal reply → ⊥) → (after : Standing) × Redoing reply after × EndsAt (contents_of names new) after)
+      → (IsWholeRefusal reply → LeavesFiles old new)
+      → (IsWholeRefusal reply → (reply ≡ Refused OpenFailed) ⊎ (IsUnopened reply ⊎ ((after : Standing) × Redoing reply after)))
+      → IfErr (stands_by reply) (RefusesMove names k (again s) old new)
+  redone_err names old new reply steps leaves why =
+      answers_err s k (again s) redo_of Redone RedoStep (λ i. refl) (λ n. refl) (λ n new step. (step.0, step.1))
+      (redo_refuses s k) names old new reply steps leaves why

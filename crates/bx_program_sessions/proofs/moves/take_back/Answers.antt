@@ -1,0 +1,19 @@
+use Rattle.bx_program_sessions.specs.Named.{contents_of}
+use Rattle.bx_program_sessions.proofs.Moved.{undone_err, undone_ok, reason}
+use Rattle.bx_program_sessions.proofs.moves.take_back.Goals as goal
+
+pub returns-clause-done : goal.returns-clause-done
+returns-clause-done g c old s holds =
+    let behind = g.W.World.sight c.run_command-answer.new.world in
+    rw c.standing.ensures
+    (undone_ok s c.args.count c.run_command-answer.result.reply (contents_of c.args.names.now behind) (c.run_command-answer.ensures.done old s holds))
+
+pub returns-clause-refused : goal.returns-clause-refused
+returns-clause-refused g c old s holds =
+    let before = g.W.World.sight c.args.world.now in
+    let behind = g.W.World.sight c.run_command-answer.new.world in
+    let answer = c.run_command-answer.result in
+    let said = c.run_command-answer.ensures in
+    rw c.standing.ensures
+    (undone_err s c.args.count c.args.names.now before behind answer.reply (said.done old s holds) (said.refused old s holds)
+    (reason _ _ answer.unopened answer.reply (said.unopened old) (said.why old s holds)))

@@ -1,0 +1,93 @@
+-- What a command makes of the contents of an image, its journal and its redo text.
+use Rattle.std.specs.Prelude.{◌≡◌, ◌↔◌, ◌⊎◌, ◌<◌, ◌≤◌, ◌^◌, ℕ, Option, None, Some, List, []}
+use Rattle.bx_image.specs.declared.device.Device.{Ghosts as DeviceViews}
+use Rattle.bx_journal_store.specs.declared.store.TextStore.{Ghosts as StoreViews}
+use Rattle.bx_journal.specs.Calls.{AfterFault}
+use Rattle.bx_journal.specs.Fault.{DeviceFault}
+use Rattle.bx_journal.specs.Images.{Images}
+use Rattle.bx_journal.specs.Machine.{changes_of}
+use Rattle.bx_journal.specs.Phase.{IsAtRest}
+use Rattle.bx_journal.specs.Power.{Found}
+use Rattle.bx_journal.specs.Redo.{Finds, IsRedoOf, found_undone}
+use Rattle.bx_journal_read.specs.declared.answers.How.{How}
+use Rattle.bx_journal_read.specs.declared.fault.SessionFault.{SessionFault}
+use Rattle.bx_journal_protocol.specs.declared.devices.Devices.{Devices}
+use Rattle.bx_cli_commands.specs.Power.{images_of}
+use Rattle.bx_cli_commands.specs.Run.{CommandStep}
+use Rattle.bx_cli_commands.specs.Standing.{Standing}
+use Rattle.bx_cli_commands.specs.declared.command.Command.{Command}
+use Rattle.bx_cli_commands.specs.declared.command.Reply.{Reply}
+use Rattle.bx_cli_commands.specs.declared.command.Reply.TheVariants.{Refused}
+use Rattle.bx_cli_commands.specs.declared.fault.Fault.TheVariants.{Session}
+
+-- What an image, its journal and its redo text hold
+pub record Contents : Type 0 where
+  pub image : List ℕ
+  pub journal : List ℕ
+  pub redo : List ℕ
+
+-- the three hold these images: those that stand, and those that are undone
+abbrev pub Holds : Contents → Images → Type 0
+Holds c s = IsAtRest c.journal c.image s.stack × IsRedoOf c.redo c.image (changes_of s.stack) s.undone
+
+-- opening finds these images in the three
+abbrev pub FindsIn : Contents → Images → Type 0
+FindsIn c s = Finds c.journal c.image c.redo s
+
+-- opening finds these images in the three, which are all on the disk, as after a crash
+abbrev pub FoundIn : Contents → Images → Type 0
+FoundIn c s = Found c.journal c.image c.redo s
+
+-- the three hold the images, or, where a command was stopped, opening finds them
+abbrev pub EndsAt : Contents → Standing → Type 0
+EndsAt c (Standing.Up s) = Holds c s
+EndsAt c (Standing.Down s) = FindsIn c s
+
+-- a command on three contents that hold images made the machine's step
+abbrev pub StepsTo : {R A : Type 0} → (R → Option (List ℕ)) → Images → Command R A → Reply → Contents → Type 0
+StepsTo remaining s command reply new = (after : Standing) × CommandStep remaining (Standing.Up s) command reply after × EndsAt new after
+
+-- opening was refused by a device, or for want of memory
+abbrev pub IsUnopened : Reply → Type 0
+IsUnopened reply = (e : SessionFault) × (reply ≡ Refused (Session e)) × DeviceFault e
+
+-- A command on three contents that hold images: its opening was refused, or it made the machine's step
+abbrev pub Does : {R A : Type 0} → (R → Option (List ℕ)) → Images → Command R A → Reply → Contents → Type 0
+Does remaining s command reply new = (IsUnopened reply × Holds new s) ⊎ StepsTo remaining s command reply new
+
+-- the images that opening makes of those that it finds: where something is unfinished nothing is undone any more
+abbrev pub recovered_as : How → Images → Images
+recovered_as how s = record { stack = s.stack; undone = found_undone how s.undone }
+
+-- A command on three contents in which opening finds images: it made the machine's step from what was recovered, or opening was refused, and
+-- finds them again, behind an interruption without those that were undone
+abbrev pub DoesFound : {R A : Type 0} → (R → Option (List ℕ)) → Images → Command R A → Option How → Reply → Contents → Type 0
+DoesFound remaining s command (Some how) reply new = StepsTo remaining (recovered_as how s) command reply new
+DoesFound remaining s command None reply new =
+    (e : SessionFault) × (reply ≡ Refused (Session e)) × AfterFault e (FoundIn new (record { stack = s.stack; undone = [] })) (FoundIn new s)
+
+-- whatever is found of the three after a loss of power, opening finds the images of an end of the command
+abbrev pub Survives : {R A : Type 0} → (R → Option (List ℕ)) → Images → Command R A → Reply
+    → (List ℕ → Type 0) → (List ℕ → Type 0) → (List ℕ → Type 0) → Type 0
+Survives remaining s command reply image journal redo = (x text redo_text : List ℕ) → image x → journal text → redo redo_text
+    → (after : Standing) × CommandStep remaining (Standing.Up s) command reply after × Found text x redo_text (images_of after)
+
+-- what three devices hold
+abbrev pub held_by : {D T : Type 0} → DeviceViews D → StoreViews T → Devices D T → Contents
+held_by d t x = record { image = d.image x.image; journal = t.text x.journal; redo = t.text x.redo }
+
+-- the three devices are honest
+abbrev pub AreHonest : {D T : Type 0} → DeviceViews D → StoreViews T → Devices D T → Type 0
+AreHonest d t x = d.honest x.image × t.honest x.journal × t.honest x.redo
+
+-- each device is honest if it was
+abbrev pub KeepHonesty : {D T : Type 0} → DeviceViews D → StoreViews T → Devices D T → Devices D T → Type 0
+KeepHonesty d t old new = (d.honest new.image ↔ d.honest old.image) × (t.honest new.journal ↔ t.honest old.journal) × (t.honest new.redo ↔ t.honest old.redo)
+
+-- no call of the three failed: failures count from 0, those of the redo text from 2 ^ 32
+abbrev pub AreFresh : {D T : Type 0} → DeviceViews D → StoreViews T → Devices D T → Type 0
+AreFresh d t x = (d.failures x.image ≡ 0) × (t.failures x.journal ≡ 0) × (t.failures x.redo ≡ 2 ^ 32)
+
+-- each text stands in its place, as its count of failures tells
+abbrev pub AreInPlace : {D T : Type 0} → DeviceViews D → StoreViews T → Devices D T → Type 0
+AreInPlace d t x = (t.failures x.journal < 2 ^ 32) × (2 ^ 32 ≤ t.failures x.redo)

@@ -1,0 +1,3 @@
+pub mod Contents
+pub mod Named
+pub mod Moves

@@ -1,0 +1,80 @@
+-- What a person sees of an undo and of a redo: files and standard output.
+use Rattle.std.specs.Prelude.{◌≡◌, ◌⊎◌, ◌<◌, ◌≤◌, ◌+◌, ◌-◌, ◌++◌, ℕ, List, codes, decimal, length}
+use Rattle.bx_text.specs.declared.fault.IoFault.TheVariants.{WriteFailed}
+use Rattle.bx_program_world.specs.World.{Sight}
+use Rattle.bx_program_files.specs.Files.{LeavesFiles}
+use Rattle.bx_program_files.specs.declared.names.Names.{Names}
+use Rattle.bx_journal.specs.Images.{Images, redo_of, undo_of}
+use Rattle.bx_journal.specs.Machine.{changes_of}
+use Rattle.bx_journal_read.specs.declared.fault.SessionFault.{SessionFault}
+use Rattle.bx_journal_read.specs.declared.fault.SessionFault.TheVariants.{DeviceFailed, Interrupted, NoMemory, NothingToRedo, TooFew}
+use Rattle.bx_cli_commands.specs.declared.fault.Fault.{Fault}
+use Rattle.bx_cli_commands.specs.declared.fault.Fault.TheVariants.{Io, OpenFailed, Session}
+use Rattle.bx_program_sessions.specs.Contents.{Contents, FindsIn, Holds}
+use Rattle.bx_program_sessions.specs.Named.{contents_of}
+
+-- Changes that are moved one by one, taken back or made again: how many there are, the fault where more are asked for, the images behind the
+-- first i of them, and how many changes then stand
+pub record Course : Type 0 where
+  pub most : ℕ
+  pub lacks : SessionFault
+  pub moved : ℕ → Images
+  pub left : ℕ → ℕ
+
+-- the changes that stand, taken back
+abbrev pub back : Images → Course
+back s = record { most = changes_of s.stack; lacks = TooFew (changes_of s.stack); moved = λ i. undo_of i s; left = λ i. changes_of s.stack - i }
+
+-- the changes that are undone, made again
+abbrev pub again : Images → Course
+again s = record { most = length s.undone; lacks = NothingToRedo (length s.undone); moved = λ i. redo_of i s; left = λ i. changes_of s.stack + i }
+
+-- k changes were moved: the contents hold where that leads, and `left` changes stand
+pub record IsMoved (k : ℕ) (course : Course) (left : ℕ) (new : Contents) : Type 0 where
+  pub enough : k ≤ course.most
+  pub left_is : left ≡ course.left k
+  pub files : Holds new (course.moved k)
+
+-- a number on a line of its own
+abbrev pub number_line : ℕ → List ℕ
+number_line n = decimal n ++ codes "\n"
+
+-- k changes were moved: the files hold where that leads, and the number of changes that stand is written
+pub record Moves (names : Names) (k : ℕ) (course : Course) (old new : Sight) : Type 0 where
+  pub enough : k ≤ course.most
+  pub files : Holds (contents_of names new) (course.moved k)
+  pub output : new.output ≡ old.output ++ number_line (course.left k)
+
+-- why the moving of k changes may be refused: a file wasn't opened, a device or want of memory stopped it, or there are fewer
+abbrev pub MayNotMove : ℕ → Course → Fault → Type 0
+MayNotMove k course OpenFailed = Unit {0}
+MayNotMove k course (Session NoMemory) = Unit {0}
+MayNotMove k course (Session DeviceFailed) = Unit {0}
+MayNotMove k course (Session Interrupted) = Unit {0}
+MayNotMove k course (Session e) = (course.most < k) × (e ≡ course.lacks)
+MayNotMove k course e = ⊥
+
+-- The moving of k changes was refused: interrupted, opening finds the images behind some of them; else all files are as they were
+abbrev pub RefusesMove : Names → ℕ → Course → Sight → Sight → Fault → Type 0
+RefusesMove names k course old new (Session Interrupted) = (i : ℕ) × (i ≤ k) × FindsIn (contents_of names new) (course.moved i)
+RefusesMove names k course old new e = MayNotMove k course e × LeavesFiles old new
+
+-- A line couldn't be written: a front of it is behind what was written, and the fault tells no more bytes than that has
+pub record StopsLine (line old new : List ℕ) (e : Fault) : Type 0 where
+  pub front : List ℕ
+  pub rest : List ℕ
+  pub told : ℕ
+  pub whole : line ≡ front ++ rest
+  pub output : new ≡ old ++ front
+  pub least : told ≤ length front
+  pub fault : e ≡ Io (WriteFailed told)
+
+-- k changes were moved, and their number couldn't be written
+pub record LosesLine (names : Names) (k : ℕ) (course : Course) (old new : Sight) (e : Fault) : Type 0 where
+  pub enough : k ≤ course.most
+  pub files : Holds (contents_of names new) (course.moved k)
+  pub line : StopsLine (number_line (course.left k)) old.output new.output e
+
+-- Why the moving of k changes ends in a fault: it was refused, and nothing is written; or it is done, and its number couldn't be written
+abbrev pub StopsMove : Names → ℕ → Course → Sight → Sight → Fault → Type 0
+StopsMove names k course old new e = (RefusesMove names k course old new e × (new.output ≡ old.output)) ⊎ LosesLine names k course old new e

@@ -1,0 +1,5 @@
+//! What the system tells of files, devices and folders.
+pub mod alias;
+pub mod dev;
+pub mod mounts;
+pub mod stat;

@@ -1,0 +1,141 @@
+//! Block devices that are mounted, and those that can't be written.
+//!
+//! The files of the kit can't be opened with `O_EXCL`, which the system answers itself, so its tables are read: the mounts
+//! that this process sees, and the swap files. A device that is read-only is opened for writing all the same, and then refuses
+//! each write; its table is read before.
+use std::alloc::{AllocError, Global};
+use std::fs::{self, File, Metadata};
+use std::io::ErrorKind;
+use std::os::unix::fs::{FileTypeExt, MetadataExt};
+use std::rt::Files;
+
+/// The mounts that this process sees, a line for each.
+const MOUNTS: &str = "/proc/self/mountinfo";
+
+/// The swap files and devices, a line for each.
+const SWAPS: &str = "/proc/swaps";
+
+/// Why it isn't known whether a device is mounted.
+#[derive(Clone, Copy, Debug, PartialEq, Eq)]
+pub enum Unknown {
+    /// Memory is short.
+    NoMemory,
+    /// The system's table of mounts can't be read.
+    NoTable,
+}
+
+impl From<AllocError> for Unknown {
+    fn from(_: AllocError) -> Self {
+        Unknown::NoMemory
+    }
+}
+
+/// Whether a file system is mounted from a block device, as the whole of it or a partition, or it is used as swap.
+///
+/// # Errors
+/// Where it isn't known.
+pub fn is_mounted<R>(rt: &R, device: &Metadata) -> Result<bool, Unknown>
+where
+    R: Files<File = File> + AllocGlobal,
+{
+    let table = match fs::read(rt, MOUNTS) {
+        Ok(table) => table,
+        Err(e) if e.kind() == ErrorKind::OutOfMemory => return Err(Unknown::NoMemory),
+        Err(_) => return Err(Unknown::NoTable),
+    };
+    let number = number_text(rt.alloc(), device.rdev())?;
+    Ok(is_in_table(rt, table.as_slice(), number.as_str(), device) || is_swap(rt, device))
+}
+
+/// Whether a block device is read-only, or is a partition of one that is. Where the system has no table, it counts as one that
+/// can be written.
+///
+/// # Errors
+/// Where memory is short.
+pub fn is_read_only<R>(rt: &R, device: &Metadata) -> Result<bool, AllocError>
+where
+    R: Files<File = File> + AllocGlobal,
+{
+    let number = number_text(rt.alloc(), device.rdev())?;
+    let number = number.as_str();
+    for table in ["ro", "../ro"] {
+        let table = format!(in rt.alloc(); "/sys/dev/block/{number}/{table}")?;
+        if fs::read_to_string(rt, table.as_str()).is_ok_and(|whole| whole.as_str().trim_end()
+            == "1")
+        {
+            return Ok(true);
+        }
+    }
+    Ok(false)
+}
+
+/// A device's number as the system's tables have it, MAJOR:MINOR, from Linux's encoding in one number.
+fn number_text(alloc: Global, number: u64) -> Result<String, AllocError> {
+    let major = ((number >> 32) & 0xffff_f000) | ((number >> 8) & 0xfff);
+    let minor = ((number >> 12) & 0xffff_ff00) | (number & 0xff);
+    format!(in alloc; "{major}:{minor}")
+}
+
+/// Whether a line of the mounts names this device: by its number, by a partition's, or by its name.
+fn is_in_table<R>(rt: &R, table: &[u8], number: &str, device: &Metadata) -> bool
+where
+    R: Files<File = File> + AllocGlobal,
+{
+    for line in table.split(|byte| *byte == b'\n') {
+        let Ok(line) = str::from_utf8(line) else {
+            continue;
+        };
+        let mounted = line.split(' ').nth(2).unwrap_or("");
+        if mounted == number
+            || is_part(rt, mounted, number)
+            || is_device_of(rt, source(line), device)
+        {
+            return true;
+        }
+    }
+    false
+}
+
+/// What is mounted, as the line names it: behind the fields that may be missing, and a type.
+fn source(line: &str) -> &str {
+    match line.split_once(" - ") {
+        Some((_, rest)) => rest.split(' ').nth(1).unwrap_or(""),
+        None => "",
+    }
+}
+
+/// Whether the device that is mounted is a partition of this one.
+fn is_part<R>(rt: &R, mounted: &str, number: &str) -> bool
+where
+    R: Files<File = File> + AllocGlobal,
+{
+    let Ok(name) = format!(in rt.alloc(); "/sys/dev/block/{mounted}/../dev") else {
+        return true;
+    };
+    fs::read_to_string(rt, name.as_str()).is_ok_and(|whole| whole.as_str().trim_end() == number)
+}
+
+/// Whether this is a name of the device.
+fn is_device_of<R: Files<File = File>>(rt: &R, name: &str, device: &Metadata) -> bool {
+    name.starts_with('/')
+        && fs::metadata(rt, name).is_ok_and(|file| {
+            file.file_type().is_block_device() && file.rdev() == device.rdev()
+        })
+}
+
+/// Whether the device is used as swap. A system without swap has no such table.
+fn is_swap<R>(rt: &R, device: &Metadata) -> bool
+where
+    R: Files<File = File> + AllocGlobal,
+{
+    let Ok(table) = fs::read(rt, SWAPS) else {
+        return false;
+    };
+    for line in table.as_slice().split(|byte| *byte == b'\n') {
+        let name = str::from_utf8(line).unwrap_or("");
+        if is_device_of(rt, name.split(' ').next().unwrap_or(""), device) {
+            return true;
+        }
+    }
+    false
+}

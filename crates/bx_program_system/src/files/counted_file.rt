@@ -1,0 +1,103 @@
+//! A file of a session as a device holds it.
+ghost use Rattle.std.specs.Prelude.{[]};
+
+use crate::progress::Progress;
+use bx_image::{FailedCall, RandomAccess, Stop, SystemFile};
+use std::time::Clock;
+
+/// An image, a journal or a redo file. One that is missing is as an empty one, and can't be written. Progress counts all that is
+/// written to it, and of a text all that is read.
+#[derive(Drop)]
+pub struct CountedFile<'p, 'r, R> {
+    file: Option<SystemFile>,
+    progress: &'p Progress<'r, R>,
+    counts_reads: bool,
+}
+
+impl<'p, 'r, R: Clock + Eprint> CountedFile<'p, 'r, R> {
+    /// An image's file.
+    pub fn image(file: SystemFile, progress: &'p Progress<'r, R>) -> CountedFile<'p, 'r, R> {
+        CountedFile {
+            file: Some(file),
+            progress,
+            counts_reads: false,
+        }
+    }
+
+    /// The file of a text, or of none.
+    pub fn text(file: Option<SystemFile>, progress: &'p Progress<'r, R>) -> CountedFile<'p, 'r, R> {
+        CountedFile {
+            file,
+            progress,
+            counts_reads: true,
+        }
+    }
+
+    /// The file; none where it is missing.
+    pub fn file(&self) -> Option<&SystemFile> {
+        self.file.as_ref()
+    }
+
+    /// Its last call that failed; none where none did.
+    pub fn failed(&self) -> Option<FailedCall> {
+        match &self.file {
+            Some(file) => file.failed,
+            None => None,
+        }
+    }
+}
+
+/// What a file gives back is known to no proof, so it never counts as honest here.
+impl<R: Clock + Eprint> RandomAccess for CountedFile<'_, '_, R> {
+    ghost content = { λ _. [] };
+
+    ghost honest = { λ _. ⊥ };
+
+    ghost survives = { λ _ _. ⊥ };
+
+    ghost within = { λ f honest. absurd honest };
+
+    ghost present = { λ f honest. absurd honest };
+
+    fn size(&mut self) -> Result<u64, Stop> {
+        match &mut self.file {
+            Some(file) => file.size(),
+            None => Ok(0),
+        }
+    }
+
+    fn read_some(&mut self, at: u64, buf: &mut [u8]) -> Result<usize, Stop> {
+        let Some(file) = &mut self.file else {
+            return Ok(0);
+        };
+        let count = file.read_some(at, buf)?;
+        if self.counts_reads {
+            self.progress.pass(count as u64);
+        }
+        Ok(count)
+    }
+
+    fn write_some(&mut self, at: u64, bytes: &[u8]) -> Result<usize, Stop> {
+        let Some(file) = &mut self.file else {
+            return Err(Stop::Failed);
+        };
+        let count = file.write_some(at, bytes)?;
+        self.progress.pass_written(count as u64);
+        Ok(count)
+    }
+
+    fn resize(&mut self, n: u64) -> Result<(), Stop> {
+        match &mut self.file {
+            Some(file) => file.resize(n),
+            None if n == 0 => Ok(()),
+            None => Err(Stop::Failed),
+        }
+    }
+
+    fn sync(&mut self) -> Result<(), Stop> {
+        match &mut self.file {
+            Some(file) => RandomAccess::sync(file),
+            None => Ok(()),
+        }
+    }
+}

@@ -1,0 +1,53 @@
+//! Opening one file, its lock, and taking away what was made.
+use crate::facts::alias::is_untouched;
+use std::fs::{self, File, TryLockError};
+use std::io::{self, ErrorKind, Seek, SeekFrom};
+use std::os::unix::fs::FileTypeExt;
+use std::rt::Files;
+
+/// Opens a file that is there.
+pub fn open_there<R: Files<File = File>>(rt: &R, name: &str, writes: bool) -> io::Result<File> {
+    let mut how = File::options();
+    how.read(true).write(writes);
+    how.open(rt, name)
+}
+
+/// The length of a file that can't have another one: of a block device.
+pub fn fixed_length(mut file: &File) -> io::Result<Option<u64>> {
+    if file.metadata()?.file_type().is_block_device() {
+        return Ok(Some(file.seek(SeekFrom::End(0))?));
+    }
+    Ok(None)
+}
+
+/// Where the file system has no locks it goes on without.
+fn where_there_are_locks(outcome: Result<(), TryLockError>) -> Result<(), TryLockError> {
+    match outcome {
+        Err(TryLockError::Error(e)) if e.kind() == ErrorKind::Unsupported => Ok(()),
+        outcome => outcome,
+    }
+}
+
+/// Locks a file, without waiting, up to its closing. A lock belongs to one opening, so a file that this run has open under
+/// another name is refused like one that another program holds.
+pub fn lock(file: &File) -> Result<(), TryLockError> {
+    where_there_are_locks(file.try_lock())
+}
+
+/// The same for one that is only read: such locks are held beside one another.
+pub fn lock_shared(file: &File) -> Result<(), TryLockError> {
+    where_there_are_locks(file.try_lock_shared())
+}
+
+/// Takes a file away that this run made, if it is still empty and still has its name. Where the name is a link to it, the link
+/// stays.
+pub fn take_away<R: Files<File = File> + AllocGlobal>(rt: &R, name: &str, file: &File) {
+    if is_untouched(rt, name, file).is_ok_and(|is| is) {
+        let _ = fs::remove_file(rt, name);
+    } else if let Ok(place) = fs::canonicalize(rt, name) {
+        let place = place.as_path().as_str();
+        if is_untouched(rt, place, file).is_ok_and(|is| is) {
+            let _ = fs::remove_file(rt, place);
+        }
+    }
+}

@@ -1,0 +1,25 @@
+//! The system as the world that the program runs in: its files by name, and the standard streams. An inner part of `bx_program`.
+#![tactic(auto)]
+
+mod facts;
+mod files;
+mod folders;
+mod progress;
+mod refusal;
+mod tally;
+mod world;
+
+pub use facts::alias::is_same;
+pub use facts::dev::is_among_devices;
+pub use facts::mounts::{Unknown, is_mounted, is_read_only};
+pub use facts::stat::{caller_of, is_group_given, is_root_or_caller, stat_of};
+pub use files::counted_file::CountedFile;
+pub use files::devices::{held, image_of, size_of_texts};
+pub use files::left::{Ended, Left};
+pub use files::mode::Permits;
+pub use files::open::{fixed_length, lock, lock_shared, open_there, take_away};
+pub use files::opened::OpenFile;
+pub use folders::{folder_of, sync_folder};
+pub use progress::{Counted, Progress, Terminals};
+pub use tally::Tally;
+pub use world::SystemWorld;

@@ -1,0 +1,293 @@
+//! The system as a world.
+ghost use Rattle.std.specs.Prelude.{◌≡◌, false};
+ghost use Rattle.bx_program_system.specs.Unseen.{unseen};
+
+use crate::facts::alias::is_same;
+use crate::facts::dev::is_among_devices;
+use crate::facts::stat::{caller_of, is_group_given, stat_of};
+use crate::files::counted_file::CountedFile;
+use crate::files::devices::{held, image_of, size_of_texts};
+use crate::files::left::Left;
+use crate::files::look::{is_in_place, look, look_at_text};
+use crate::files::mode::Permits;
+use crate::files::open::{fixed_length, lock, open_there, take_away};
+use crate::files::opened::{Known, OpenFile};
+use crate::folders::{folder_of, sync_folder};
+use crate::progress::Progress;
+use crate::refusal::{refused, unmade, unopened};
+use crate::tally::Tally;
+use bx_image::FileImage;
+use bx_journal_store::FileText;
+use bx_program_world::{Look, Refusal, Stat, Unwritten, World};
+use bx_text::emit;
+use std::fs::{self, File, TryLockError};
+use std::io;
+use std::os::unix::fs::MetadataExt;
+use std::rt::Files;
+use std::time::Clock;
+
+/// Where the failures of a redo text begin to count.
+const FIRST_OF_REDO: u64 = 1 << 32;
+
+/// What the run knows of the three files that are lent.
+#[derive(Clone, Copy)]
+struct Lent {
+    image: Known,
+    journal: Known,
+    redo: Known,
+}
+
+/// The folder whose names were put on the disk last, by the system's numbers.
+#[derive(Clone, Copy, PartialEq, Eq)]
+struct Folder {
+    device: u64,
+    inode: u64,
+}
+
+/// The system as a world: each call is the system's own. That it does what the trait says of an honest world is trusted, so it
+/// never counts as honest here, and what is proved of it is what is said of every world.
+#[derive(Drop)]
+pub struct SystemWorld<'p, 'r, R> {
+    rt: &'r R,
+    progress: &'p Progress<'r, R>,
+    // whether a sync waits until the disk has all
+    waits: bool,
+    caller: u32,
+    lent: Lent,
+    kept: Option<Folder>,
+    /// What the devices of the last session said.
+    pub left: Left,
+    /// Whether a name was refused its place on the disk.
+    pub is_unkept: bool,
+    /// The system's number for what standard output was refused.
+    pub unwritten: Option<i32>,
+}
+
+impl<'p, 'r, R> SystemWorld<'p, 'r, R>
+where
+    R: Files<File = File> + Print + Eprint + Clock + AllocGlobal,
+{
+    /// The system that this process runs in. `waits` says whether a sync waits until the disk has all; else it does nothing, and
+    /// no name is put on the disk. `progress` counts what is read of the texts, and what is written.
+    pub fn new(rt: &'r R, progress: &'p Progress<'r, R>, waits: bool) -> Self {
+        Self {
+            rt,
+            progress,
+            waits,
+            caller: caller_of(rt),
+            lent: Lent {
+                image: Known::of_image(None),
+                journal: Known::of_text(false, false),
+                redo: Known::of_text(false, false),
+            },
+            kept: None,
+            left: Left::NOTHING,
+            is_unkept: false,
+            unwritten: None,
+        }
+    }
+
+    /// A text that is open.
+    fn text(&self, file: File, is_group_given: bool, made: bool) -> OpenFile<'p, 'r, R> {
+        OpenFile {
+            file: CountedFile::text(Some(held(file, self.waits)), self.progress),
+            known: Known::of_text(is_group_given, made),
+        }
+    }
+
+    /// Puts the names that a folder has on the disk, unless that was done last and no file was made since.
+    fn keep(&mut self, folder: &str) -> io::Result<()> {
+        let found = fs::metadata(self.rt, folder).ok().map(|found| Folder {
+            device: found.dev(),
+            inode: found.ino(),
+        });
+        if found.is_some() && found == self.kept {
+            return Ok(());
+        }
+        sync_folder(self.rt, folder)?;
+        self.kept = found;
+        Ok(())
+    }
+
+    /// How many bytes two texts have, where somebody looks and the system tells.
+    fn size_of(&self, journal: &OpenFile<'p, 'r, R>, redo: &OpenFile<'p, 'r, R>) -> Option<u64> {
+        let redo = redo.system().ok()?;
+        size_of_texts(self.progress, journal.system().ok()?, Some(redo))
+    }
+}
+
+impl<'p, 'r, R> World for SystemWorld<'p, 'r, R>
+where
+    R: Files<File = File> + Print + Eprint + Clock + AllocGlobal,
+{
+    type Image = FileImage<CountedFile<'p, 'r, R>>;
+
+    type Text = FileText<CountedFile<'p, 'r, R>>;
+
+    type File = OpenFile<'p, 'r, R>;
+
+    ghost honest = { λ _. ⊥ };
+
+    ghost sight = { λ _. unseen };
+
+    ghost survives = { λ _ _ _. ⊥ };
+
+    ghost number = { λ _. 0 };
+
+    ghost is_refused = { λ _. false };
+
+    ghost begun = { λ _ honest. absurd honest };
+
+    ghost within = { λ _ _ _ honest _. absurd honest };
+
+    fn look(&mut self, name: &str) -> Result<Look, Refusal> {
+        look(self.rt, name)
+    }
+
+    fn caller(&self) -> u32 {
+        self.caller
+    }
+
+    fn open_image(&mut self, name: &str, _: bool) -> Result<OpenFile<'p, 'r, R>, Refusal> {
+        let file = open_there(self.rt, name, true).map_err(unopened)?;
+        let length = fixed_length(&file).map_err(refused)?;
+        Ok(OpenFile {
+            file: CountedFile::image(held(file, self.waits), self.progress),
+            known: Known::of_image(length),
+        })
+    }
+
+    fn open_text(
+        &mut self,
+        name: &str,
+        image: &OpenFile<'p, 'r, R>,
+    ) -> Result<OpenFile<'p, 'r, R>, Refusal> {
+        let image = stat_of(&image.metadata()?, false);
+        let text = look_at_text(self.rt, name, self.caller, &image)?;
+        let file = open_there(self.rt, name, true).map_err(unopened)?;
+        Ok(self.text(file, text.is_group_given, false))
+    }
+
+    fn make_text(
+        &mut self,
+        name: &str,
+        image: &OpenFile<'p, 'r, R>,
+    ) -> Result<OpenFile<'p, 'r, R>, Refusal> {
+        if is_among_devices(self.rt, folder_of(name)) {
+            return Err(Refusal::Other(None));
+        }
+        self.kept = None;
+        let file = Permits::beside(&image.metadata()?)
+            .make(self.rt, name)
+            .map_err(unmade)?;
+        let is_group_given = match file.metadata() {
+            Ok(found) => is_group_given(self.rt, name, &found),
+            Err(_) => true,
+        };
+        Ok(self.text(file, is_group_given, true))
+    }
+
+    fn stat(&mut self, file: &OpenFile<'p, 'r, R>) -> Result<Stat, Refusal> {
+        file.stat(self.rt)
+    }
+
+    fn lock(&mut self, name: &str, file: &OpenFile<'p, 'r, R>) -> Result<(), Refusal> {
+        match lock(file.system()?) {
+            Ok(()) => is_in_place(self.rt, name, file),
+            Err(TryLockError::WouldBlock) => Err(Refusal::Locked),
+            Err(TryLockError::Error(e)) => Err(refused(e)),
+        }
+    }
+
+    fn is_same(
+        &mut self,
+        a: &OpenFile<'p, 'r, R>,
+        b: &OpenFile<'p, 'r, R>,
+    ) -> Result<bool, Refusal> {
+        Ok(is_same(&a.metadata()?, &b.metadata()?))
+    }
+
+    fn take_away(&mut self, name: &str, file: &OpenFile<'p, 'r, R>) {
+        if file.known.made {
+            if let Ok(file) = file.system() {
+                take_away(self.rt, name, file);
+            }
+        }
+    }
+
+    fn keep_name(&mut self, name: &str) -> Result<(), Refusal> {
+        if !self.waits {
+            return Ok(());
+        }
+        match self.keep(folder_of(name)) {
+            Ok(()) => Ok(()),
+            Err(error) => {
+                self.is_unkept = true;
+                Err(refused(error))
+            }
+        }
+    }
+
+    fn lend(
+        &mut self,
+        image: OpenFile<'p, 'r, R>,
+        journal: OpenFile<'p, 'r, R>,
+        redo: OpenFile<'p, 'r, R>,
+    ) -> (Self::Image, Self::Text, Self::Text) {
+        self.progress.begin_reading(self.size_of(&journal, &redo));
+        self.lent = Lent {
+            image: image.known,
+            journal: journal.known,
+            redo: redo.known,
+        };
+        (
+            image_of(image.file, image.known.length),
+            FileText::new(journal.file),
+            FileText::counting_from(redo.file, FIRST_OF_REDO),
+        )
+    }
+
+    fn give_back(
+        &mut self,
+        image: Self::Image,
+        journal: Self::Text,
+        redo: Self::Text,
+    ) -> (
+        OpenFile<'p, 'r, R>,
+        OpenFile<'p, 'r, R>,
+        OpenFile<'p, 'r, R>,
+    ) {
+        self.progress.end();
+        self.left = Left::of(&image, &journal, &redo, FIRST_OF_REDO);
+        let lent = self.lent;
+        (
+            OpenFile {
+                file: image.into_file(),
+                known: lent.image,
+            },
+            OpenFile {
+                file: journal.into_file(),
+                known: lent.journal,
+            },
+            OpenFile {
+                file: redo.into_file(),
+                known: lent.redo,
+            },
+        )
+    }
+
+    fn print(&mut self, bytes: &[u8]) -> Result<(), Unwritten> {
+        let mut out = Tally::new(io::writer(self.rt));
+        match emit(&mut out, bytes) {
+            Ok(()) => Ok(()),
+            Err(_) => {
+                self.unwritten = out.error;
+                Err(Unwritten)
+            }
+        }
+    }
+
+    fn complain(&mut self, text: &str) {
+        let _ = eprint!(self.rt; "{text}");
+    }
+}

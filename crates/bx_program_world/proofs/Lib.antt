@@ -1,0 +1,4 @@
+pub mod Entries
+pub mod Made
+pub mod Persons
+pub mod Survivors

@@ -1,0 +1,111 @@
+-- What a world in memory has.
+use Rattle.std.specs.Prelude.{◌≡◌, ◌⊎◌, ◌+◌, ℕ, Bool, true, false, cond, List, [], ◌∷◌, length}
+use Rattle.std.specs.Option.{unwrap_or}
+use Rattle.bx_program_world.specs.World.{Sight}
+use Rattle.bx_program_world.specs.MemoryFiles.{bytes_at, file_named, is_gone_at, is_link_of, lent_trio, stat_of, synced_at}
+use Rattle.bx_program_world.specs.declared.memory.MemoryWorld.{MemoryWorld}
+use Rattle.bx_program_world.specs.declared.memory.Run.{Run}
+use Rattle.bx_program_world.specs.declared.memory.files.Entry.{Entry}
+use Rattle.bx_program_world.specs.declared.memory.files.Leads.TheVariants.{File}
+use Rattle.bx_program_world.specs.declared.memory.files.Stored.{Stored}
+use Rattle.bx_program_world.specs.declared.stat.Kind.TheVariants.{Other}
+use Rattle.bx_program_world.specs.declared.stat.Stat.{Stat}
+
+-- what the system says of a file that isn't there
+abbrev pub no_stat : Stat
+no_stat = record {
+  kind = Other;
+  owner = 0;
+  group = 0;
+  is_group_given = false;
+  reads = record { group = false; others = false };
+  writes = record { group = false; others = false };
+  links = 0;
+  is_mounted = false;
+  is_read_only = false;
+}
+
+-- what a person can see of files with their names, beside a run
+abbrev pub sight_in : List Stored → List Entry → Run → Sight
+sight_in files entries run = record {
+  named = file_named files entries;
+  is_link = is_link_of entries;
+  bytes = bytes_at files;
+  stat = λ n. unwrap_or (stat_of files n) no_stat;
+  caller = run.caller;
+  there = length files;
+  before = run.before;
+  lent = lent_trio run.lent;
+  output = run.output.items;
+  errors = run.errors.items;
+  stuck = run.stuck;
+}
+
+-- what a person can see of a world in memory
+abbrev pub sight_of : MemoryWorld → Sight
+sight_of w = sight_in w.files.items w.entries.items w.run
+
+-- what may be found of a file after a loss of power: what it has, or what was on its disk
+abbrev pub found_of : MemoryWorld → ℕ → List ℕ → Type 0
+found_of w n c = (c ≡ bytes_at w.files.items n) ⊎ (c ≡ synced_at w.files.items n)
+
+-- a call was noted as refused, or passed; files and all else are as they were
+pub record Passes (refused : Bool) (old new : MemoryWorld) : Type 0 where
+  pub files : new.files ≡ old.files
+  pub entries : new.entries ≡ old.entries
+  pub caller : new.run.caller ≡ old.run.caller
+  pub before : new.run.before ≡ old.run.before
+  pub lent : new.run.lent ≡ old.run.lent
+  pub output : new.run.output ≡ old.run.output
+  pub errors : new.run.errors ≡ old.run.errors
+  pub stuck : new.run.stuck ≡ old.run.stuck
+  pub is_refused : new.run.is_refused ≡ cond refused true old.run.is_refused
+
+-- all but the bytes of one file is as it was
+pub record HasOtherBytes (n : ℕ) (old new : MemoryWorld) : Type 0 where
+  pub others : (i : ℕ) → (i ≡ n → ⊥) → bytes_at new.files.items i ≡ bytes_at old.files.items i
+  pub synced : (i : ℕ) → (i ≡ n → ⊥) → synced_at new.files.items i ≡ synced_at old.files.items i
+  pub gone : (i : ℕ) → is_gone_at new.files.items i ≡ is_gone_at old.files.items i
+  pub stat : (i : ℕ) → stat_of new.files.items i ≡ stat_of old.files.items i
+  pub there : length new.files.items ≡ length old.files.items
+  pub entries : new.entries.items ≡ old.entries.items
+  pub run : new.run ≡ old.run
+
+-- a name was given to a file, and all else is as it was
+pub record NamesFile (old new : MemoryWorld) (name : List ℕ) (n : ℕ) : Type 0 where
+  pub entries : new.entries.items ≡ record { name = name; leads = File n } ∷ old.entries.items
+  pub files : new.files ≡ old.files
+  pub run : new.run ≡ old.run
+
+-- no name was given, and all else is as it was
+pub record NamesNothing (old new : MemoryWorld) : Type 0 where
+  pub entries : new.entries.items ≡ old.entries.items
+  pub files : new.files ≡ old.files
+  pub run : new.run ≡ old.run
+
+-- a file was taken away if it was empty, and all else is as it was
+pub record BuriesEmpty (n : ℕ) (old new : MemoryWorld) : Type 0 where
+  pub buried : bytes_at old.files.items n ≡ [] → is_gone_at new.files.items n ≡ true
+  pub stays : (bytes_at old.files.items n ≡ [] → ⊥) → new.files ≡ old.files
+  pub others : (i : ℕ) → (i ≡ n → ⊥) → is_gone_at new.files.items i ≡ is_gone_at old.files.items i
+  pub bytes : (i : ℕ) → bytes_at new.files.items i ≡ bytes_at old.files.items i
+  pub synced : (i : ℕ) → synced_at new.files.items i ≡ synced_at old.files.items i
+  pub stat : (i : ℕ) → stat_of new.files.items i ≡ stat_of old.files.items i
+  pub there : length new.files.items ≡ length old.files.items
+  pub entries : new.entries.items ≡ old.entries.items
+  pub run : new.run ≡ old.run
+
+-- a file was not taken away, which is counted, and all else is as it was
+pub record Sticks (old new : MemoryWorld) : Type 0 where
+  pub files : new.files ≡ old.files
+  pub entries : new.entries ≡ old.entries
+  pub caller : new.run.caller ≡ old.run.caller
+  pub before : new.run.before ≡ old.run.before
+  pub lent : new.run.lent ≡ old.run.lent
+  pub output : new.run.output ≡ old.run.output
+  pub errors : new.run.errors ≡ old.run.errors
+  pub stuck : new.run.stuck ≡ old.run.stuck + 1
+  pub is_refused : new.run.is_refused ≡ old.run.is_refused
+
+abbrev pub BuriesOrSticks : ℕ → MemoryWorld → MemoryWorld → Type 0
+BuriesOrSticks n old new = BuriesEmpty n old new ⊎ Sticks old new

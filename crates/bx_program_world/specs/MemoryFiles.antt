@@ -1,0 +1,107 @@
+-- The files of a world in memory, and their names.
+use Rattle.std.proofs.Common.{refl, arith}
+use Rattle.std.specs.Prelude.{◌≡◌, ◌<◌, ◌≤◌, ℕ, zero, suc, Bool, true, false, not, cond, List, [], ◌∷◌, Option, None, Some, slice_get, length}
+use Rattle.std.specs.Option.{option_map_or}
+use Rattle.std.specs.Str.{bytes_eq}
+use Rattle.bx_program_world.specs.World.{AreApart, Trio}
+use Rattle.bx_program_world.specs.declared.memory.files.Entry.{Entry}
+use Rattle.bx_program_world.specs.declared.memory.files.Leads.{Leads}
+use Rattle.bx_program_world.specs.declared.memory.files.Leads.TheVariants.{File, Link}
+use Rattle.bx_program_world.specs.declared.memory.files.Stored.{Stored}
+use Rattle.bx_program_world.specs.declared.memory.files.LentFiles.{LentFiles}
+use Rattle.bx_program_world.specs.declared.stat.Stat.{Stat}
+
+-- what the first entry of a name leads to
+abbrev pub entry_of : List Entry → List ℕ → Option Leads
+entry_of [] name = None
+entry_of (e ∷ entries) name = cond (bytes_eq e.name name) (Some e.leads) (entry_of entries name)
+
+-- what the entry at a place leads to
+abbrev pub leads_at : List Entry → ℕ → Option Leads
+leads_at entries i = option_map_or (λ (e : Entry). Some e.leads) (slice_get entries i) None
+
+-- the file that is led to, where `onward` goes on from a link
+abbrev pub led : (List ℕ → Option ℕ) → Option Leads → Option ℕ
+led onward None = None
+led onward (Some (File n)) = Some n
+led onward (Some (Link target)) = onward target
+
+-- the file that a name leads to by at most this many steps
+unfoldable pub follow : List Entry → ℕ → List ℕ → Option ℕ
+follow entries zero name = None
+follow entries (suc steps) name = led (λ target. follow entries steps target) (entry_of entries name)
+
+abbrev pub is_link_to : Option Leads → Bool
+is_link_to None = false
+is_link_to (Some (File n)) = false
+is_link_to (Some (Link target)) = true
+
+-- whether a name is a symbolic link
+abbrev pub is_link_of : List Entry → List ℕ → Bool
+is_link_of entries name = is_link_to (entry_of entries name)
+
+-- the bytes of a file; of one that isn't there none
+abbrev pub bytes_at : List Stored → ℕ → List ℕ
+bytes_at files n = option_map_or (λ (s : Stored). s.contents.bytes.items) (slice_get files n) []
+
+-- what is on the disk of a file; of one that isn't there nothing
+abbrev pub synced_at : List Stored → ℕ → List ℕ
+synced_at files n = option_map_or (λ (s : Stored). s.contents.synced.items) (slice_get files n) []
+
+-- whether a file was taken away, or was never there
+abbrev pub is_gone_at : List Stored → ℕ → Bool
+is_gone_at files n = option_map_or (λ (s : Stored). s.is_gone) (slice_get files n) true
+
+-- the file, unless it was taken away
+abbrev pub unless_gone : List Stored → Option ℕ → Option ℕ
+unless_gone files None = None
+unless_gone files (Some n) = cond (is_gone_at files n) None (Some n)
+
+-- the file that a name leads to, links followed
+abbrev pub file_named : List Stored → List Entry → List ℕ → Option ℕ
+file_named files entries name = unless_gone files (follow entries 40 name)
+
+abbrev pub is_taken_by : List Stored → Option Leads → Bool
+is_taken_by files None = false
+is_taken_by files (Some (File n)) = not (is_gone_at files n)
+is_taken_by files (Some (Link target)) = true
+
+-- whether a name is one of a file that is there, or a link
+abbrev pub is_taken : List Stored → List Entry → List ℕ → Bool
+is_taken files entries name = is_taken_by files (entry_of entries name)
+
+-- what the system tells of a file; none where it isn't there
+abbrev pub stat_of : List Stored → ℕ → Option Stat
+stat_of files n = option_map_or (λ (s : Stored). Some s.stat) (slice_get files n) None
+
+-- the numbers of lent files
+abbrev pub trio_of : LentFiles → Trio
+trio_of l = record { image = l.image; journal = l.journal; redo = l.redo }
+
+-- the numbers of the files that are lent
+abbrev pub lent_trio : Option LentFiles → Option Trio
+lent_trio None = None
+lent_trio (Some l) = Some (trio_of l)
+
+-- no fewer files are there than were when the run began, and the lent ones are there, and three
+pub record IsKept (before there : ℕ) (lent : Option LentFiles) : Type 0 where
+  pub before_there : before ≤ there
+  pub apart : (l : LentFiles) → lent ≡ Some l → AreApart there (trio_of l)
+
+-- a file that isn't gone is there
+pub there_unless_gone : (files : List Stored) (n : ℕ) → is_gone_at files n ≡ false → n < length files
+there_unless_gone [] n e = absurd (let wrong : true ≡ false = e in cc)
+there_unless_gone (s ∷ files) zero e = omega arith
+there_unless_gone (s ∷ files) (suc n) e = let p = there_unless_gone files n e in omega (arith, p)
+
+kept_at : (files : List Stored) (m n : ℕ) (b : Bool) → is_gone_at files m ≡ b → cond b None (Some m) ≡ Some n → n < length files
+kept_at files m n true g e = absurd (let wrong : None ≡ Some n = e in cc)
+kept_at files m n false g e = let p : m < length files = there_unless_gone files m g in let q : Some m ≡ Some n = e in grind (arith, p, q)
+
+kept : (files : List Stored) (o : Option ℕ) (n : ℕ) → unless_gone files o ≡ Some n → n < length files
+kept files None n e = absurd (let wrong : None ≡ Some n = e in cc)
+kept files (Some m) n e = kept_at files m n (is_gone_at files m) refl e
+
+-- a name leads to a file that is there
+pub file_within : (files : List Stored) (entries : List Entry) (name : List ℕ) (n : ℕ) → file_named files entries name ≡ Some n → n < length files
+file_within files entries name n e = kept files (follow entries 40 name) n e

@@ -1,0 +1,449 @@
+//! A world in memory.
+ghost use Rattle.std.specs.Prelude.{◌≡◌, ◌<◌, ◌≤◌, List, ℕ, length, true, false, None, OnOk, OnErr};
+ghost use Rattle.bx_program_world.specs.MemoryFiles.{IsKept, bytes_at, file_within, synced_at};
+
+pub(crate) mod files;
+pub(crate) mod image;
+pub(crate) mod setup;
+pub(crate) mod text;
+
+use crate::memory::files::{
+    Contents, Entry, Leads, LentFiles, Stored, bury, exchange, file_named, has_no_bytes, is_link,
+    is_taken, stat_of,
+};
+use crate::memory::image::LentImage;
+use crate::memory::text::LentText;
+use crate::stat::{Kind, Look, Stat};
+use crate::{Refusal, Unwritten, World};
+use bx_image::{Device, Fuse, FuseImage, Part};
+use bx_journal_store::{CountedText, FuseText, TextStore};
+use bx_text::Name;
+use std::alloc::Global;
+
+/// Where the failures of a redo text begin to count.
+const FIRST_OF_REDO: u64 = 1 << 32;
+
+/// Which writes of a device that is lent fail.
+#[derive(Clone, Copy)]
+pub struct Fails {
+    /// This many pass first.
+    pub pass: u64,
+    /// How much of a write that fails takes effect.
+    pub part: Part,
+    /// Whether one fails alone, or all from there on.
+    pub once: bool,
+}
+
+impl Fails {
+    /// None of them.
+    pub const NEVER: Fails = Fails {
+        pass: u64::MAX,
+        part: Part::Nothing,
+        once: true,
+    };
+}
+
+/// What a world in memory doesn't do.
+#[derive(Clone, Copy)]
+pub struct Plan {
+    /// The calls of the world that are refused.
+    pub calls: Fuse,
+    /// The writes of the image that fail, once it is lent.
+    pub image: Fails,
+    /// Those of the journal.
+    pub journal: Fails,
+    /// Those of the redo text.
+    pub redo: Fails,
+}
+
+impl Plan {
+    /// All is done that can be done.
+    pub const NOTHING: Plan = Plan {
+        calls: Fuse::Never,
+        image: Fails::NEVER,
+        journal: Fails::NEVER,
+        redo: Fails::NEVER,
+    };
+}
+
+/// What a run has beside the files, and what it wrote.
+#[derive(Drop)]
+pub struct Run {
+    caller: u32,
+    before: usize,
+    lent: Option<LentFiles>,
+    output: Vec<u8>,
+    errors: Vec<u8>,
+    stuck: u64,
+    is_refused: bool,
+}
+
+/// A world in memory. Its calls are refused where its plan says so, where a file is missing or there already, and for want of
+/// memory.
+#[derive(Drop)]
+pub struct MemoryWorld {
+    alloc: Global,
+    entries: Vec<Entry>,
+    files: Vec<Stored>,
+    run: Run,
+    plan: Plan,
+    ghost kept: { IsKept run.before (length files.items) run.lent },
+}
+
+/// An open file of a world in memory.
+#[derive(Drop)]
+pub struct OpenFile {
+    number: usize,
+}
+
+impl MemoryWorld {
+    ghost use Rattle.std.specs.Prelude.{IfOk, Err, Some};
+    ghost use Rattle.bx_program_world.specs.declared.world.Refusal.TheVariants.{Missing};
+    ghost use Rattle.bx_program_world.specs.World.{IsOwnText, Makes, NotesRefusal};
+    ghost use Rattle.bx_program_world.specs.MemoryFiles.{file_named, is_taken};
+    ghost use Rattle.bx_program_world.specs.Memory.{BuriesEmpty, BuriesOrSticks, HasOtherBytes, NamesFile, NamesNothing, Passes, sight_of};
+
+    /// A world without files, which this user runs a program in.
+    pub fn new(alloc: Global, caller: u32) -> Self
+        ensures honest { ⟦<MemoryWorld as World>⟧.honest result }
+        ensures names { (m : List ℕ) → (⟦<MemoryWorld as World>⟧.sight result).named m ≡ None }
+    {
+        MemoryWorld {
+            alloc,
+            entries: Vec::new(alloc),
+            files: Vec::new(alloc),
+            run: Run {
+                caller,
+                before: 0,
+                lent: None,
+                output: Vec::new(alloc),
+                errors: Vec::new(alloc),
+                stuck: 0,
+                is_refused: false,
+            },
+            plan: Plan::NOTHING,
+        }
+    }
+
+    /// Takes note of a call, and says whether it is refused.
+    fn refuses(&mut self) -> bool
+        ensures { Passes result self.old self.new }
+    {
+        let refuses = self.plan.calls.blows();
+        if refuses {
+            self.run.is_refused = true;
+        }
+        refuses
+    }
+
+    /// Notes that a call is refused.
+    fn refuse(&mut self) -> Refusal
+        ensures kept { Passes true self.old self.new }
+        ensures other { result ≡ Refusal.Other None }
+    {
+        self.run.is_refused = true;
+        Refusal::Other(None)
+    }
+
+    /// Gives a file a name. It is the newest of that name.
+    fn name_file(&mut self, name: &str, number: usize) -> Result<(), Refusal>
+        ensures ok { OnOk result (NamesFile self.old self.new name.now number) }
+        ensures err { OnErr result (NamesNothing self.old self.new) }
+    {
+        let text = String::from_str(self.alloc, name).map_err(|_| Refusal::Other(None))?;
+        let name = Name::from_string(text);
+        let entry = Entry {
+            name,
+            leads: Leads::File(number),
+        };
+        self.entries
+            .insert(0, entry)
+            .map_err(|_| Refusal::Other(None))?;
+        Ok(())
+    }
+
+    /// Opens the file that a name leads to.
+    fn open(&mut self, name: &str) -> Result<OpenFile, Refusal>
+        ensures ok { IfOk result (λ f. file_named self.old.files.items self.old.entries.items name.now ≡ Some f.number) }
+        ensures there { IfOk result (λ f. f.number < length self.old.files.items) }
+        ensures missing { result ≡ Err Missing → file_named self.old.files.items self.old.entries.items name.now ≡ None }
+        ensures files { self.new.files ≡ self.old.files }
+        ensures same { sight_of self.new ≡ sight_of self.old }
+        ensures noted { NotesRefusal result self.old.run.is_refused self.new.run.is_refused }
+    {
+        if self.refuses() {
+            return Err(Refusal::Other(None));
+        }
+        match file_named(self.files.as_slice(), self.entries.as_slice(), name) {
+            Some(number) => Ok(OpenFile { number }),
+            None => Err(Refusal::Missing),
+        }
+    }
+
+    /// Makes an empty text beside an image, whose classes it has, and which the caller owns.
+    fn add_text(&mut self, name: &str, image: usize) -> Result<OpenFile, Refusal>
+        requires free { is_taken self.old.files.items self.old.entries.items name.now ≡ false }
+        requires there { image < length self.old.files.items }
+        ensures ok { IfOk result (λ f. Makes (sight_of self.old) (sight_of self.new) name.now f.number) }
+        ensures own { IfOk result (λ f. IsOwnText (sight_of self.new) image f.number) }
+        ensures err { OnErr result (sight_of self.new ≡ sight_of self.old) }
+        ensures synced { (n : ℕ) → n < length self.old.files.items
+            → synced_at self.new.files.items n ≡ synced_at self.old.files.items n }
+        ensures noted { self.new.run.is_refused ≡ self.old.run.is_refused }
+    {
+        let number = self.files.len();
+        let beside = stat_of(self.files.as_slice(), image).unwrap();
+        let stat = Stat {
+            kind: Kind::Regular,
+            owner: self.run.caller,
+            links: 1,
+            ..beside
+        };
+        self.files.reserve(1).map_err(|_| Refusal::Other(None))?;
+        self.name_file(name, number)?;
+        let stored = Stored {
+            contents: Contents {
+                bytes: Vec::new(self.alloc),
+                synced: Vec::new(self.alloc),
+            },
+            stat,
+            is_gone: false,
+        };
+        self.files.push(stored).unwrap();
+        Ok(OpenFile { number })
+    }
+
+    /// Takes a file away that is empty, unless its plan refuses that.
+    fn bury_unless_refused(&mut self, number: usize)
+        ensures { BuriesOrSticks number self.old self.new }
+    {
+        let is_refused = self.plan.calls.blows();
+        if is_refused && self.run.stuck < u64::MAX {
+            self.run.stuck += 1;
+        } else {
+            self.bury_empty(number);
+        }
+    }
+
+    /// Takes a file away that is empty.
+    fn bury_empty(&mut self, number: usize)
+        ensures { BuriesEmpty number self.old self.new }
+    {
+        if has_no_bytes(self.files.as_slice(), number) {
+            bury(self.files.as_mut_slice(), number);
+        }
+    }
+
+    /// Takes the contents out of a file.
+    fn lend_contents(&mut self, number: usize) -> Contents
+        ensures taken { number < length self.old.files.items → result.bytes.items ≡ bytes_at self.old.files.items number }
+        ensures synced { number < length self.old.files.items → result.synced.items ≡ synced_at self.old.files.items number }
+        ensures rest { HasOtherBytes number self.old self.new }
+    {
+        let none = Contents {
+            bytes: Vec::new(self.alloc),
+            synced: Vec::new(self.alloc),
+        };
+        exchange(self.files.as_mut_slice(), number, none)
+    }
+
+    /// Puts contents into a file.
+    fn take_contents(&mut self, number: usize, contents: Contents)
+        ensures put { number < length self.old.files.items → bytes_at self.new.files.items number ≡ contents.bytes.items }
+        ensures synced { number < length self.old.files.items → synced_at self.new.files.items number ≡ contents.synced.items }
+        ensures rest { HasOtherBytes number self.old self.new }
+    {
+        let _old = exchange(self.files.as_mut_slice(), number, contents);
+    }
+
+    /// The text of these contents, which fails as planned.
+    fn text_of(&self, contents: Contents, fails: Fails) -> FuseText<LentText>
+        ensures within { result.within ≡ record { contents = contents; alloc = self.now.alloc; failures = 0 } }
+        ensures failures { ⟦<FuseText<LentText> as TextStore>⟧.failures result ≡ 0 }
+    {
+        FuseText::new(
+            LentText::new(self.alloc, contents),
+            fails.pass,
+            fails.part,
+            fails.once,
+        )
+    }
+
+    /// The image of these contents, which fails as planned.
+    fn image_of(&self, contents: Contents, fails: Fails) -> FuseImage<LentImage>
+        ensures within { result.within ≡ record { contents = contents; alloc = self.now.alloc; failures = 0 } }
+        ensures failures { ⟦<FuseImage<LentImage> as Device>⟧.failures result ≡ 0 }
+    {
+        FuseImage::new(
+            LentImage::new(self.alloc, contents),
+            fails.pass,
+            fails.part,
+            fails.once,
+        )
+    }
+}
+
+impl World for MemoryWorld {
+    ghost use Rattle.bx_program_world.specs.Memory.{found_of, sight_of};
+    ghost use Rattle.bx_program_world.specs.MemoryFiles.{file_within};
+
+    type Image = FuseImage<LentImage>;
+
+    type Text = CountedText<FuseText<LentText>>;
+
+    type File = OpenFile;
+
+    ghost honest = { λ _. Unit {0} };
+
+    ghost sight = { sight_of };
+
+    ghost survives = { found_of };
+
+    ghost number = { λ f. f.number };
+
+    ghost is_refused = { λ w. w.run.is_refused };
+
+    ghost begun = { λ w _. w.kept.before_there };
+
+    ghost within = { λ w name n _ e. file_within w.files.items w.entries.items name n e };
+
+    fn look(&mut self, name: &str) -> Result<Look, Refusal> {
+        if self.refuses() {
+            return Err(Refusal::Other(None));
+        }
+        let is_link = is_link(self.entries.as_slice(), name);
+        let found = match file_named(self.files.as_slice(), self.entries.as_slice(), name) {
+            Some(number) => stat_of(self.files.as_slice(), number),
+            None => None,
+        };
+        Ok(Look { is_link, found })
+    }
+
+    fn caller(&self) -> u32 {
+        self.run.caller
+    }
+
+    fn open_image(&mut self, name: &str, _: bool) -> Result<OpenFile, Refusal> {
+        self.open(name)
+    }
+
+    fn open_text(&mut self, name: &str, _: &OpenFile) -> Result<OpenFile, Refusal> {
+        self.open(name)
+    }
+
+    fn make_text(&mut self, name: &str, image: &OpenFile) -> Result<OpenFile, Refusal> {
+        if self.refuses() {
+            return Err(Refusal::Other(None));
+        }
+        if is_taken(self.files.as_slice(), self.entries.as_slice(), name) {
+            return Err(self.refuse());
+        }
+        match self.add_text(name, image.number) {
+            Ok(file) => Ok(file),
+            Err(_) => Err(self.refuse()),
+        }
+    }
+
+    fn stat(&mut self, file: &OpenFile) -> Result<Stat, Refusal> {
+        if self.refuses() {
+            return Err(Refusal::Other(None));
+        }
+        match stat_of(self.files.as_slice(), file.number) {
+            Some(stat) => Ok(stat),
+            None => Err(self.refuse()),
+        }
+    }
+
+    fn lock(&mut self, _: &str, _: &OpenFile) -> Result<(), Refusal> {
+        if self.refuses() {
+            return Err(Refusal::Other(None));
+        }
+        Ok(())
+    }
+
+    fn is_same(&mut self, a: &OpenFile, b: &OpenFile) -> Result<bool, Refusal> {
+        if self.refuses() {
+            return Err(Refusal::Other(None));
+        }
+        Ok(a.number == b.number)
+    }
+
+    fn take_away(&mut self, name: &str, file: &OpenFile) {
+        if file_named(self.files.as_slice(), self.entries.as_slice(), name) == Some(file.number) {
+            self.bury_unless_refused(file.number);
+        }
+    }
+
+    fn keep_name(&mut self, _: &str) -> Result<(), Refusal> {
+        if self.refuses() {
+            return Err(Refusal::Other(None));
+        }
+        Ok(())
+    }
+
+    fn lend(
+        &mut self,
+        image: OpenFile,
+        journal: OpenFile,
+        redo: OpenFile,
+    ) -> (Self::Image, Self::Text, Self::Text) {
+        self.run.lent = Some(LentFiles {
+            image: image.number,
+            journal: journal.number,
+            redo: redo.number,
+        });
+        let of_image = self.lend_contents(image.number);
+        let of_journal = self.lend_contents(journal.number);
+        let of_redo = self.lend_contents(redo.number);
+        let plan = self.plan;
+        (
+            self.image_of(of_image, plan.image),
+            CountedText::new(self.text_of(of_journal, plan.journal), 0),
+            CountedText::new(self.text_of(of_redo, plan.redo), FIRST_OF_REDO),
+        )
+    }
+
+    fn give_back(
+        &mut self,
+        image: Self::Image,
+        journal: Self::Text,
+        redo: Self::Text,
+    ) -> (OpenFile, OpenFile, OpenFile) {
+        let lent = match self.run.lent {
+            Some(lent) => lent,
+            None => LentFiles {
+                image: 0,
+                journal: 0,
+                redo: 0,
+            },
+        };
+        self.run.lent = None;
+        self.take_contents(lent.image, image.into_inner().into_contents());
+        self.take_contents(
+            lent.journal,
+            journal.into_inner().into_inner().into_contents(),
+        );
+        self.take_contents(lent.redo, redo.into_inner().into_inner().into_contents());
+        (
+            OpenFile { number: lent.image },
+            OpenFile {
+                number: lent.journal,
+            },
+            OpenFile { number: lent.redo },
+        )
+    }
+
+    fn print(&mut self, bytes: &[u8]) -> Result<(), Unwritten> {
+        if self.refuses() {
+            return Err(Unwritten);
+        }
+        self.run
+            .output
+            .extend_from_slice(bytes)
+            .map_err(|_| Unwritten)
+    }
+
+    fn complain(&mut self, text: &str) {
+        let _ = self.run.errors.extend_from_slice(text.as_bytes());
+    }
+}

@@ -1,0 +1,217 @@
+//! The world that a program runs in.
+ghost use Rattle.std.specs.Prelude.{◌≡◌, ◌↔◌, ◌⊎◌, ◌+◌, ◌<◌, ◌≤◌, ◌^◌, ◌++◌, ℕ, List, Bool, true, Err, None, Some, IfOk, OnOk, OnErr, take};
+ghost use Rattle.bx_program_world.specs.declared.world.Refusal.TheVariants.{Locked, Missing};
+ghost use Rattle.bx_program_world.specs.World.{AreApart, ChangesOnly, NotesRefusal, GivesBack, IsEmptyUnder, IsOwnText, IsStuck, KeepsFiles, LeavesTrio, Lends, Makes, MayBeImage, MayBeText, NothingNew, NothingNewBelow, NothingNewOf, Sight, TakesAtMost, TakesAway, Trio, stat_named};
+ghost use Rattle.bx_image.specs.Power.{NoMore};
+
+use crate::stat::{Look, Stat};
+use bx_image::Device;
+use bx_journal_store::TextStore;
+
+/// Why the system refused a call.
+#[derive(Clone, Copy, Debug, PartialEq, Eq)]
+pub enum Refusal {
+    /// No file has the name.
+    Missing,
+    /// The name is taken already.
+    Taken,
+    /// Another program has the file locked.
+    Locked,
+    /// Another file has the name now.
+    Moved,
+    /// Any other reason, with the system's number where it has one.
+    Other(Option<i32>),
+}
+
+/// A standard stream was not written in full.
+#[derive(Clone, Copy, Debug, PartialEq, Eq)]
+pub struct Unwritten;
+
+/// All that a program asks of the system: files by name, and the standard streams.
+///
+/// A world is honest if nobody else changes its files and names, and its calls do what they answer. What is said of files is
+/// said of honest worlds. The three files of a session are lent as devices and given back: what a session wrote is then theirs.
+/// The journal's failures count from 0 and those of the redo text from 2^32, so that none is taken for the other.
+pub trait World {
+    /// An image that is lent.
+    type Image: Device + Drop;
+
+    /// A journal or a redo text that is lent.
+    type Text: TextStore + Drop;
+
+    /// A file that is open.
+    type File: Drop;
+
+    /// Nobody else changes files and names, and each call does what it answers.
+    ghost honest: { Self → Type 0 };
+
+    /// What a person can see.
+    ghost sight: { Self → Sight };
+
+    /// What may be found of a file after a loss of power.
+    ghost survives: { Self → ℕ → List ℕ → Type 0 };
+
+    /// The number of an open file.
+    ghost number: { Self.File → ℕ };
+
+    /// Whether the system refused a call. That a file is missing is no refusal.
+    ghost is_refused: { Self → Bool };
+
+    /// Looks at what stands under a name, before it is opened.
+    fn look(&mut self, name: &str) -> Result<Look, Refusal>
+        ensures is_link { honest self.old → IfOk result (λ l. l.is_link ≡ (sight self.old).is_link name.now) }
+        ensures found { honest self.old → IfOk result (λ l. l.found ≡ stat_named (sight self.old) name.now) }
+        ensures there { honest self.old → result ≡ Err Missing → ⊥ }
+        ensures same { honest self.old → sight self.new ≡ sight self.old }
+        ensures noted { honest self.old → NotesRefusal result (is_refused self.old) (is_refused self.new) }
+        ensures survives { honest self.old → NothingNew (survives self.old) (survives self.new) }
+        ensures honesty { honest self.new ↔ honest self.old };
+
+    /// The user who runs the program.
+    fn caller(&self) -> u32
+        ensures { honest self.now → result ≡ (sight self.now).caller };
+
+    /// Opens an image that is there, to read and to change it. `mounted` says whether it may be a device that is mounted.
+    fn open_image(&mut self, name: &str, mounted: bool) -> Result<Self::File, Refusal>
+        requires may { honest self.old → MayBeImage mounted (sight self.old) name.now }
+        ensures named { honest self.old → IfOk result (λ f. (sight self.old).named name.now ≡ Some (number f)) }
+        ensures there { honest self.old → IfOk result (λ f. number f < (sight self.old).there) }
+        ensures missing { honest self.old → result ≡ Err Missing → (sight self.old).named name.now ≡ None }
+        ensures same { honest self.old → sight self.new ≡ sight self.old }
+        ensures noted { honest self.old → NotesRefusal result (is_refused self.old) (is_refused self.new) }
+        ensures survives { honest self.old → NothingNew (survives self.old) (survives self.new) }
+        ensures honesty { honest self.new ↔ honest self.old };
+
+    /// Opens a journal or a redo text that is there, beside its image.
+    fn open_text(&mut self, name: &str, image: &Self::File) -> Result<Self::File, Refusal>
+        requires may { honest self.old → MayBeText (number image.now) (sight self.old) name.now }
+        ensures named { honest self.old → IfOk result (λ f. (sight self.old).named name.now ≡ Some (number f)) }
+        ensures there { honest self.old → IfOk result (λ f. number f < (sight self.old).there) }
+        ensures missing { honest self.old → result ≡ Err Missing → (sight self.old).named name.now ≡ None }
+        ensures same { honest self.old → sight self.new ≡ sight self.old }
+        ensures noted { honest self.old → NotesRefusal result (is_refused self.old) (is_refused self.new) }
+        ensures survives { honest self.old → NothingNew (survives self.old) (survives self.new) }
+        ensures honesty { honest self.new ↔ honest self.old };
+
+    /// Makes an empty journal or redo text beside an image, and opens it. It may be read and written by nobody who may not read
+    /// and write the image.
+    fn make_text(&mut self, name: &str, image: &Self::File) -> Result<Self::File, Refusal>
+        requires there { honest self.old → number image.now < (sight self.old).there }
+        ensures made { honest self.old → IfOk result (λ f. Makes (sight self.old) (sight self.new) name.now (number f)) }
+        ensures own { honest self.old → IfOk result (λ f. IsOwnText (sight self.new) (number image.now) (number f)) }
+        ensures same { honest self.old → OnErr result (sight self.new ≡ sight self.old) }
+        ensures missing { honest self.old → result ≡ Err Missing → ⊥ }
+        ensures noted { honest self.old → NotesRefusal result (is_refused self.old) (is_refused self.new) }
+        ensures survives { honest self.old → NothingNewBelow (sight self.old).there (survives self.old) (survives self.new) }
+        ensures honesty { honest self.new ↔ honest self.old };
+
+    /// What the system tells of an open file.
+    fn stat(&mut self, file: &Self::File) -> Result<Stat, Refusal>
+        ensures told { honest self.old → IfOk result (λ s. s ≡ (sight self.old).stat (number file.now)) }
+        ensures missing { honest self.old → result ≡ Err Missing → ⊥ }
+        ensures same { honest self.old → sight self.new ≡ sight self.old }
+        ensures noted { honest self.old → NotesRefusal result (is_refused self.old) (is_refused self.new) }
+        ensures survives { honest self.old → NothingNew (survives self.old) (survives self.new) }
+        ensures honesty { honest self.new ↔ honest self.old };
+
+    /// Locks a file up to its closing, which has to have its name still. One that another program has locked is refused; nobody
+    /// has a file locked that this run made.
+    fn lock(&mut self, name: &str, file: &Self::File) -> Result<(), Refusal>
+        ensures locked { honest self.old → result ≡ Err Locked → number file.now < (sight self.old).before }
+        ensures missing { honest self.old → result ≡ Err Missing → ⊥ }
+        ensures same { honest self.old → sight self.new ≡ sight self.old }
+        ensures noted { honest self.old → NotesRefusal result (is_refused self.old) (is_refused self.new) }
+        ensures survives { honest self.old → NothingNew (survives self.old) (survives self.new) }
+        ensures honesty { honest self.new ↔ honest self.old };
+
+    /// Whether both are one file.
+    fn is_same(&mut self, a: &Self::File, b: &Self::File) -> Result<bool, Refusal>
+        ensures answer { honest self.old → IfOk result (λ is. (is ≡ true) ↔ (number a.now ≡ number b.now)) }
+        ensures missing { honest self.old → result ≡ Err Missing → ⊥ }
+        ensures same { honest self.old → sight self.new ≡ sight self.old }
+        ensures noted { honest self.old → NotesRefusal result (is_refused self.old) (is_refused self.new) }
+        ensures survives { honest self.old → NothingNew (survives self.old) (survives self.new) }
+        ensures honesty { honest self.new ↔ honest self.old };
+
+    /// Takes a file away that this run made, if it is empty and has the name.
+    fn take_away(&mut self, name: &str, file: &Self::File)
+        requires made { honest self.old → (sight self.old).before ≤ number file.now }
+        ensures taken { honest self.old → IsEmptyUnder (sight self.old) name.now (number file.now)
+            → TakesAway (sight self.old) (sight self.new) (number file.now) ⊎ IsStuck (sight self.old) (sight self.new) }
+        ensures most { honest self.old → TakesAtMost (sight self.old) (sight self.new) (number file.now) }
+        ensures noted { honest self.old → is_refused self.new ≡ is_refused self.old }
+        ensures survives { honest self.old → NothingNew (survives self.old) (survives self.new) }
+        ensures honesty { honest self.new ↔ honest self.old };
+
+    /// Puts the name of a file on the disk.
+    fn keep_name(&mut self, name: &str) -> Result<(), Refusal>
+        ensures missing { honest self.old → result ≡ Err Missing → ⊥ }
+        ensures noted { honest self.old → NotesRefusal result (is_refused self.old) (is_refused self.new) }
+        ensures same { honest self.old → sight self.new ≡ sight self.old }
+        ensures survives { honest self.old → NothingNew (survives self.old) (survives self.new) }
+        ensures honesty { honest self.new ↔ honest self.old };
+
+    /// Lends the three files of a session.
+    fn lend(
+        &mut self,
+        image: Self::File,
+        journal: Self::File,
+        redo: Self::File,
+    ) -> (Self::Image, Self::Text, Self::Text)
+        requires free { honest self.old → (sight self.old).lent ≡ None }
+        requires apart { honest self.old → AreApart (sight self.old).there (record { image = number image; journal = number journal; redo = number redo }) }
+        ensures image_failures { Self.Image.failures result.0 ≡ 0 }
+        ensures journal_failures { Self.Text.failures result.1 ≡ 0 }
+        ensures redo_failures { Self.Text.failures result.2 ≡ 2 ^ 32 }
+        ensures image { honest self.old → Self.Image.honest result.0 × (Self.Image.image result.0 ≡ (sight self.old).bytes (number image)) }
+        ensures journal { honest self.old → Self.Text.honest result.1 × (Self.Text.text result.1 ≡ (sight self.old).bytes (number journal)) }
+        ensures redo { honest self.old → Self.Text.honest result.2 × (Self.Text.text result.2 ≡ (sight self.old).bytes (number redo)) }
+        ensures lent { honest self.old → Lends (record { image = number image; journal = number journal; redo = number redo }) (sight self.old) (sight self.new) }
+        ensures survives { honest self.old → NothingNewOf (record { image = number image; journal = number journal; redo = number redo })
+            (survives self.old) (survives self.new) }
+        ensures image_survives { honest self.old → NoMore (survives self.old (number image)) (Self.Image.survives result.0) }
+        ensures journal_survives { honest self.old → NoMore (survives self.old (number journal)) (Self.Text.survives result.1) }
+        ensures redo_survives { honest self.old → NoMore (survives self.old (number redo)) (Self.Text.survives result.2) }
+        ensures honesty { honest self.new ↔ honest self.old };
+
+    /// Takes the three devices back; the files have then what the devices have.
+    fn give_back(
+        &mut self,
+        image: Self::Image,
+        journal: Self::Text,
+        redo: Self::Text,
+    ) -> (Self::File, Self::File, Self::File)
+        requires order { (Self.Text.failures journal < 2 ^ 32) × (2 ^ 32 ≤ Self.Text.failures redo) }
+        requires devices { honest self.old → Self.Image.honest image × Self.Text.honest journal × Self.Text.honest redo }
+        ensures given { honest self.old → (t : Trio) → (sight self.old).lent ≡ Some t
+            → GivesBack t (Self.Image.image image) (Self.Text.text journal) (Self.Text.text redo) (sight self.old) (sight self.new) }
+        ensures files { honest self.old → (t : Trio) → (sight self.old).lent ≡ Some t
+            → (number result.0 ≡ t.image) × (number result.1 ≡ t.journal) × (number result.2 ≡ t.redo) }
+        ensures survives { honest self.old → (t : Trio) → (sight self.old).lent ≡ Some t
+            → LeavesTrio t (Self.Image.survives image) (Self.Text.survives journal) (Self.Text.survives redo) (survives self.new) }
+        ensures others { honest self.old → (t : Trio) → (sight self.old).lent ≡ Some t → NothingNewOf t (survives self.old) (survives self.new) }
+        ensures honesty { honest self.new ↔ honest self.old };
+
+    /// Writes to standard output. What a fault leaves is a front of the bytes.
+    fn print(&mut self, bytes: &[u8]) -> Result<(), Unwritten>
+        ensures ok { honest self.old → OnOk result ((sight self.new).output ≡ (sight self.old).output ++ bytes.now) }
+        ensures err { honest self.old → OnErr result ((n : ℕ) × (sight self.new).output ≡ (sight self.old).output ++ take n bytes.now) }
+        ensures errors { honest self.old → (sight self.new).errors ≡ (sight self.old).errors }
+        ensures files { honest self.old → KeepsFiles (sight self.old) (sight self.new) }
+        ensures survives { honest self.old → NothingNew (survives self.old) (survives self.new) }
+        ensures honesty { honest self.new ↔ honest self.old };
+
+    /// Writes to standard error; how much of it arrives isn't known.
+    fn complain(&mut self, text: &str)
+        ensures errors { honest self.old → (n : ℕ) × (sight self.new).errors ≡ (sight self.old).errors ++ take n text.now }
+        ensures output { honest self.old → (sight self.new).output ≡ (sight self.old).output }
+        ensures files { honest self.old → KeepsFiles (sight self.old) (sight self.new) }
+        ensures survives { honest self.old → NothingNew (survives self.old) (survives self.new) }
+        ensures honesty { honest self.new ↔ honest self.old };
+
+    /// No fewer files are there than were when the run began.
+    ghost begun: { (w : Self) → honest w → (sight w).before ≤ (sight w).there };
+
+    /// Each name of an honest world leads to a file that is there.
+    ghost within: { (w : Self) (name : List ℕ) (n : ℕ) → honest w → (sight w).named name ≡ Some n → n < (sight w).there };
+}

@@ -1,5 +1,0 @@
-use Rattle.bx_show.proofs.MarkedLemmas.{marks_behind}
-use Rattle.bx_show.proofs.marks.all_marks.Goals as goal
-
-pub returns-in-None : goal.returns-in-None
-returns-in-None g c = marks_behind c.in-Ok.ensures.looks c.refuse_marks.result c.refuse_marks.ensures

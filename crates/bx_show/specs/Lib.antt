@@ -1,4 +1,0 @@
-pub mod Showing
-pub mod Differences
-pub mod Steps
-pub mod inner

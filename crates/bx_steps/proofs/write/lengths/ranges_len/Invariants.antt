@@ -1,7 +1,0 @@
-use Rattle.std.proofs.Common.{◌≡◌, ◌-◌, ◌^◌, min, take}
-use Rattle.bx_steps.specs.inner.Ranges.{left_len}
-use Rattle.bx_steps.proofs.write.lengths.ranges_len.Given as goal
-
--- how long the lines of the first ranges are
-abbrev pub invariant-loop-range : goal.invariant-loop-range
-invariant-loop-range l = l.total ≡ min (left_len (take l.range-index l.ranges) 0) (2 ^ 64 - 1)

@@ -1,7 +1,0 @@
-//! The text of an entry, put to a store page by page.
-pub(crate) mod entry;
-pub(crate) mod head;
-pub(crate) mod lengths;
-pub(crate) mod look;
-pub(crate) mod page;
-pub(crate) mod ranges;

@@ -1,5 +1,0 @@
-use Rattle.std.proofs.Common.{rules}
-use Rattle.bx_store.proofs.fuse.FuseTextTextStore.faults.Goals as goal
-
-pub returns : goal.returns
-returns g c = search rules

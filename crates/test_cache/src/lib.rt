@@ -1,0 +1,13 @@
+//! A file in memory behind a write-back cache: an honest file that a loss of power takes bytes from.
+//!
+//! What may be found of it after a loss of power is defined by its changes since the last sync, as all that the clauses of
+//! `RandomAccess` allow: no honest file loses more (`laws`). An image in it (`FileImage`) is a device and a text in it
+//! (`FileText`) a store that lose as much.
+#![tactic(auto)]
+
+mod cached;
+pub mod laws;
+mod unsynced;
+
+pub use cached::CachedFile;
+pub use unsynced::Unsynced;

@@ -1,0 +1,60 @@
+//! Patches with each growth refused in turn.
+use crate::patches::read::reads;
+use crate::patches::write::{images, write};
+use crate::report::compare::{Wrong, differs, front_of, same_bytes};
+use crate::session::ask::{Limit, eased, limit_to};
+use crate::sweep::hunt::Call;
+use bumpalo::Bump;
+use bx_patch::{DiffFault, Extent};
+use std::alloc::Global;
+use test_case_files::{PatchRead, PatchWritten};
+
+/// The writing of a case's patch.
+#[derive(Clone, Copy)]
+pub struct WriteOf<'a> {
+    pub case: &'a PatchWritten,
+}
+
+impl Call for WriteOf<'_> {
+    fn make<'a>(
+        &self,
+        alloc: Global,
+        bump: &'a Bump,
+        limit: Limit<'_>,
+    ) -> Result<Option<usize>, Wrong> {
+        let images = images(&bump, self.case)?;
+        let mut found = Vec::new(alloc);
+        limit_to(limit)?;
+        let done = write(&bump, images, Extent::Bytes, &mut found)?;
+        let refused = eased(limit, done == Err(DiffFault::NoMemory));
+        same_written(alloc, self.case, done, found.as_slice())?;
+        Ok(refused)
+    }
+}
+
+/// What was written is what the case tells, or where there was no memory a front of it.
+fn same_written(
+    alloc: Global,
+    case: &PatchWritten,
+    done: Result<(), DiffFault>,
+    found: &[u8],
+) -> Result<(), Wrong> {
+    match done {
+        Ok(()) => same_bytes(alloc, "output", case.output.as_slice(), found),
+        Err(DiffFault::NoMemory) => front_of(alloc, "output", case.output.as_slice(), found),
+        Err(_) => Err(differs(alloc, "fault", "out of memory", "another")),
+    }
+}
+
+impl Call for PatchRead {
+    fn make<'a>(
+        &self,
+        alloc: Global,
+        bump: &'a Bump,
+        limit: Limit<'_>,
+    ) -> Result<Option<usize>, Wrong> {
+        limit_to(limit)?;
+        let has_room = reads(alloc, bump, self)?;
+        Ok(eased(limit, !has_room))
+    }
+}
