@@ -4,12 +4,15 @@ man = $(DESTDIR)$(PREFIX)/share/man/man1
 bash = $(DESTDIR)$(PREFIX)/share/bash-completion/completions
 fish = $(DESTDIR)$(PREFIX)/share/fish/vendor_completions.d
 zsh = $(DESTDIR)$(PREFIX)/share/zsh/$(if $(filter /usr,$(PREFIX)),vendor-completions,site-functions)
-.PHONY: all look test check release install uninstall package tour pictures check-docs compare record hostile hints power bench clean
+# of a program that is there already, nothing is built: make check BX=PATH, and so each target below that looks at the program
+program = $(or $(BX),./bx)
+built = $(if $(BX),,all)
+.PHONY: all look test check release install uninstall package tour pictures check-docs docs compare record hostile hints power bench clean
 
 all: bx
 
 bx: FORCE
-	scripts/prove.py
+	tools/prove.py
 	cd crates/bx && rt run -- --help > /dev/null
 	cp crates/bx/out/bx bx
 FORCE:
@@ -34,76 +37,70 @@ uninstall:
 
 # A Debian package, in the folder package.
 package: all
-	scripts/package.sh bx package
+	tools/package.sh bx package
 
 # Whether version, CHANGELOG.md, man page, authors, package and tag agree; before the tag is made it fails by that alone.
-release: all
-	scripts/release.py --bx ./bx
+release: $(built)
+	tools/release.py --bx $(program)
 
 .PHONY: check-package check-completions
 
 # The package, installed, upgraded and removed in a root of its own. As root, or by fakeroot; it needs lintian.
-check-package: all
-	scripts/check-package.sh bx
+check-package: $(built)
+	tests/package.sh $(program)
 
 # What follows is run by hand and is no part of the gate.
 
-# All of it that says whether something is right, with a line for each: ok, failed, or skipped and why. Of a program that is
-# there already, nothing is built: make check BX=PATH.
-check: $(if $(BX),,all)
-	scripts/check.py --bx $(or $(BX),./bx)
+# All of it that says whether something is right, with a line for each: ok, failed, or skipped and why.
+check: $(built)
+	tools/check.py --bx $(program)
 
 # The commands of README.md and of the recipes, and what they write.
-tour: all
-	scripts/tour.py --bx ./bx
-	scripts/tour.py --bx ./bx docs/RECIPES.md
+tour: $(built)
+	tools/docs.py --bx $(program) tour
+	tools/docs.py --bx $(program) tour docs/RECIPES.md
 
 # The pictures of docs/pictures, each drawn from what its commands write.
-pictures: all
-	scripts/picture.py --bx ./bx docs/pictures/session.txt docs/pictures/session.svg
-	scripts/states.py --bx ./bx docs/pictures/states.svg
+pictures: $(built)
+	tools/draw.py --bx $(program)
 
-# The options of bx beside those of its help, man page, completions and README.md; the definitions beside docs/BELIEVE.md; the
-# code that documents quote beside its source; the phrases that are to go; which room imports which; and the sizes of definitions,
-# functions and contracts.
-check-docs: all
-	scripts/check-options.py --bx ./bx
-	scripts/believe.py
-	scripts/quotes.py
-	scripts/check-words.py
-	scripts/check-rooms.py
-	scripts/check-sizes.py
+# The options of bx beside those of its help, man page, completions and README.md; the code that documents quote; the pages of
+# docs/generated; the words and names of documents; which room imports which; the sizes of definitions, functions and contracts.
+check-docs: $(built)
+	tools/docs.py --bx $(program)
+
+# The pages of docs/generated, and what other pages quote, written again.
+docs:
+	tools/docs.py --write
 
 # What bash, zsh and fish offer, where they are installed.
 check-completions:
-	scripts/check-completions.py
+	tests/completions.py
 
 # The real tools beside bx, on random inputs and options.
-compare: all
-	scripts/compare.py --bx ./bx
-	scripts/seeks.py --bx ./bx
+compare: $(built)
+	tests/compare.py --bx $(program)
+	tests/seeks.py --bx $(program)
 
 # The case files that hold what the real tools do, and random lists of commands, written again.
 record:
-	scripts/record-cases.py
-	scripts/boundary-cases.py
-	scripts/random-cases.py
+	tools/cases.py
 
 # Bad texts, full devices, closed pipes and streams, what is no file, two programs at once, loop devices (as root), and each
 # memory request, read and write failing in turn.
-hostile: all
-	scripts/hostile.sh ./bx
+hostile: $(built)
+	tests/program/run.sh $(program)
 
 # What standard error gets at each fault, on a terminal and in a pipe.
-hints: all
-	scripts/hints.py --bx ./bx
+hints: $(built)
+	tests/hints.py --bx $(program)
 
 # The order in which the files of a command reach the disk, by strace; and losses of power, played on what bx wrote, and (as root)
 # on what the kernel's page cache held back.
-power: all
-	scripts/power.py --counts --bx ./bx
-	scripts/power_replay.py --bx ./bx
-	scripts/power_fuse.py --bx ./bx
+power: $(built)
+	tests/power.py --counts --bx $(program)
+	tests/power_replay.py --bx $(program)
+	tests/power_fuse.py --bx $(program)
 
 bench: all
 	bench/run.sh

@@ -182,14 +182,14 @@ row "$Y" - 'undo of ten bytes'      'cp of a copy, sync'    -- "$BX" undo -k 10 
 # folder of its own over copies of the crates, since the gate proves every crate that stands in the repository. The
 # program stays in bench/out.
 build_calls() {
-  local crates=(bx_text bx_read bx_image bx_store bx_entries bx_scan bx_show bx_steps bx_prepare bx_journal) crate
+  local crates=(bx_text bx_read bx_image bx_journal_store bx_journal_format bx_journal_read bx_journal_read bx_journal_protocol bx_journal_protocol bx_journal) crate
   if [ -x "$calls" ] && [ -z "$(find "$top/bench/calls.rt.in" "${crates[@]/#/$top/crates/}" -name '*.rt*' -newer "$calls")" ]; then return; fi
   mkdir -p room/crates/calls/src "${calls%/*}"
   cp "$top/HANDLES" room; cp "$top/bench/calls.rt.in" room/crates/calls/src/main.rt
   for crate in "${crates[@]}"; do
     cp -r "$top/crates/$crate" room/crates; grep "^$crate:" "$top/crates.txt" >> room/crates.txt
   done
-  echo 'calls: bx_text bx_read bx_image bx_store bx_journal anyhow' >> room/crates.txt
+  echo 'calls: bx_text bx_read bx_image bx_journal_store bx_journal anyhow' >> room/crates.txt
   (cd room/crates/calls && rt run -- none > ../../log 2>&1) || { cat room/log; return 1; }
   cp room/crates/calls/out/calls "$calls"
 }

@@ -58,7 +58,7 @@ _bx_dd() {
 
 _bx() {
     local cur=${COMP_WORDS[COMP_CWORD]} prev=${COMP_WORDS[COMP_CWORD - 1]} command=${COMP_WORDS[1]} lead=''
-    local commands='xxd od hexdump strings dd revert undo redo log show' options
+    local commands='xxd od hexdump strings dd revert undo redo log show diff' options
     COMPREPLY=()
     if ((COMP_CWORD == 1)); then
         _bx_words "$commands help -h --help -V --version"
@@ -78,6 +78,7 @@ _bx() {
     undo | redo) options='-J -U -k --mounted' ;;
     log) options='-J -U -v --mounted' ;;
     show) options='-J -d -k -r' ;;
+    diff) options='-v' ;;
     *) return ;;
     esac
     case $command:$prev in

@@ -30,7 +30,7 @@ function __bx_operand
     end
 end
 
-set -l commands xxd od hexdump strings dd revert undo redo log show
+set -l commands xxd od hexdump strings dd revert undo redo log show diff
 set -l none "not __fish_seen_subcommand_from $commands help"
 
 complete -c bx -f
@@ -47,24 +47,25 @@ complete -c bx -n $none -a undo -d 'Take the last changes of an image back'
 complete -c bx -n $none -a redo -d 'Make the last undone changes of an image again'
 complete -c bx -n $none -a log -d 'List the changes of an image'
 complete -c bx -n $none -a show -d 'Show what an undo or a redo would do'
+complete -c bx -n $none -a diff -d 'Write what differs between two files, as a patch'
 complete -c bx -n $none -a help -d 'Show the help of a command'
 complete -c bx -n '__fish_seen_subcommand_from help' -a "$commands"
 
-complete -c bx -n '__fish_seen_subcommand_from xxd od hexdump strings' -F
+complete -c bx -n '__fish_seen_subcommand_from xxd od hexdump strings diff' -F
 complete -c bx -n '__fish_seen_subcommand_from revert undo redo log show' -a '(__bx_image (commandline -ct))'
 
 complete -c bx -n '__fish_seen_subcommand_from xxd' -s b -d 'Eight binary digits for each byte'
 complete -c bx -n '__fish_seen_subcommand_from xxd' -s c -x -d 'Bytes on a line, 1 to 256'
 complete -c bx -n '__fish_seen_subcommand_from xxd' -s g -x -d 'Bytes in a group, 0 for one group a line'
 complete -c bx -n '__fish_seen_subcommand_from xxd' -s i -d 'A C array'
-complete -c bx -n '__fish_seen_subcommand_from xxd' -s l -x -d 'Most bytes to dump'
+complete -c bx -n '__fish_seen_subcommand_from xxd' -s l -x -d 'Maximum number of bytes to dump'
 complete -c bx -n '__fish_seen_subcommand_from xxd' -s o -x -d 'Bytes to add to the addresses shown'
 complete -c bx -n '__fish_seen_subcommand_from xxd' -s p -d 'Digits alone'
 complete -c bx -n '__fish_seen_subcommand_from xxd' -s s -x -d 'Bytes to skip first'
 complete -c bx -n '__fish_seen_subcommand_from xxd' -s u -d 'Digits in upper case'
 
 complete -c bx -n '__fish_seen_subcommand_from od' -s A -x -a 'd o x n' -d 'Base of the addresses'
-complete -c bx -n '__fish_seen_subcommand_from od' -s N -x -d 'Most bytes to dump'
+complete -c bx -n '__fish_seen_subcommand_from od' -s N -x -d 'Maximum number of bytes to dump'
 complete -c bx -n '__fish_seen_subcommand_from od' -s b -d 'Octal bytes'
 complete -c bx -n '__fish_seen_subcommand_from od' -s c -d 'Characters'
 complete -c bx -n '__fish_seen_subcommand_from od' -s d -d 'Unsigned decimal of 2 bytes'
@@ -76,12 +77,12 @@ complete -c bx -n '__fish_seen_subcommand_from od' -s v -d 'Show every line'
 complete -c bx -n '__fish_seen_subcommand_from od' -s x -d 'Hexadecimal of 2 bytes'
 
 complete -c bx -n '__fish_seen_subcommand_from hexdump' -s C -d 'The canonical form, which must be given'
-complete -c bx -n '__fish_seen_subcommand_from hexdump' -s n -x -d 'Most bytes to dump'
+complete -c bx -n '__fish_seen_subcommand_from hexdump' -s n -x -d 'Maximum number of bytes to dump'
 complete -c bx -n '__fish_seen_subcommand_from hexdump' -s s -x -d 'Bytes to skip first'
 complete -c bx -n '__fish_seen_subcommand_from hexdump' -s v -d 'Show every line'
 
 complete -c bx -n '__fish_seen_subcommand_from strings' -s a -d 'Read the whole file, as is always done'
-complete -c bx -n '__fish_seen_subcommand_from strings' -s n -x -d 'Least bytes of a run, 1 to 4096'
+complete -c bx -n '__fish_seen_subcommand_from strings' -s n -x -d 'Minimum run length, 1 to 4096'
 complete -c bx -n '__fish_seen_subcommand_from strings' -s t -x -a 'd o x' -d 'Show where each run begins'
 
 complete -c bx -n '__fish_seen_subcommand_from dd' -s J -r -F -d 'Journal of the image'
@@ -114,3 +115,5 @@ complete -c bx -n '__fish_seen_subcommand_from show' -s J -r -F -d 'Journal of t
 complete -c bx -n '__fish_seen_subcommand_from show' -s d -d 'Show what the image has there too'
 complete -c bx -n '__fish_seen_subcommand_from show' -s k -x -d 'Changes to show, 0 to 65535'
 complete -c bx -n '__fish_seen_subcommand_from show' -s r -d 'Show what a redo would do'
+
+complete -c bx -n '__fish_seen_subcommand_from diff' -s v -d 'Write whole rows where a byte differs'

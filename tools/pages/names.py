@@ -1,0 +1,72 @@
+"""Looks whether the names and the files that documents cite stand in the sources, and whether their links lead to a file.
+
+What counts is a whole span between ` and `, in the .md files but the changelog, outside of blocks of code. A name is a word, or
+words with `::`, `.` or `/` between them: each of its words has to stand in code, definitions, proofs, edits, cases, scripts or the
+man page, or be the name of a file or a folder. A file is a span that ends as one: a file of the repository ends with the same
+parts, where `crates`, `src`, `specs` and `proofs` may be left out.
+"""
+import pathlib
+import re
+
+from sources import ROOT
+
+SOURCES = [".rt", ".antt", ".edit", ".cases", ".py", ".sh", ".1"]
+FILE = re.compile(r"[\w./-]+\.(?:rt|antt|edit|cases|py|sh|md|fish|bash)")
+NAME = re.compile(r"\w+(?:(?:::|\.|/)\w+)*")
+# calls and crates of others, and a setting and a flag of Linux
+OTHERS = {"O_NOFOLLOW", "arrayvec", "try_extend_from_slice", "libc", "protected_symlinks", "sync_data"}
+
+
+def arguments(parser):
+    pass
+
+
+def files():
+    """The files of the repository, but for what is built."""
+    folders = ["crates", "tools", "tests", "bench", "docs", "man", "completions"]
+    found = [path for folder in folders for path in (ROOT / folder).rglob("*") if "out" not in path.parts]
+    return [path.relative_to(ROOT) for path in found + list(ROOT.glob("*"))]
+
+
+def bare(path):
+    """The parts of a path that a document gives."""
+    return [part for part in pathlib.PurePath(path).parts if part not in ("crates", "src", "specs", "proofs")]
+
+
+def words(paths):
+    """The words that stand in sources, and those of the names of files and folders."""
+    found = set(OTHERS)
+    for path in paths:
+        found |= {path.name, path.stem, *re.findall(r"\w+", path.name)}
+        if path.suffix in SOURCES or path.name in ("Makefile", "crates.txt"):
+            found |= set(re.findall(r"\w+", (ROOT / path).read_text(encoding="utf-8")))
+    return found
+
+
+def spans(page):
+    """The spans of a page, with their lines."""
+    text = re.sub(r"^```.*?^```", lambda block: "\n" * block.group().count("\n"), page.read_text(encoding="utf-8"), flags=re.M | re.S)
+    return [(number, span) for number, line in enumerate(text.split("\n"), 1) for span in re.findall(r"`([^`\n]+)`", line)]
+
+
+def is_there(span, known, ends):
+    """Whether what a span cites stands in the sources; what is no name or file passes."""
+    if FILE.fullmatch(span) and "/" in span:
+        parts = bare(span)
+        return any(end[-len(parts) :] == parts for end in ends)
+    if not NAME.fullmatch(span) or re.fullmatch(r"[0-9a-f]+", span):
+        return True
+    return all(word in known or word.isdigit() for word in re.split(r"::|\.|/", span))
+
+
+def check(_options):
+    paths = files()
+    known, ends, bad, count = words(paths), [bare(path) for path in paths], [], 0
+    for page in [path for path in paths if path.suffix == ".md" and path.name != "CHANGELOG.md"]:
+        cited = spans(ROOT / page)
+        count += len(cited)
+        bad += [f"{page}:{number}: `{span}` stands nowhere" for number, span in cited if not is_there(span, known, ends)]
+    for page in [path for path in paths if path.suffix == ".md"]:
+        links = re.findall(r"\]\(([^)#:]+)\)", (ROOT / page).read_text(encoding="utf-8"))
+        bad += [f"{page}: no file {link}" for link in links if not (ROOT / page.parent / link).exists()]
+    return bad, f"{count} spans of documents: each name and file that they cite is there"

@@ -1,0 +1,66 @@
+"""Counts the parameters of definitions, the arguments of functions and the `ensures` of public calls, and fails above the limits.
+
+A definition of `specs/` has at most 8 parameters: those in braces don't count, nor do those of a `module _` around it. A function
+of a product crate or of test_cache has at most 6 arguments, `self` left out. A public call of a library has at most 12 `ensures`:
+a function that its `lib.rt` exports, or a method of a type or trait that it exports; of an inner part, of what another crate
+exports. What is above its limit and stays so is named below with its number, which may only fall. --list prints what is above, and
+each NAME the counts of all that has the name.
+"""
+import sources
+
+LIMITS = {"parameters": 8, "arguments": 6, "ensures": 12}
+# what stays above its limit, as "KIND CRATE: NAME (FILE)": `docs/DECISIONS.md` says why
+ALLOWED = {
+    "ensures bx_text: Meter::fill (src/stream.rt)": 14,
+    "ensures bx_text: Source::fill (src/stream.rt)": 14,
+    "ensures bx_text: Source::rest (src/stream.rt)": 13,
+}
+
+
+def arguments(parser):
+    parser.add_argument("--list", action="store_true", help="print what is above its limit")
+    parser.add_argument("names", nargs="*", metavar="NAME", help="print the counts of what has the name")
+
+
+def public_items(name):
+    """What is public of a crate: what its `lib.rt` exports, and of an inner part what another crate exports of it."""
+    return ({(item,) for item in sources.exported_above(name, sources.product())}, set()) if name in sources.inner() else sources.exported(name)
+
+
+def is_public(function, module, items, modules):
+    """Whether a function is a public call: of a type or trait that is exported, or exported itself, which may pass over modules."""
+    if function.owner:
+        return (function.is_public or function.is_of_trait) and (module in modules or any(item[-1] == function.owner for item in items))
+    shown = module in modules or any(item[-1] == function.name and module[: len(item) - 1] == item[:-1] for item in items)
+    return function.is_public and shown
+
+
+def counted():
+    """All that is counted: its kind, its number, and its name with crate and file."""
+    listed = sources.crates()
+    for d in sources.definitions(listed)[0].values():
+        yield "parameters", d.parameters(), f"{d.crate}: {d.name} (specs/{d.file.replace('.', '/')}.antt)"
+    for name in [*sources.product(), "test_cache"]:
+        items, modules = public_items(name)
+        for path in sources.code(name):
+            module = path.relative_to(sources.folder(name)).with_suffix("").parts
+            for function in sources.functions(path):
+                word = f"{function.owner}::{function.name}" if function.owner else function.name
+                at = f"{name}: {word} ({path.relative_to(sources.ROOT / 'crates' / name)})"
+                yield "arguments", function.takes(), at
+                if is_public(function, () if module == ("lib",) else module, items, modules):
+                    yield "ensures", function.ensures(), at
+
+
+def check(options):
+    rows, wrong, left = sorted(counted(), key=lambda row: (-row[1], row[2])), [], dict(ALLOWED)
+    for kind, limit in LIMITS.items():
+        of_kind = [row[1:] for row in rows if row[0] == kind]
+        above = [row for row in of_kind if row[0] > limit]
+        for count, at in of_kind:
+            if options.list and count > limit or at.split(" (")[0].replace("::", " ").split()[-1] in options.names:
+                print(f"{count} {kind} (at most {limit}): {at}")
+        named = [left.pop(f"{kind} {at}", limit) for _, at in above]
+        wrong += [f"{kind} {at}: {count}, in place of {most}" for (count, at), most in zip(above, named) if count != most]
+    wrong += [f"{at}: it isn't above the limit any more" for at in left]
+    return wrong, f"nothing is above its limit but {len(ALLOWED)} that are named"

@@ -1,0 +1,109 @@
+"""Counts the phrases that are to go from documents and comments, and fails where one stands more often than it may.
+
+Documents are the .md files and the man page, without code. Comments are those of the crates: of code (module heads and public
+documents too), and of definitions and proofs. The ceilings below may only fall: --lower writes them where a count is under
+its ceiling, with the change that removed the phrase. --where prints each place of a phrase ('..' is an ellipsis).
+
+It counts the words that people write, too, and --pages prints them page by page. What is quoted or written by a script is left
+out (quoted blocks, what stands between `<!-- written by` and `<!-- up to here -->`, docs/generated), and so are the
+commands of the man page's roff.
+"""
+import pathlib
+import re
+
+from sources import ROOT
+
+PHRASES = {
+    "so many": r"\bso(?: |\n {0,3})many\b",
+    "of which": r"\bof(?: |\n {0,3})which\b",
+    "told": r"\btold\b",
+    "be it": r"\bbe(?: |\n {0,3})it\b",
+    "..": r"(?<![\w.)\]}/])\.\.(?![\w.=({/])",
+}
+# for each place the most that there may be of each phrase, in their order
+CEILINGS = {
+    "documents": (0, 0, 0, 0, 0),
+    "comments of code": (0, 0, 0, 0, 2),
+    "comments of definitions": (0, 0, 0, 0, 0),
+}
+
+
+def arguments(parser):
+    parser.add_argument("--where", choices=PHRASES, metavar="PHRASE", help="print each place of a phrase")
+    parser.add_argument("--lower", action="store_true", help="write lower ceilings where counts have fallen")
+    parser.add_argument("--pages", action="store_true", help="print how many words each page has")
+
+
+def without_code(text):
+    """A document with its code blocks and code spans left out; lines stay where they are."""
+    text = re.sub(r"^(```+).*?^\1", lambda block: "\n" * block.group().count("\n"), text, flags=re.M | re.S)
+    text = re.sub(r"^(?: {4}|\.\\\").*$", "", text, flags=re.M)
+    return re.sub(r"`[^`\n]*`", "`", text)
+
+
+def written(path):
+    """How many words of a page people write."""
+    text = path.read_text(encoding="utf-8")
+    if path.suffix == ".1":
+        text = re.sub(r'^\.(?:\\"|[A-Z]\w\b)|(?<=\s)[A-Z][a-z](?=\s)', "", text, flags=re.M)
+    text = re.sub(r"<!-- written by.*?<!-- up to here -->", "", text, flags=re.S)
+    text = re.sub(r"^```(?:antt|rust) (\S.*)\n(?:(?!```).*\n)*```$", r"\1", text, flags=re.M)
+    return len(re.findall(r"\S*\w\S*", text))
+
+
+def pages():
+    """The pages that people write."""
+    found = [*ROOT.glob("*.md"), *(ROOT / "docs").rglob("*.md"), ROOT / "man" / "bx.1"]
+    return sorted(path for path in found if "generated" not in path.parts)
+
+
+def comments(text, mark):
+    """The comments of a file, each on its line; all else is left out."""
+    found = (re.search(rf"(?:^|\s){mark}(?:\s(.*))?$", line) for line in text.split("\n"))
+    return re.sub(r"`[^`\n]*`", "`", "\n".join(match and match.group(1) or "" for match in found))
+
+
+def texts():
+    """Each place with its files, and of each what counts of it."""
+    sources = [path for path in sorted((ROOT / "crates").rglob("*")) if "out" not in path.parts]
+    places = {place: {} for place in CEILINGS}
+    for path in pages():
+        places["documents"][path] = without_code(path.read_text(encoding="utf-8"))
+    for path in sources:
+        if path.suffix == ".rt":
+            places["comments of code"][path] = comments(path.read_text(encoding="utf-8"), "//[/!]?")
+        elif path.suffix == ".antt":
+            places["comments of definitions"][path] = comments(path.read_text(encoding="utf-8"), "--")
+    return places
+
+
+def found_in(files, phrase):
+    """The file and the line of each place of a phrase."""
+    return [(path, text.count("\n", 0, match.start()) + 1) for path, text in files.items() for match in re.finditer(PHRASES[phrase], text, re.I)]
+
+
+def lower(place, counts):
+    """Writes the ceilings of a place in this script where they may fall."""
+    script = pathlib.Path(__file__)
+    lowest = tuple(min(most, count) for most, count in zip(CEILINGS[place], counts))
+    script.write_text(script.read_text(encoding="utf-8").replace(f'"{place}": {CEILINGS[place]}', f'"{place}": {lowest}'), encoding="utf-8")
+
+
+def check(options):
+    bad, total = [], 0
+    for path in pages() if options.pages else []:
+        print(f"{written(path):6} {path.relative_to(ROOT)}")
+    for place, files in texts().items():
+        counts = {phrase: len(found_in(files, phrase)) for phrase in PHRASES}
+        total += sum(counts.values())
+        for (phrase, count), most in zip(counts.items(), CEILINGS[place]):
+            if count > most:
+                bad.append(f"{place}: '{phrase}' stands {count} times, and may {most} times; --where shows them")
+            elif count < most:
+                print(f"the ceiling of '{phrase}' in {place} may fall from {most} to {count}: --lower writes it")
+        if options.lower:
+            lower(place, counts.values())
+        for path, line in found_in(files, options.where) if options.where else []:
+            print(f"{path.relative_to(ROOT)}:{line}")
+    count = sum(map(written, pages()))
+    return bad, f"{total} phrases that are to go, none above its ceiling; {count} words in what people write"

@@ -1,0 +1,108 @@
+"""The form of case files (docs/CASES.md): bytes, texts and words as lines, and the bytes and lines that they stand for."""
+import pathlib
+import re
+
+DATA = pathlib.Path(__file__).resolve().parent.parent.parent / "crates" / "test_cases" / "data"
+WIDTH = 100
+
+
+def seeded(count, seed):
+    """The first bytes of a seed."""
+    made = bytearray()
+    for _ in range(count):
+        seed = (seed * 1103515245 + 12345) % 2**32
+        made.append(seed // 65536 % 256)
+    return bytes(made)
+
+
+def dump_line(at, row):
+    """The default line of xxd."""
+    pairs = "".join(" " + row[i : i + 2].hex().ljust(4) for i in range(0, 16, 2))
+    return f"{at:08x}:{pairs}  " + "".join(chr(b) if 0x20 <= b <= 0x7E else "." for b in row)
+
+
+def quoted(data):
+    """A text in quotes."""
+    shown = {0x0a: "\\n", 0x22: '\\"', 0x5c: "\\\\"}
+    return '"' + "".join(shown.get(b) or (chr(b) if 0x20 <= b < 0x7f else f"\\x{b:02x}") for b in data) + '"'
+
+
+def repeats(data, at, size):
+    """How often the bytes at the place stand there one behind the other."""
+    part, times = data[at:at + size], 1
+    while len(part) == size and data[at + times * size:at + (times + 1) * size] == part:
+        times += 1
+    return times
+
+
+def is_text(data):
+    return all(0x20 <= b < 0x7f or b == 0x0a for b in data)
+
+
+def text_length(data, at):
+    """How many bytes from here on are text or newlines, up to a run that is told by its count."""
+    end = at
+    while end < min(len(data), at + 64) and is_text(data[end:end + 1]) and repeats(data, end, 1) < 12:
+        end += 1
+    return end - at
+
+
+def parts_of(data):
+    """The bytes as parts: runs by their count, texts of at least four bytes in quotes, else digits."""
+    parts, plain, at = [], b"", 0
+    while at < len(data):
+        size = next((size for size, least in ((1, 12), (16, 2)) if repeats(data, at, size) >= least), 0)
+        length = text_length(data, at)
+        if not size and length < 4 and not (plain == b"" and at + length == len(data) and length):
+            plain, at = plain + data[at:at + 1], at + 1
+            continue
+        parts, plain = parts + digits_of(plain), b""
+        times = repeats(data, at, size) if size else 1
+        part = data[at:at + (size or length)]
+        text = quoted(part) if is_text(part) else part.hex()
+        parts.append(f"{times}*{text}" if times > 1 else text)
+        at += times * len(part)
+    return parts + digits_of(plain)
+
+
+def digits_of(plain):
+    return [plain[i:i + 32].hex() for i in range(0, len(plain), 32)]
+
+
+def rows_of(data):
+    """The parts, as many on a line as are short enough."""
+    rows = []
+    for part in parts_of(data):
+        if rows and len(rows[-1]) + 1 + len(part) <= WIDTH:
+            rows[-1] += " " + part
+        else:
+            rows.append(part)
+    return rows or ['""']
+
+
+def bytes_lines(word, data):
+    rows = rows_of(data)
+    return [f"{word}: {rows[0]}"] if len(rows) == 1 else [f"{word}:"] + ["+ " + row for row in rows]
+
+
+def text_lines(word, data):
+    """A text: each line that prints, and doesn't end in a space, behind a bar."""
+    lines = []
+    for line in data.splitlines(keepends=True) if b"\r" not in data else re.findall(rb"[^\n]*\n|[^\n]+", data):
+        shown = line[:-1] if line.endswith(b"\n") else None
+        if shown is not None and all(0x20 <= b < 0x7f for b in shown) and not shown.endswith(b" "):
+            lines.append("| " + shown.decode() if shown else "|")
+        else:
+            lines += ["+ " + row for row in rows_of(line)]
+    return [f"{word}:"] + lines if any(line[0] == "|" for line in lines) else bytes_lines(word, data)
+
+
+def word_text(word):
+    return word if word and word[0] != '"' and all(0x20 < ord(c) < 0x7f for c in word) else quoted(word.encode())
+
+
+def write(name, lines, folder=None):
+    """Writes a file of cases."""
+    text = "\n".join(lines) + "\n"
+    (pathlib.Path(folder or DATA) / f"{name}.cases").write_text(text, encoding="ascii")
+    print(f"{name}: {sum(line.startswith('case: ') for line in lines)} cases, {len(text)} bytes")
