@@ -39,9 +39,10 @@ uninstall:
 package: all
 	tools/package.sh bx package
 
-# Whether version, CHANGELOG.md, man page, authors, package and tag agree; before the tag is made it fails by that alone.
+# The tags of the versions that have none, where version, CHANGELOG.md, man page, authors and package agree.
+# make release DRY=1 says which.
 release: $(built)
-	tools/release.py --bx $(program)
+	tools/release.py $(if $(DRY),--dry-run) --bx $(program)
 
 .PHONY: check-package check-completions
 

@@ -1,11 +1,15 @@
 #!/usr/bin/env python3
-"""Compares all that names a release: version, CHANGELOG.md, man page, authors, package and tag.
+"""Compares all that names a release (version, CHANGELOG.md, man page, authors, package), and makes the annotated tags.
 
-Usage: tools/release.py [--bx PATH]
+Usage: tools/release.py [--dry-run] [--bx PATH]
 
-Prints a line for each: ok, failed, or skipped and why. The version is that of the sources. The date is that of its line in
-CHANGELOG.md, `## VERSION - YYYY-MM-DD`, and the tag is vVERSION at the commit that is checked out. Nothing is written: where
-the tag is missing, the last line gives the command that makes it. The status is 1 where one failed.
+Prints a line for each thing that is compared: ok, failed, or skipped and why. The version is that of the sources, its date that
+of its line in CHANGELOG.md, `## VERSION - YYYY-MM-DD`. Where none failed, the commit that is checked out gets the tag vVERSION.
+A version of an earlier line that has no tag gets one too, at the last commit of its day, whose sources have that version.
+
+No tag is made where files are changed that no commit has, where CHANGELOG.md begins with `## Unreleased`, or where the version
+has its tag. Between two releases that is no fault: with --dry-run, which makes no tag and says which it would make, the status
+is 1 only where something is wrong that a release can't mend.
 """
 import argparse
 import datetime
@@ -20,6 +24,7 @@ import tempfile
 
 ROOT = pathlib.Path(__file__).resolve().parent.parent
 SOURCE = "crates/bx_cli/src/options.rt"
+NEXT = "Unreleased"
 HEAD = re.compile(r"^## (.*)$", re.M)
 VERSION = re.compile(r"(\d+\.\d+\.\d+) - (\d{4}-\d\d-\d\d)")
 
@@ -35,8 +40,8 @@ def output(*words):
 
 
 class Report:
-    def __init__(self):
-        self.failed = 0
+    def __init__(self, dry):
+        self.failed, self.held, self.dry = 0, False, dry
 
     def line(self, what, wrong, note=""):
         """A line for what was compared; `wrong` says what is wrong, or nothing."""
@@ -46,18 +51,33 @@ class Report:
     def same(self, what, wanted, found):
         self.line(what, None if found == wanted else f"{found or 'nothing'}, and not {wanted}", found)
 
+    def hold(self, what, why, note=""):
+        """A line for what may stop a release and is no fault before one; `why` says what stops it, or nothing."""
+        if why and self.dry:
+            print(f"skipped  {what}: {why}")
+        else:
+            self.line(what, why, note)
+        self.held = self.held or bool(why)
+
+
+def is_open():
+    """Whether CHANGELOG.md begins with what no version has yet."""
+    return HEAD.findall(read("CHANGELOG.md"))[:1] == [NEXT]
+
 
 def changes(report, version):
-    """The date of the newest version in CHANGELOG.md; each has one, and they fall from line to line."""
+    """The versions in CHANGELOG.md with their dates, the newest first; both fall from line to line."""
     heads = HEAD.findall(read("CHANGELOG.md"))
-    dated = [VERSION.fullmatch(head) for head in heads]
-    undated = [head for head, match in zip(heads, dated) if not match]
-    numbers = [([int(part) for part in match.group(1).split(".")], match.group(2)) for match in dated if match]
+    report.hold("first head of CHANGELOG.md", f"{NEXT}, which needs a version and a date" if is_open() else None, "".join(heads[:1]))
+    heads = heads[1:] if is_open() else heads
+    dated = [match.groups() for match in map(VERSION.fullmatch, heads) if match]
+    undated = [head for head in heads if not VERSION.fullmatch(head)]
     report.line("heads of CHANGELOG.md", f"not of the form VERSION - YYYY-MM-DD: {', '.join(undated)}" if undated else None, ", ".join(heads))
+    numbers = [([int(part) for part in number.split(".")], date) for number, date in dated]
     falling = all(newer[0] > older[0] and newer[1] >= older[1] for newer, older in zip(numbers, numbers[1:]))
     report.line("order of CHANGELOG.md", None if falling else "versions or dates don't fall", "versions and dates fall")
-    report.same("newest version in CHANGELOG.md", version, dated[0].group(1) if dated and dated[0] else "")
-    return dated[0].group(2) if dated and dated[0] else ""
+    report.same("newest version in CHANGELOG.md", version, dated[0][0] if dated else "")
+    return dated
 
 
 def man_date():
@@ -89,28 +109,81 @@ def package(report, bx, version, date, holder):
         report.same("authors in the package", holder, "".join(re.findall(r"^Copyright: (.*)$", (documents / "copyright").read_text(), re.M)))
 
 
-def main():
-    parser = argparse.ArgumentParser(description=__doc__.split("\n", maxsplit=1)[0])
-    parser.add_argument("--bx", default="./bx")
-    bx = os.path.abspath(parser.parse_args().bx)
-    report = Report()
-    version = "".join(re.findall(r'\.version\("(.*?)"\)', read(SOURCE)))
+def version_of(text):
+    return "".join(re.findall(r'\.version\("(.*?)"\)', text))
+
+
+def last_of(version, date):
+    """The last commit of a day, where its sources have the version."""
+    commit = output("git", "log", "--first-parent", "-1", "--format=%H", f"--until={date}T23:59:59Z")
+    of_day = commit and output("git", "log", "-1", "--format=%cs", commit) == date
+    return commit if of_day and version_of(output("git", "show", f"{commit}:{SOURCE}")) == version else ""
+
+
+def missing(report, dated):
+    """The tags that are to be made, each with its commit, the oldest first: those of all versions that have none."""
+    found = []
+    for place, (version, date) in reversed(list(enumerate(dated))):
+        tag = f"v{version}"
+        tagged = output("git", "rev-parse", "--verify", "--quiet", f"{tag}^{{commit}}")
+        if tagged and place:
+            report.same(f"version at {tag}", version, version_of(output("git", "show", f"{tagged}:{SOURCE}")))
+        elif tagged:
+            report.hold(f"tag {tag}", f"it is there, at {tagged[:12]}")
+        else:
+            # with a head above it a version is older than what is checked out
+            commit = last_of(version, date) if place or is_open() else output("git", "rev-parse", "HEAD")
+            report.line(f"commit of {tag}", None if commit else f"none of {date} has the version", f"{commit[:12]} of {date}")
+            found.append((tag, version, commit))
+    return found
+
+
+def make(tag, version, commit):
+    """Makes a tag, by the author of its commit and of the same time."""
+    name, mail, time = output("git", "log", "-1", "--format=%an%n%ae%n%cI", commit).splitlines()
+    env = {**os.environ, "GIT_COMMITTER_NAME": name, "GIT_COMMITTER_EMAIL": mail, "GIT_COMMITTER_DATE": time}
+    subprocess.run(["git", "tag", "-a", tag, "-m", f"bx {version}", commit], cwd=ROOT, env=env, check=True)
+
+
+def compare(report, bx):
+    """Compares what names the version. Answers the versions in CHANGELOG.md, the newest first."""
+    version = version_of(read(SOURCE))
     report.line(f"version in {SOURCE}", None if re.fullmatch(r"\d+\.\d+\.\d+", version) else f"{version or 'none'}", version)
     report.same("bx --version", f"bx {version}", output(bx, "--version"))
-    date = changes(report, version)
-    report.same("date of the man page", date, man_date())
+    dated = changes(report, version)
+    date, page = dated[0][1] if dated else "", man_date()
+    report.same("date of the man page", max(date, page) if is_open() else date, page)
     holder = "".join(re.findall(r"^Copyright \(c\) (.*)$", read("LICENSE"), re.M))
     name = re.sub(r"^[\d, -]+", "", holder)
     authors = sorted(set(output("git", "log", "--format=%an%n%cn").splitlines()))
     report.line("authors of the commits", None if authors == [name] else f"{', '.join(authors)}, and in LICENSE {name}", name)
     package(report, bx, version, date, holder)
-    report.line("checkout", "files are changed that no commit has" if output("git", "status", "--porcelain") else None, "as committed")
-    report.same("date of the commit", date, output("git", "log", "-1", "--format=%cs"))
-    tag, head = f"v{version}", output("git", "rev-parse", "HEAD")
-    tagged = output("git", "rev-parse", "--verify", "--quiet", f"{tag}^{{commit}}")
-    report.line(f"tag {tag}", None if tagged == head else f"names {tagged[:12]}, and not {head[:12]}" if tagged
-                else f"there is none; once all else is ok: git tag -a {tag} -m 'bx {version}'", head[:12])
-    sys.exit(1 if report.failed else 0)
+    return dated
+
+
+def main():
+    parser = argparse.ArgumentParser(description=__doc__.split("\n", maxsplit=1)[0])
+    parser.add_argument("--bx", default="./bx")
+    parser.add_argument("--dry-run", action="store_true", help="make no tag, and say which would be made")
+    options = parser.parse_args()
+    report = Report(options.dry_run)
+    if output("git", "rev-parse", "--is-shallow-repository") != "false":
+        print("skipped  all: no clone with its history")
+        sys.exit(0 if report.dry else 1)
+    dated = compare(report, os.path.abspath(options.bx))
+    report.hold("checkout", "files are changed that no commit has" if output("git", "status", "--porcelain") else None, "as committed")
+    tags = missing(report, dated)
+    if dated and not report.held:
+        report.hold("date of the commit", None if output("git", "log", "-1", "--format=%cs") == dated[0][1] else f"not {dated[0][1]}", dated[0][1])
+    if report.failed or report.held and not report.dry:
+        print(f"no tag is made: {report.failed} failed")
+        sys.exit(1)
+    for tag, version, commit in tags:
+        if not report.dry:
+            make(tag, version, commit)
+        print(f"{'would make' if report.dry else 'made'} {tag} at {commit[:12]}: git tag -a {tag} -m 'bx {version}' {commit[:12]}")
+    if report.dry:
+        print(f"a dry run: {len(tags)} tags are missing" + (", and none is made before what is skipped here" if report.held else ""))
 
 
 if __name__ == "__main__":
