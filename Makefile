@@ -7,7 +7,7 @@ zsh = $(DESTDIR)$(PREFIX)/share/zsh/$(if $(filter /usr,$(PREFIX)),vendor-complet
 # of a program that is there already, nothing is built: make check BX=PATH, and so each target below that looks at the program
 program = $(or $(BX),./bx)
 built = $(if $(BX),,all)
-.PHONY: all look test check release install uninstall package tour pictures check-docs docs compare record hostile hints power bench clean
+.PHONY: all look test check release install uninstall package tour pictures check-docs docs compare record hostile hints power fuzz bench clean
 
 all: bx
 
@@ -104,8 +104,12 @@ power: $(built)
 	tests/power_replay.py --bx $(program)
 	tests/power_fuse.py --bx $(program)
 
+# Texts, journals and words that AFL++ makes of tests/fuzz/corpus, ten minutes of them (MINUTES=60: an hour); it needs afl-fuzz.
+fuzz: $(built)
+	tests/fuzz/run.py --bx $(program) --minutes $(or $(MINUTES),10)
+
 bench: all
 	bench/run.sh
 
 clean:
-	rm -rf bx package bench/out crates/*/out
+	rm -rf bx package bench/out tests/fuzz/out crates/*/out

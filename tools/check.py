@@ -48,6 +48,7 @@ CHECKS = [
     Check("losses of power", "tests/power_replay.py --bx BX", "strace"),
     Check("losses of power, by FUSE", "tests/power_fuse.py --bx BX"),
     Check("seeks", "tests/seeks.py --bx BX", "xxd od hexdump dd"),
+    Check("corpus of make fuzz", "tests/fuzz/run.py --corpus --bx BX"),
     Check("release, as a dry run", "tools/release.py --dry-run --bx BX", "git"),
     Check("package", "tests/package.sh BX", "lintian dpkg-deb dpkg-shlibdeps strip", root=True),
     *(Check(f"program: {name}", f"tests/program/{name}.sh BX") for name in SUBJECTS),
