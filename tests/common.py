@@ -1,0 +1,134 @@
+"""What the tests of the program share: it runs on files of a folder, what these hold, and a line for each case."""
+import argparse
+import collections
+import os
+import pathlib
+import resource
+import shlex
+import signal
+import subprocess
+import sys
+import tempfile
+
+ROOT = pathlib.Path(__file__).resolve().parent.parent
+sys.path.insert(0, str(ROOT / "tools"))
+from record import form  # noqa: E402  pylint: disable=wrong-import-position
+
+TRIO = ("img", "img.bxj", "img.bxj.redo")
+OPEN = "cannot open file"
+Done = collections.namedtuple("Done", "status out err")
+counts = collections.Counter()
+bx = [str(ROOT / "bx")]
+
+
+def run(words, given=b"", out=subprocess.PIPE, err=subprocess.PIPE, limits=(), before=None, program=None, front=(), **how):
+    """Runs bx: its status, and what it writes. `limits` are (resource, most); `before` is called between fork and exec."""
+    def begin():
+        signal.signal(signal.SIGXFSZ, signal.SIG_IGN)
+        for what, most in limits:
+            resource.setrlimit(what, (most, most))
+        if before:
+            before()
+    words = shlex.split(words) if isinstance(words, str) else [word if isinstance(word, bytes) else str(word) for word in words]
+    source = {"stdin": given} if hasattr(given, "fileno") or isinstance(given, int) else {"input": given}
+    done = subprocess.run([*front, program or bx[0], *words], **source, stdout=out, stderr=err, check=False, timeout=600,
+                          preexec_fn=begin if limits or before else None, **{"env": {**os.environ, "LC_ALL": "C"}, **how})
+    return Done(done.returncode, done.stdout or b"", (done.stderr or b"").decode())
+
+
+def said(done):
+    """The last line on standard error, without the program's name."""
+    return (done.err.splitlines() or [""])[-1].removeprefix("bx: ")
+
+
+def write(name, data=b""):
+    pathlib.Path(name).write_bytes(data if isinstance(data, bytes) else data.encode())
+
+
+def remove(*names):
+    for name in names:
+        pathlib.Path(name).unlink(missing_ok=True)
+
+
+def held(*names):
+    """What some files hold; None where there is none."""
+    return tuple(pathlib.Path(name).read_bytes() if os.path.isfile(name) else None for name in names)
+
+
+def trio():
+    """Image, journal and redo file. One that is empty is as one that is missing."""
+    return tuple(content or b"" for content in held(*TRIO))
+
+
+def fresh(*contents):
+    """Image, journal and redo file anew; what isn't given, or None, is missing."""
+    remove(*TRIO)
+    for name, content in zip(TRIO, contents):
+        if content is not None:
+            write(name, content)
+
+
+def entry(saved, number=1, length=8, ended=True):
+    """A change's entry in a journal, of the bytes that it saves at their places."""
+    lines = [f"change2 {number:08x} {length:016x}", *(form.dump_line(at, data) for at, data in saved), f"save {number:08x}"]
+    return "".join(f"{line}\n" for line in lines + [f"done2 {number:08x} {length:016x}"] * ended).encode()
+
+
+# the journal of two bytes at 2 of an image of 8, and the redo text once they are taken back
+PATCHED, UNPATCHED = entry([(2, b"CD")]), entry([(2, b"xy")])
+STOPPED = PATCHED[:-len("done2 00000001 0000000000000008\n")]
+
+
+def say(well, name, detail=""):
+    """The line of a case."""
+    counts[bool(well)] += 1
+    print(f"{'ok   ' if well else 'WRONG'} {name}{f' ({detail})' if detail else ''}", flush=True)
+
+
+def left_out(why):
+    print(f"left out: {why}", flush=True)
+
+
+def expect(name, words, fault="", stays=True, **how):
+    """A command and its fault, or none; image, journal and redo file stay, but where they need not."""
+    was, done = trio(), run(words, **how)
+    status = 2 if fault == "bad arguments" else int(fault != "" and not fault.startswith("recovered"))
+    well = (done.status, said(done)) == (status, fault) and (not stays or trio() == was)
+    say(well, name, f"status {done.status}{', ' * bool(done.err)}{said(done)}")
+    return done
+
+
+def cut(image, at, data):
+    """An image with bytes at a place; what lies between is zeros."""
+    return image[:at].ljust(at, b"\0") + data + image[at + len(data):]
+
+
+class folder:
+    """A folder that is made, entered and removed."""
+
+    def __enter__(self):
+        self.was, self.made = os.getcwd(), tempfile.TemporaryDirectory()
+        os.chmod(self.made.name, 0o755)
+        os.chdir(self.made.name)
+        return pathlib.Path(self.made.name)
+
+    def __exit__(self, *_):
+        os.chdir(self.was)
+        self.made.cleanup()
+
+
+def asked(doc, *arguments):
+    """The options of a test's words, `--bx` and some more, each (name, settings)."""
+    parser = argparse.ArgumentParser(description=doc.split("\n", maxsplit=1)[0])
+    parser.add_argument("--bx", default=str(ROOT / "bx"), help="the program")
+    for name, settings in arguments:
+        parser.add_argument(name, **settings)
+    options = parser.parse_args()
+    bx[0] = options.bx = os.path.abspath(options.bx)
+    return options
+
+
+def finish():
+    """The last line, and the end."""
+    print(f"{counts[True]} cases passed, {counts[False]} failed")
+    sys.exit(1 if counts[False] else 0)

@@ -1,0 +1,186 @@
+"""Each memory request, and each read, write and sync, failing in turn, by shim.c, which wants a C compiler."""
+import errno
+import os
+import pathlib
+import re
+import subprocess
+
+from common import OPEN, PATCHED, TRIO, UNPATCHED, expect, fresh, held, left_out, remove, run, said, say, trio, write
+
+BEFORE, AFTER = (b"ABCDEFGH", None, UNPATCHED), (b"ABxyEFGH", PATCHED, UNPATCHED)
+DD = "dd if=plain of=img obs=3 seek=1 conv=ucase"
+CHANGES = [("revert -f dump img", BEFORE), ("revert -f dump img", AFTER), (DD, AFTER), ("undo img", AFTER), ("redo img", BEFORE),
+           ("redo img", AFTER)]
+# commands on image, journal and redo file that take memory
+REQUESTS = [*CHANGES, ("revert -p -s 3 -f plain img", BEFORE), ("log img", AFTER), ("log -v img", AFTER), ("show img", AFTER),
+            ("show -d img", AFTER), ("diff img dump", AFTER)]
+SYNCED = [("revert -f dump img", BEFORE), (DD, AFTER), ("undo img", AFTER), ("redo img", AFTER)]
+DUMPS = ["xxd", "xxd -i", "od -t x2", "hexdump -C", "strings -t x", "dd cbs=4 conv=block,ucase", "--help"]
+WRONG_WORDS = ["xxd -c 300", "bogus", "undo -k 1k img"]
+# what a folder may answer to a sync, and whether a command then stops
+FOLDER = {"EINVAL": False, "ENOSYS": False, "EOPNOTSUPP": False, "EPERM": False, "EACCES": False, "EIO": True, "ENOSPC": True,
+          "EROFS": True,
+          "EDQUOT": True}
+ALIASES = [f"{words} -J {names}" for words, names in (
+    ("revert -f dump", "own two"), ("revert -f dump", "one one"), ("undo", "hard one"), ("log", "hard one"), ("show", "hard one"),
+    ("revert -f dump", "hard one"), ("log", "own two"), ("show", "own two"), ("revert -f dump", "own soft"), ("undo", "own soft"),
+    ("log", "own soft"), ("show", "own soft"))]
+TEXT = b"Hello World\n\0\1\2 and some more text\n"
+MEMORY = "out of memory"
+
+
+def build():
+    """Whether there is a compiler, which makes the shim here; and the files of all tests."""
+    for name, data in (("dump", b"2: 7879\n20: 41\n"), ("plain", b"78 7\n9")):
+        write(name, data)
+    source = pathlib.Path(__file__).with_name("shim.c")
+    try:
+        return subprocess.run(["cc", "-shared", "-fPIC", "-O1", "-o", "shim.so", source, "-ldl"], check=False).returncode == 0
+    except FileNotFoundError:
+        return False
+
+
+def shimmed(mode, number, words, given=b""):
+    """Runs bx where the call with this number fails, in the way of a mode."""
+    shim = {"SHIM_MODE": mode, "SHIM_AT": str(number), "SHIM_COUNT": "count", "LD_PRELOAD": os.path.abspath("shim.so")}
+    return run(words, given, env={**os.environ, "LC_ALL": "C", **shim})
+
+
+def each(mode, words, start=(), given=b""):
+    """The command with each of its calls failing in turn: the number, what it says, and the files before."""
+    fresh(*start)
+    shimmed(mode, 0, words, given)
+    for number in range(1, int(held("count")[0]) + 1):
+        fresh(*start)
+        before = trio()
+        yield number, shimmed(mode, number, words, given), before
+
+
+def undone_all():
+    """Whether what was opened leads back to the first image, and its journal is then empty."""
+    run(f"undo -k {len(run('log img').out.splitlines())} img")
+    return trio()[:2] == (b"ABCDEFGH", b"")
+
+
+def counted(name, rows, least=1):
+    """Says how many of the rows, (whether it stopped, whether that is right), are wrong; so many at least have to stop."""
+    rows = list(rows)
+    stopped, wrong = sum(bool(row[0]) for row in rows), sum(not row[1] for row in rows)
+    say(not wrong and stopped >= least, name, f"{stopped} of {len(rows)} stopped it, {wrong} wrong")
+
+
+def requests(words, start):
+    """Of memory: status 1, and all three as before."""
+    for _, done, before in each("a", words, start):
+        is_refused = (done.status, done.out, done.err) == (1, b"", f"bx: {MEMORY}\n")
+        yield is_refused, trio() == before if is_refused else done.status == 0
+
+
+def calls(words, start):
+    """Opening again finds the image before or after it, and undoing all gives the first."""
+    fresh(*start)
+    shimmed("f", 0, words)
+    after = trio()[0]
+    for _, done, _ in each("f", words, start):
+        is_opened = run("undo -k 0 img").status == 0
+        image = trio()[0]
+        is_known = image == after or (image == start[0] and done.status == 1)
+        yield done.status == 1, done.status <= 1 and is_opened and is_known and undone_all()
+
+
+def bytewise(words, start):
+    fresh(*start)
+    shimmed("s", 0, words)
+    after = trio()[0]
+    for _, done, _ in each("s", words, start):
+        yield False, done.status == 0 and trio()[0] == after
+
+
+def syncs(words, start):
+    """A disk that is full at a sync: the folder's can't be opened, those before the first write change nothing, and those after
+    it are interrupted. Opening again recovers, and undoing all gives the first image."""
+    for number, done, before in each("d", words, start):
+        want = OPEN if number == 1 else "device failed" if number <= 4 else "interrupted: open again to recover"
+        found = [line.removeprefix("bx: ") for line in done.err.splitlines() if line.startswith("bx: ")]
+        is_right = done.status == 1 and found[-1:] == [want] and (number > 4 or trio() == before)
+        yield True, is_right and run("undo -k 0 img").status == 0 and undone_all()
+
+
+def test_texts():
+    if not build():
+        left_out("each memory request, read and write (no C compiler)")
+        return
+    for words, start in REQUESTS:
+        counted(f"each memory request of {words}", requests(words, start))
+    for words, start in CHANGES:
+        counted(f"each read and write of {words}", calls(words, start))
+        counted(f"each read and write of {words} moves one byte", bytewise(words, start), 0)
+    for words, start in SYNCED:
+        counted(f"a full disk at each sync of {words}", syncs(words, start), 5)
+        fresh(*start)
+        done = shimmed("d", 1, words.replace(" ", " -U ", 1))
+        say(done.status == 0 and held("count") == (b"0\n",), f"{words} with -U syncs nothing")
+
+
+def test_folders():
+    """A folder that answers a sync with an error: one that has no such sync, or is not to be synced by this user, is passed by,
+    and any other error refuses the command and changes nothing."""
+    for name, stops in FOLDER.items() if build() else ():
+        well, number = True, getattr(errno, name)
+        for words in ("revert -f dump img", "dd if=plain of=img conv=notrunc", "undo img", "redo img"):
+            fresh(*AFTER)
+            before, done = trio(), shimmed("o", number, words)
+            well = well and done.status == stops and (trio() == before) == stops and (said(done) == OPEN or not stops)
+            fresh(*AFTER)
+            well = well and shimmed("o", number, words.replace(" ", " -U ", 1)).status == 0
+        fresh(*AFTER)
+        say(well and shimmed("o", number, "log img").status == 0, f"a folder that answers a sync by {name}")
+
+
+def dumped(words, plain):
+    """Where memory is refused nothing is written, or all of it where dd's report can't be made; else what is written is a
+    prefix."""
+    for _, done, _ in each("a", words, given=TEXT):
+        is_refused = (done.status, said(done)) == (1, MEMORY)
+        yield is_refused, done.out in (b"", plain.out if words.startswith("dd") else b"") if is_refused else done == plain
+    for _, done, _ in each("f", words, given=TEXT):
+        is_fault = re.search(r"^bx: (read failed|write failed after \d+ bytes)$", done.err, re.M)
+        yield False, plain.out.startswith(done.out) and is_fault if done.status == 1 else (done.status, done.out) == (0,
+                                                                                                                      plain.out)
+    for _, done, _ in each("s", words, given=TEXT):
+        yield False, (done.status, done.out) == (0, plain.out)
+
+
+def test_dumps():
+    for words in DUMPS if build() else ():
+        counted(f"each memory request, read and write of {words}", dumped(words, run(words, TEXT)))
+    for words in WRONG_WORDS if build() else ():
+        counted(f"each memory request of {words}",
+                ((done.status == 1, (done.status, said(done)) in ((1, MEMORY), (2, "bad arguments")))
+                                                    for _, done, _ in each("a", words)))
+
+
+def test_without_locks():
+    """One file by two names on a file system without locks, and a new image by a link as its own journal."""
+    if not build():
+        return
+    fresh(b"ABCDEFGH")
+    say(shimmed("n", 0, "revert -f dump img").status == 0 and run("log img").out == b"1 8 2\n", "a file system without locks")
+    files = {"one": b"AB", "own": PATCHED, "two": b"ABxyEFGH"}
+    for words in ALIASES:
+        for name, data in files.items():
+            write(name, data)
+        os.link("one", "hard")
+        os.symlink("own", "soft")
+        if "soft" not in words:
+            os.symlink("own", "own.redo")
+        done = shimmed("n", 0, words)
+        well = done.status and held(*files) == tuple(files.values()) and not any(map(os.path.exists, ("hard.redo", "one.redo")))
+        say(well and os.path.exists("own.redo") == os.path.islink("own.redo"), f"one file by two names, without locks: {words}",
+            said(done))
+        remove("hard", "soft", "own.redo", "hard.redo", "one.redo")
+    os.symlink("dangling", "j")
+    expect("a new image as its journal, by a link", "revert -f dump -J j dangling", OPEN)
+    say(shimmed("n", 0, "revert -f dump -J j dangling").status == 1 and not any(map(os.path.exists, ("dangling", "j.redo"))),
+        "without locks too")
+    remove(*TRIO)
