@@ -1,202 +1,309 @@
 #!/usr/bin/env python3
-"""What bx has on the disk, and when, by the calls that strace sees it make.
+"""Loses the power under bx, and checks that no image is lost.
 
-Usage: tests/power.py --counts [--bx PATH]
+Usage: tests/power.py [--bx PATH] [--sessions N] [--seed N] [--jobs N] [--limit N] [orders|replay|cache ..]
 
---counts   each command's syncs and their order beside the table in docs/FORMATS.md, "Order of device calls"; and that a file
-           that was written is synced before another one is written, and the folders of the names before the first write.
+orders: what each command syncs, and in which order, by the calls that strace sees it make, beside the table in docs/FORMATS.md,
+"Order of device calls"; that a file that was written is synced before another one is written, and the folders of the names before
+the first.
 
-Outside the gate. It exits 1 where an order differs, and 2 where strace isn't installed.
-"""
-import argparse
+replay: random sessions of reverts, dd, undos and redos run under strace, on small images. Their calls are replayed. Before each
+sync and after each answer what a loss of power may leave (replay/losses.py), or a sample of it, is written into files. `bx log`
+opens them: it has to find the images before the command, after it, or after some of its steps, and `bx undo` of all changes has
+to lead back to the first image. Some commands are killed or run with -U; and now and then the power is lost, and the session goes
+on with what was found. Then each sync is left out in turn: some content has to be lost, but for two syncs with no known loss.
+
+cache: the same on a file system in memory, mounted by FUSE with a cache that writes back. What bx writes stays in the kernel's
+page cache, and reaches the file system at a sync, or when the kernel chooses. After each request that changes the file system,
+what it holds is what a loss of power leaves, also without a name whose folder wasn't synced since. With -U something has to be
+lost. As root, where the kernel has FUSE.
+
+Outside the gate. Without a name all run, and a line says what is left out. It exits 1 where something is lost, or nothing where
+it should be."""
 import os
-import re
+import random
 import shutil
-import subprocess
 import sys
 import tempfile
 
-WRITES = ("pwrite64", "write", "ftruncate")
-SYNCS = ("fsync", "fdatasync")
-CALL = re.compile(r"^(?:\d+ +)?(\w+)\(\d+<([^>]*)>.*\) += (-?\d+)")
+from common import asked, folder, left_out, say, write
+from replay.fuse import CachedSession, Mount
+from replay.judge import LOG, REFUSED, Judge, dd, redo, revert, undo
+from replay.room import Room
+from replay.session import Session
 
-# The letters of an order: the folder of the texts, the folder of the image, journal, image, redo file.
-PLACES = {"texts": "F", "images": "I", "texts/journal": "J", "images/image": "D", "texts/journal.redo": "R"}
-# The folders, which a command that may write syncs first.
-NAMED = "FI"
-
-# What a call that writes syncs first: all three.
-SETTLED = "JDR"
-
-# The first byte of a journal, which is on the disk before the others.
-FIRST = "J"
-
+IMAGE = b"ABCDEFGH"
 HEAD = "change2 00000002 0000000000000008\n"
 SAVED = "00000000: 41                                       A\nsave 00000002\n"
-
-
-class Room:
-    """A folder with an image and its texts, each in a folder of its own."""
-
-    def __init__(self, bx, path):
-        self.bx, self.path = bx, path
-        for name in ("images", "texts"):
-            os.mkdir(os.path.join(path, name))
-        self.write("dump", b"00000002: 7879\n")
-        self.write("bad", b"none\n")
-
-    def place(self, name):
-        return os.path.join(self.path, name)
-
-    def write(self, name, text, how="wb"):
-        with open(self.place(name), how) as out:
-            out.write(text)
-
-    def run(self, words, before=()):
-        """Runs a command on the image, its words split at spaces: what it answers."""
-        words = words.replace("IMAGE", "-J texts/journal images/image").replace("OF", "-J texts/journal of=images/image").split()
-        return subprocess.run([*before, self.bx, *words], cwd=self.path, stdin=subprocess.DEVNULL, capture_output=True,
-                              text=True, check=False, timeout=60)
-
-    def calls(self, words):
-        """Runs a command under strace: its status, and its calls that write or sync, each with the letter of its file."""
-        trace = self.place("trace")
-        names = ",".join(WRITES + SYNCS)
-        done = self.run(words, ("strace", "-f", "-y", "-o", trace, "-e", f"trace={names}"))
-        found = []
-        with open(trace, encoding="utf-8", errors="replace") as lines:
-            for line in lines:
-                call = CALL.match(line)
-                letter = PLACES.get(os.path.relpath(call.group(2), os.path.realpath(self.path))) if call else None
-                if letter and int(call.group(3)) >= 0:
-                    found.append((call.group(1), letter))
-        return done.returncode, found
-
-
-def order_of(calls):
-    """The letters of what was synced, in order."""
-    return "".join(letter for call, letter in calls if call in SYNCS)
-
-
-def wrong_in(calls, waits):
-    """What is wrong with the order of writes and syncs; none where it is right."""
-    unsynced, named = "", False
-    for call, letter in calls:
-        if call in SYNCS:
-            named = named or letter == "F"
-            unsynced = unsynced.replace(letter, "")
-        elif waits and not named:
-            return f"{letter} is written before the folder of the texts is synced"
-        elif waits and unsynced not in ("", letter):
-            return f"{letter} is written while {unsynced} is not on the disk"
-        else:
-            unsynced = letter
-    return f"{unsynced} is not on the disk at the end" if waits and unsynced else None
-
-
-def change(room, how="revert -f dump IMAGE"):
-    room.run(how)
-
-
-def nothing(room):
-    """No image and no text is there."""
-
-
-def image(room):
-    room.write("images/image", b"ABCDEFGH")
-
-
-def changes(count, undone=0):
-    def make(room):
-        image(room)
-        for _ in range(count):
-            change(room)
-        room.run(f"undo -k {undone} IMAGE")
-    return make
-
-
-def unfinished(text):
-    def make(room):
-        changes(1)(room)
-        room.write("texts/journal", text.encode(), "ab")
-    return make
-
-
-def first(text):
-    def make(room):
-        image(room)
-        room.write("texts/journal", text.replace("00000002", "00000001").encode())
-    return make
-
-
-def steps(count):
-    return NAMED + SETTLED + "JDRJ" * count
-
-
-# What is there, the command, its status, and what it syncs in order.
-COUNTS = [
-    ("a change of a new image", nothing, "revert -f dump IMAGE", 0, NAMED + SETTLED + FIRST + "JRDJ"),
-    ("a change", image, "revert -f dump IMAGE", 0, NAMED + SETTLED + FIRST + "JRDJ"),
-    ("a second change", changes(1), "revert -f dump IMAGE", 0, NAMED + SETTLED + "JRDJ"),
-    ("a change that gives up what was undone", changes(2, 1), "revert -f dump IMAGE", 0, NAMED + SETTLED + "JRDJ"),
-    ("a change by dd", image, "dd if=dump OF", 0, NAMED + SETTLED + FIRST + "JRDJ"),
-    ("a longer image by dd", image, "dd if=dump obs=1 seek=100 OF", 0, NAMED + SETTLED + FIRST + "JRDJ"),
-    ("an undo of none", changes(1), "undo -k 0 IMAGE", 0, steps(0)),
-    ("an undo", changes(1), "undo IMAGE", 0, steps(1) + FIRST),
-    ("an undo of three", changes(4), "undo -k 3 IMAGE", 0, steps(3)),
-    ("a redo of none", changes(2, 1), "redo -k 0 IMAGE", 0, steps(0)),
-    ("a redo", changes(1, 1), "redo IMAGE", 0, NAMED + SETTLED + FIRST + "JDRJ"),
-    ("a redo of three", changes(4, 4), "redo -k 3 IMAGE", 0, NAMED + SETTLED + FIRST + "JDRJ" * 3),
-    ("an entry that is dropped, and a refusal", unfinished(HEAD), "undo -k 9 IMAGE", 1, NAMED + SETTLED + "RJ"),
-    ("a change that is taken back, and a refusal", unfinished(HEAD + SAVED), "undo -k 9 IMAGE", 1, NAMED + SETTLED + "RDJ"),
-    ("a refused undo", changes(1), "undo -k 9 IMAGE", 1, NAMED),
-    ("a refused redo", changes(1), "redo IMAGE", 1, NAMED),
-    ("a bad dump", image, "revert -f bad IMAGE", 1, NAMED),
-    ("a log", changes(3), "log IMAGE", 0, ""),
-    ("a log that drops an entry", unfinished(HEAD), "log IMAGE", 0, NAMED + SETTLED + "RJ"),
-    ("a log that drops the first entry", first(HEAD), "log IMAGE", 0, NAMED + "JDJ" + FIRST),
-    ("a log that takes the first change back", first(HEAD + SAVED), "log IMAGE", 0, NAMED + "JDDJ" + FIRST),
-    ("a dump", image, "xxd images/image", 0, ""),
-    ("a copy to a stream", image, "dd if=images/image", 0, ""),
-    ("a change, -U", nothing, "revert -U -f dump IMAGE", 0, ""),
-    ("a change by dd, -U", image, "dd -U if=dump OF", 0, ""),
-    ("an undo of two, -U", changes(2), "undo -U -k 2 IMAGE", 0, ""),
-    ("a redo of two, -U", changes(2, 2), "redo -U -k 2 IMAGE", 0, ""),
-    ("a change that is taken back, -U", unfinished(HEAD + SAVED), "undo -U -k 0 IMAGE", 0, ""),
-    ("a log, -U", changes(1), "log -U IMAGE", 0, ""),
-    ("a look", changes(3), "show -k 3 IMAGE", 0, ""),
-    ("a look at an unfinished entry", unfinished(HEAD + SAVED), "show -k 0 IMAGE", 0, ""),
+# The folders and the three files, which a command that may write syncs first; and the first byte of a journal, which is on the
+# disk before the others, an undo or a redo, and a change.
+SETTLED, FIRST, STEP, CHANGED = "FIJDR", "J", "JDRJ", "JRDJ"
+# The changes that stand, those that are undone (none: no image), the text behind the journal, the command, its status, what it
+# syncs.
+ORDERS = [
+    (None, 0, "", "revert -f dump IMAGE", 0, SETTLED + FIRST + CHANGED),
+    (0, 0, "", "revert -f dump IMAGE", 0, SETTLED + FIRST + CHANGED),
+    (1, 0, "", "revert -f dump IMAGE", 0, SETTLED + CHANGED),
+    (2, 1, "", "revert -f dump IMAGE", 0, SETTLED + CHANGED),
+    (0, 0, "", "dd if=dump OF", 0, SETTLED + FIRST + CHANGED),
+    (0, 0, "", "dd if=dump obs=1 seek=100 OF", 0, SETTLED + FIRST + CHANGED),
+    (1, 0, "", "undo -k 0 IMAGE", 0, SETTLED),
+    (1, 0, "", "undo IMAGE", 0, SETTLED + STEP + FIRST),
+    (4, 0, "", "undo -k 3 IMAGE", 0, SETTLED + STEP * 3),
+    (2, 1, "", "redo -k 0 IMAGE", 0, SETTLED),
+    (1, 1, "", "redo IMAGE", 0, SETTLED + FIRST + STEP),
+    (4, 4, "", "redo -k 3 IMAGE", 0, SETTLED + FIRST + STEP * 3),
+    (1, 0, HEAD, "undo -k 9 IMAGE", 1, SETTLED + "RJ"),
+    (1, 0, HEAD + SAVED, "undo -k 9 IMAGE", 1, SETTLED + "RDJ"),
+    (1, 0, "", "undo -k 9 IMAGE", 1, "FI"),
+    (1, 0, "", "redo IMAGE", 1, "FI"),
+    (0, 0, "", "revert -f bad IMAGE", 1, "FI"),
+    (3, 0, "", "log IMAGE", 0, ""),
+    (1, 0, HEAD, "log IMAGE", 0, SETTLED + "RJ"),
+    (0, 0, HEAD, "log IMAGE", 0, "FIJDJ" + FIRST),
+    (0, 0, HEAD + SAVED, "log IMAGE", 0, "FIJDDJ" + FIRST),
+    (0, 0, "", "xxd images/image", 0, ""),
+    (0, 0, "", "dd if=images/image", 0, ""),
+    (None, 0, "", "revert -U -f dump IMAGE", 0, ""),
+    (0, 0, "", "dd -U if=dump OF", 0, ""),
+    (2, 0, "", "undo -U -k 2 IMAGE", 0, ""),
+    (2, 2, "", "redo -U -k 2 IMAGE", 0, ""),
+    (1, 0, HEAD + SAVED, "undo -U -k 0 IMAGE", 0, ""),
+    (1, 0, "", "log -U IMAGE", 0, ""),
+    (3, 0, "", "show -k 3 IMAGE", 0, ""),
+    (1, 0, HEAD + SAVED, "show -k 0 IMAGE", 0, ""),
 ]
 
+CHANGE, OTHER, THIRD, UNDO, REDO = revert((2, b"xy")), revert((6, b"z")), revert((0, b"q")), undo(1), redo(1)
 
-def count(bx):
-    """Compares the orders: how many are wrong."""
+
+def synced(*commands):
+    return [(command, {}) for command in commands]
+
+
+def unsynced(*commands):
+    return [(command, {"unsynced": True}) for command in commands]
+
+
+def killed(command, until, is_unsynced=False):
+    return [(command, {"until": until, "unsynced": is_unsynced})]
+
+
+BOTH, UNDONE, TWO_UNDONE = synced(CHANGE, OTHER), synced(CHANGE, UNDO), synced(CHANGE, OTHER) + unsynced(undo(2))
+# What a sync puts on the disk, the commands before, the command, the sync by the name that Session.run gives it. Where it is left
+# out something is lost, but of those in SAFE.
+LEFT_OUT = [
+    ("the names of the texts", [], CHANGE, "F:0"),
+    ("the name of an image that is made", [], CHANGE, "I:0"),
+    ("before a change: the journal", killed(CHANGE, "J:3"), OTHER, "J:0"),
+    ("before a change: the image", unsynced(CHANGE), OTHER, "D:0"),
+    ("before a change: the redo file", synced(CHANGE) + unsynced(UNDO), OTHER, "R:0"),
+    ("a change: the journal, behind its first byte", [], CHANGE, "J:1"),
+    ("a change: the journal, behind its save line", [], CHANGE, "J:2"),
+    ("a change: the redo file, emptied", UNDONE, OTHER, "R:1"),
+    ("a change: the image", [], CHANGE, "D:1"),
+    ("a change: the journal, behind its end line", [], CHANGE, "J:3"),
+    ("before an undo: the journal", unsynced(CHANGE, OTHER), UNDO, "J:0"),
+    ("before an undo: the image", unsynced(CHANGE, OTHER), UNDO, "D:0"),
+    ("before an undo: the redo file", BOTH + unsynced(UNDO), UNDO, "R:0"),
+    ("an undo: the journal, cut behind its save line", synced(CHANGE), UNDO, "J:1"),
+    ("an undo: the image", synced(CHANGE), UNDO, "D:1"),
+    ("an undo: the redo file", synced(CHANGE), UNDO, "R:1"),
+    ("an undo: the journal, cut behind its first byte", synced(CHANGE), UNDO, "J:2"),
+    ("an undo: the journal, cut before the entry", synced(CHANGE), UNDO, "J:3"),
+    ("before a redo: the redo file", TWO_UNDONE, REDO, "R:0"),
+    ("before a redo: the image", TWO_UNDONE, REDO, "D:0"),
+    ("before a redo: the journal", TWO_UNDONE, REDO, "J:0"),
+    ("a redo: the journal, behind its first byte", UNDONE, REDO, "J:1"),
+    ("a redo: the journal, behind its save line", UNDONE, REDO, "J:2"),
+    ("a redo: the image", UNDONE, REDO, "D:1"),
+    ("a redo: the redo file, cut", UNDONE, REDO, "R:1"),
+    ("a redo: the journal, behind its end line", UNDONE, REDO, "J:3"),
+    ("before an opening recovers: the journal", killed(CHANGE, "J:2"), LOG, "J:0"),
+    ("before an opening recovers: the image", synced(CHANGE) + unsynced(OTHER) + killed(THIRD, "W:2", True), LOG, "D:0"),
+    ("before an opening recovers: the redo file", synced(CHANGE) + unsynced(UNDO) + killed(OTHER, "W:1", True), LOG, "R:0"),
+    ("an opening recovers: the redo file, emptied", UNDONE + killed(OTHER, "W:1"), LOG, "R:1"),
+    ("an opening recovers: the image", killed(CHANGE, "D:1"), LOG, "D:1"),
+    ("an opening recovers: the journal, cut behind its first byte", killed(CHANGE, "D:1"), LOG, "J:1"),
+    ("an opening recovers: the journal, cut", killed(CHANGE, "D:1"), LOG, "J:2"),
+]
+SAFE = ("before an opening recovers: the redo file", "an opening recovers: the journal, cut")
+
+
+def wrong_in(calls):
+    """What is wrong with the order of writes and syncs; none where it is right."""
+    left, is_named = "", False
+    for what, letter, *_ in calls:
+        if what == "sync":
+            is_named, left = is_named or letter == "F", left.replace(letter, "")
+        elif what != "name":
+            if not is_named:
+                return f"{letter} is written before the folder of the texts is synced"
+            if left not in ("", letter):
+                return f"{letter} is written while {left} is not on the disk"
+            left = letter
+    return f"{left} is not on the disk at the end" if left else None
+
+
+def orders(_judge, _options):
+    """The orders of syncs: how many are wrong."""
     bad = 0
-    for name, make, words, status, order in COUNTS:
-        with tempfile.TemporaryDirectory() as path:
-            room = Room(bx, path)
-            make(room)
-            found, calls = room.calls(words)
-        wrong = wrong_in(calls, " -U " not in words)
-        if found != status:
-            wrong = f"status {found}"
-        elif order_of(calls) != order:
-            wrong = f"synced {order_of(calls) or 'nothing'}, and not {order or 'nothing'}"
+    for changes, undone, behind, words, status, order in ORDERS:
+        with folder() as path:
+            room = Room(path)
+            for name, text in (("dump", "00000002: 7879\n"), ("bad", "none\n")):
+                write(room.place(name), text)
+            room.put((None if changes is None else IMAGE,))
+            for command in ["revert -f dump IMAGE"] * (changes or 0) + [f"undo -k {undone} IMAGE"] * bool(changes):
+                room.run(command)
+            if behind:
+                image, journal, redo_text = room.get()
+                room.put((image, (journal or b"") + (behind if journal else behind.replace("00000002", "00000001")).encode(),
+                          redo_text))
+            done, calls = room.trace(words)
+        found = "".join(letter for what, letter, *_ in calls if what == "sync")
+        wrong = None if " -U " in words else wrong_in(calls)
+        if found != order:
+            wrong = f"synced {found or 'nothing'}, and not {order or 'nothing'}"
+        wrong = f"status {done.status}" if done.status != status else wrong
         bad += bool(wrong)
-        print(f"{'WRONG' if wrong else 'ok   '} {name} ({wrong or f'{len(order)} syncs'})")
-    print(f"{len(COUNTS) - bad} of {len(COUNTS)} commands sync in order")
+        say(not wrong, f"{changes} changes, {undone} undone{', one unfinished' * bool(behind)}: {words}",
+            wrong or f"{len(order)} syncs")
+    print(f"{len(ORDERS) - bad} of {len(ORDERS)} commands sync in order")
     return bad
 
 
+def some_bytes(rng, most):
+    return rng.randbytes(rng.randint(1, most))
+
+
+def some_change(rng, image, most, count):
+    """A dump of some pieces, or a dd of as many bytes."""
+    if rng.randrange(3):
+        return revert(*[(rng.randint(0, len(image) + 4), some_bytes(rng, most)) for _ in range(rng.randint(1, count))])
+    return dd(rng.randint(0, len(image) + 4), some_bytes(rng, most * count), rng.randrange(2) == 0)
+
+
+def some_command(rng, state, most, count):
+    """A command that is accepted, mostly."""
+    changes, undone, how = len(state.stack) - 1, len(state.undone), rng.randrange(8)
+    if how < 3 and changes:
+        return undo(rng.randint(1, min(3, changes)))
+    if how < 5 and undone:
+        return redo(rng.randint(1, min(3, undone)))
+    return some_change(rng, state.stack[0], most, count) if how < 7 else rng.choice([LOG, REFUSED, undo(0), redo(0)])
+
+
+def replayed(judge, rng, options):
+    """A random session. The first command is a change that isn't killed and waits for the disk: no later one syncs the name of
+    an image that it made, and an opening syncs no names."""
+    with folder() as path:
+        image = None if rng.randrange(5) == 0 else rng.randbytes(rng.randint(0, 40))
+        session = Session(judge, Room(path), rng, options.limit, image)
+        session.run(some_change(rng, session.state.stack[0], 20, 3))
+        for _ in range(rng.randint(5, 8)):
+            command, how = some_command(rng, session.state, 20, 3), rng.randrange(8)
+            until = rng.choice([None, rng.choice("FIJDRW") + ":" + rng.choice("0122")]) if how < 2 else None
+            session.run(command, unsynced=how == 0, until=until)
+            if how == 2:
+                session.lose()
+    return session
+
+
+def mounted(judge, rng, _options, is_unsynced=False):
+    """A random session on images of some pages, on the file system."""
+    with folder() as path:
+        os.mkdir(path / "mounted")
+        with Mount(str(path / "mounted"), str(path / "told")) as mount:
+            session = CachedSession(judge, mount, rng.randbytes(rng.randint(0, 20000)))
+            for _ in range(rng.randint(5, 8)):
+                session.run(some_command(rng, session.state, 450, 20), is_unsynced)
+    return session
+
+
+def show(lost):
+    """A content that is lost."""
+    words, content, found, states = lost
+    return "\n      ".join([words, *(f"{name} {held!r}" for name, held in zip(("image", "journal", "redo file"), content)),
+                            str(found),
+                            f"not one of {states}"])
+
+
+def sessions(judge, options, play, name="session"):
+    """Plays random sessions: how many contents are lost."""
+    lost = commands = moments = opened = 0
+    for number in range(options.sessions):
+        session = play(judge, random.Random(f"{options.seed} {number}"), options)
+        lost, commands, moments = lost + len(session.lost), commands + session.commands, moments + session.moments
+        if "-U" not in name:
+            say(not session.lost, f"{name} {number}", f"{session.commands} commands, {len(judge.seen) - opened} contents")
+            print(*map(show, session.lost[:1]), sep="\n      ", end="\n" if session.lost else "")
+        opened = len(judge.seen)
+    recovered = sum(found.recovered is True for found in judge.seen.values())
+    print(f"{options.sessions} of {name}, {commands} commands, {moments} moments, {opened} contents ({recovered} recovered): "
+          f"{lost or 'none'} lost", flush=True)
+    return lost
+
+
+def is_lost(judge, options, row, without):
+    """Whether the commands of a row lose something, with a sync left out or with none."""
+    what, before, command, _ = row
+    with folder() as path:
+        image = None if what == "the name of an image that is made" else IMAGE
+        session = Session(judge, Room(path), random.Random(options.seed), 4 * options.limit, image)
+        for one, how in before:
+            session.run(one, **how)
+        session.run(command, left_out=without)
+    return bool(session.lost)
+
+
+def replay(judge, options):
+    """Sessions under strace, and each sync left out: how many contents are lost, and how many syncs are not as known."""
+    wrong = sessions(judge, options, replayed)
+    for row in LEFT_OUT:
+        lost_with, lost = is_lost(judge, options, row, None), is_lost(judge, options, row, row[-1])
+        is_known = lost == (row[0] not in SAFE) and not lost_with
+        wrong += not is_known
+        say(is_known, f"without the sync of {row[0]}", f"{'' if lost else 'nothing '}lost{', and with it too' * lost_with}")
+    print(f"{len(LEFT_OUT)} syncs left out, one at a time")
+    return wrong
+
+
+def cache(judge, options):
+    """Sessions on the file system, and with -U: whether something is lost, or nothing where it should be."""
+    why = "not root" if os.getuid() else None if os.path.exists("/dev/fuse") else "the kernel has no /dev/fuse"
+    try:
+        with folder() as path:
+            if not why:
+                os.mkdir(path / "mounted")
+                with Mount(str(path / "mounted"), str(path / "told")):
+                    pass
+    except OSError as error:
+        why = f"no file system can be mounted: {error.strerror}"
+    if why:
+        left_out(f"losses of power under a file system of its own ({why})")
+        return 0
+    wrong = sessions(judge, options, mounted, "session on the page cache")
+    unlost = not sessions(judge, options, lambda *words: mounted(*words, True), "session with -U")
+    say(not unlost, "with -U something is lost")
+    return wrong + unlost
+
+
+CHECKS = {"orders": orders, "replay": replay, "cache": cache}
+
+
 def main():
-    parser = argparse.ArgumentParser(description=__doc__.split("\n", maxsplit=1)[0])
-    parser.add_argument("--counts", action="store_true", required=True, help="the order of the syncs of each command")
-    parser.add_argument("--bx", default="./bx")
-    path = os.path.abspath(parser.parse_args().bx)
-    if not shutil.which("strace"):
-        print("strace is not installed")
-        sys.exit(2)
-    sys.exit(1 if count(path) else 0)
+    options = asked(__doc__, ("--sessions", {"type": int, "default": 30}), ("--seed", {"type": int, "default": 1}),
+                    ("--limit", {"type": int, "default": 20, "help": "contents at a moment, about"}),
+                    ("--jobs", {"type": int, "default": os.cpu_count()}), ("checks", {"nargs": "*", "choices": [[], *CHECKS]}))
+    wrong = 0
+    for name in options.checks or CHECKS:
+        if name != "cache" and not shutil.which("strace"):
+            left_out(f"{name} (strace is not installed)")
+            continue
+        with tempfile.TemporaryDirectory() as path:
+            wrong += CHECKS[name](Judge(options.jobs, path), options)
+    sys.exit(1 if wrong else 0)
 
 
 if __name__ == "__main__":

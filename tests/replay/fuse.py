@@ -1,13 +1,18 @@
 """A file system in memory, which the kernel reaches by FUSE and whose writes wait in the kernel's page cache. It tells what
-reaches it: each name, write, length and sync, in order. Folders can't be listed, and there are no links."""
+reaches it: each name, write, length and sync, in order. Folders can't be listed, and there are no links. And sessions on it."""
 import ctypes
 import errno
+import itertools
 import os
 import pickle
 import signal
 import stat
 import struct
 import time
+
+from common import cut
+from replay.room import PLACES, Room
+from replay.session import Watched
 
 LOOKUP, FORGET, GETATTR, SETATTR, MKDIR, UNLINK, OPEN, READ, WRITE, STATFS = 1, 2, 3, 4, 9, 10, 14, 15, 16, 17
 RELEASE, FSYNC, FLUSH, INIT, OPENDIR, RELEASEDIR, FSYNCDIR, CREATE = 18, 20, 25, 26, 27, 29, 30, 35
@@ -34,9 +39,6 @@ class Node:
 
     def entry(self):
         return struct.pack("=4Q2I", self.number, 0, LONG, LONG, 0, 0) + self.attributes()
-
-    def answer(self):
-        return struct.pack("=QII", LONG, 0, 0) + self.attributes()
 
 
 class Server:
@@ -114,14 +116,14 @@ class Server:
             if valid & SIZE:
                 node.data = node.data[:size].ljust(size, b"\0")
                 self.tell("length", node.path, size)
-        return node.answer()
+        return struct.pack("=QII", LONG, 0, 0) + node.attributes()
 
     def moved(self, code, node, body):
         _, at, size = struct.unpack_from("=QQI", body)
         if code == READ:
             return bytes(node.data[at:at + size])
         data = body[40:40 + size]
-        node.data[:] = node.data[:at].ljust(at, b"\0") + data + node.data[at + size:]
+        node.data[:] = cut(node.data, at, data)
         self.tell("write", node.path, at, data)
         return struct.pack("=II", size, 0)
 
@@ -163,3 +165,56 @@ class Mount:
             LIBC.umount2(self.path.encode(), DETACH)
         os.kill(self.server, signal.SIGKILL)
         os.waitpid(self.server, 0)
+
+
+class Store:
+    """Image, journal and redo file as the file system has them, and which of their names may be lost."""
+
+    def __init__(self):
+        self.files, self.loose = {letter: None for letter in "DJR"}, set()
+
+    def play(self, what, path, *words):
+        """Whether a request changed one of the three, and which it was."""
+        letter = PLACES.get(path)
+        if what == "sync":
+            self.loose -= set({"F": "JR", "I": "D"}.get(letter, ""))
+        if letter not in self.files or what == "sync":
+            return False
+        data = self.files[letter] or b""
+        if what == "name":
+            self.files[letter] = b"" if words[0] else None
+            self.loose.add(letter)
+        else:
+            self.files[letter] = cut(data, *words) if what == "write" else data[:words[0]].ljust(words[0], b"\0")
+        return True
+
+    def contents(self):
+        """What a loss of power may leave."""
+        return [tuple(None if letter in lost else data for letter, data in self.files.items())
+                for count in range(len(self.loose) + 1) for lost in itertools.combinations(sorted(self.loose), count)]
+
+
+class CachedSession(Watched):
+    """The commands run on the file system, and the power is lost after each request that reaches it."""
+
+    def __init__(self, judge, mount, image):
+        super().__init__(judge, Room(mount.path), image)
+        self.mount, self.store = mount, Store()
+        self.room.put((image,))
+        os.sync()
+        for what in mount.news():
+            self.store.play(*what)
+        self.store.loose.clear()
+
+    def run(self, command, unsynced):
+        steps = command.steps(self.state)
+        self.mount.news()
+        self.answers(command, unsynced, lambda *words, **how: (self.room.run(*words, **how), None))
+        for what in self.mount.news():
+            if self.store.play(*what):
+                self.look(command.words, self.store.contents(), steps)
+        self.state = steps[-1]
+        if not unsynced:
+            self.look(command.words, self.store.contents(), steps[-1:], True)
+            if self.room.get() != tuple(self.store.files.values()):
+                raise ValueError(f"{command.words}: something stayed in the page cache")

@@ -1,52 +1,66 @@
-"""What bx finds of image, journal and redo file, and whether that is what was to be found."""
+"""The commands that are replayed and the images that each leads to; and what bx finds of image, journal and redo file, by opening
+them, beside what was to be found."""
 import collections
 import concurrent.futures
 import os
 import queue
 
-from power import Room
+from common import cut
+from replay.room import Room
 
-FILES = ("images/image", "texts/journal", "texts/journal.redo")
 # A stack of images, the newest first, and those that were undone, the one that is redone next first.
 State = collections.namedtuple("State", "stack undone")
+# Words, what stands in the file `input`, the states behind none, one .. and all of its steps, and the exit status.
+Command = collections.namedtuple("Command", "words input steps status", defaults=(0,))
 # What bx finds: a fault; or how many changes, the image, whether it recovered, the first image, how many are undone, the last.
 Found = collections.namedtuple("Found", "fault count image recovered first undone last", defaults=(None,) * 6)
 
 
-def put(room, content):
-    """Writes a content into the files of a room."""
-    for name, held in zip(FILES, content):
-        if held is not None:
-            room.write(name, held)
-        elif os.path.exists(room.place(name)):
-            os.remove(room.place(name))
+def change(words, data, base, pieces):
+    """A change of the image's length, where `base` isn't None, and of pieces at their places."""
+    def steps(state):
+        image = state.stack[0] if base is None else state.stack[0][:base].ljust(base, b"\0")
+        for at, piece in pieces:
+            image = cut(image, at, piece)
+        return [state, State((image, *state.stack), ())]
+    return Command(words, data, steps)
 
 
-def get(room):
-    """The content of the files of a room."""
-    held = []
-    for name in FILES:
-        try:
-            with open(room.place(name), "rb") as file:
-                held.append(file.read())
-        except FileNotFoundError:
-            held.append(None)
-    return tuple(held)
+def revert(*pieces):
+    return change("revert -f input IMAGE", "".join(f"{at:08x}: {data.hex()}\n" for at, data in pieces).encode(), None, pieces)
 
 
-def undone_in(redo):
-    return sum(line.startswith(b"done2 ") for line in (redo or b"").split(b"\n"))
+def dd(at, data, keep):
+    return change(f"dd if=input obs=1 seek={at}{' conv=notrunc' if keep else ''} OF", data, None if keep else at, [(at, data)])
+
+
+def undo(count):
+    return Command(f"undo -k {count} IMAGE", b"",
+                   lambda s: [State(s.stack[i:], s.stack[:i][::-1] + s.undone) for i in range(count + 1)])
+
+
+def redo(count):
+    return Command(f"redo -k {count} IMAGE", b"",
+                   lambda s: [State(s.undone[:i][::-1] + s.stack, s.undone[i:]) for i in range(count + 1)])
+
+
+LOG = Command("log IMAGE", b"", lambda s: [s])
+REFUSED = Command("undo -k 999 IMAGE", b"", lambda s: [s], 1)
+
+
+def undone_in(redo_text):
+    return sum(line.startswith(b"done2 ") for line in (redo_text or b"").split(b"\n"))
 
 
 class Judge:
     """Opens contents by bx, several at once and each but once."""
 
-    def __init__(self, bx, jobs, path):
-        self.bx, self.seen, self.led, self.rooms = bx, {}, {}, queue.SimpleQueue()
+    def __init__(self, jobs, path):
+        self.seen, self.led, self.rooms = {}, {}, queue.SimpleQueue()
         self.pool = concurrent.futures.ThreadPoolExecutor(jobs)
         for i in range(jobs):
             os.mkdir(os.path.join(path, str(i)))
-            self.rooms.put(Room(bx, os.path.join(path, str(i))))
+            self.rooms.put(Room(os.path.join(path, str(i))))
 
     def found(self, several):
         """What is found of each content."""
@@ -55,42 +69,35 @@ class Judge:
         return [self.seen[content] for content in several]
 
     def open(self, content):
+        """What `bx log` finds. It refuses without an image or a journal: where the journal has nothing, no change is known."""
+        image, journal, redo_text = content
+        if not journal and None in (image, journal):
+            return Found(None, 0, image or b"", False, image or b"", undone_in(redo_text))
         room = self.rooms.get()
         try:
-            return self.opened(room, content)
+            room.put(content)
+            log = room.run("log -U IMAGE")
+            if log.status:
+                return Found(log.err.strip())
+            left, count = room.get(), log.out.count(b"\n")
+            if left not in self.led:
+                self.led[left] = lead(room, left, count)
+            return self.led[left]._replace(recovered="recovered" in log.err)
         finally:
             self.rooms.put(room)
 
-    def opened(self, room, content):
-        """What `bx log` finds. It refuses without an image or a journal: where the journal has nothing, no change is known."""
-        image, journal, redo = content
-        if not journal and None in (image, journal):
-            return Found(None, 0, image or b"", False, image or b"", undone_in(redo))
-        put(room, content)
-        log = room.run("log -U IMAGE")
-        if log.returncode:
-            return Found(log.stderr.strip())
-        left, count = get(room), len(log.stdout.splitlines())
-        if left not in self.led:
-            self.led[left] = lead(room, left, count)
-        return self.led[left]._replace(recovered="recovered" in log.stderr)
-
 
 def lead(room, left, count):
-    """Where all undos lead from what was opened and has so many changes, and all redos behind them."""
-    image, _, redo = left
-    undone, first, last = undone_in(redo), image, None
-    if count:
-        done = room.run(f"undo -U -k {count} IMAGE")
-        if done.returncode:
-            return Found(f"undo -k {count}: {done.stderr.strip()}")
-        first = get(room)[0]
-    if undone:
-        done = room.run(f"redo -U -k {count + undone} IMAGE")
-        if done.returncode:
-            return Found(f"redo -k {count + undone}: {done.stderr.strip()}")
-        last = get(room)[0]
-    return Found(None, count, image, False, first, undone, last)
+    """Where all undos lead from what was opened and has this count of changes, and all redos behind them."""
+    image, _, redo_text = left
+    ends, undone = [image, None], undone_in(redo_text)
+    for at, (word, steps) in enumerate((("undo", count), ("redo", undone and count + undone))):
+        if steps:
+            done = room.run(f"{word} -U -k {steps} IMAGE")
+            if done.status:
+                return Found(f"{word} -k {steps}: {done.err.strip()}")
+            ends[at] = room.get()[0]
+    return Found(None, count, image, False, ends[0], undone, ends[1])
 
 
 def fits(found, state, answered):

@@ -1,66 +1,67 @@
-"""Commands one after another on one image, run under strace, and what a loss of power may leave at each moment."""
+"""Commands one after another on one image, and what a loss of power may leave at each moment."""
 import collections
-import os
 
-from replay.calls import OTHERS, TRACED, Disk, calls_of
-from replay.judge import State, fits, get, put
+from replay.judge import State, fits
 from replay.losses import found_together
+from replay.room import Disk
 
 # How many contents are opened at once.
 BATCH = 32
 
 
-class Session:
-    """Commands one after another on one image, and what a loss of power may leave of them."""
+class Watched:
+    """A session: its room, the state that it is in, and the contents that are lost."""
 
-    def __init__(self, judge, room, rng, limit, image):
-        self.judge, self.room, self.rng, self.limit = judge, room, rng, limit
-        self.disk, self.state = Disk(image), State((image or b"",), ())
-        # What may be found before a command writes; nothing is said of that behind a command with -U.
-        self.may = [self.state]
-        self.lost, self.fitting, self.commands, self.moments = [], [], 0, 0
-        put(room, self.disk.now())
+    def __init__(self, judge, room, image):
+        self.judge, self.room, self.state = judge, room, State((image or b"",), ())
+        self.lost, self.commands, self.moments = [], 0, 0
 
-    def look(self, words, states, answered=False):
-        """Looks at what may be found now, up to the first content that is lost."""
-        if self.lost or not states:
-            return
-        self.moments += 1
-        several = found_together(self.disk.files.values(), self.limit, self.rng)
-        for batch in (several[i:i + BATCH] for i in range(0, len(several), BATCH)):
+    def answers(self, command, unsynced, how):
+        """Runs a command in a way of its own, which gives what it answers and something more: the latter."""
+        self.commands += 1
+        done, more = how(command.words, command.input, unsynced=unsynced)
+        if done.status != command.status:
+            raise ValueError(f"{command.words}: {done.err}")
+        return more
+
+    def look(self, words, contents, states, answered=False):
+        """Looks at what may be found now, up to the first content that is lost: what was found that fits, with its state."""
+        self.moments, fitting = self.moments + 1, []
+        for batch in (contents[i:i + BATCH] for i in range(0, len(contents), BATCH)):
             for content, found in zip(batch, self.judge.found(batch)):
                 state = next((state for state in states if fits(found, state, answered)), None)
                 if state is None:
                     self.lost.append((words, content, found, states))
-                    return
-                self.fitting.append((content, State(state.stack, ()) if found.recovered else state))
+                    return fitting
+                fitting.append((content, State(state.stack, ()) if found.recovered else state))
+        return fitting
 
-    def trace(self, command, unsynced):
-        """Runs a command under strace: its calls."""
-        path = self.room.place("trace")
-        self.room.write("input", command.input)
-        words = command.words.replace(" ", " -U ", 1) if unsynced else command.words
-        strace = ("strace", "-f", "-y", "-xx", "-s", "1000000", "-o", path, "-e", "trace=" + ",".join(TRACED + OTHERS))
-        done = self.room.run(words, strace)
-        if done.returncode != command.status:
-            raise ValueError(f"{words}: {done.stderr}")
-        with open(path, encoding="ascii") as lines:
-            return list(calls_of(lines, os.path.realpath(self.room.path)))
+
+class Session(Watched):
+    """The commands run under strace, and their calls are replayed on a disk that loses what wasn't synced."""
+
+    def __init__(self, judge, room, rng, limit, image):
+        super().__init__(judge, room, image)
+        self.rng, self.limit, self.disk = rng, limit, Disk(image)
+        # What may be found before a command writes; nothing is said of that behind a command with -U.
+        self.may, self.fitting = [self.state], []
+        room.put(self.disk.now())
+
+    def lose_here(self, words, states, answered=False):
+        if states and not self.lost:
+            self.fitting += self.look(words, found_together(self.disk.files.values(), self.limit, self.rng), states, answered)
 
     def run(self, command, unsynced=False, until=None, left_out=None):
         """A command, killed before the call `until`. The sync `left_out` is left out of what is replayed. A sync is named by
         its file and its number among those of the file, as J:0, and a call that writes by its number alone, as W:0."""
-        steps, self.fitting = command.steps(self.state), []
-        calls = self.trace(command, unsynced)
-        self.commands += 1
-        seen = collections.Counter()
-        for what, letter, *words in calls:
+        steps, self.fitting, seen = command.steps(self.state), [], collections.Counter()
+        for what, letter, *words in self.answers(command, unsynced, self.room.trace):
             kind = letter if what == "sync" else "N" if what == "name" else "W"
             here = f"{kind}:{seen[kind]}"
             if here == until:
                 break
             if what == "sync" and not unsynced:
-                self.look(command.words, steps if seen["W"] else self.may)
+                self.lose_here(command.words, steps if seen["W"] else self.may)
             if here != left_out:
                 self.disk.play(what, letter, *words)
             seen[kind] += 1
@@ -73,7 +74,7 @@ class Session:
 
     def kill(self, steps, wrote, unsynced):
         """The command was killed here: the next one finds what was written up to now."""
-        put(self.room, self.disk.now())
+        self.room.put(self.disk.now())
         [found] = self.judge.found([self.disk.now()])
         state = next((state for state in steps if fits(found, state, False)), None)
         if state is None:
@@ -84,16 +85,16 @@ class Session:
 
     def answer(self, words, state, wrote, unsynced):
         """The command has answered."""
-        if get(self.room) != self.disk.now():
+        if self.room.get() != self.disk.now():
             raise ValueError(f"{words}: the files differ from what was replayed")
         self.state = state
         if unsynced:
             self.may = None if wrote else self.may
         elif wrote or self.disk.is_settled():
-            self.look(words, [state], True)
+            self.lose_here(words, [state], True)
             self.may = [state]
         else:
-            self.look(words, self.may)
+            self.lose_here(words, self.may)
 
     def lose(self):
         """The power is lost in the last command, and one of the contents that may be found is gone on with."""
@@ -101,4 +102,4 @@ class Session:
         if found:
             content, self.state = self.rng.choice(found)
             self.disk, self.may = Disk(*content), [self.state]
-            put(self.room, content)
+            self.room.put(content)
