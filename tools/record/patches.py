@@ -1,9 +1,8 @@
 """Pairs of images, and the patches between them, beside what `cmp -l` says of the same files.
 
-A patch is made here by the sentences of `docs/FORMATS.md` ("Patches"), and before
-a case is written its lines have to name each address that `cmp -l` prints, with both bytes, each one behind the end of the shorter
-image, and no other. Those of `-v` have to have them too, and no row without one.
-"""
+A patch is made here by the sentences of `docs/FORMATS.md` ("Patches"), and before a case is written its lines have to name each
+address that `cmp -l` prints, with both bytes, each one behind the end of the shorter image, and no other. Those of `-v` have to
+have them too, and no row without one."""
 import hashlib
 import random
 import subprocess
@@ -124,7 +123,38 @@ def drawn(rng):
     return Image(*old), Image(*new)
 
 
+def named(text):
+    """What the lines of a patch name: the lengths, and for each sign the byte at each address."""
+    head, *lines = text.decode().splitlines() or [""]
+    found = {"-": {}, "+": {}}
+    for line in lines:
+        at, rest = line[1:].split(": ", 1)
+        data = bytes.fromhex(rest[:40].replace(" ", ""))
+        found[line[0]].update(zip(range(int(at, 16), int(at, 16) + len(data)), data))
+    return head, found
+
+
+def differ(options):
+    """How many patches of pairs bx writes else, which were found beside `cmp -l`."""
+    rng, bad = random.Random(options.seed), 0
+    pairs = [pair[1:] for pair in chosen()] + [drawn(rng) for _ in range(200)]
+    with tempfile.TemporaryDirectory() as name:
+        for old, new in pairs:
+            check(Path(name), old.bytes, new.bytes)
+            for rows in (False, True):
+                done = subprocess.run([options.bx, "diff", *["-v"] * rows, "old", "new"], cwd=name, capture_output=True,
+                                      check=False)
+                lines, bytes_ = patch(old.bytes, new.bytes, rows)
+                is_same = (done.returncode, done.stderr, named(done.stdout)) == (0, b"", (lines[0] if lines else "", bytes_))
+                bad += not is_same
+                print(*([] if is_same else [f"diff of {old.text} and {new.text}, rows {rows}"]), sep="\n", end="")
+    print(f"patches: {len(pairs)} pairs, {bad} differ")
+    return bad > 0
+
+
 def run(options):
+    if options.bx:
+        return differ(options)
     rng = random.Random(options.seed)
     out = ["# Patches between two images. tools/cases.py wrote this file.", "kind: patches"]
     with tempfile.TemporaryDirectory() as name:

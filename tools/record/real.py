@@ -1,5 +1,6 @@
 """What the real tools do, and what they say of themselves."""
 import os
+import pathlib
 import re
 import subprocess
 import sys
@@ -42,14 +43,25 @@ class Tools:
 
     def record_onto(self, case):
         """What dd makes of an image."""
-        path = os.path.join(self.folder, "image")
-        with open(path, "wb") as image:
-            image.write(case.image)
-        output, said, status = self.run([case.tool, *case.words, "of=image"], case.data)
-        with open(path, "rb") as image:
-            case.made = image.read()
+        case.made, (output, said, status) = self.onto(case.image, [case.tool, *case.words], case.data)
         case.records = told_records(said)
         return self.confirm(case, status == 0 and not output, said)
+
+    def image(self):
+        return pathlib.Path(self.folder, "image")
+
+    def onto(self, image, words, data):
+        """What a command makes of an image, and what it says."""
+        self.image().write_bytes(image)
+        done = self.run([*words, "of=image"], data)
+        return self.image().read_bytes(), done
+
+    def undone(self, bx):
+        """The image once bx has taken its change back, without its texts."""
+        self.run([bx, "undo", "image"], b"")
+        for end in (".bxj", ".bxj.redo"):
+            os.remove(f"{self.image()}{end}")
+        return self.image().read_bytes()
 
     @staticmethod
     def confirm(case, is_right, said):

@@ -4,7 +4,7 @@ Each option is drawn alone, in pairs and in threes, with values and inputs from 
 begins with the seed: the same seed and tools give the same files. Inputs of each length up to 66, and of some that are
 longer, are dumped with few options; the forms of od and hexdump whose lines have code of their own dump lines of each
 length. dd converts each front of a text, and is run onto images too, as cases of commands. The head of
-each file has its tool and version. With --bx nothing is written, but the cases of words are run by
+each file TOOL.cases has its tool and version. With --bx nothing is written, but the cases of words are run by
 a program bx that was built, and each difference is printed.
 
 The expected output, counts and success come from the real tool. What is drawn keeps to the options on which man/bx.1
@@ -25,7 +25,6 @@ Words that a tool refuses are drawn from a list. The tool says there that it ref
 the fault's text and its status are those of docs/FORMATS.md, "Faults", which the list has, and the case's source says so.
 """
 import itertools
-import os
 import random
 import re
 import tempfile
@@ -370,10 +369,13 @@ def file_lines(tool, kind, seed, cases):
 # The same words by bx.
 
 def differs(tools, bx, case):
-    """What bx does else, or None."""
-    output, said, status = tools.run([bx, case.tool, *case.words], case.data or b"")
+    """What bx does else, or None. A transfer onto an image is undone, too."""
+    onto = tools.onto(case.image, [bx, case.tool, *case.words], case.data) if case.image is not None else None
+    output, said, status = onto[1] if onto else tools.run([bx, case.tool, *case.words], case.data or b"")
     wanted = 0 if not case.fault else 2 if case.fault == BAD else 1
     same = output == case.output and status == wanted
+    if onto:
+        same = same and onto[0] == case.made and tools.undone(bx) == case.image
     if case.fault:
         same = same and said == f"bx: {case.fault}\n"
     elif case.tool == "dd":
@@ -404,7 +406,7 @@ def run(options):
         for name, kind, tool, maker in FILES:
             cases = recorded(tools, name, tool, maker, options.seed)
             if options.bx:
-                found = [differs(tools, os.path.abspath(options.bx), case) for case in cases if case.image is None]
+                found = [differs(tools, options.bx, case) for case in cases]
                 bad += sum(map(bool, found))
                 print(*filter(None, found), f"{name}: {len(cases)} cases", sep="\n")
             else:
