@@ -1,5 +1,5 @@
 #!/usr/bin/python3
-"""Draws what bench/run.sh measured, and writes its numbers into docs/SPEED.md.
+"""Draws what bench/run.py measured, and writes its numbers into docs/SPEED.md.
 
 Usage: bench/plot.py [RUN [PAGE [PICTURE]]]
 
@@ -51,10 +51,12 @@ def table(rows):
     lines = []
     for group in dict.fromkeys(row["group"] for row in rows):
         lines += ["", f"### {group[0].upper()}{group[1:]}", "",
-                  "| `bx` | Beside | `bx`, ms | There, ms | Times as fast | `cat` of the text, ms | `bx`, MiB | There, MiB | Same bytes |",
+                  "| `bx` | Beside | `bx`, ms | There, ms | Times as fast | `cat` of the text, ms | `bx`, MiB | There, MiB | "
+                  "Same bytes |",
                   "|---|---|---:|---:|---:|---:|---:|---:|---|"]
         for row in (row for row in rows if row["group"] == group):
-            said = [cell(row["name"]), cell(row["beside"]), milliseconds(row["ours"]), milliseconds(row["there"]), times(row["ratio"]),
+            said = [cell(row["name"]), cell(row["beside"]), milliseconds(row["ours"]), milliseconds(row["there"]),
+                    times(row["ratio"]),
                     milliseconds(row["cat"]), mebibytes(row["our_memory"]), mebibytes(row["their_memory"]),
                     "" if row["same"] == "-" else row["same"]]
             lines.append(f"| {' | '.join(said)} |")
@@ -79,7 +81,8 @@ def draw(rows, picture):
     axes.set_yticks(list(places), [f"{row['name']}   beside   {row['beside']}" for row in shown])
     axes.set_ylim(-0.7, len(shown) - 0.3)
     for place, row in zip(places, shown):
-        axes.annotate(times(row["ratio"]), (row["ratio"], place), xytext=(4 if row["ratio"] >= 1 else -4, 0), textcoords="offset points",
+        axes.annotate(times(row["ratio"]), (row["ratio"], place), xytext=(4 if row["ratio"] >= 1 else -4, 0),
+                      textcoords="offset points",
                       va="center", ha="left" if row["ratio"] >= 1 else "right", fontsize=8)
     for number, row in enumerate(shown[:-1]):
         if row["group"] != shown[number + 1]["group"]:

@@ -1,0 +1,260 @@
+#!/usr/bin/env python3
+"""Times bx beside the real tools, all in one run: the least of several times, and the memory that each took.
+
+Usage: bench/run.py [--bx PATH] [--before PATH] [--rounds N] [--mib N] [--quick] [--programs] [--word WORD]
+
+With --before it is timed beside a build of an earlier tree in place of the tools, in turn. --quick takes inputs of 32 MiB, else
+they have 64 MiB, 32 MiB where the real tool is slow, and 1 GiB for dd to a stream. --programs leaves out the calls of the
+libraries, which are proved first, and --word all rows without this word. What isn't installed is left out, and so is memory
+without a program `time`. The rows go to standard output, and to bench/out/run.tsv, from which bench/plot.py writes docs/SPEED.md.
+Run by hand, no part of the gate."""
+import argparse
+import collections
+import os
+import pathlib
+import re
+import shutil
+import subprocess
+import tempfile
+import time
+
+TOP = pathlib.Path(__file__).resolve().parent.parent
+NEW = "rm -f image image.bxj image.bxj.redo"
+OVER = f"{NEW}; cp few image"
+DONE = f"{OVER}; BX revert -U -f dump image"
+UNDONE = f"{DONE}; BX undo -U image"
+SYNCED = f"{OVER}; sync image"
+# the group, the goal, bx's words, those of what stands beside it, its name, what comes first, untimed, and the file that both
+# have to leave the same, where that isn't standard output: - where there is nothing to compare
+Row = collections.namedtuple("Row", "group goal ours real name before made", defaults=(None, "", ""))
+FILES = r"(if=)?\b(long|prose|random|less|few|zeros|text)\b"
+
+
+def dumps(goal, *lines):
+    return [Row("dumps", goal, line, line) for line in lines]
+
+
+COPIES = [Row("copies to a stream", goal, line, line) for line, goal in (
+    ("dd if=long", 3), ("dd if=long bs=1M", 1), ("dd if=long bs=16M", 1), ("dd if=long conv=ucase", 1.5),
+    ("dd if=long conv=swab", 1.5),
+    ("dd if=prose conv=block cbs=80", 1.5), ("dd if=long conv=unblock cbs=80", 1.5))]
+DUMPS = [
+    *dumps(15, "xxd random", "xxd -p random"), *dumps(8, "xxd -b random"), *dumps(20, "xxd -i random"),
+    *dumps(8, "xxd -c 32 -g 4 random"),
+    *dumps(40, "od less", "od -t x1 less", "od -c less"), *dumps(20, "od -t d4 less", "od -t u1 less"), *dumps(1, "od few"),
+    *dumps(60, "hexdump -C less"), *dumps(1, "hexdump -C few"), Row("dumps", "-", "xxd -p random",
+                                                                    "basenc --base16 -w 60 random"),
+    *(Row("dumps", "-", line, f"busybox {line}") for line in ("xxd less", "od less", "hexdump -C less")),
+]
+RUNS = [
+    *(Row("runs of text", 4, f"strings {name}", f"strings -a {name}") for name in ("random", "text", "zeros")),
+    *(Row("runs of text", "-", f"strings {name}", real) for name in ("random", "text", "zeros")
+      for real in (f"rg -a -o -N --no-unicode '[ -~]{{4,}}' {name}", f"busybox strings {name}")),
+]
+# Changes of an image, with -U, since the tools beside don't wait for the disk either; opening beside a full journal; and the same
+# on the disk, as bx makes them by default: each step is synced, and beside it what the tool wrote is, once.
+CHANGES = [
+    Row("changes", 8, "revert -U -f dump image", "xxd -r dump image", "revert, a new image", NEW, "image"),
+    Row("changes", 8, "revert -U -p -f plain image", "xxd -r -p plain image", "revert -p, a new image", NEW, "image"),
+    Row("changes", "-", "revert -U -f dump image", "xxd -r dump image", "revert over an image", OVER, "image"),
+    Row("changes", "-", "dd -U if=less of=image conv=notrunc", "dd if=less of=image conv=notrunc", "dd over an image", OVER,
+        "image"),
+    Row("changes", "-", "undo -U image", "cp few image", "undo of that", DONE, "image"),
+    Row("changes", "-", "redo -U image", "cp less image", "redo of that", UNDONE, "image"),
+    Row("changes", 4, "undo -U -k 0 image", "cat image.bxj", "undo -k 0, a large journal", DONE, "-"),
+    Row("changes", "-", "undo -U image", "cat image.bxj", "undo of a byte, a large journal",
+        f"{DONE}; BX revert -U -f byte image", "-"),
+    Row("changes", 4, "undo -U -k 0 image", "cat image.bxj.redo", "undo -k 0, a large redo file", UNDONE, "-"),
+    *(Row("changes", "-", f"{line} many", "xxd -r same", f"{name}, 65,535 changes", "", "-")
+      for line, name in (("undo -U -k 0", "undo -k 0"), ("log", "log"), ("show", "show"))),
+    *(Row("changes on the disk", "-", *row, "image") for row in (
+        ("revert -f dump image", "sh -c 'xxd -r dump image; sync image'", "revert over an image", SYNCED),
+        ("dd if=less of=image conv=notrunc", "dd if=less of=image conv=notrunc,fsync", "dd over an image", SYNCED),
+        ("revert -f byte image", "sh -c 'xxd -r byte image; sync image'", "revert of a byte", SYNCED),
+        ("undo image", "sh -c 'cp few image; sync image'", "undo of a revert", f"{SYNCED}; BX revert -f dump image"),
+        ("redo image", "sh -c 'cp less image; sync image'", "redo of a revert",
+         f"{SYNCED}; BX revert -f dump image; BX undo image"),
+        ("undo -k 10 image", "sh -c 'cp few image; sync image'", "undo of ten bytes",
+         f"{SYNCED}; for i in 1 2 3 4 5 6 7 8 9 10; do BX revert -f byte image; done"))),
+]
+
+
+def shell(words, out=subprocess.DEVNULL):
+    """Runs a line of the shell; a program whose reader goes away may fail."""
+    return subprocess.run(words, shell=True, stdin=subprocess.DEVNULL, stdout=out, stderr=subprocess.DEVNULL, check=False,
+                          text=True).stdout
+
+
+def make(big, mid, stream):
+    """The inputs, in the current folder."""
+    for line in (f"head -c {stream}M /dev/urandom > long; head -c {stream * 3 // 4}M long | base64 > prose",
+                 f"head -c {big}M /dev/urandom > random; head -c {mid}M random > less; head -c {big}M /dev/zero > zeros",
+                 f"head -c {mid}M zeros > few; head -c {big * 3 // 4}M random | base64 > text; xxd less > dump; xxd -p less > "
+                 f"plain"):
+        shell(line)
+    pathlib.Path("byte").write_text("0: 41", encoding="ascii")
+    line = "00000000: 4142 4344 4546 4748 494a 4b4c 4d4e 4f50  ABCDEFGHIJKLMNOP\n"
+    many = "".join(f"change2 {n:08x} {16:016x}\n{line}save {n:08x}\ndone2 {n:08x} {16:016x}\n" for n in range(1, 65536))
+    pathlib.Path("many.bxj").write_text(many, encoding="ascii")
+    pathlib.Path("many").write_text("ABCDEFGHIJKLMNOP", encoding="ascii")
+    shell(f"head -c {len(many) // 68 * 16} less | xxd > same")
+
+
+def elapsed(words, before, bx):
+    """The microseconds that a command takes."""
+    shell(before.replace("BX", bx))
+    begun = time.perf_counter_ns()
+    shell(f"exec {words}")
+    return (time.perf_counter_ns() - begun) // 1000
+
+
+def best(rounds, commands, before, bx):
+    """The least of some rounds of each command, in turn."""
+    return [min(column) for column in zip(*([elapsed(words, before, bx) for words in commands] for _ in range(rounds)))]
+
+
+def memory(words, before, bx):
+    """The most KiB that a command had, where there is a program `time`."""
+    if not shutil.which("time"):
+        return "-"
+    shell(before.replace("BX", bx))
+    shell(f"exec {shutil.which('time')} -q -f %M -o took {words}")
+    return pathlib.Path("took").read_text(encoding="ascii").split()[-1]
+
+
+def same(row, commands, bx):
+    """Whether both write the same."""
+    if row.made == "-":
+        return "-"
+    for words, name in zip(commands, ("one", "other")):
+        shell(row.before.replace("BX", bx))
+        shell(f"{words} > {name}" if not row.made else f"{words}; cp {row.made} {name}")
+    return "no" if subprocess.run(["cmp", "-s", "one", "other"], check=False).returncode else "yes"
+
+
+def named(words):
+    """A command without its inputs, of which the name tells what is in them."""
+    kind = re.search(r"\b(few|zeros|text)\b", words)
+    bare = " ".join(re.sub(FILES, "", re.sub(r"'\[.*'", "[ -~]{4,}", words)).split())
+    return bare + (f", {kind[1].replace('few', 'zeros')}" if kind else "")
+
+
+def is_there(words):
+    """Whether a tool is installed, and busybox has the applet."""
+    tool, applet, *_ = words.split() + [""]
+    return shutil.which(tool) and (tool != "busybox" or applet in (shell("busybox --list", subprocess.PIPE) or "").split())
+
+
+def tell(run, group, name, beside, goal, ours, there, *more):
+    """Writes a row: group, name, what stands beside it, goal, microseconds of both and of cat, KiB of both, and whether they are
+    the same."""
+    more = [*more, *["-"] * (4 - len(more))]
+    print("\t".join(map(str, (group, name, beside, goal, ours, there, *more))), file=run, flush=True)
+    print(f"{name:34} {beside:26} bx {ours:9} us  there {there:9} us  ratio {there / max(ours, 1):7.2f}  goal {goal:<4}"
+          + (f"  times cat {ours / max(more[0], 1):.2f}" if more[0] != "-" else "")
+          + (f"  KiB {more[1]} and {more[2]}" if more[1] != "-" else "") + "  other text" * (more[3] == "no"), flush=True)
+
+
+def time_row(row, options, run):
+    """Times a row."""
+    real = row.real if not options.before else f"{options.before} {row.ours}"
+    name = row.name or named(row.ours)
+    if not is_there(real) or options.word not in name:
+        return
+    commands = [f"{options.bx} {row.ours}", real]
+    is_same = same(row, commands, options.bx)
+    ours, there, *cat = best(options.rounds, commands + ["cat one"] * (row.group == "dumps"), row.before, options.bx)
+    used = [memory(words, row.before, options.bx) for words in commands]
+    tell(run, row.group, name, "before" if options.before else named(row.real), row.goal, ours, there, *(cat or ["-"]), *used,
+         is_same)
+
+
+def build_calls(calls):
+    """Single calls of the libraries, which bx makes only together with others: bench/calls.rt.in is proved and built in a folder
+    of its own over copies of the crates, since the gate proves every crate that stands in the repository. It stays in
+    bench/out."""
+    listed = (TOP / "crates.txt").read_text(encoding="utf-8").splitlines()
+    crates = ["bx_text", "bx_read", "bx_image", "bx_journal_store", "bx_journal_format", "bx_journal_read",
+              "bx_journal_protocol", "bx_patch",
+              "bx_journal"]
+    for crate in crates:
+        shutil.copytree(TOP / "crates" / crate, f"room/crates/{crate}")
+    os.makedirs("room/crates/calls/src")
+    shutil.copy(TOP / "HANDLES", "room")
+    shutil.copy(TOP / "bench" / "calls.rt.in", "room/crates/calls/src/main.rt")
+    lines = [line for line in listed if line.split(":")[0] in crates]
+    lines.append("calls: bx_text bx_read bx_image bx_journal_store bx_journal anyhow")
+    pathlib.Path("room/crates.txt").write_text("\n".join(lines) + "\n", encoding="utf-8")
+    subprocess.run(["rt", "run", "--", "none"], cwd="room/crates/calls", check=True, stdout=subprocess.DEVNULL)
+    shutil.copy("room/crates/calls/out/calls", calls)
+
+
+# The words of a call, and of each field that it tells the goal, the row's name, and what stands beside it: a command, or another
+# field.
+CALLS = [
+    ("dump dump", [("call", 8, "read_dump", "xxd -r dump")]), ("plain plain", [("call", 8, "read_plain", "xxd -r -p plain")]),
+    ("apply applied less", [("call", 0.67, "apply", "plain")]), ("save applied less", [("call", 0.5, "save", "plain")]),
+    ("scatter applied addresses", [("call", 0.5, "save, 1,000,000 writes", "sort -n addresses")]),
+    ("open many many.bxj", [("call", 8, "open, 65,535 entries", "xxd -r same")]),
+    *((f"change changed less{end}", [("call", 0.5, f"perform{name}", "plain"), ("undo", 0.5, f"undo{name}", "call"),
+                                     ("redo", "-", f"redo{name}", "undo"), ("behind", "-", f"open, a redo text{name}", "beside")])
+      for end, name in (("", ""), (" huge", ", huge pages"))),
+]
+BESIDE = {"plain": "the same plainly", "call": "perform", "undo": "undo", "beside": "open, a journal"}
+
+
+def library_calls(options, run):
+    """Times the calls; the bytes that reading a dump and scattered saves took, of each line and each write; and huge pages, where
+    the system gives them to who asks: most of an undo is memory touched for the first time."""
+    calls = TOP / "bench" / "out" / "calls"
+    build_calls(calls)
+    shell("cp zeros changed; cp few applied; shuf -i 0-33554431 -n 1000000 > addresses")
+    for words, rows in CALLS:
+        front = "GLIBC_TUNABLES=glibc.malloc.hugetlb=1 " if words.endswith(" huge") else ""
+        told = [line.split() for line in shell(f"{front}{calls} {words.removesuffix(' huge')}", subprocess.PIPE).splitlines()]
+        fields = {line[0]: int(line[1]) for line in told if len(line) == 2}
+        for field, goal, name, beside in rows:
+            there = fields[beside] if beside in fields else best(options.rounds, [beside], "", options.bx)[0]
+            tell(run, "calls", name, BESIDE.get(beside, beside), goal, fields[field], there)
+        used = {line[1]: int(line[2]) for line in told if len(line) == 4 and (line[0], line[1]) in (("before", "VmRSS:"),
+                                                                                                    ("after", "VmHWM:"))}
+        if used:
+            units, held = fields.get("writes", fields["units"]), 0 if "writes" in fields else os.path.getsize("less")
+            print(f"{words.split()[0]}, memory: {((used['VmHWM:'] - used['VmRSS:']) * 1024 - held) / units:.1f} bytes each "
+                  f"beside the bytes")
+
+
+def main():
+    parser = argparse.ArgumentParser(description=__doc__.split("\n", maxsplit=1)[0])
+    for name in ("--bx", "--before"):
+        parser.add_argument(name, type=os.path.abspath, default="bx" if name == "--bx" else None)
+    parser.add_argument("--rounds", type=int, default=3)
+    parser.add_argument("--mib", type=int, default=64)
+    for name in ("--quick", "--programs"):
+        parser.add_argument(name, action="store_true")
+    parser.add_argument("--word", default="")
+    options = parser.parse_args()
+    big, mid, stream = (32, 32, 32) if options.quick else (options.mib, max(options.mib // 2, 1), options.mib * 16)
+    os.environ["LC_ALL"] = "C"
+    to = TOP / "bench" / "out" / ("before.tsv" if options.before else "run.tsv")
+    to.parent.mkdir(exist_ok=True)
+    with tempfile.TemporaryDirectory() as work, open(to, "w", encoding="utf-8") as run:
+        os.chdir(work)
+        make(big, mid, stream)
+        model = re.search(r"^model name[^:]*: (.*)$", pathlib.Path("/proc/cpuinfo").read_text(encoding="utf-8"), re.M)
+        print(f"# {model[1] if model else 'a processor'}, {os.cpu_count()} processors, Linux {os.uname().release}", file=run)
+        print(f"# inputs of {big} MiB, of {mid} MiB for od, hexdump, busybox and changes, and of {stream} MiB for copies to a "
+              f"stream; the "
+              f"least of {options.rounds}", file=run)
+        for tool in (options.bx, "xxd", "od", "hexdump", "strings", "rg", "busybox"):
+            said = shell(f"{tool} --version 2>&1", subprocess.PIPE) if shutil.which(tool) else ""
+            print(f"# {said.splitlines()[0]}\n" if said else "", end="", file=run)
+        for row in COPIES + DUMPS + RUNS + CHANGES:
+            time_row(row, options, run)
+        if not options.programs and not options.before:
+            library_calls(options, run)
+        os.chdir("/")
+
+
+if __name__ == "__main__":
+    main()
