@@ -79,9 +79,9 @@ docs:
 check-completions:
 	tests/completions.py
 
-# The real tools beside bx, on random inputs and options.
+# The real tools beside bx, on random inputs and options; SEED draws others.
 compare: $(built)
-	tests/compare.py --bx $(program)
+	tools/cases.py --bx $(program) --seed $(or $(SEED),2)
 	tests/seeks.py --bx $(program)
 
 # The case files that hold what the real tools do, and random lists of commands, written again.
@@ -91,7 +91,7 @@ record:
 # Bad texts, full devices, closed pipes and streams, what is no file, two programs at once, loop devices (as root), and each
 # memory request, read and write failing in turn.
 hostile: $(built)
-	tests/program/run.sh $(program)
+	tests/hostile.py --bx $(program)
 
 # What standard error gets at each fault, on a terminal and in a pipe.
 hints: $(built)
@@ -100,16 +100,14 @@ hints: $(built)
 # The order in which the files of a command reach the disk, by strace; and losses of power, played on what bx wrote, and (as root)
 # on what the kernel's page cache held back.
 power: $(built)
-	tests/power.py --counts --bx $(program)
-	tests/power_replay.py --bx $(program)
-	tests/power_fuse.py --bx $(program)
+	tests/power.py --bx $(program)
 
 # Texts, journals and words that AFL++ makes of tests/fuzz/corpus, ten minutes of them (MINUTES=60: an hour); it needs afl-fuzz.
 fuzz: $(built)
 	tests/fuzz/run.py --bx $(program) --minutes $(or $(MINUTES),10)
 
-bench: all
-	bench/run.sh
+bench: $(built)
+	bench/run.py --bx $(program)
 
 clean:
 	rm -rf bx package bench/out tests/fuzz/out crates/*/out

@@ -15,32 +15,24 @@ import sys
 CHECKS = ["believe", "calls", "quotes", "rooms", "words", "names", "sizes", "options", "tour"]
 
 
-def run(name, options):
-    """Runs a check: whether it failed, after what it says is printed."""
-    wrong, line = importlib.import_module(f"pages.{name}").check(options)
-    print("\n".join([*wrong, f"failed: {name}"]) if wrong else f"ok {name}: {line}", flush=True)
-    return bool(wrong)
-
-
 def main():
     parser = argparse.ArgumentParser(description=__doc__.split("\n", maxsplit=1)[0])
     parser.add_argument("--write", action="store_true", help="write what is made of sources")
     parser.add_argument("--bx", default="./bx", help="the program")
-    chosen, parsers = parser.add_subparsers(dest="check", metavar="CHECK"), {}
-    for name in CHECKS:
-        module = importlib.import_module(f"pages.{name}")
-        parsers[name] = chosen.add_parser(name, help=module.__doc__.split("\n", maxsplit=1)[0])
-        module.arguments(parsers[name])
+    chosen, failed = parser.add_subparsers(dest="check", metavar="CHECK"), False
+    modules = {name: importlib.import_module(f"pages.{name}") for name in CHECKS}
+    parsers = {name: chosen.add_parser(name, help=module.__doc__.split("\n", maxsplit=1)[0]) for name, module in modules.items()}
+    for name, module in modules.items():
+        getattr(module, "arguments", lambda _: None)(parsers[name])
     options = parser.parse_args()
-    if options.check:
-        sys.exit(run(options.check, options))
-    failed = 0
-    for name in CHECKS:
-        if getattr(importlib.import_module(f"pages.{name}"), "NEEDS_BX", False) and not os.access(options.bx, os.X_OK):
+    for name, module in modules.items() if not options.check else [(options.check, modules[options.check])]:
+        if not options.check and hasattr(module, "NEEDS_BX") and not os.access(options.bx, os.X_OK):
             print(f"left out: {name}, as there is no program at {options.bx}")
             continue
-        each = parsers[name].parse_args([], argparse.Namespace(write=options.write, bx=options.bx))
-        failed += run(name, each)
+        each = options if options.check else parsers[name].parse_args([], argparse.Namespace(write=options.write, bx=options.bx))
+        wrong, line = module.check(each)
+        print("\n".join([*wrong, f"failed: {name}"]) if wrong else f"ok {name}: {line}", flush=True)
+        failed = failed or bool(wrong)
     sys.exit(1 if failed else 0)
 
 

@@ -8,16 +8,19 @@ after another, in one folder, in which the file `image` holds the letters A to P
 
 states: the states of a pair of image and journal, and what opening does in each. A change is made, undone and redone in a folder.
 Then each front of its entry, with each image that may stand beside it, is opened by `bx log`, and so are pairs that are refused.
-What bx says and leaves there has to be one thing in each state, else this fails; the words in the picture are those that bx wrote.
+What bx says and leaves there has to be one thing in each state, else this fails; the words in the picture are those that bx
+wrote.
 
 Without a name both are drawn. bench/plot.py draws the chart of speed with its tables.
 """
 import argparse
 import html
 import os
+import pathlib
 import subprocess
 import sys
 import tempfile
+import textwrap
 
 from pages.tour import outputs
 from sources import ROOT
@@ -33,7 +36,8 @@ REST, OPEN, REFUSED, CHANGE, UNDO, OPENING = "#d9ead3", "#fce5cd", "#f4cccc", "#
 
 def svg(width, height, paper, parts, before=()):
     """A picture of parts, on paper."""
-    return "\n".join([f'<svg xmlns="http://www.w3.org/2000/svg" width="{width}" height="{height}" viewBox="0 0 {width} {height}">', *before,
+    size = f'width="{width}" height="{height}" viewBox="0 0 {width} {height}"'
+    return "\n".join([f'<svg xmlns="http://www.w3.org/2000/svg" {size}>', *before,
                       f'<rect width="{width}" height="{height}" rx="8" fill="{paper}"/>', *parts, "</svg>", ""])
 
 
@@ -67,27 +71,23 @@ class Pair:
     """An image, its journal and its redo file in a folder, and bx on them."""
 
     def __init__(self, bx, folder):
-        self.bx, self.folder = bx, folder
+        self.bx, self.folder = bx, pathlib.Path(folder)
+        self.files = [self.folder / name for name in ("image", "image.bxj", "image.bxj.redo")]
 
-    def put(self, image, journal, redo=b""):
-        for name, bytes_ in (("image", image), ("image.bxj", journal), ("image.bxj.redo", redo)):
-            with open(os.path.join(self.folder, name), "wb") as out:
-                out.write(bytes_)
+    def put(self, *contents):
+        for file, content in zip(self.files, [*contents, b""]):
+            file.write_bytes(content)
 
     def get(self):
-        found = []
-        for name in ("image", "image.bxj", "image.bxj.redo"):
-            with open(os.path.join(self.folder, name), "rb") as file:
-                found.append(file.read())
-        return found
+        return [file.read_bytes() for file in self.files]
 
     def run(self, *words, stdin=b""):
-        done = subprocess.run([self.bx, *words], input=stdin, capture_output=True, cwd=self.folder, timeout=60)
+        done = subprocess.run([self.bx, *words], input=stdin, capture_output=True, cwd=self.folder, timeout=60, check=False)
         return done.stderr.decode().strip()
 
-    def opened(self, image, journal, redo=b""):
+    def opened(self, *contents):
         """What opening says, and what it leaves."""
-        self.put(image, journal, redo)
+        self.put(*contents)
         return (self.run("log", "image"), *self.get())
 
 
@@ -103,27 +103,22 @@ def states(pair):
     pair.put(FIRST, b"")
     pair.run("revert", "image", stdin=PATCH)
     last, entry, _ = pair.get()
-    saved = entry.index(b"save")
-    begun, ended = entry.index(b"\n", saved) + 1, len(entry)
-    between = [FIRST[:2] + b"xy" + FIRST[4:], FIRST, last]
+    begun, between = entry.index(b"\n", entry.index(b"save")) + 1, [FIRST[:2] + b"xy" + FIRST[4:], FIRST, last]
     dropped = one("a front of the head", [pair.opened(FIRST, entry[:n], b"lost\n") for n in range(1, begun)])
-    taken = one("a front behind the save line",
-                [pair.opened(x, entry[:n], b"lost\n") for n in range(begun, ended) for x in between])
-    for what, found in (("dropped", dropped), ("taken back", taken)):
-        one(what, [found[1:], (FIRST, b"", b"")])
+    taken = one("a front behind the save line", [pair.opened(x, entry[:n], b"lost\n") for n in range(begun, len(entry))
+                                                 for x in between])
+    one("dropped or taken back", [dropped[1:], taken[1:], (FIRST, b"", b"")])
     one("finished", [pair.opened(last, entry), ("", last, entry, b"")])
-    pair.put(last, entry)
     pair.run("undo", "image")
     one("undone", [tuple(pair.get()[:2]), (FIRST, b"")])
     one("redone", [(pair.run("redo", "image"), *pair.get()), ("", last, entry, b"")])
-    refused = []
-    for put in ((last, b"x" + entry, b""), (last + b"more", entry, b""), (last, entry, b"lost\n")):
-        answer, *left = pair.opened(*put)
+    refused = [pair.opened(*put) + (put,) for put in ((last, b"x" + entry, b""), (last + b"more", entry, b""),
+                                                      (last, entry, b"lost\n"))]
+    for _, *left, put in refused:
         one("what is refused", [tuple(left), put])
-        refused.append(answer)
     return {"entry": entry.decode().splitlines(), "first": FIRST.decode(), "last": last.decode(),
             "between": sorted(x.decode() for x in between), "dropped": dropped[0], "taken": taken[0],
-            "refused": refused}
+            "refused": [row[0] for row in refused]}
 
 
 class Picture:
@@ -141,7 +136,8 @@ class Picture:
 
     def arrow(self, points, color):
         path = " ".join(f"{x},{y}" for x, y in points)
-        self.parts.append(f'<polyline points="{path}" fill="none" stroke="{color}" stroke-width="2" marker-end="url(#{color[1:]})"/>')
+        self.parts.append(f'<polyline points="{path}" fill="none" stroke="{color}" stroke-width="2" '
+                          f'marker-end="url(#{color[1:]})"/>')
 
     def whole(self, height):
         heads = "".join(f'<marker id="{color[1:]}" markerWidth="9" markerHeight="9" refX="7" refY="4" orient="auto">'
@@ -165,52 +161,44 @@ def labels(picture, x, y, lines, color, anchor):
         picture.text(x, y + 16 * number, line, size=12, color=color, anchor=anchor)
 
 
-def split(text, width=31):
-    """A text in lines of about so many characters."""
-    lines = [""]
-    for word in text.split(" "):
-        if lines[-1] and len(lines[-1]) + 1 + len(word) > width:
-            lines.append("")
-        lines[-1] += (" " if lines[-1] else "") + word
-    return lines
-
-
 def drawn(found):
-    picture, entry = Picture(), found["entry"]
-    gap, right, left = 46, BOX_AT + BOX, BOX_AT
-    tops, ends, y = [], [], 16
-    boxes = [("Finished entries alone: nothing is done", ["(the entries before)"], found["first"], REST),
-             ("An entry without a whole save line", entry[:2] + ["(or any front of this, or of the save line)"], found["first"], OPEN),
+    """The boxes of the states, and an arrow for each step between two of them."""
+    picture, entry, left, right = Picture(), found["entry"], BOX_AT, BOX_AT + BOX
+    alone, tops, ends, y = "Finished entries alone: nothing is done", [], [], 16
+    boxes = [(alone, ["(the entries before)"], found["first"], REST),
+             ("An entry without a whole save line", entry[:2] + ["(or any front of this, or of the save line)"], found["first"],
+              OPEN),
              ("An entry with its save line", entry[:3] + ["(or a front of the end line behind it)"],
-              " or ".join(found["between"]) + ", ..", OPEN),
-             ("Finished entries alone: nothing is done", entry, found["last"], REST)]
+              " or ".join(found["between"]) + ", ..", OPEN), (alone, entry, found["last"], REST)]
     for box in boxes:
         tops.append(y)
         ends.append(state(picture, y, *box))
-        y = ends[-1] + gap
-    middle = left + 90
-    for number, step in enumerate(["a change or a redo appends its entry", "the save line is whole: the image is changed",
-                                   "the end line is whole"]):
-        picture.arrow([(middle, ends[number] + 2), (middle, tops[number + 1] - 3)], CHANGE)
-        picture.text(middle + 12, ends[number] + 28, step, size=12, color=CHANGE)
-    picture.arrow([(right + 2, tops[3] + 30), (right + 34, tops[3] + 30), (right + 34, tops[2] + 70), (right + 4, tops[2] + 70)], UNDO)
-    labels(picture, right + 44, ends[2] + 12, ["an undo cuts the end line off"], UNDO, "start")
-    picture.arrow([(right + 2, tops[2] + 30), (right + 34, tops[2] + 30), (right + 34, tops[0] + 40), (right + 4, tops[0] + 40)], UNDO)
-    labels(picture, right + 44, ends[0] + 60, ["it restores the saved bytes", "and the length, keeps the old", "ones in the redo file, and",
-                                               "cuts the entry off"], UNDO, "start")
-    picture.arrow([(left - 2, tops[1] + 40), (left - 22, tops[1] + 40), (left - 22, tops[0] + 50), (left - 4, tops[0] + 50)], OPENING)
-    labels(picture, left - 32, tops[1] + 12, ["opening empties the redo file", "and cuts the text:", *split(found["dropped"])], OPENING, "end")
-    picture.arrow([(left - 2, tops[2] + 40), (left - 12, tops[2] + 40), (left - 12, tops[0] + 26), (left - 4, tops[0] + 26)], OPENING)
-    labels(picture, left - 32, tops[2] + 12, ["opening empties the redo file,", "restores the image", "and cuts the text:", *split(found["taken"])],
-           OPENING, "end")
+        y = ends[-1] + 46
+    steps = ["a change or a redo appends its entry", "the save line is whole: the image is changed", "the end line is whole"]
+    for number, step in enumerate(steps):
+        picture.arrow([(left + 90, ends[number] + 2), (left + 90, tops[number + 1] - 3)], CHANGE)
+        picture.text(left + 102, ends[number] + 28, step, size=12, color=CHANGE)
+    # where an arrow leaves and comes in at a side of two boxes, how far out it goes, and the lines beside it
+    for at, to, side, out, text_at, lines, color in (
+            (tops[3] + 30, tops[2] + 70, right, 34, ends[2] + 12, ["an undo cuts the end line off"], UNDO),
+            (tops[2] + 30, tops[0] + 40, right, 34, ends[0] + 60,
+             ["it restores the saved bytes", "and the length, keeps the old", "ones in the redo file, and",
+              "cuts the entry off"], UNDO),
+            (tops[1] + 40, tops[0] + 50, left, -22, tops[1] + 12,
+             ["opening empties the redo file", "and cuts the text:", *textwrap.wrap(found["dropped"], 31)], OPENING),
+            (tops[2] + 40, tops[0] + 26, left, -12, tops[2] + 12,
+             ["opening empties the redo file,", "restores the image", "and cuts the text:", *textwrap.wrap(found["taken"], 31)],
+             OPENING)):
+        sign = 1 if out > 0 else -1
+        picture.arrow([(side + 2 * sign, at), (side + out, at), (side + out, to), (side + 4 * sign, to)], color)
+        labels(picture, side + (44 if out > 0 else -32), text_at, lines, color, "start" if out > 0 else "end")
     y = ends[3] + 22
     picture.text(16, y + 14, "Refused, and nothing is changed:", weight="bold")
-    whats = ["any other text", "an image of another length", "a redo file of another pair"]
-    for number, (what, answer) in enumerate(zip(whats, found["refused"])):
-        x = 16 + number * 326
-        picture.box(x, y + 26, 316, 52, REFUSED)
-        picture.text(x + 12, y + 46, what, size=13)
-        picture.text(x + 12, y + 66, answer, size=12, mono=True)
+    for number, (what, answer) in enumerate(zip(("any other text", "an image of another length", "a redo file of another pair"),
+                                                found["refused"])):
+        picture.box(16 + number * 326, y + 26, 316, 52, REFUSED)
+        picture.text(28 + number * 326, y + 46, what, size=13)
+        picture.text(28 + number * 326, y + 66, answer, size=12, mono=True)
     return picture.whole(y + 94)
 
 

@@ -48,7 +48,8 @@ def carry(folder, to):
 
 
 def prove(name, below, top, jobs):
-    """Builds a library in a copy of it and of those below, and brings what is built here. Answers the status and what `rt` said."""
+    """Builds a library in a copy of it and of those below, and brings what is built here. Answers the status and what `rt`
+    said."""
     here = sources.ROOT / "crates"
     for other in [*below, name]:
         for part in PARTS:
@@ -68,7 +69,8 @@ def prove(name, below, top, jobs):
 
 def chains(listed, names):
     """How many lines stand on the longest chain from each crate up to the program."""
-    lines = {name: sum(path.read_bytes().count(b"\n") for path in (sources.ROOT / "crates" / name).rglob("src/**/*.rt")) for name in names}
+    lines = {name: sum(path.read_bytes().count(b"\n") for path in (sources.ROOT / "crates" / name).rglob("src/**/*.rt"))
+             for name in names}
     found = {}
     for name in reversed(names):
         found[name] = lines[name] + max([found[other] for other in names if name in listed[other]], default=0)
@@ -76,7 +78,8 @@ def chains(listed, names):
 
 
 def prove_all(listed, names, most, place):
-    """Proves the libraries, each once those below it are built, first those with the longest chain above them. Answers whether all are."""
+    """Proves the libraries, each once those below it are built, first those with the longest chain above them. Answers whether
+    all are."""
     left, running, built, ahead = list(names), {}, set(), chains(listed, names)
     with concurrent.futures.ThreadPoolExecutor(most) as pool:
         while left or running:

@@ -49,7 +49,8 @@ def read(path):
 def head(path):
     """The comment at the head of a file of code, as one line."""
     lines = read(path).split("\n")
-    return " ".join(line[3:].strip() for line in lines[: next(i for i, line in enumerate([*lines, ""]) if not line.startswith("//!"))])
+    return " ".join(line[3:].strip() for line in lines[: next(i for i, line in enumerate([*lines, ""])
+                                                              if not line.startswith("//!"))])
 
 
 def root_of(name):
@@ -126,7 +127,8 @@ def split(text, mark, brackets="([{}])"):
 
 
 class Function:
-    """A function of a file: its name, the type or trait that it is of, whether it says `pub`, its comment, arguments, contract and body."""
+    """A function of a file: its name, the type or trait that it is of, whether it says `pub`, its comment, arguments, contract
+    and body."""
 
     def __init__(self, lines, at, match, block):
         self.name, self.owner, self.is_public, self.at = match[3], block and block[2], match[2] == "pub ", at
@@ -189,7 +191,8 @@ def methods(body):
 
 
 def clauses(text):
-    """The braces of requires, ensures and ghost items, but for what is only brought in and invariants of models, which callers don't see."""
+    """The braces of requires, ensures and ghost items, but for what is only brought in and invariants of models, which callers
+    don't see."""
     begins = r"\b(requires|ensures|ghost(?! use| invariant))\b[^{;=]*=?\s*\{"
     return [text[match.end() : closing(text, match.end() - 1) - 1] for match in re.finditer(begins, text)]
 
@@ -224,7 +227,8 @@ class Definition:
     def parameters(self):
         """How many parameters it has: those of its head, and those before its type's last arrow; none in braces."""
         lines = [line for line in self.lines if not line.startswith("module _ ")]
-        text = re.split(r"\bwhere\b", " ".join([lines[0], *(line for line in head_of(lines[1:]))])[HEAD.match(lines[0]).end() :])[0]
+        text = re.split(r"\bwhere\b", " ".join([lines[0],
+                                                *(line for line in head_of(lines[1:]))])[HEAD.match(lines[0]).end() :])[0]
         front, *rest = split(text, ":")
         return sum(binders(front)) + sum(sum(binders(part) or [1]) for part in split(":".join(rest), "→")[:-1])
 
@@ -262,7 +266,7 @@ def parts(text):
     """The definitions of a file: name, lines (no comments, imports or blank lines), and the comment above.
 
     A line `module _ .. where` gives those below it, set in by two spaces, their first parameters; it counts with the next.
-    """
+   """
     found, comment, opened, within = [], [], [], False
     for line in text.split("\n"):
         bare = line.rstrip()

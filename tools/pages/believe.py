@@ -107,9 +107,9 @@ def size(some):
 
 INTRO = """# What must be believed
 
-Written by `tools/docs.py --write` of `docs/believe.txt` and the sentence above each definition. A contract says what its words mean,
-and the words of public contracts are defined in the `specs/` of the crates. Here are all definitions that a public contract names,
-directly or through another one. Parts A to C have to be believed to know what a call does, and nothing else.
+Written by `tools/docs.py --write` of `docs/believe.txt` and the sentence above each definition. A contract says what its words
+mean, and the words of public contracts are defined in the `specs/` of the crates. Here are all definitions that a public contract
+names, directly or through another one. Parts A to C have to be believed to know what a call does, and nothing else.
 """
 
 

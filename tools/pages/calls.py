@@ -1,4 +1,5 @@
-"""Writes the call trees of docs/calls.txt with the file and the first sentence of each function, and looks whether each call is made.
+"""Writes the call trees of docs/calls.txt with the file and the first sentence of each function, and looks whether each call is
+made.
 
 docs/calls.txt has a heading for each tree (`# A change`), and below it a function on each line: it is called by the one above it
 that is indented less. Behind a name that more than one file of a product crate defines stands the end of its file. The page is
@@ -12,13 +13,9 @@ TREES = sources.ROOT / "docs" / "calls.txt"
 PAGE = sources.ROOT / "docs" / "generated" / "CALLS.md"
 TOP = """# Who calls whom
 
-Written by `tools/docs.py --write` of `docs/calls.txt`: each function is called by the one above it that is indented less, in this order,
-and `make check-docs` looks whether it is. Behind it stand its file, with the crate in front, and its first sentence.
+Written by `tools/docs.py --write` of `docs/calls.txt`: each function is called by the one above it that is indented less, in this
+order, and `make check-docs` looks whether it is. Behind it stand its file, with the crate in front, and its first sentence.
 """
-
-
-def arguments(parser):
-    pass
 
 
 def functions():
@@ -44,8 +41,9 @@ def trees(known):
             continue
         indent, (name, *end) = len(line) - len(line.lstrip()), line.split()
         rows = [row for row in known.get(name, []) if not end or row[0].endswith(end[0])]
-        if len({row[0] for row in rows}) != 1:
-            wrong.append(f"{name}: {len({row[0] for row in rows})} files define it ({', '.join(sorted({row[0] for row in rows}))})")
+        files = sorted({row[0] for row in rows})
+        if len(files) != 1:
+            wrong.append(f"{name}: {len(files)} files define it ({', '.join(files)})")
             continue
         above = [(depth, caller) for depth, caller in above if depth < indent]
         if above and not any(re.search(rf"\b{name}(?:::<[^(]*>)?\(", row[1]) for row in above[-1][1][1]):

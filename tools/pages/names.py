@@ -1,10 +1,9 @@
 """Looks whether the names and the files that documents cite stand in the sources, and whether their links lead to a file.
 
 What counts is a whole span between ` and `, in the .md files but the changelog, outside of blocks of code. A name is a word, or
-words with `::`, `.` or `/` between them: each of its words has to stand in code, definitions, proofs, edits, cases, scripts or the
-man page, or be the name of a file or a folder. A file is a span that ends as one: a file of the repository ends with the same
-parts, where `crates`, `src`, `specs` and `proofs` may be left out.
-"""
+words with `::`, `.` or `/` between them: each of its words has to stand in code, definitions, proofs, edits, cases, scripts or
+the man page, or be the name of a file or a folder. A file is a span that ends as one: a file of the repository ends with the same
+parts, where `crates`, `src`, `specs` and `proofs` may be left out."""
 import pathlib
 import re
 
@@ -15,10 +14,6 @@ FILE = re.compile(r"[\w./-]+\.(?:rt|antt|edit|cases|py|sh|md|fish|bash)")
 NAME = re.compile(r"\w+(?:(?:::|\.|/)\w+)*")
 # calls and crates of others, and a setting and a flag of Linux
 OTHERS = {"O_NOFOLLOW", "arrayvec", "try_extend_from_slice", "libc", "protected_symlinks", "sync_data"}
-
-
-def arguments(parser):
-    pass
 
 
 def files():
@@ -45,7 +40,8 @@ def words(paths):
 
 def spans(page):
     """The spans of a page, with their lines."""
-    text = re.sub(r"^```.*?^```", lambda block: "\n" * block.group().count("\n"), page.read_text(encoding="utf-8"), flags=re.M | re.S)
+    text = re.sub(r"^```.*?^```", lambda block: "\n" * block.group().count("\n"), page.read_text(encoding="utf-8"),
+                  flags=re.M | re.S)
     return [(number, span) for number, line in enumerate(text.split("\n"), 1) for span in re.findall(r"`([^`\n]+)`", line)]
 
 

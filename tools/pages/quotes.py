@@ -27,10 +27,6 @@ def is_inner(crate, file):
     return file.startswith("private") or crate in sources.inner() and not exported
 
 
-def arguments(parser):
-    pass
-
-
 class Sources:
     """What can be quoted, and the definitions that it names."""
 
@@ -84,7 +80,8 @@ class Sources:
         """An item of a file, with its public comment: `impl:NAME` is the impl of a type, or of a trait for one."""
         text = self.texts[ROOT / "crates" / path]
         kind, _, of = name.rpartition(":")
-        head = rf"impl(?:<.*?>)? {of}(?:<.*?>)? (?:for .*)?\{{$" if kind else rf"(?:pub(?:\([a-z]+\))? )?(?:fn|struct|enum) {of}\b"
+        head = rf"(?:pub(?:\([a-z]+\))? )?(?:fn|struct|enum) {of}\b"
+        head = rf"impl(?:<.*?>)? {of}(?:<.*?>)? (?:for .*)?\{{$" if kind else head
         found = list(re.finditer(rf"^{head}", text, re.M))
         if len(found) != 1:
             raise ValueError(f"{path} has {len(found)} items {name}")
@@ -102,6 +99,10 @@ class Sources:
             parts = [self.item(words[0], word) for word in words[1:]]
             return [line for i, part in enumerate(parts) for line in ([""] if i else []) + part]
         return [line for word in words for line in self.clause(word)]
+
+    def filled(self, block):
+        """A block with what it is to hold."""
+        return "\n".join([f"```{block[1]} {block[2]}", *self.quoted(block[1], block[2].split()), "```"])
 
 
 def spelled(page):
@@ -131,12 +132,13 @@ def check(options):
         page = sources.read(path)
         found.named, blocks = set(), [match.group(2).split() for match in BLOCK.finditer(page)]
         try:
-            filled = BLOCK.sub(lambda m: "\n".join([f"```{m.group(1)} {m.group(2)}", *found.quoted(m.group(1), m.group(2).split()), "```"]), page)
+            filled = BLOCK.sub(found.filled, page)
         except ValueError as missing:
             return [f"{name}: {missing}"], ""
         bad += sources.generated(path, filled, options.write)
         if name == HEADLINE:
             shown = {word.rpartition("/")[2] for words in blocks for word in words} | spelled(page)
-            bad += [f"{name} neither quotes nor explains {key[2]} of {key[0]}/{key[1]}" for key in sorted(found.named) if key[2] not in shown]
+            bad += [f"{name} neither quotes nor explains {key[2]} of {key[0]}/{key[1]}" for key in sorted(found.named)
+                    if key[2] not in shown]
             bad += [f"{name} has more than {MOST} lines"] if len(filled.splitlines()) > MOST else []
     return [*bad, *heads(found.texts)], "what is quoted is as its sources have it"

@@ -4,7 +4,7 @@ A room is a module right below `src/`, with its folder; what stands in `lib.rt` 
 its files has `use crate::ROOM`, or `use crate::NAME` of a name that `lib.rt` exports from that room. It fails where rooms reach
 one another both ways, directly or through others, where files of a crate do, but for those that are still named below, and where
 rooms.txt names other imports than the code has. People change rooms.txt, on purpose, and no script writes it. An inner part of a
-family is imported from above the family only where the crate's line `inner` names it. --list prints what each room imports.
+family is imported from above the family only where the crate's line `inner` names it.
 
 docs/generated/ROOMS.md has the crates and their rooms with the sentence at the head of each file: --write writes it, and without
 it the page is compared.
@@ -17,8 +17,8 @@ TABLE = sources.ROOT / "rooms.txt"
 PAGE = sources.ROOT / "docs" / "generated" / "ROOMS.md"
 TOP = """# Crates and their rooms
 
-Written by `tools/docs.py --write` of `crates.txt`, `rooms.txt` and the sentence at the head of each file. A room is a module right
-below `src/`; behind it stand the rooms that it may import.
+Written by `tools/docs.py --write` of `crates.txt`, `rooms.txt` and the sentence at the head of each file. A room is a module
+right below `src/`; behind it stand the rooms that it may import.
 """
 # circles of files that are to end, by their crate and one of their files; no other may be made
 CIRCLES = [
@@ -29,10 +29,6 @@ CIRCLES = [
     ("bx_journal_protocol", "write/head"),
     ("bx_journal", "recovery/finished_journal"),
 ]
-
-
-def arguments(parser):
-    parser.add_argument("--list", action="store_true", help="print what each room imports")
 
 
 def imports(name):
@@ -55,7 +51,8 @@ def module_of(source, path):
 
 
 def leads_to(modules, exported, path, depth=0):
-    """The file that a path of a crate's own leads to: the deepest module that it names, or the one that its name is exported from."""
+    """The file that a path of a crate's own leads to: the deepest module that it names, or the one that its name is exported
+    from."""
     place = next((path[:n] for n in range(len(path), 0, -1) if path[:n] in modules), ())
     name = path[len(place) : len(place) + 1]
     further = exported.get((place, *name)) if name else None
@@ -92,7 +89,8 @@ def circles(found):
 
 def families(name, line, named):
     """Which inner parts a crate above their family imports, where its line `inner` doesn't name them."""
-    paths = [path for path in (sources.ROOT / "crates" / name).rglob("*") if path.suffix in (".rt", ".antt") and "out" not in path.parts]
+    paths = [path for path in (sources.ROOT / "crates" / name).rglob("*") if path.suffix in (".rt", ".antt")
+             and "out" not in path.parts]
     text = "\n".join(sources.read(path) for path in paths)
     for family, parts in sources.families().items():
         for part in [] if name == family or name in parts else parts:
@@ -142,7 +140,8 @@ def page(named):
         for room, others in named.get(name, {}).items():
             if room == "inner":
                 continue
-            rows.append(f"- `{room}`{' (' + ', '.join(sorted(others)) + ')' if others else ''}: {sentence(source / (room + '.rt'))}")
+            imported = f" ({', '.join(sorted(others))})" if others else ""
+            rows.append(f"- `{room}`{imported}: {sentence(source / (room + '.rt'))}")
             files = sorted((source / room).rglob("*.rt"))
             rows += [f"  - `{path.relative_to(source / room).with_suffix('')}`: {sentence(path)}" for path in files]
         parts += ["\n".join(rows) + "\n"] if rows else []
@@ -157,16 +156,16 @@ def wrong_rows(name, found, table):
         elif room not in found:
             yield f"{name}: a line for {room}, which is no room"
         else:
-            yield from (f"{name}: {room} imports {other}, which its line doesn't name" for other in sorted(found[room] - table[room]))
-            yield from (f"{name}: the line of {room} names {other}, which it doesn't import" for other in sorted(table[room] - found[room]))
+            yield from (f"{name}: {room} imports {other}, which its line doesn't name"
+                        for other in sorted(found[room] - table[room]))
+            yield from (f"{name}: the line of {room} names {other}, which it doesn't import"
+                        for other in sorted(table[room] - found[room]))
 
 
 def check(options):
     named, wrong = tables(), []
     for name, below in sources.crates().items():
         found = imports(name)
-        for room, others in found.items() if options.list else []:
-            print(f"{name}: {room}: {', '.join(sorted(others)) or 'nothing'}")
         cycle = sorted(room for room in found if room in reached(found, room))
         wrong += [f"{name}: {', '.join(cycle)} reach themselves through what they import"] if cycle else []
         table = dict(named.get(name, {}))
@@ -176,4 +175,5 @@ def check(options):
             if not any((name, file) in CIRCLES for file in circle):
                 wrong.append(f"{name}: the files {', '.join(circle)} reach one another")
     wrong += [f"{name} stands in rooms.txt, and is no crate" for name in named if name not in sources.crates()]
-    return wrong or sources.generated(PAGE, page(named), options.write), "rooms import one another in one direction, and as rooms.txt says"
+    return wrong or sources.generated(PAGE, page(named),
+                                      options.write), "rooms import one another in one direction, and as rooms.txt says"

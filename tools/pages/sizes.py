@@ -3,9 +3,8 @@
 A definition of `specs/` has at most 8 parameters: those in braces don't count, nor do those of a `module _` around it. A function
 of a product crate or of test_cache has at most 6 arguments, `self` left out. A public call of a library has at most 12 `ensures`:
 a function that its `lib.rt` exports, or a method of a type or trait that it exports; of an inner part, of what another crate
-exports. What is above its limit and stays so is named below with its number, which may only fall. --list prints what is above, and
-each NAME the counts of all that has the name.
-"""
+exports. What is above its limit and stays so is named below with its number, which may only fall. --list prints what is above,
+and each NAME the counts of all that has the name."""
 import sources
 
 LIMITS = {"parameters": 8, "arguments": 6, "ensures": 12}
@@ -24,13 +23,16 @@ def arguments(parser):
 
 def public_items(name):
     """What is public of a crate: what its `lib.rt` exports, and of an inner part what another crate exports of it."""
-    return ({(item,) for item in sources.exported_above(name, sources.product())}, set()) if name in sources.inner() else sources.exported(name)
+    return ({(item,) for item in sources.exported_above(name, sources.product())},
+            set()) if name in sources.inner() else sources.exported(name)
 
 
 def is_public(function, module, items, modules):
-    """Whether a function is a public call: of a type or trait that is exported, or exported itself, which may pass over modules."""
+    """Whether a function is a public call: of a type or trait that is exported, or exported itself, which may pass over
+    modules."""
     if function.owner:
-        return (function.is_public or function.is_of_trait) and (module in modules or any(item[-1] == function.owner for item in items))
+        return (function.is_public or function.is_of_trait) and (module in modules or any(item[-1] == function.owner
+                                                                                          for item in items))
     shown = module in modules or any(item[-1] == function.name and module[: len(item) - 1] == item[:-1] for item in items)
     return function.is_public and shown
 

@@ -1,14 +1,13 @@
 """Counts the phrases that are to go from documents and comments, and fails where one stands more often than it may.
 
 Documents are the .md files and the man page, without code. Comments are those of the crates: of code (module heads and public
-documents too), and of definitions and proofs. The ceilings below may only fall: --lower writes them where a count is under
-its ceiling, with the change that removed the phrase. --where prints each place of a phrase ('..' is an ellipsis).
+documents too), and of definitions and proofs. Each place of a phrase is printed where there are more than its ceiling, which may
+only fall ('..' is an ellipsis).
 
 It counts the words that people write, too, and --pages prints them page by page. What is quoted or written by a script is left
 out (quoted blocks, what stands between `<!-- written by` and `<!-- up to here -->`, docs/generated), and so are the
 commands of the man page's roff.
 """
-import pathlib
 import re
 
 from sources import ROOT
@@ -20,17 +19,11 @@ PHRASES = {
     "be it": r"\bbe(?: |\n {0,3})it\b",
     "..": r"(?<![\w.)\]}/])\.\.(?![\w.=({/])",
 }
-# for each place the most that there may be of each phrase, in their order
-CEILINGS = {
-    "documents": (0, 0, 0, 0, 0),
-    "comments of code": (0, 0, 0, 0, 2),
-    "comments of definitions": (0, 0, 0, 0, 0),
-}
+# the most that there may be of a phrase in a place; none of any other
+CEILINGS = {("comments of code", ".."): 2}
 
 
 def arguments(parser):
-    parser.add_argument("--where", choices=PHRASES, metavar="PHRASE", help="print each place of a phrase")
-    parser.add_argument("--lower", action="store_true", help="write lower ceilings where counts have fallen")
     parser.add_argument("--pages", action="store_true", help="print how many words each page has")
 
 
@@ -65,28 +58,17 @@ def comments(text, mark):
 
 def texts():
     """Each place with its files, and of each what counts of it."""
-    sources = [path for path in sorted((ROOT / "crates").rglob("*")) if "out" not in path.parts]
-    places = {place: {} for place in CEILINGS}
-    for path in pages():
-        places["documents"][path] = without_code(path.read_text(encoding="utf-8"))
-    for path in sources:
-        if path.suffix == ".rt":
-            places["comments of code"][path] = comments(path.read_text(encoding="utf-8"), "//[/!]?")
-        elif path.suffix == ".antt":
-            places["comments of definitions"][path] = comments(path.read_text(encoding="utf-8"), "--")
-    return places
+    files = [path for path in sorted((ROOT / "crates").rglob("*")) if "out" not in path.parts]
+    of = {end: [(path, path.read_text(encoding="utf-8")) for path in files if path.suffix == end] for end in (".rt", ".antt")}
+    return {"documents": {path: without_code(path.read_text(encoding="utf-8")) for path in pages()},
+            "comments of code": {path: comments(text, "//[/!]?") for path, text in of[".rt"]},
+            "comments of definitions": {path: comments(text, "--") for path, text in of[".antt"]}}
 
 
 def found_in(files, phrase):
     """The file and the line of each place of a phrase."""
-    return [(path, text.count("\n", 0, match.start()) + 1) for path, text in files.items() for match in re.finditer(PHRASES[phrase], text, re.I)]
-
-
-def lower(place, counts):
-    """Writes the ceilings of a place in this script where they may fall."""
-    script = pathlib.Path(__file__)
-    lowest = tuple(min(most, count) for most, count in zip(CEILINGS[place], counts))
-    script.write_text(script.read_text(encoding="utf-8").replace(f'"{place}": {CEILINGS[place]}', f'"{place}": {lowest}'), encoding="utf-8")
+    return [f"{path.relative_to(ROOT)}:{text.count(chr(10), 0, match.start()) + 1}: {phrase}" for path, text in files.items()
+            for match in re.finditer(PHRASES[phrase], text, re.I)]
 
 
 def check(options):
@@ -94,16 +76,9 @@ def check(options):
     for path in pages() if options.pages else []:
         print(f"{written(path):6} {path.relative_to(ROOT)}")
     for place, files in texts().items():
-        counts = {phrase: len(found_in(files, phrase)) for phrase in PHRASES}
-        total += sum(counts.values())
-        for (phrase, count), most in zip(counts.items(), CEILINGS[place]):
-            if count > most:
-                bad.append(f"{place}: '{phrase}' stands {count} times, and may {most} times; --where shows them")
-            elif count < most:
-                print(f"the ceiling of '{phrase}' in {place} may fall from {most} to {count}: --lower writes it")
-        if options.lower:
-            lower(place, counts.values())
-        for path, line in found_in(files, options.where) if options.where else []:
-            print(f"{path.relative_to(ROOT)}:{line}")
+        for phrase in PHRASES:
+            found, most = found_in(files, phrase), CEILINGS.get((place, phrase), 0)
+            total += len(found)
+            bad += [*found, f"{place}: '{phrase}' stands {len(found)} times, and may {most} times"] if len(found) > most else []
     count = sum(map(written, pages()))
     return bad, f"{total} phrases that are to go, none above its ceiling; {count} words in what people write"
