@@ -52,11 +52,6 @@ def words_of(rng, tool, place):
     return ["dd", f"ibs={ibs}", f"skip={place // ibs}", f"count={rng.choice([1, 2])}"]
 
 
-def agrees(tool, place, length):
-    """Whether both tools say the same there: man/bx.1 lists where they don't."""
-    return tool in ("od", "dd") or place < length
-
-
 def on(words, name):
     """The words with a file."""
     return [*words, f"if={name}" if words[0] == "dd" else name]

@@ -26,7 +26,6 @@ the fault's text and its status are those of docs/FORMATS.md, "Faults", which th
 """
 import itertools
 import random
-import re
 import tempfile
 
 from record import form
