@@ -31,18 +31,10 @@ CIRCLES = [
 ]
 
 
-def imports(name):
-    """What each room of a crate imports of the others."""
-    source = sources.folder(name)
-    found = {path.stem: set() for path in source.glob("*.rt") if path.stem not in ("lib", "main")}
-    lib = source / "lib.rt"
-    exported = {path[-1]: path[0] for path in sources.used(sources.read(lib), "pub ") if path[0] in found} if lib.exists() else {}
-    for path in sorted(source.rglob("*.rt")):
-        room = path.relative_to(source).parts[0].removesuffix(".rt")
-        for first, *rest in sources.used(sources.read(path), r"(?:pub(?:\(crate\))? )?") if room in found else []:
-            other = exported.get(rest[0], rest[0]) if first == "crate" else room
-            found[room] |= {other} & (found.keys() - {room})
-    return found
+def rooms(found):
+    """What each room imports of the others, by what each file does; what stands in the root of a crate is in none."""
+    names = {module[0] for module in found if len(module) == 1 and module not in (("lib",), ("main",))}
+    return {name: {other[0] for module in found if module[0] == name for other in found[module]} & names - {name} for name in names}
 
 
 def module_of(source, path):
@@ -72,16 +64,16 @@ def file_imports(name):
             exported[(here, full[-1])] = full
     found = {}
     for module, text in modules.items():
-        paths = [tuple(rest) for first, *rest in sources.used(text, "") if first == "crate"]
+        paths = [tuple(rest) for first, *rest in sources.used(text, r"(?:pub(?:\(crate\))? )?") if first == "crate"]
         found[module] = {leads_to(modules, exported, path) for path in paths} - {module, ()}
     return found
 
 
 def circles(found):
     """The sets of files that reach one another, each once."""
-    seen = set()
+    seen, reached = set(), {file: sources.below(found, file) for file in found}
     for file in sorted(found):
-        circle = {other for other in reached(found, file) if file in reached(found, other)}
+        circle = {other for other in reached[file] if file in reached[other]}
         if file in circle and file not in seen:
             seen |= circle
             yield sorted("/".join(other) for other in circle)
@@ -99,17 +91,6 @@ def families(name, line, named):
                 yield f"{name} imports {part}, an inner part of {family}, which its line `inner` doesn't name"
             if part in named and not imported:
                 yield f"{name} doesn't import {part}, which its line `inner` names"
-
-
-def reached(found, room):
-    """What a room or a file stands on, directly or through another one."""
-    seen, todo = set(), list(found[room])
-    while todo:
-        other = todo.pop()
-        if other not in seen:
-            seen.add(other)
-            todo += found[other]
-    return seen
 
 
 def tables():
@@ -163,15 +144,17 @@ def wrong_rows(name, found, table):
 
 
 def check(options):
+    """Compares the rooms of each crate with its lines."""
     named, wrong = tables(), []
     for name, below in sources.crates().items():
-        found = imports(name)
-        cycle = sorted(room for room in found if room in reached(found, room))
+        files = file_imports(name)
+        found = rooms(files)
+        cycle = sorted(room for room in found if room in sources.below(found, room))
         wrong += [f"{name}: {', '.join(cycle)} reach themselves through what they import"] if cycle else []
         table = dict(named.get(name, {}))
         wrong += families(name, below, table.pop("inner", set()))
         wrong += wrong_rows(name, found, table)
-        for circle in circles(file_imports(name)):
+        for circle in circles(files):
             if not any((name, file) in CIRCLES for file in circle):
                 wrong.append(f"{name}: the files {', '.join(circle)} reach one another")
     wrong += [f"{name} stands in rooms.txt, and is no crate" for name in named if name not in sources.crates()]
