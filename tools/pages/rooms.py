@@ -34,7 +34,8 @@ CIRCLES = [
 def rooms(found):
     """What each room imports of the others, by what each file does; what stands in the root of a crate is in none."""
     names = {module[0] for module in found if len(module) == 1 and module not in (("lib",), ("main",))}
-    return {name: {other[0] for module in found if module[0] == name for other in found[module]} & names - {name} for name in names}
+    return {name: {other[0] for module in found if module[0] == name for other in found[module]} & (names - {name})
+            for name in names}
 
 
 def module_of(source, path):
