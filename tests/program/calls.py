@@ -7,7 +7,7 @@ import subprocess
 
 from common import OPEN, PATCHED, TRIO, UNPATCHED, expect, fresh, held, left_out, remove, run, said, say, trio, write
 
-BEFORE, AFTER = (b"ABCDEFGH", None, UNPATCHED), (b"ABxyEFGH", PATCHED, UNPATCHED)
+BEFORE, AFTER = (b"ABCDEFGH", b"", UNPATCHED), (b"ABxyEFGH", PATCHED, UNPATCHED)
 DD = "dd if=plain of=img obs=3 seek=1 conv=ucase"
 CHANGES = [("revert -f dump img", BEFORE), ("revert -f dump img", AFTER), (DD, AFTER), ("undo img", AFTER), ("redo img", BEFORE),
            ("redo img", AFTER)]
