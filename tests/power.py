@@ -217,7 +217,7 @@ def mounted(judge, rng, _options, is_unsynced=False):
         with Mount(str(path / "mounted"), str(path / "told")) as mount:
             session = CachedSession(judge, mount, rng.randbytes(rng.randint(0, 20000)))
             for _ in range(rng.randint(5, 8)):
-                session.run(some_command(rng, session.state, 450, 20), is_unsynced)
+                session.run(some_command(rng, session.state, 200, 45), is_unsynced)
     return session
 
 
