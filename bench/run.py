@@ -42,8 +42,8 @@ DUMPS = [
     *dumps(15, "xxd random", "xxd -p random"), *dumps(8, "xxd -b random"), *dumps(20, "xxd -i random"),
     *dumps(8, "xxd -c 32 -g 4 random"),
     *dumps(40, "od less", "od -t x1 less", "od -c less"), *dumps(20, "od -t d4 less", "od -t u1 less"), *dumps(1, "od few"),
-    *dumps(60, "hexdump -C less"), *dumps(1, "hexdump -C few"), Row("dumps", "-", "xxd -p random",
-                                                                    "basenc --base16 -w 60 random"),
+    *dumps(60, "hexdump -C less"), *dumps(1, "hexdump -C few"),
+    Row("dumps", "-", "xxd -p random", "basenc --base16 -w 60 random"),
     *(Row("dumps", "-", line, f"busybox {line}") for line in ("xxd less", "od less", "hexdump -C less")),
 ]
 RUNS = [
@@ -216,8 +216,8 @@ def library_calls(options, run):
         for field, goal, name, beside in rows:
             there = fields[beside] if beside in fields else best(options.rounds, [beside], "", options.bx)[0]
             tell(run, "calls", name, BESIDE.get(beside, beside), goal, fields[field], there)
-        used = {line[1]: int(line[2]) for line in told if len(line) == 4 and (line[0], line[1]) in (("before", "VmRSS:"),
-                                                                                                    ("after", "VmHWM:"))}
+        wanted = [["before", "VmRSS:"], ["after", "VmHWM:"]]
+        used = {line[1]: int(line[2]) for line in told if len(line) == 4 and line[:2] in wanted}
         if used:
             units, held = fields.get("writes", fields["units"]), 0 if "writes" in fields else os.path.getsize("less")
             print(f"{words.split()[0]}, memory: {((used['VmHWM:'] - used['VmRSS:']) * 1024 - held) / units:.1f} bytes each "

@@ -360,6 +360,10 @@ def closed_pipe():
     return theirs
 
 
+def full_device():
+    return os.open("/dev/full", os.O_WRONLY)
+
+
 def case(words, line, more, status, text="", **how):
     """A case: the line of the fault and what stands behind it on a terminal."""
     piped, seen, found = both(words, text, **how)
@@ -402,8 +406,7 @@ def main():
         status = {2 if fault == "bad arguments" else int(bool(fault))}
         case(words, line, line + (f"hint: {hint}\n" if hint else ""), status, text, most=most)
     fault = "bx: write failed after 0 bytes\n"
-    case("xxd img", fault, f"{fault}hint: standard output: No space left on device\n", {1}, out=lambda: os.open("/dev/full",
-                                                                                                                os.O_WRONLY))
+    case("xxd img", fault, f"{fault}hint: standard output: No space left on device\n", {1}, out=full_device)
     for words in ("xxd img", "dd if=img", "undo img", "log img", "show img"):
         case(words, "", "", {1}, out=closed_pipe)
     for words, hint in FIRST:

@@ -40,8 +40,8 @@ def words_of(rng, tool, place):
     """Words that skip to a place, and show a little of what stands there."""
     few = rng.choice([1, 4, 16, 17, 48])
     if tool == "xxd":
-        return ["xxd", "-s", str(place), "-l", str(few), *rng.choice([[], ["-p"], ["-c", "7"], ["-o", "16"], ["-o", str(2**62)],
-                                                                      ["-b"]])]
+        more = rng.choice([[], ["-p"], ["-c", "7"], ["-o", "16"], ["-o", str(2**62)], ["-b"]])
+        return ["xxd", "-s", str(place), "-l", str(few), *more]
     if tool == "od":
         return ["od", "-j", str(place), "-N", str(few), "-A", rng.choice("doxn"), "-t", rng.choice(["x1", "o2", "c", "u8"])]
     if tool == "hexdump":

@@ -1,4 +1,5 @@
 """The sources of this repository, for all tools that read them: crates, Rattle code (`.rt`) and definitions (`.antt`)."""
+import itertools
 import pathlib
 import re
 
@@ -48,9 +49,8 @@ def read(path):
 
 def head(path):
     """The comment at the head of a file of code, as one line."""
-    lines = read(path).split("\n")
-    return " ".join(line[3:].strip() for line in lines[: next(i for i, line in enumerate([*lines, ""])
-                                                              if not line.startswith("//!"))])
+    lines = itertools.takewhile(lambda line: line.startswith("//!"), read(path).split("\n"))
+    return " ".join(line[3:].strip() for line in lines)
 
 
 def root_of(name):
@@ -227,15 +227,15 @@ class Definition:
     def parameters(self):
         """How many parameters it has: those of its head, and those before its type's last arrow; none in braces."""
         lines = [line for line in self.lines if not line.startswith("module _ ")]
-        text = re.split(r"\bwhere\b", " ".join([lines[0],
-                                                *(line for line in head_of(lines[1:]))])[HEAD.match(lines[0]).end() :])[0]
+        text = " ".join([lines[0], *head_of(lines[1:])])[HEAD.match(lines[0]).end() :]
+        text = re.split(r"\bwhere\b", text)[0]
         front, *rest = split(text, ":")
         return sum(binders(front)) + sum(sum(binders(part) or [1]) for part in split(":".join(rest), "→")[:-1])
 
 
 def head_of(lines):
     """The lines at the begin that go on with a head: they are set in."""
-    return lines[: next((i for i, line in enumerate(lines) if not line.startswith(" ")), len(lines))]
+    return list(itertools.takewhile(lambda line: line.startswith(" "), lines))
 
 
 def binders(text):
@@ -266,7 +266,7 @@ def parts(text):
     """The definitions of a file: name, lines (no comments, imports or blank lines), and the comment above.
 
     A line `module _ .. where` gives those below it, set in by two spaces, their first parameters; it counts with the next.
-   """
+    """
     found, comment, opened, within = [], [], [], False
     for line in text.split("\n"):
         bare = line.rstrip()

@@ -145,8 +145,8 @@ def dumped(words, plain):
         yield is_refused, done.out in (b"", plain.out if words.startswith("dd") else b"") if is_refused else done == plain
     for _, done, _ in each("f", words, given=TEXT):
         is_fault = re.search(r"^bx: (read failed|write failed after \d+ bytes)$", done.err, re.M)
-        yield False, plain.out.startswith(done.out) and is_fault if done.status == 1 else (done.status, done.out) == (0,
-                                                                                                                      plain.out)
+        is_whole = (done.status, done.out) == (0, plain.out)
+        yield False, plain.out.startswith(done.out) and is_fault if done.status == 1 else is_whole
     for _, done, _ in each("s", words, given=TEXT):
         yield False, (done.status, done.out) == (0, plain.out)
 

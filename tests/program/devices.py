@@ -140,9 +140,8 @@ def alike(device, words):
     """The same command on the device and on a file: statuses, what is written, bytes and texts."""
     one = run(words.replace("DEV", device).replace("JOURNAL", "device.bxj"))
     other = run(words.replace("DEV", "plain").replace("JOURNAL", "plain.bxj"))
-    say(one == other and one.status == 0 and sum_of(device) == sum_of("plain") and held(*TEXTS) == held("plain.bxj",
-                                                                                                        "plain.bxj.redo"),
-        f"on a device and on a file: {words}", said(one))
+    is_same = sum_of(device) == sum_of("plain") and held(*TEXTS) == held("plain.bxj", "plain.bxj.redo")
+    say(one == other and one.status == 0 and is_same, f"on a device and on a file: {words}", said(one))
 
 
 def on_device(device, disk):

@@ -258,8 +258,8 @@ def test_shut_folder():
     os.chmod("shut/bx", 0o755)
     os.chown("shut", user, -1)
     os.chmod("shut", 0o333)
+    how = {"user": user, "group": user, "extra_groups": []} if os.getuid() == 0 else {}
     for words, want in (("revert -f shut/dump shut/img", b"ABxyEFGH"), ("undo shut/img", b"ABCDEFGH")):
-        done = run(words, program=os.path.abspath("shut/bx"), **({"user": user, "group": user, "extra_groups": []}
-                                                                 if os.getuid() == 0 else {}))
+        done = run(words, program=os.path.abspath("shut/bx"), **how)
         say(done.status == 0 and held("shut/img") == (want,), f"{words.split()[0]} in a folder that can't be opened", said(done))
     os.chmod("shut", 0o755)

@@ -75,8 +75,8 @@ def test_two_at_once():
     stopped = changed[0], changed[1][:-20]
     for name, tries, start, one, other in (
             ("two reverts", 400, alone, first, second), ("a revert and an undo", 200, changed, first, "undo img"),
-            ("an undo and a redo", 200, undone, "undo img", "redo img"), ("a revert and a log that recovers", 200, stopped,
-                                                                          first, "log img"),
+            ("an undo and a redo", 200, undone, "undo img", "redo img"),
+            ("a revert and a log that recovers", 200, stopped, first, "log img"),
             ("two dd onto an image that is missing", 200, (), "dd if=dump1 of=img", "dd if=dump2 of=img seek=1")):
         fits, wrong, refused = {}, 0, 0
         for pair in ((one, other), (other, one)):

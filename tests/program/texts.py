@@ -75,8 +75,8 @@ def test_dumps():
 def test_texts():
     program = held(*bx)[0]
     rows = [("a program as a journal", IMAGE, program, None, "undo img", "journal line 1 is damaged"),
-            *(("a program as a redo file", IMAGE, PATCHED, program, words, "redo line 1 is damaged") for words in ("log img",
-                                                                                                                   "redo img"))]
+            ("a program as a redo file", IMAGE, PATCHED, program, "log img", "redo line 1 is damaged"),
+            ("and no redo of it", IMAGE, PATCHED, program, "redo img", "redo line 1 is damaged")]
     for name, image, journal, redo, words, fault in TEXTS + rows:
         fresh(image, journal, redo)
         expect(name, words, fault)

@@ -156,10 +156,8 @@ def compared(bx, commands, texts):
     for command in sorted(commands):
         yield from compared_options(bx, command, texts)
     yield from compared_dd(bx, texts)
-    faults = fault_texts()
-    yield "faults in docs/FORMATS.md", faults, {int(n): text for n, text in found_in(r"^\| (\d+) \| `(.*?)` \|$",
-                                                                                     read(ROOT / "docs/FORMATS.md"))}
-    yield "faults in the man page", faults, {int(n): text for n, text in found_in(r"^\.It (\d+)  (.*)$", texts["man/bx.1"])}
+    for page, row in (("docs/FORMATS.md", r"^\| (\d+) \| `(.*?)` \|$"), ("man/bx.1", r"^\.It (\d+)  (.*)$")):
+        yield f"faults in {page}", fault_texts(), {int(number): text for number, text in found_in(row, read(ROOT / page))}
 
 
 def fault_texts():

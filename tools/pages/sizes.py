@@ -23,16 +23,17 @@ def arguments(parser):
 
 def public_items(name):
     """What is public of a crate: what its `lib.rt` exports, and of an inner part what another crate exports of it."""
-    return ({(item,) for item in sources.exported_above(name, sources.product())},
-            set()) if name in sources.inner() else sources.exported(name)
+    if name in sources.inner():
+        return {(item,) for item in sources.exported_above(name, sources.product())}, set()
+    return sources.exported(name)
 
 
 def is_public(function, module, items, modules):
     """Whether a function is a public call: of a type or trait that is exported, or exported itself, which may pass over
     modules."""
     if function.owner:
-        return (function.is_public or function.is_of_trait) and (module in modules or any(item[-1] == function.owner
-                                                                                          for item in items))
+        is_named = module in modules or any(item[-1] == function.owner for item in items)
+        return (function.is_public or function.is_of_trait) and is_named
     shown = module in modules or any(item[-1] == function.name and module[: len(item) - 1] == item[:-1] for item in items)
     return function.is_public and shown
 

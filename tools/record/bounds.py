@@ -107,8 +107,8 @@ BLOCKS = [
     ("od", "", [16 * KIB]), ("od", "-c", [16 * KIB]), ("od", "-t x1 -v", [16 * KIB]), ("od", "-t d8", [16 * KIB]),
     ("hexdump", "-C", [16 * KIB]),
     ("strings", "", [16 * KIB]), ("strings", "-t d", [3584, 16 * KIB]),
-    ("dd", "", [512, 128 * KIB]), ("dd", "bs=61", [128 * KIB]), ("dd", "bs=61 conv=sync", [131028]), ("dd", "bs=512 conv=swab",
-                                                                                                      [128 * KIB]),
+    ("dd", "", [512, 128 * KIB]), ("dd", "bs=61", [128 * KIB]), ("dd", "bs=61 conv=sync", [131028]),
+    ("dd", "bs=512 conv=swab", [128 * KIB]),
     ("dd", "bs=128K", [128 * KIB]), ("dd", "ibs=131071 conv=sync", [131071]), ("dd", "ibs=131074 conv=swab", [131074]),
     ("dd", "ibs=100 obs=131073", [131073]), ("dd", "cbs=256 conv=block", [128 * KIB]),
     ("dd", "cbs=80 conv=unblock", [128 * KIB]),
@@ -253,8 +253,8 @@ def pieces_case(last):
     for place, given in dump:
         check_dump(place, given)
     saved = [(place, Given((len(given), "00"))) for place, given in dump]
-    lines = head(f"a revert whose entry has {262144 + last - 2} bytes up to its save line") + [f"image: {before.text()}",
-                                                                                               "revert:"]
+    lines = head(f"a revert whose entry has {262144 + last - 2} bytes up to its save line")
+    lines += [f"image: {before.text()}", "revert:"]
     lines += [f"> {place} {given.text()}" for place, given in dump] + ["reply: changed 1", f"image: {after.text()}", "journal:"]
     return lines + entry_lines(1, 62000, saved, 62000) + undone_row(0, before) + ['journal: ""']
 
