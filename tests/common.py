@@ -124,6 +124,7 @@ def asked(doc, *arguments):
     for name, settings in arguments:
         parser.add_argument(name, **settings)
     options = parser.parse_args()
+    signal.signal(signal.SIGTERM, lambda *_: sys.exit(1))  # so that folders, loop devices and mounts are put away
     bx[0] = options.bx = os.path.abspath(options.bx)
     return options
 
