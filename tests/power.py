@@ -216,6 +216,7 @@ def mounted(judge, rng, _options, is_unsynced=False):
         os.mkdir(path / "mounted")
         with Mount(str(path / "mounted"), str(path / "told")) as mount:
             session = CachedSession(judge, mount, rng.randbytes(rng.randint(0, 20000)))
+            session.run(some_change(rng, session.state.stack[0], 200, 45), is_unsynced)
             for _ in range(rng.randint(5, 8)):
                 session.run(some_command(rng, session.state, 200, 45), is_unsynced)
     return session

@@ -18,12 +18,14 @@ PLAIN = [
     ("an odd number of digits", b"4" * (4 * MEGA - 1) + b"\n\n", "line 1: odd number of digits"),
 ]
 OLD = b"".join(b"change %08x 00000000\nsave %08x\ndone %08x\n" % (n, n, n) for n in range(1, 65536))
+OLD_REDO = b"change 00000001 00000008\nsave 00000001\ndone 00000001\n"
 EMPTY = b"change2 00000001 0000000000000000\nsave 00000001\ndone2 00000001 0000000000000000\n"
 IMAGE = b"ABxyEFGH"
 # what the texts are, the image, the journal, the redo file, the command, and the fault: all three stay
 TEXTS = [
     ("an image that begins with NUL bytes as a journal", IMAGE, bytes(1000) + b"\1", None, "undo img",
      "journal line 1 is damaged"),
+    ("a blank image as a journal", IMAGE, bytes(MEGA), None, "undo img", "journal line 1 is damaged"),
     ("a journal of a line of a megabyte", IMAGE, b"s" * MEGA, None, "log img", "journal line 1 is damaged"),
     ("a saved line of a megabyte", IMAGE, b"change 00000001 00000008\n" + b"a" * MEGA, None, "log img",
      "journal line 2 is damaged"),
@@ -40,7 +42,7 @@ TEXTS = [
     ("an undone entry and half of one", IMAGE, PATCHED, UNPATCHED + b"change2 00000002 0000000000000008\n",
      "dd if=/dev/null of=img",
      "redo line 5 is damaged"),
-    ("a redo file in the older form", IMAGE, PATCHED, OLD[:54], "log img", "redo line 1 is damaged"),
+    ("a redo file in the older form", IMAGE, PATCHED, OLD_REDO, "log img", "redo line 1 is damaged"),
     ("a redo file of a longer image", b"ABCDEFG", b"", UNPATCHED, "revert -f /dev/null img", "redo line 4 is damaged"),
     ("a longer image is told by its journal first", b"ABxyEFG", PATCHED, UNPATCHED, "log img", "image should have 8 bytes"),
     ("one undone beside a full journal", b"", OLD, EMPTY, "log img", "redo line 1 is damaged"),
@@ -80,8 +82,8 @@ def test_texts():
     for name, image, journal, redo, words, fault in TEXTS + rows:
         fresh(image, journal, redo)
         expect(name, words, fault)
-    fresh(IMAGE, bytes(MEGA))
-    expect("a journal of a megabyte of NUL bytes, as a loss of power leaves one", "undo img", "only 0 changes to undo", False)
+    fresh(IMAGE, b"\0")
+    expect("a journal of a NUL byte, as a loss of power leaves one", "undo img", "only 0 changes to undo", False)
     say(trio() == (IMAGE, b"", b""), "and it is empty")
     write("new", b"1: 79\n")
     for words, left in KEPT:
