@@ -59,24 +59,16 @@ pub fn file<'a, R: Files<File = File>>(
 {
     let file = open(rt, name)?;
     let movable = has_places(file.metadata());
-    let length = if movable { length_of(&file) } else { None };
+    let length = size_of(&file);
     place(file, skip, name.as_str(), movable, length)
 }
 
-/// How many bytes a file has that was just opened; none where it has no places, or doesn't tell.
+/// How many bytes a regular file has; none of another one, or where it doesn't tell. The file stays where it stands.
 pub fn size_of(file: &File) -> Option<u64> {
-    if has_places(file.metadata()) {
-        length_of(file)
-    } else {
-        None
+    match file.metadata() {
+        Ok(found) if found.is_file() => Some(found.len()),
+        Ok(_) | Err(_) => None,
     }
-}
-
-/// How many bytes a file has that was just opened and has places. It stands at its start again.
-fn length_of(mut file: &File) -> Option<u64> {
-    let length = file.seek(SeekFrom::End(0)).ok();
-    let _ = file.seek(SeekFrom::Start(0));
-    length
 }
 
 /// Standard input, which has no seek: what is skipped is read.
