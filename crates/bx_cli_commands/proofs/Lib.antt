@@ -11,6 +11,7 @@ pub mod Obeys
 pub mod Stopped
 pub mod Tells
 pub mod SessionRuns
+pub mod Agreed
 pub mod Copying
 pub mod RoundTrips
 pub mod XxdRows
