@@ -13,6 +13,5 @@ pub mod Refusal
 pub mod Laws
 pub mod Loss
 pub mod Listing
-pub mod ShowDump
 pub mod RoundTrip
 pub mod jobs

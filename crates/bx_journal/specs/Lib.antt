@@ -26,5 +26,4 @@ pub mod Looking
 pub mod Losses
 pub mod Opened
 pub mod Recovery
-pub mod ShowLaws
 pub mod private

@@ -2,4 +2,3 @@
 pub mod Again
 pub mod Overwritten
 pub mod Plan
-pub mod Ready

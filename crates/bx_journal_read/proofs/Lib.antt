@@ -12,7 +12,6 @@ pub mod StandLemmas
 pub mod RecoverLemmas
 pub mod WindowLemmas
 pub mod WalkLemmas
-pub mod TextReads
 pub mod ScanLemmas
 pub mod DamageLemmas
 pub mod ZeroLemmas

@@ -11,9 +11,8 @@ mod hints;
 mod images;
 mod input;
 mod jobs;
-mod left;
 mod paged;
-mod steps;
+mod patch;
 mod stopped;
 mod streams;
 
