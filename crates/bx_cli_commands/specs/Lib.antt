@@ -11,7 +11,6 @@ pub mod Tells
 pub mod SessionRun
 pub mod Refusal
 pub mod Laws
-pub mod Loss
 pub mod Listing
 pub mod RoundTrip
 pub mod jobs

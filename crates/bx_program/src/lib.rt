@@ -12,7 +12,6 @@ mod images;
 mod input;
 mod jobs;
 mod paged;
-mod patch;
 mod stopped;
 mod streams;
 

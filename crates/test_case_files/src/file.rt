@@ -24,7 +24,7 @@ enum Kind {
 }
 
 /// The words of lines.
-static KNOWN: [&str; 49] = [
+static KNOWN: [&str; 48] = [
     "kind",
     "case",
     "from",
@@ -67,7 +67,6 @@ static KNOWN: [&str; 49] = [
     "new",
     "rows",
     "patch",
-    "reversed",
     "lengths",
     "expected",
     "written",

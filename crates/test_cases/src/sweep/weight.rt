@@ -45,8 +45,7 @@ fn row_weight(row: &Row) -> usize {
         Ask::Revert { dump, .. } => dump.len(),
         Ask::Plain { digits, .. } => digits.len(),
         Ask::Dd { input, .. } => input.len(),
-        Ask::Patch { text, .. } => text.len(),
-        Ask::Undo(_) | Ask::Redo(_) | Ask::Change { .. } | Ask::Open => 0,
+        _ => 0,
     };
     given
         .saturating_add(row.left.image.len())
