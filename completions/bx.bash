@@ -58,7 +58,7 @@ _bx_dd() {
 
 _bx() {
     local cur=${COMP_WORDS[COMP_CWORD]} prev=${COMP_WORDS[COMP_CWORD - 1]} command=${COMP_WORDS[1]} lead=''
-    local commands='xxd od hexdump strings dd revert undo redo log show diff' options
+    local commands='xxd od hexdump strings dd revert undo redo log show diff patch' options
     COMPREPLY=()
     if ((COMP_CWORD == 1)); then
         _bx_words "$commands help -h --help -V --version"
@@ -79,6 +79,7 @@ _bx() {
     log) options='-J -U -v --mounted' ;;
     show) options='-J -d -k -r' ;;
     diff) options='-v' ;;
+    patch) options='-J -R -U -f --mounted' ;;
     *) return ;;
     esac
     case $command:$prev in
@@ -86,12 +87,12 @@ _bx() {
     od:-t) _bx_words 'c d1 d2 d4 d8 o1 o2 o4 o8 u1 u2 u4 u8 x1 x2 x4 x8' ;;
     strings:-t) _bx_words 'd o x' ;;
     xxd:-[cglos] | od:-[jN] | hexdump:-[ns] | strings:-n | revert:-s | undo:-k | redo:-k | show:-k) ;;
-    *:-J | revert:-f) _bx_files ;;
+    *:-J | revert:-f | patch:-f) _bx_files ;;
     *)
         case $command:$cur in
         *:-*) _bx_words "$options -h --help" ;;
         dd:*) _bx_dd ;;
-        revert:* | undo:* | redo:* | log:* | show:*) _bx_images ;;
+        revert:* | undo:* | redo:* | log:* | show:* | patch:*) _bx_images ;;
         *) _bx_files ;;
         esac
         ;;

@@ -30,7 +30,7 @@ function __bx_operand
     end
 end
 
-set -l commands xxd od hexdump strings dd revert undo redo log show diff
+set -l commands xxd od hexdump strings dd revert undo redo log show diff patch
 set -l none "not __fish_seen_subcommand_from $commands help"
 
 complete -c bx -f
@@ -48,11 +48,12 @@ complete -c bx -n $none -a redo -d 'Make the last undone changes of an image aga
 complete -c bx -n $none -a log -d 'List the changes of an image'
 complete -c bx -n $none -a show -d 'Show what an undo or a redo would do'
 complete -c bx -n $none -a diff -d 'Write what differs between two files, as a patch'
+complete -c bx -n $none -a patch -d 'Apply a patch of bx diff to an image'
 complete -c bx -n $none -a help -d 'Show the help of a command'
 complete -c bx -n '__fish_seen_subcommand_from help' -a "$commands"
 
 complete -c bx -n '__fish_seen_subcommand_from xxd od hexdump strings diff' -F
-complete -c bx -n '__fish_seen_subcommand_from revert undo redo log show' -a '(__bx_image (commandline -ct))'
+complete -c bx -n '__fish_seen_subcommand_from revert undo redo log show patch' -a '(__bx_image (commandline -ct))'
 
 complete -c bx -n '__fish_seen_subcommand_from xxd' -s b -d 'Eight binary digits for each byte'
 complete -c bx -n '__fish_seen_subcommand_from xxd' -s c -x -d 'Bytes on a line, 1 to 256'
@@ -117,3 +118,9 @@ complete -c bx -n '__fish_seen_subcommand_from show' -s k -x -d 'Changes to show
 complete -c bx -n '__fish_seen_subcommand_from show' -s r -d 'Show what a redo would do'
 
 complete -c bx -n '__fish_seen_subcommand_from diff' -s v -d 'Write whole rows where a byte differs'
+
+complete -c bx -n '__fish_seen_subcommand_from patch' -s J -r -F -d 'Journal of the image'
+complete -c bx -n '__fish_seen_subcommand_from patch' -s R -d 'Apply the patch the other way round'
+complete -c bx -n '__fish_seen_subcommand_from patch' -s U -d 'Do not wait for the disk'
+complete -c bx -n '__fish_seen_subcommand_from patch' -l mounted -d 'Change a device that is mounted'
+complete -c bx -n '__fish_seen_subcommand_from patch' -s f -r -F -d 'File to read the patch from'

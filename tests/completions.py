@@ -19,7 +19,7 @@ import time
 
 from common import ROOT, folder, write
 
-COMMANDS = ["xxd", "od", "hexdump", "strings", "dd", "revert", "undo", "redo", "log", "show", "diff"]
+COMMANDS = ["xxd", "od", "hexdump", "strings", "dd", "revert", "undo", "redo", "log", "show", "diff", "patch"]
 TYPES = ["c"] + [form + size for form in "doux" for size in "1248"]
 OPERANDS = ["if=", "of=", "ibs=", "obs=", "bs=", "cbs=", "skip=", "seek=", "count=", "conv="]
 CONVERSIONS = ["block", "unblock", "lcase", "ucase", "swab", "sync", "notrunc"]
@@ -48,6 +48,8 @@ CASES = [
     ("bx show -k ", []),
     ("bx diff ", FILES),
     ("bx diff image im", FILES[1:]),
+    ("bx patch ", IMAGES),
+    ("bx patch -f ", FILES),
     ("bx revert ", IMAGES),
     ("bx redo im", ["image"]),
     ("bx dd ", OPERANDS),
@@ -77,6 +79,7 @@ OPTIONS = [
     ("bx log -", "JUv", MOUNTED),
     ("bx show -", "Jdkr", []),
     ("bx diff -", "v", []),
+    ("bx patch -", "JRUf", MOUNTED),
     ("bx dd -", "JU", MOUNTED),
 ]
 

@@ -30,7 +30,7 @@ MULTIPLIES = "0x begins no hexadecimal number here, since x multiplies: give it 
 SIZE = "a number as 512, 0x200 or 01000, with "
 OLDER = "move the journal and the redo file away (their undo history is lost)"
 CHANGE, UNDONE = entry([(2, b"CD")]).decode(), entry([(2, b"xy")]).decode()
-NO_JOURNAL = "no journal is here, so no change is known; -J names one that is elsewhere, and bx revert and bx dd make one"
+NO_JOURNAL = "no journal is here, so no change is known; -J names one that is elsewhere, and bx revert, bx patch and bx dd make one"
 TAKEN = ": it has the name of a journal or a redo file, and was taken as an image"
 DECIMAL = "a number is decimal; behind it b (512), k or K (1024), M (1048576) or G (1073741824) may stand"
 NEGATIVE = "there are no negative places and counts"
@@ -44,6 +44,9 @@ DASH = "- is a file's name here; without a name standard input is read"
 UNLIKE = ("the characters beside the digits aren't those of the bytes in line %d; bx undo img takes this back, and bx revert "
           "--help shows the form of a line")
 LATER = "it was modified later than its journal, perhaps by another program; bx %s goes back"
+OTHER = "the patch is of another image, or was applied before"
+SIGNED = "a line is like '+00000002: 7879'"
+DIFFS = "bx patch reads what bx diff writes: 'length 8 to 10' before all other lines, and lines like '+00000002: 7879'"
 DD = "Usage: bx dd [OPTIONS] [OPERAND]..."
 XXD = "Usage: bx xxd [OPTIONS] [FILE]"
 OD = "Usage: bx od [OPTIONS] [FILE]"
@@ -83,6 +86,7 @@ FILES = {
     "begun": "ABxyEFGH",
     "begun.bxj": entry([(2, b"CD")], ended=False).decode(),
     "returns": "0: 41\r\n",
+    "patch": "length 8 to 8\n-00000002: 4344\n+00000002: 7879\n",
     "-8": "ABxyEFGH",
     "-8.bxj": CHANGE,
 }
@@ -220,6 +224,21 @@ CASES = [
      + "; its image has the name of a journal or a redo file"),
     ("undo later.bxj.redo", "", "cannot open file", "later.bxj.redo.bxj: " + NO_JOURNAL
      + "; its image has the name of a journal or a redo file"),
+    ("patch -f patch img", "", "the image has other bytes at 2", "img: it has '00000002: 7879 4546 4748' there; " + OTHER),
+    ("patch img", "-6: 4748 49\n", "the image has other bytes at 8", "img: it ends before; " + OTHER),
+    ("patch img", "-1: 41\n", "the image has other bytes at 1", "img: it has '00000001: 4278 7945 4647 48' there; " + OTHER),
+    ("patch -R -f patch long", "", "image should have 8 bytes", "long: it has 9 bytes and not 8; it may have another journal; where its length alone was changed, truncate -s 8 long gives that back; or " + OLDER),
+    ("patch img", "length 7 to 8\n", "image should have 7 bytes", "img: it has 8 bytes and not 7; " + OTHER),
+    ("patch img", "00000002: 7879\n", "line 1: not a line of a patch", DIFFS),
+    ("patch img", "length 8\n", "line 1: bad length", "it is like 'length 8 to 10', in decimal"),
+    ("patch img", "length 8 to 8\n+8: 41\n", "line 2: past the length", "the first line says how long the image is before and after"),
+    ("patch img", "+x: 41\n", "line 1: bad address", SIGNED),
+    ("patch img", "+0: 4g\n", "line 1: bad pair", PAIRS.split(";")[0]),
+    ("patch img", "length 8 to 8\r\n", "line 1: bad length", "standard input: its lines end in CR LF; tr -d '\\r' takes the CR off; it is like 'length 8 to 10', in decimal"),
+    ("patch patch img", "", "bad arguments", "unexpected argument 'img' found: one word is the image; a patch is named by -f: bx patch -f PATCH IMAGE" + CALLED % "patch"),
+    ("patch --reverse img", "", "bad arguments", "unexpected argument '--reverse' found: give -R" + CALLED % "patch"),
+    ("patch -f - img", "", "cannot open file", "-: No such file or directory; " + DASH),
+    ("patch -R -f patch -- -8", "", None, None),
     ("xxd img", "", None, None),
     ("log img", "", None, None),
     # after a success
@@ -264,6 +283,10 @@ CASES = [
     ("dd if=/dev/null of=undone", "", None, None),
     ("dd if=/dev/null of=img conv=notrunc", "", None, None),
     ("revert img", "", None, "the dump has no bytes, so no byte was changed"),
+    ("patch -R -f patch img", "", None, None),
+    ("patch img", "", None, "the patch changes nothing, so no byte was changed"),
+    ("patch undone", "# nothing\n", None, "the patch changes nothing, but what was undone is given up"),
+    ("patch imgae", "length 0 to 0\n", None, "imgae: it was missing, so it was made; its journal is imgae.bxj\nhint: the patch changes nothing, so no byte was changed"),
     ("undo later", "", None, "later: " + LATER % "redo -k 1 later"),
     ("redo later", "", None, "later: " + LATER % "undo -k 1 later"),
     ("undo -J ./later.bxj later", "", None, "later: " + LATER % "redo -k 1 -J ./later.bxj later"),

@@ -10,7 +10,7 @@ from common import OPEN, PATCHED, TRIO, UNPATCHED, expect, fresh, held, left_out
 BEFORE, AFTER = (b"ABCDEFGH", b"", UNPATCHED), (b"ABxyEFGH", PATCHED, UNPATCHED)
 DD = "dd if=plain of=img obs=3 seek=1 conv=ucase"
 CHANGES = [("revert -f dump img", BEFORE), ("revert -f dump img", AFTER), (DD, AFTER), ("undo img", AFTER), ("redo img", BEFORE),
-           ("redo img", AFTER)]
+           ("redo img", AFTER), ("patch -f fix img", BEFORE), ("patch -R -f back img", AFTER)]
 # commands on image, journal and redo file that take memory
 REQUESTS = [*CHANGES, ("revert -p -s 3 -f plain img", BEFORE), ("log img", AFTER), ("log -v img", AFTER), ("show img", AFTER),
             ("show -d img", AFTER), ("diff img dump", AFTER)]
@@ -31,7 +31,8 @@ MEMORY = "out of memory"
 
 def build():
     """Whether there is a compiler, which makes the shim here; and the files of all tests."""
-    for name, data in (("dump", b"2: 7879\n20: 41\n"), ("plain", b"78 7\n9")):
+    for name, data in (("dump", b"2: 7879\n20: 41\n"), ("plain", b"78 7\n9"), ("same", b"length 8 to 8\n-2: 7879\n+2: 4344\n"),
+                       ("fix", b"length 8 to 9\n-2: 4344\n+2: 7879\n+8: 41\n"), ("back", b"length 3 to 8\n+2: 7879\n-1: 4142\n")):
         write(name, data)
     source = pathlib.Path(__file__).with_name("shim.c")
     try:
@@ -127,7 +128,7 @@ def test_folders():
     and any other error refuses the command and changes nothing."""
     for name, stops in FOLDER.items() if build() else ():
         well, number = True, getattr(errno, name)
-        for words in ("revert -f dump img", "dd if=plain of=img conv=notrunc", "undo img", "redo img"):
+        for words in ("revert -f dump img", "dd if=plain of=img conv=notrunc", "patch -f same img", "undo img", "redo img"):
             fresh(*AFTER)
             before, done = trio(), shimmed("o", number, words)
             well = well and done.status == stops and (trio() == before) == stops and (said(done) == OPEN or not stops)

@@ -6,7 +6,7 @@ import subprocess
 from common import PATCHED, STOPPED, bx, expect, fresh, held, run, said, say, trio, write
 
 TO_FULL = ["xxd bytes", "xxd -i bytes", "xxd -p bytes", "od bytes", "hexdump -C bytes", "strings bytes", "xxd --help", "log img",
-           "log -v img", "show img", "diff bytes zeros", "undo -k 0 img"]
+           "log -v img", "show img", "diff bytes zeros", "undo -k 0 img", "patch --help"]
 TO_PIPE = ["xxd zeros", "od -v zeros", "hexdump -C -v zeros", "xxd -p zeros", "strings letters"]
 # the journal, standard input, the streams without which a command fails (0: it reads, 1: it writes, 2: it reports), and its words
 CLOSED = [

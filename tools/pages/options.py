@@ -19,12 +19,14 @@ FAULTS = {
     "IoFault": "bx_text/src/fault.rt",
     "ReadFault": "bx_read/src/fault.rt",
     "DdFault": "bx_dd/src/fault.rt",
+    "PatchFault": "bx_patch/src/read/fault.rt",
+    "Other": "bx_patch/src/other.rt",
     "SessionFault": "bx_journal_read/src/fault.rt",
     "Fault": "bx_cli_commands/src/fault.rt",
 }
-COMMANDS = ["xxd", "od", "hexdump", "strings", "dd", "revert", "undo", "redo", "log", "show", "diff"]
+COMMANDS = ["xxd", "od", "hexdump", "strings", "dd", "revert", "undo", "redo", "log", "show", "diff", "patch"]
 # what a command wants in front of an option that is tried
-WANTED = {**dict.fromkeys(["revert", "undo", "redo", "log", "show"], ["image"]), "diff": ["image", "other"], "hexdump": ["-C"]}
+WANTED = {**dict.fromkeys(["revert", "undo", "redo", "log", "show", "patch"], ["image"]), "diff": ["image", "other"], "hexdump": ["-C"]}
 VALUES = ["1", "x", "x1", "other"]
 OPERANDS = ["if", "of", "ibs", "obs", "bs", "cbs", "skip", "seek", "count", "conv", "files", "status", "iflag", "oflag"]
 WORDS = ["block", "unblock", "lcase", "ucase", "swab", "sync", "notrunc", "noerror", "fdatasync", "fsync", "ascii",
@@ -165,7 +167,7 @@ def fault_texts():
     files = {kind: read(ROOT / "crates" / name) for kind, name in FAULTS.items()}
     texts = {(kind, variant): re.sub(r"\{\w+\}", "N", said) for kind, text in files.items()
              for said, variant in re.findall(r'#\[error\("(.*?)"\)\]\s+(\w+)', text)}
-    numbers = re.findall(r"(\w*Fault)::(\w+)(?: \{ \.\. \}|\(_\))? => (\d+),", files["Fault"])
+    numbers = re.findall(r"\b(\w*Fault|Other)::(\w+)(?: \{ \.\. \}|\(_\))? => (\d+),", files["Fault"])
     return {int(number): texts[kind, variant] for kind, variant, number in numbers}
 
 

@@ -8,7 +8,7 @@ The first line of a block of a document names what it quotes, and --write fills 
     ```rust examples/src/a.rt b   functions and structs of a file by their names, and an impl by impl:NAME of its type or trait
 
 In docs/HEADLINE.md each definition that a quoted line names is quoted too, or stands in the page's paragraphs between ` and `.
-It has less than 280 lines. The block at the head of a public crate's lib.rt stands in that crate's file of examples.
+It has less than 299 lines. The block at the head of a public crate's lib.rt stands in that crate's file of examples.
 """
 import re
 
@@ -17,7 +17,7 @@ from pages import believe
 
 ROOT = sources.ROOT
 PAGES = ["docs/HEADLINE.md", "docs/CALLING.md"]
-HEADLINE, MOST = "docs/HEADLINE.md", 279
+HEADLINE, MOST = "docs/HEADLINE.md", 298
 BLOCK = re.compile(r"^```(antt|rust) (\S.*)\n((?:(?!```).*\n)*)```$", re.M)
 
 

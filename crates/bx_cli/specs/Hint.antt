@@ -3,9 +3,10 @@ use Rattle.std.specs.Prelude.{ℕ, List, [], length, ◌++◌, ◌==◌, codes, 
 use Rattle.bx_text.specs.declared.fault.IoFault.TheVariants as io
 use Rattle.bx_read.specs.declared.fault.ReadFault.TheVariants as read
 use Rattle.bx_dd.specs.declared.fault.DdFault.TheVariants as dd
+use Rattle.bx_patch.specs.declared.read.fault.PatchFault.TheVariants as patch
 use Rattle.bx_journal_read.specs.declared.fault.SessionFault.TheVariants as session
 use Rattle.bx_cli_commands.specs.declared.fault.Fault.{Fault}
-use Rattle.bx_cli_commands.specs.declared.fault.Fault.TheVariants.{Io, Read, Dd, Session}
+use Rattle.bx_cli_commands.specs.declared.fault.Fault.TheVariants.{Io, Read, Dd, Patch, Disagrees, Session}
 use Rattle.bx_cli.specs.declared.hint.Known.{Known}
 
 -- two parts with a text between them, where neither is empty
@@ -33,6 +34,15 @@ advice_of (Dd (dd.ZeroSize _)) = codes "a size is at least 1, and a product such
 advice_of (Dd dd.Conflict) = codes "give one of block and unblock, and one of lcase and ucase"
 advice_of (Dd dd.MissingCbs) = codes "block and unblock want cbs=BYTES"
 advice_of (Dd dd.SeekWithoutOutput) = codes "give of=IMAGE too"
+advice_of (Patch (patch.Line (read.BadAddress _))) = codes "a line is like '+00000002: 7879'"
+advice_of (Patch (patch.Line (read.MissingColon _))) = codes "a line is like '+00000002: 7879'"
+advice_of (Patch (patch.Line (read.BadPair _))) = codes "bytes are pairs of digits, with at most one space between two"
+advice_of (Patch (patch.Line (read.NoData _))) = codes "digits follow the colon, behind at most one space"
+advice_of (Patch (patch.Line (read.AddressTooLarge _))) = codes "addresses are below 4611686018427387904"
+advice_of (Patch (patch.OfNoKind _)) = codes "bx patch reads what bx diff writes: 'length 8 to 10' before all other lines, and lines like '+00000002: 7879'"
+advice_of (Patch (patch.BadLength _)) = codes "it is like 'length 8 to 10', in decimal"
+advice_of (Patch (patch.PastLength _)) = codes "the first line says how long the image is before and after"
+advice_of (Disagrees _) = codes "the patch is of another image, or was applied before"
 advice_of (Session session.NoMemory) = codes "a change, and what an undo or a redo takes back, are held in memory: CAVEATS in man bx has a way without"
 advice_of (Session session.TooLarge) = codes "an image has at most 281474976710655 bytes"
 advice_of (Session session.DeviceFailed) = codes "nothing was changed"

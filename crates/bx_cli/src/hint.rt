@@ -1,5 +1,6 @@
 //! Hints, which a person can act on, behind the texts of faults.
 ghost use Rattle.std.specs.Prelude.{◌≡◌, [], OnOk, IfSome, string_bytes};
+ghost use Rattle.bx_patch.specs.declared.read.fault.PatchFault.TheVariants as patch;
 ghost use Rattle.bx_cli.specs.Hint.{advice_of, completed, hint_of, joined, rest_of};
 
 use crate::instead::{
@@ -11,6 +12,7 @@ use bx_cli_commands::{Fault, MOST_LEAST, MOST_STEPS, columns, count_or, number, 
 use bx_dd::DdFault;
 use bx_dump::od::Address;
 use bx_journal::SessionFault;
+use bx_patch::PatchFault;
 use bx_read::ReadFault;
 use bx_text::{IoFault, SizeFault, SizeStyle, Words, read_size};
 use clap::ArgMatches;
@@ -39,6 +41,8 @@ fn advice(fault: Fault) -> &'static str
         Fault::Io(fault) => io_advice(fault),
         Fault::Read(fault) => read_advice(fault),
         Fault::Dd(fault) => dd_advice(fault),
+        Fault::Patch(fault) => patch_advice(fault),
+        Fault::Disagrees(_) => "the patch is of another image, or was applied before",
         Fault::Session(fault) => session_advice(fault),
         Fault::Usage | Fault::OpenFailed => "",
     }
@@ -85,6 +89,37 @@ fn dd_advice(fault: DdFault) -> &'static str
         DdFault::MissingCbs => "block and unblock want cbs=BYTES",
         DdFault::SeekWithoutOutput => "give of=IMAGE too",
         _ => "",
+    }
+}
+
+fn patch_advice(fault: PatchFault) -> &'static str
+    ensures { result.now ≡ advice_of (Fault.Patch fault) }
+{
+    match fault {
+        PatchFault::Line(fault) => patch_line_advice(fault),
+        PatchFault::OfNoKind { .. } => {
+            "bx patch reads what bx diff writes: 'length 8 to 10' before all other lines, and lines like '+00000002: 7879'"
+        }
+        PatchFault::BadLength { .. } => "it is like 'length 8 to 10', in decimal",
+        PatchFault::PastLength { .. } =>
+            "the first line says how long the image is before and after",
+        PatchFault::NoMemory => "",
+    }
+}
+
+fn patch_line_advice(fault: ReadFault) -> &'static str
+    ensures { result.now ≡ advice_of (Fault.Patch (patch.Line fault)) }
+{
+    match fault {
+        ReadFault::BadAddress { .. } | ReadFault::MissingColon { .. } => {
+            "a line is like '+00000002: 7879'"
+        }
+        ReadFault::BadPair { .. } => {
+            "bytes are pairs of digits, with at most one space between two"
+        }
+        ReadFault::NoData { .. } => "digits follow the colon, behind at most one space",
+        ReadFault::AddressTooLarge { .. } => "addresses are below 4611686018427387904",
+        ReadFault::NoMemory | ReadFault::TooWide { .. } | ReadFault::OddDigits { .. } => "",
     }
 }
 

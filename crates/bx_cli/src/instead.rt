@@ -36,6 +36,7 @@ pub(crate) fn is_unexpected(said: &str) -> bool {
 fn alone(name: &str) -> &'static str {
     match name {
         "revert" => "one word is the image; a dump is named by -f: bx revert -f DUMP IMAGE",
+        "patch" => "one word is the image; a patch is named by -f: bx patch -f PATCH IMAGE",
         "undo" | "redo" | "log" | "show" => "one word is the image, and there is no other",
         "od" | "xxd" | "hexdump" | "strings" => {
             "one word is the file that is read; the dump goes to standard output"
@@ -51,6 +52,7 @@ fn short(name: &str, long: &str) -> &'static str {
         "xxd" => short_of_xxd(long),
         "hexdump" => short_of_hexdump(long),
         "strings" => short_of_strings(long),
+        "patch" => short_of_patch(long),
         _ => short_of_change(long),
     }
 }
@@ -97,6 +99,14 @@ fn short_of_strings(long: &str) -> &'static str {
         "--bytes" => "give -n COUNT",
         "--radix" => "give -t RADIX",
         _ => "",
+    }
+}
+
+fn short_of_patch(long: &str) -> &'static str {
+    match long {
+        "--reverse" => "give -R",
+        "--patch" | "--input" | "--file" => "give -f PATCH",
+        _ => short_of_change(long),
     }
 }
 

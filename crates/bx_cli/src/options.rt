@@ -295,6 +295,25 @@ static DIFF: [Row; 1] = [Row {
     help: "Write whole rows of 16 bytes where a byte differs",
 }];
 
+static PATCH: [Row; 4] = [
+    JOURNAL,
+    UNSYNCED,
+    Row {
+        id: "reverse",
+        short: 'R',
+        value: None,
+        help: "Apply the patch the other way round",
+    },
+    Row {
+        id: "patch",
+        short: 'f',
+        value: Some("PATCH"),
+        help: "File to read the patch from [default: standard input]",
+    },
+];
+
+static FORGET: [Row; 2] = [JOURNAL, UNSYNCED];
+
 static DD: [Row; 2] = [JOURNAL, UNSYNCED];
 
 /// The option or the flag of a row.
@@ -526,6 +545,15 @@ fn diff<'a>(alloc: Global) -> Result<Command<'a>, AllocError> {
         .arg(compared(alloc, "new", "NEW"))
 }
 
+fn patch<'a>(alloc: Global) -> Result<Command<'a>, AllocError> {
+    let command = Command::new(alloc, "patch")
+        .about("Apply a patch of bx diff to an image, as one change")
+        .after_help(
+            "The patch is read whole, and found right before anything is opened. The image\nhas to have the length that it states and the bytes behind each -; else nothing\nis changed. Image, journal and redo file are made where they are missing.\n\nEXAMPLES:\n  bx diff old.bin new.bin | bx patch disk.img    what makes new.bin of old.bin\n  bx patch -f fix.patch disk.img                 a patch that was kept\n  bx patch -R -f fix.patch disk.img              the same, the other way round",
+        );
+    changer(alloc, command, &PATCH)
+}
+
 /// One of the files that are compared.
 fn compared<'a>(alloc: Global, id: &'static str, value: &'static str) -> Arg<'a> {
     Arg::new(alloc, id)
@@ -548,10 +576,11 @@ pub enum Verb {
     Log,
     Show,
     Diff,
+    Patch,
 }
 
 /// All subcommands, in the order of the help.
-static VERBS: [Verb; 11] = [
+static VERBS: [Verb; 12] = [
     Verb::Od,
     Verb::Xxd,
     Verb::Hexdump,
@@ -563,6 +592,7 @@ static VERBS: [Verb; 11] = [
     Verb::Log,
     Verb::Show,
     Verb::Diff,
+    Verb::Patch,
 ];
 
 impl Verb {
@@ -580,6 +610,7 @@ impl Verb {
             Verb::Log => "log",
             Verb::Show => "show",
             Verb::Diff => "diff",
+            Verb::Patch => "patch",
         }
     }
 
@@ -597,6 +628,7 @@ impl Verb {
             Verb::Log => log(alloc),
             Verb::Show => show(alloc),
             Verb::Diff => diff(alloc),
+            Verb::Patch => patch(alloc),
         }
     }
 

@@ -4,9 +4,9 @@ ghost use Rattle.std.specs.Prelude.{◌≡◌, IfOk};
 use crate::options::{Verb, program};
 use bx_cli_commands::{
     Access, ChangeJob, DdImageJob, DdJob, DiffJob, DumpJob, Durability, Fault, HexdumpJob, Job,
-    LogJob, LookJob, MOST_COLUMNS, MOST_LEAST, MOST_STEPS, OdJob, RevertJob, ShowJob, StepsJob,
-    StringsJob, Target, XxdJob, XxdLook, columns, count_or, kind_word, name_of, number, number_or,
-    radix, texts_of,
+    LogJob, LookJob, MOST_COLUMNS, MOST_LEAST, MOST_STEPS, OdJob, PatchJob, RevertJob, ShowJob,
+    StepsJob, StringsJob, Target, XxdJob, XxdLook, columns, count_or, kind_word, name_of, number,
+    number_or, radix, texts_of,
 };
 use bx_dd::parse;
 use bx_dump::hexdump::HexdumpOptions;
@@ -88,6 +88,7 @@ fn job_of(alloc: Global, verb: Verb, inner: &ArgMatches<'_>) -> Result<Job, Faul
         Verb::Log => Ok(Job::Look(LookJob::Log(log(alloc, inner)?))),
         Verb::Show => Ok(Job::Look(LookJob::Show(show(alloc, inner)?))),
         Verb::Diff => Ok(Job::Diff(diff(alloc, inner)?)),
+        Verb::Patch => Ok(Job::Change(ChangeJob::Patch(patch(alloc, inner)?))),
     }
 }
 
@@ -251,6 +252,15 @@ fn revert(alloc: Global, m: &ArgMatches<'_>) -> Result<RevertJob, Fault> {
         dump: name(alloc, m, "dump")?,
         plain: m.get_flag("plain"),
         at,
+        target,
+    })
+}
+
+fn patch(alloc: Global, m: &ArgMatches<'_>) -> Result<PatchJob, Fault> {
+    let target = target(alloc, m, access(m))?;
+    Ok(PatchJob {
+        patch: name(alloc, m, "patch")?,
+        reverse: m.get_flag("reverse"),
         target,
     })
 }

@@ -11,7 +11,7 @@ use Rattle.bx_journal.specs.SessionView.{SessionView}
 use Rattle.bx_image.specs.declared.device.Device.{Ghosts as DeviceViews}
 use Rattle.bx_journal_store.specs.declared.store.TextStore.{Ghosts as StoreViews}
 use Rattle.bx_cli_commands.specs.declared.command.Command.{Command}
-use Rattle.bx_cli_commands.specs.declared.command.Command.TheVariants.{Revert, RevertPlain, Dd, Copy, Undo, Redo}
+use Rattle.bx_cli_commands.specs.declared.command.Command.TheVariants.{Revert, RevertPlain, Dd, Copy, Patch, Undo, Redo}
 use Rattle.bx_cli_commands.specs.declared.command.Reply.{Reply}
 use Rattle.bx_cli_commands.specs.declared.command.Reply.TheVariants.{Undone, Redone, Refused}
 use Rattle.bx_cli_commands.specs.declared.fault.Fault.{Fault}
@@ -21,7 +21,9 @@ use Rattle.bx_dd.specs.declared.counts.Counts.{Counts}
 use Rattle.bx_dd.specs.declared.fault.DdFault.{DdFault}
 use Rattle.bx_cli_commands.specs.declared.changes.DdChange.{DdChange}
 use Rattle.bx_cli_commands.specs.Power.{images_of}
-use Rattle.bx_cli_commands.specs.Run.{answered, ReadStep, DdStep, CommandStep, StackStep, StackRun, made_reply, ChangeStep, RedoUp, UndoUp}
+use Rattle.bx_patch.specs.Patch.{Asked, patch_change}
+use Rattle.bx_patch.specs.Read.{asked_of}
+use Rattle.bx_cli_commands.specs.Run.{answered, PatchStep, ReadStep, DdStep, CommandStep, StackStep, StackRun, made_reply, ChangeStep, RedoUp, UndoUp}
 use Rattle.bx_cli_commands.specs.Command.{dump_change, plain_change}
 use Rattle.bx_read.specs.Plain.{plain_answer}
 use Rattle.bx_read.specs.Text.{dump_pieces}
@@ -55,6 +57,13 @@ dd_step_adds : {A : Type 0} (old new : Images) (r : Result (DdChange A) DdFault)
 dd_step_adds old new (Ok made_of) reply made step = change_step_adds old new made_of.change (Some made_of.counts) reply made step
 dd_step_adds old new (Err e) reply made step = absurd (not_refused reply (Dd e) made step.0)
 
+patch_step_adds : {A : Type 0} (old new : Images) (p : Asked) (reply : Reply)
+    → IsMade reply → PatchStep A (Standing.Up old) p reply (Standing.Up new) → OneMore old new
+patch_step_adds old new p reply made (inl refused) = absurd (not_refused reply _ made refused.0)
+patch_step_adds old new p reply made (inr (inl failed)) = absurd (not_refused reply _ made failed.0)
+patch_step_adds {A = A} old new p reply made (inr (inr (None, agrees, step))) = change_step_adds old new (patch_change {A = A} p) None reply made step
+patch_step_adds old new p reply made (inr (inr (Some other, has, step))) = absurd (not_refused reply _ made step.0)
+
 redo_not_made : (r : Result ℕ SessionFault) → IsMade (answered Redone r) → ⊥
 redo_not_made (Ok n) made = made
 redo_not_made (Err e) made = made
@@ -75,6 +84,7 @@ step_adds {A = A} remaining old new (RevertPlain text at) reply made step = elim
 ]
 step_adds remaining old new (Dd operands input) reply made step = dd_step_adds old new step.1.0 reply made step.1.1.1
 step_adds remaining old new (Copy plan input) reply made step = dd_step_adds old new step.1.0 reply made step.1.1.1
+step_adds {A = A} remaining old new (Patch patch) reply made step = patch_step_adds {A = A} old new (asked_of patch) reply made step
 step_adds remaining old new (Undo k) reply made step = absurd (undo_not_made step.0 (subst IsMade step.1 made))
 step_adds remaining old new (Redo j) reply made step = absurd (redo_not_made step.0 (subst IsMade step.1 made))
 

@@ -9,8 +9,11 @@ pub mod Joined
 pub mod Refusals
 pub mod Obeys
 pub mod Stopped
+pub mod LossParts
+pub mod LossGoesOn
 pub mod Tells
 pub mod SessionRuns
+pub mod Agreed
 pub mod Copying
 pub mod RoundTrips
 pub mod XxdRows

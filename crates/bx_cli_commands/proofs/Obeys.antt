@@ -49,14 +49,14 @@ either_found c images (inr made) fit = (change_to (effect c (top images.stack)) 
 
 module _ {D T : Type 0} (d : DeviceViews D) (t : StoreViews T) where
   -- a reply that tells of no failure raises no count
-  unfailed_counts : (old new : SessionView D T) (reply : Reply) → Unfailed reply → IsUnfailed d.failures t.failures old new → CountsBy d t old new (cond (is_failure reply) 1 0)
+  pub unfailed_counts : (old new : SessionView D T) (reply : Reply) → Unfailed reply → IsUnfailed d.failures t.failures old new → CountsBy d t old new (cond (is_failure reply) 1 0)
   unfailed_counts old new reply unfailed same =
       let device = same.0 in let store = same.1 in let redo = same.2 in
       let By : Bool → Type 0 = λ failed. CountsBy d t old new (cond failed 1 0) in
       subst By (sym unfailed) (record { image_least = omega arith; journal_least = omega arith; redo_least = omega arith; rise = omega arith })
 
   -- a call that was refused raises one count, or none
-  fault_counts : (old new : SessionView D T) (e : SessionFault) → SessionCounts d.failures t.failures old new e
+  pub fault_counts : (old new : SessionView D T) (e : SessionFault) → SessionCounts d.failures t.failures old new e
       → CountsBy d t old new (cond (is_failure (Refused (Session e))) 1 0)
   fault_counts old new e counts =
       let least = counts_least e (d.failures old.image) (t.failures old.journal) (t.failures old.redo) (d.failures new.image) (t.failures new.journal) (t.failures new.redo) counts in
@@ -90,7 +90,7 @@ module _ {D T : Type 0} (d : DeviceViews D) (t : StoreViews T) where
   }
 
   -- a refusal before the session is called
-  obeys_refused : (Step : Standing → Reply → Standing → Type 0) (s : SessionView D T) (reply : Reply)
+  pub obeys_refused : (Step : Standing → Reply → Standing → Type 0) (s : SessionView D T) (reply : Reply)
       → Unfailed reply → IsWholeRefusal reply → ((before : Standing) → Step before reply before) → Obeys d t s s reply Step
   obeys_refused Step s reply unfailed whole_reply refuses = record {
     step = λ before h. (before, h, refuses before);

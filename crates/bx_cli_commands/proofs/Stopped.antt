@@ -13,17 +13,19 @@ use Rattle.bx_journal.specs.Machine.{RedoStep, UndoStep, top}
 use Rattle.bx_journal_read.specs.declared.fault.SessionFault.{SessionFault}
 use Rattle.bx_journal_read.specs.declared.fault.SessionFault.TheVariants.{NoMemory, TooLarge, DeviceFailed, Damaged, TooFew, JournalFull, Interrupted, Broken, LengthDiffers, NothingToRedo, RedoDamaged}
 use Rattle.bx_cli_commands.specs.declared.command.Command.{Command}
-use Rattle.bx_cli_commands.specs.declared.command.Command.TheVariants.{Revert, RevertPlain, Dd, Copy, Undo, Redo}
+use Rattle.bx_cli_commands.specs.declared.command.Command.TheVariants.{Revert, RevertPlain, Dd, Copy, Patch, Undo, Redo}
 use Rattle.bx_cli_commands.specs.declared.command.Reply.{Reply}
 use Rattle.bx_cli_commands.specs.declared.command.Reply.TheVariants.{Changed, Copied, Undone, Redone, Refused}
 use Rattle.bx_cli_commands.specs.declared.changes.DdChange.{DdChange}
 use Rattle.bx_cli_commands.specs.declared.fault.Fault.{Fault}
-use Rattle.bx_cli_commands.specs.declared.fault.Fault.TheVariants.{Io, Read, Dd, Session, Usage, OpenFailed}
+use Rattle.bx_cli_commands.specs.declared.fault.Fault.TheVariants.{Io, Read, Dd, Patch, Disagrees, Session, Usage, OpenFailed}
 use Rattle.bx_cli_commands.specs.Command.{dump_change, plain_change}
 use Rattle.bx_cli_commands.specs.Copy.{Makes, MakesBy}
 use Rattle.bx_cli_commands.specs.Power.{FindsPart, IsChanged, IsPart, images_of}
 use Rattle.bx_cli_commands.specs.Refusal.{IsWholeRefusal}
-use Rattle.bx_cli_commands.specs.Run.{answered, CallStep, CommandRun, CommandStep, DdStep, ReadStep, made_reply}
+use Rattle.bx_patch.specs.Patch.{Agrees, Asked, patch_change}
+use Rattle.bx_patch.specs.Read.{asked_of}
+use Rattle.bx_cli_commands.specs.Run.{answered, CallStep, CommandRun, CommandStep, DdStep, PatchStep, ReadStep, made_reply}
 use Rattle.bx_cli_commands.specs.Standing.{MovesUp, PerformUp, Standing}
 use Rattle.bx_cli_commands.proofs.Refusals.{IsNoRefusal, is_interrupted, made_no_refusal, no_whole}
 use Rattle.bx_cli_commands.proofs.Unfailed.{all_tail}
@@ -37,6 +39,8 @@ whole_or (Redone n) = inr (λ h. h)
 whole_or (Refused (Io e)) = inl (λ is. cc)
 whole_or (Refused (Read e)) = inl (λ is. cc)
 whole_or (Refused (Dd e)) = inl (λ is. cc)
+whole_or (Refused (Patch e)) = inl (λ is. cc)
+whole_or (Refused (Disagrees other)) = inl (λ is. cc)
 whole_or (Refused (Session e)) = elim (is_interrupted e) as (λ _. IsWholeRefusal (Refused (Session e)) ⊎ (IsWholeRefusal (Refused (Session e)) → ⊥)) [
   | inl stopped ↦ inr (λ whole. whole (ap Session stopped))
   | inr other ↦ inl (λ is. other (cc))
@@ -105,6 +109,15 @@ dd_stays before after (Ok made) p whole step =
     call_stays (λ n. Copied n made.counts) (PerformUp made.change) (λ n. tt) (λ old e after none call. perform_stays_up old made.change e after none call) before after p whole step
 dd_stays before after (Err e) p whole step = step.1
 
+patch_stays : (A : Type 0) (before after : Standing) (asked : Asked) (p : Reply) → IsWholeRefusal p → PatchStep A before asked p after → after ≡ before
+patch_stays A before after asked p whole (inl refused) = refused.1
+patch_stays A (Standing.Up old) after asked p whole (inr (inl failed)) = failed.1
+patch_stays A (Standing.Up old) after asked p whole (inr (inr (None, agrees, step))) =
+    let c : Change A = patch_change asked in
+    call_stays Changed (PerformUp c) (λ n. tt) (λ old e after none call. perform_stays_up old c e after none call) (Standing.Up old) after p whole step
+patch_stays A (Standing.Up old) after asked p whole (inr (inr (Some other, has, step))) = step.1
+patch_stays A (Standing.Down old) after asked p whole (inr step) = step.1
+
 pub step_stays : {R A : Type 0} (remaining : R → Option (List ℕ)) (before after : Standing) (c : Command R A) (p : Reply)
     → IsWholeRefusal p → CommandStep remaining before c p after → after ≡ before
 step_stays {A = A} remaining before after (Revert text offset) p whole step = elim step as (λ _. after ≡ before) [
@@ -117,6 +130,7 @@ step_stays {A = A} remaining before after (RevertPlain text at) p whole step = e
 ]
 step_stays remaining before after (Dd operands input) p whole step = dd_stays before after step.1.0 p whole step.1.1.1
 step_stays remaining before after (Copy plan input) p whole step = dd_stays before after step.1.0 p whole step.1.1.1
+step_stays {A = A} remaining before after (Patch patch) p whole step = patch_stays A before after (asked_of patch) p whole step
 step_stays remaining before after (Undo k) p whole step =
     call_stays Undone (MovesUp (λ s k r t. UndoStep s.stack k r t.stack) undo_of k) (λ n. tt) (moves_stays_up (λ s k r t. UndoStep s.stack k r t.stack) undo_of k) before after p whole step
 step_stays remaining before after (Redo j) p whole step =
@@ -144,6 +158,11 @@ dd_down : {A : Type 0} (old : Images) (after : Standing) (made : Result (DdChang
 dd_down old after (Ok made) p step = (step.1, λ other. (step.0, refl))
 dd_down old after (Err e) p step = (step.1, λ other. (step.0, refl))
 
+patch_down : (A : Type 0) (old : Images) (after : Standing) (asked : Asked) (p : Reply)
+    → PatchStep A (Standing.Down old) asked p after → StaysDown (λ s p t. PatchStep A s asked p t) old p after
+patch_down A old after asked p (inl refused) = (refused.1, λ other. inl (refused.0, refl))
+patch_down A old after asked p (inr step) = (step.1, λ other. inr (step.0, refl))
+
 step_down : {R A : Type 0} (remaining : R → Option (List ℕ)) (old : Images) (after : Standing) (c : Command R A) (p : Reply)
     → CommandStep remaining (Standing.Down old) c p after → StaysDown (λ s p t. CommandStep remaining s c p t) old p after
 step_down {A = A} remaining old after (Revert text offset) p step = elim step as (λ _. StaysDown (λ s p t. CommandStep {A = A} remaining s (Revert text offset) p t) old p after) [
@@ -158,6 +177,7 @@ step_down remaining old after (Dd operands input) p (left, (made, (makes, step))
     let down = dd_down old after made p step in (down.0, λ other. (left, (made, (makes, down.1 other))))
 step_down remaining old after (Copy plan input) p (left, (made, (makes, step))) =
     let down = dd_down old after made p step in (down.0, λ other. (left, (made, (makes, down.1 other))))
+step_down {A = A} remaining old after (Patch patch) p step = patch_down A old after (asked_of patch) p step
 step_down remaining old after (Undo k) p step = (step.1, λ other. (step.0, refl))
 step_down remaining old after (Redo j) p step = (step.1, λ other. (step.0, refl))
 
@@ -230,6 +250,18 @@ dd_part : {A : Type 0} (old found : Images) (made : Result (DdChange A) DdFault)
 dd_part old found (Ok made) p step = let part = change_part (λ n. Copied n made.counts) made.change old found p step in (part.0, (made, refl, part.1))
 dd_part old found (Err e) p step = no_goes_on found old step.1
 
+-- a patch that was stopped agrees, and its change is found or not
+abbrev PatchPart : (A : Type 0) → Asked → Images → Images → Type 0
+PatchPart A asked old found = Agrees asked (top old.stack) × IsChanged (patch_change {A = A} asked) old found
+
+patch_part : {A : Type 0} (old found : Images) (asked : Asked) (p : Reply) → PatchStep A (Standing.Up old) asked p (Standing.Down found)
+    → (p ≡ Refused (Session Interrupted)) × PatchPart A asked old found
+patch_part old found asked p (inl refused) = no_goes_on found old refused.1
+patch_part old found asked p (inr (inl failed)) = no_goes_on found old failed.1
+patch_part {A = A} old found asked p (inr (inr (None, agrees, step))) =
+    let part = change_part Changed (patch_change {A = A} asked) old found p step in (part.0, (agrees, part.1))
+patch_part old found asked p (inr (inr (Some other, has, step))) = no_goes_on found old step.1
+
 step_part : {R A : Type 0} (remaining : R → Option (List ℕ)) (old found : Images) (c : Command R A) (p : Reply)
     → CommandStep remaining (Standing.Up old) c p (Standing.Down found) → StopPart remaining c old p found
 step_part {R = R} {A = A} remaining old found (Revert text offset) p step = elim step as (λ _. StopPart {R = R} {A = A} remaining (Revert text offset) old p found) [
@@ -250,6 +282,7 @@ step_part remaining old found (Copy plan input) p step =
       part.0,
       (step.0, part.1.0, subst (λ made. MakesBy plan (remaining input) step.0 made) part.1.1 step.1.1.0, part.1.2),
     )
+step_part {A = A} remaining old found (Patch patch) p step = patch_part {A = A} old found (asked_of patch) p step
 step_part remaining old found (Undo k) p (r, is, call) =
     let part = moves_part (λ s k r t. UndoStep s.stack k r t.stack) undo_of k old found r call in (is ∙ ap (answered Undone) part.0, part.1)
 step_part remaining old found (Redo j) p (r, is, call) =

@@ -7,7 +7,7 @@ use Rattle.bx_read.specs.declared.fault.ReadFault.{ReadFault}
 use Rattle.bx_journal_read.specs.declared.fault.SessionFault.{SessionFault}
 use Rattle.bx_journal_read.specs.declared.fault.SessionFault.TheVariants.{NoMemory, TooLarge, DeviceFailed, Damaged, TooFew, JournalFull, Interrupted, Broken, LengthDiffers, NothingToRedo, RedoDamaged}
 use Rattle.bx_cli_commands.specs.declared.command.Command.{Command}
-use Rattle.bx_cli_commands.specs.declared.command.Command.TheVariants.{Revert, RevertPlain, Dd, Copy, Undo, Redo}
+use Rattle.bx_cli_commands.specs.declared.command.Command.TheVariants.{Revert, RevertPlain, Dd, Copy, Patch, Undo, Redo}
 use Rattle.bx_cli_commands.specs.declared.command.Reply.{Reply}
 use Rattle.bx_cli_commands.specs.declared.command.Reply.TheVariants.{Undone, Redone}
 use Rattle.bx_journal.specs.Images.{Images}
@@ -16,7 +16,9 @@ use Rattle.bx_cli_commands.specs.Standing.{Standing, HoldsAt, PerformUp, RestsAt
 use Rattle.bx_dd.specs.declared.counts.Counts.{Counts}
 use Rattle.bx_dd.specs.declared.fault.DdFault.{DdFault}
 use Rattle.bx_cli_commands.specs.declared.changes.DdChange.{DdChange}
-use Rattle.bx_cli_commands.specs.Run.{answered, ReadStep, DdStep, CommandStep, CommandRun, StackRun, Unfailed, made_reply, ChangeStep, RedoUp, UndoUp}
+use Rattle.bx_patch.specs.Patch.{Asked, patch_change}
+use Rattle.bx_patch.specs.Read.{asked_of}
+use Rattle.bx_cli_commands.specs.Run.{answered, PatchStep, ReadStep, DdStep, CommandStep, CommandRun, StackRun, Unfailed, made_reply, ChangeStep, RedoUp, UndoUp}
 use Rattle.bx_cli_commands.specs.Command.{dump_change, plain_change}
 use Rattle.bx_read.specs.Plain.{plain_answer}
 use Rattle.bx_read.specs.Text.{dump_pieces}
@@ -84,6 +86,12 @@ dd_up : {A : Type 0} (old : Images) (r : Result (DdChange A) DdFault) (reply : R
 dd_up old (Ok made) reply after unfailed step = change_up old made.change (Some made.counts) reply after unfailed step
 dd_up old (Err e) reply after unfailed step = (old, step.1)
 
+patch_up : {A : Type 0} (old : Images) (p : Asked) (reply : Reply) (after : Standing) → Unfailed reply → PatchStep A (Standing.Up old) p reply after → IsUp after
+patch_up old p reply after unfailed (inl refused) = (old, refused.1)
+patch_up old p reply after unfailed (inr (inl failed)) = (old, failed.1)
+patch_up {A = A} old p reply after unfailed (inr (inr (None, agrees, step))) = change_up old (patch_change {A = A} p) None reply after unfailed step
+patch_up old p reply after unfailed (inr (inr (Some other, has, step))) = (old, step.1)
+
 pub step_up : {R A : Type 0} (remaining : R → Option (List ℕ)) (old : Images) (c : Command R A) (reply : Reply) (after : Standing) → Unfailed reply → CommandStep remaining (Standing.Up old) c reply after → IsUp after
 step_up {A = A} remaining old (Revert text offset) reply after unfailed step = elim step as (λ _. IsUp after) [
   | inl refused ↦ (old, refused.1)
@@ -95,6 +103,7 @@ step_up {A = A} remaining old (RevertPlain text at) reply after unfailed step = 
 ]
 step_up remaining old (Dd operands input) reply after unfailed step = dd_up old step.1.0 reply after unfailed step.1.1.1
 step_up remaining old (Copy plan input) reply after unfailed step = dd_up old step.1.0 reply after unfailed step.1.1.1
+step_up {A = A} remaining old (Patch patch) reply after unfailed step = patch_up {A = A} old (asked_of patch) reply after unfailed step
 step_up remaining old (Undo k) reply after unfailed step = undo_up old k step.0 after (told reply (answered Undone step.0) step.1 unfailed) step.2
 step_up remaining old (Redo j) reply after unfailed step = redo_up old j step.0 after (told reply (answered Redone step.0) step.1 unfailed) step.2
 

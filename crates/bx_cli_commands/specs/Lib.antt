@@ -11,6 +11,7 @@ pub mod Tells
 pub mod SessionRun
 pub mod Refusal
 pub mod Laws
+pub mod Loss
 pub mod Listing
 pub mod RoundTrip
 pub mod jobs

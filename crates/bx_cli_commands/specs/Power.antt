@@ -2,6 +2,8 @@
 use Rattle.std.specs.Prelude.{◌≡◌, ◌⊎◌, ◌≤◌, ℕ, true, Option, Ok, List, [], ◌∷◌, All}
 use Rattle.bx_image.specs.declared.change.Change.{Change}
 use Rattle.bx_image.specs.Change.{effect}
+use Rattle.bx_patch.specs.Patch.{Agrees, patch_change}
+use Rattle.bx_patch.specs.Read.{asked_of}
 use Rattle.bx_read.specs.Plain.{plain_answer}
 use Rattle.bx_read.specs.Text.{dump_pieces}
 use Rattle.bx_image.specs.declared.device.Device.{Ghosts as DeviceViews}
@@ -12,7 +14,7 @@ use Rattle.bx_journal.specs.Power.{Found, Survive}
 use Rattle.bx_journal.specs.SessionView.{SessionView}
 use Rattle.bx_journal_read.specs.declared.fault.SessionFault.TheVariants.{Interrupted}
 use Rattle.bx_cli_commands.specs.declared.command.Command.{Command}
-use Rattle.bx_cli_commands.specs.declared.command.Command.TheVariants.{Copy, Dd, Redo, Revert, RevertPlain, Undo}
+use Rattle.bx_cli_commands.specs.declared.command.Command.TheVariants.{Copy, Dd, Patch, Redo, Revert, RevertPlain, Undo}
 use Rattle.bx_cli_commands.specs.declared.command.Reply.{Reply}
 use Rattle.bx_cli_commands.specs.declared.command.Reply.TheVariants.{Refused}
 use Rattle.bx_cli_commands.specs.declared.fault.Fault.TheVariants.{Session}
@@ -60,6 +62,8 @@ IsPart {A = A} remaining (Dd operands input) s found =
     (left : Option (List ℕ)) × (made : DdChange A) × Makes operands (remaining input) left (Ok made) × IsChanged made.change s found
 IsPart {A = A} remaining (Copy plan input) s found =
     (left : Option (List ℕ)) × (made : DdChange A) × MakesBy plan (remaining input) left (Ok made) × IsChanged made.change s found
+IsPart {A = A} remaining (Patch patch) s found =
+    Agrees (asked_of patch) (top s.stack) × IsChanged (patch_change {A = A} (asked_of patch)) s found
 IsPart remaining (Undo k) s found = (i : ℕ) × (i ≤ k) × (found ≡ undo_of i s)
 IsPart remaining (Redo j) s found = (i : ℕ) × (i ≤ j) × (found ≡ redo_of i s)
 

@@ -8,15 +8,20 @@ use Rattle.bx_read.specs.declared.fault.ReadFault.{ReadFault}
 use Rattle.bx_read.specs.declared.fault.ReadFault.TheVariants.{NoMemory}
 use Rattle.bx_journal_read.specs.declared.fault.SessionFault.{SessionFault}
 use Rattle.bx_journal_read.specs.declared.fault.SessionFault.TheVariants.{DeviceFailed, Interrupted, Broken}
+use Rattle.bx_patch.specs.declared.other.Other.{Other}
+use Rattle.bx_patch.specs.declared.read.fault.PatchFault.TheVariants as of_patch
+use Rattle.bx_patch.specs.Other.{FindsOther}
+use Rattle.bx_patch.specs.Patch.{Asked, patch_change}
+use Rattle.bx_patch.specs.Read.{asked_of}
 use Rattle.bx_read.specs.Plain.{plain_answer}
 use Rattle.bx_read.specs.Text.{dump_pieces}
 use Rattle.bx_cli_commands.specs.declared.command.Command.{Command}
-use Rattle.bx_cli_commands.specs.declared.command.Command.TheVariants.{Revert, RevertPlain, Dd, Copy, Undo, Redo}
+use Rattle.bx_cli_commands.specs.declared.command.Command.TheVariants.{Revert, RevertPlain, Dd, Copy, Patch, Undo, Redo}
 use Rattle.bx_cli_commands.specs.declared.command.Reply.{Reply}
 use Rattle.bx_cli_commands.specs.declared.command.Reply.TheVariants.{Changed, Copied, Undone, Redone, Refused}
-use Rattle.bx_cli_commands.specs.declared.fault.Fault.TheVariants.{Read, Dd, Session}
+use Rattle.bx_cli_commands.specs.declared.fault.Fault.TheVariants.{Read, Dd, Patch, Disagrees, Session}
 use Rattle.bx_journal.specs.Images.{Images, redo_of, undo_of}
-use Rattle.bx_journal.specs.Machine.{RedoStep, UndoStep}
+use Rattle.bx_journal.specs.Machine.{RedoStep, UndoStep, top}
 use Rattle.bx_journal.specs.Session.{IsUnfailed}
 use Rattle.bx_journal.specs.SessionView.{SessionView}
 use Rattle.bx_cli_commands.specs.declared.changes.DdChange.{DdChange}
@@ -53,12 +58,28 @@ CopyStep {A = A} before Made reply after = (left : Option (List ℕ)) × ((r : R
 abbrev pub TextStep : {A B : Type 0} → Standing → (B → Change A) → Result B ReadFault → Reply → Standing → Type 0
 TextStep before change read reply after = ((reply ≡ Refused (Read NoMemory)) × (after ≡ before)) ⊎ ReadStep before change read reply after
 
+-- What the newest image has otherwise than a patch expects refuses its change; nothing is done
+abbrev pub FoundStep : {A : Type 0} → Change A → Images → Option Other → Reply → Standing → Type 0
+FoundStep c old None reply after = CallStep Changed (PerformUp c) (Standing.Up old) reply after
+FoundStep c old (Some other) reply after = (reply ≡ Refused (Disagrees other)) × (after ≡ Standing.Up old)
+
+-- A patch that was read, by what the newest image has otherwise than it expects. A device that fails in the comparison refuses it.
+abbrev pub AgreedStep : (A : Type 0) → Standing → Asked → Reply → Standing → Type 0
+AgreedStep A (Standing.Up old) p reply after = ((reply ≡ Refused (Session DeviceFailed)) × (after ≡ Standing.Up old))
+    ⊎ ((found : Option Other) × FindsOther p (top old.stack) found × FoundStep (patch_change {A = A} p) old found reply after)
+AgreedStep A (Standing.Down old) p reply after = (reply ≡ Refused (Session Broken)) × (after ≡ Standing.Down old)
+
+-- The same. Want of memory for taking the patch may take its place.
+abbrev pub PatchStep : (A : Type 0) → Standing → Asked → Reply → Standing → Type 0
+PatchStep A before p reply after = ((reply ≡ Refused (Patch of_patch.NoMemory)) × (after ≡ before)) ⊎ AgreedStep A before p reply after
+
 -- One command, where `remaining` is what a reader gives. Want of memory for the reading of its text may take its place.
 abbrev pub CommandStep : {R A : Type 0} → (R → Option (List ℕ)) → Standing → Command R A → Reply → Standing → Type 0
 CommandStep {A = A} remaining before (Revert text offset) reply after = TextStep before (dump_change {A = A} offset) (dump_pieces text) reply after
 CommandStep {A = A} remaining before (RevertPlain text at) reply after = TextStep before (plain_change {A = A} at) (plain_answer text) reply after
 CommandStep {A = A} remaining before (Dd operands input) reply after = CopyStep {A = A} before (Makes operands (remaining input)) reply after
 CommandStep {A = A} remaining before (Copy plan input) reply after = CopyStep {A = A} before (MakesBy plan (remaining input)) reply after
+CommandStep {A = A} remaining before (Patch patch) reply after = PatchStep A before (asked_of patch) reply after
 CommandStep remaining before (Undo k) reply after = CallStep Undone (MovesUp (λ s k r t. UndoStep s.stack k r t.stack) undo_of k) before reply after
 CommandStep remaining before (Redo j) reply after = CallStep Redone (MovesUp RedoStep redo_of j) before reply after
 

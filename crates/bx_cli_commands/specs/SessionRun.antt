@@ -3,10 +3,12 @@ use Rattle.std.specs.Prelude.{◌≡◌, ℕ, Option, Result, List, [], ◌∷�
 use Rattle.bx_dd.specs.declared.fault.DdFault.{DdFault}
 use Rattle.bx_image.specs.declared.device.Device.{Ghosts as DeviceViews}
 use Rattle.bx_journal_store.specs.declared.store.TextStore.{Ghosts as StoreViews}
+use Rattle.bx_patch.specs.Patch.{nothing_asked}
+use Rattle.bx_patch.specs.Read.{asked_of}
 use Rattle.bx_journal.specs.SessionView.{SessionView}
 use Rattle.bx_cli_commands.specs.declared.changes.DdChange.{DdChange}
 use Rattle.bx_cli_commands.specs.declared.command.Command.{Command}
-use Rattle.bx_cli_commands.specs.declared.command.Command.TheVariants.{Dd, Copy, Revert, RevertPlain}
+use Rattle.bx_cli_commands.specs.declared.command.Command.TheVariants.{Dd, Copy, Patch, Revert, RevertPlain}
 use Rattle.bx_cli_commands.specs.declared.command.Reply.{Reply}
 use Rattle.bx_cli_commands.specs.Copy.{Makes, MakesBy}
 use Rattle.bx_cli_commands.specs.Obeys.{Obeys}
@@ -20,8 +22,9 @@ without_text (Revert text offset) = Revert [] offset
 without_text (RevertPlain text at) = RevertPlain [] at
 without_text c = c
 
--- One command on a session, and what is then left of the command: of dd the input that its operands or its plan left, of one that
--- reads a text all but that text, of another all. Session and reply are as the command's step says, and the reply tells the counts.
+-- One command on a session, and what is then left of the command: of dd the input that its operands or its plan left, of a patch one
+-- that asks nothing, of one that reads a text all but that text, of another all. Session and reply are as the command's step says, and
+-- the reply tells the counts.
 abbrev pub SessionStep : {S R A : Type 0} → (S → S → Reply → (Standing → Reply → Standing → Type 0) → Type 0)
     → (Command R A → S → Reply → S → Type 0) → (R → Option (List ℕ))
     → S → Command R A → Command R A → Reply → S → Type 0
@@ -31,6 +34,8 @@ SessionStep {A = A} Obey Tell remaining old (Dd operands input) (Dd words left) 
 SessionStep {A = A} Obey Tell remaining old (Copy plan input) (Copy same left) reply new =
     (same ≡ plan) × Tell (Copy plan input) old reply new
     × ((r : Result (DdChange A) DdFault) × MakesBy plan (remaining input) (remaining left) r × Obey old new reply (λ s. DdStep s r))
+SessionStep Obey Tell remaining old (Patch patch) (Patch left) reply new =
+    (asked_of left ≡ nothing_asked) × Tell (Patch patch) old reply new × Obey old new reply (λ s. CommandStep remaining s (Patch patch))
 SessionStep Obey Tell remaining old c left reply new = (left ≡ without_text c) × Tell c old reply new × Obey old new reply (λ s. CommandStep remaining s c)
 
 -- A list of commands on a session, and what is then left of them: a chain of sessions, with one step for each reply, in

@@ -1,11 +1,11 @@
 -- What a reply tells of a session's counts, whatever the devices are.
-use Rattle.std.specs.Prelude.{◌≡◌, ◌↔◌, ◌<◌, ◌≤◌, ◌+◌, ℕ, false}
+use Rattle.std.specs.Prelude.{◌≡◌, ◌⊎◌, ◌↔◌, ◌<◌, ◌≤◌, ◌+◌, ℕ, false}
 use Rattle.bx_journal.specs.SessionView.{SessionView}
 use Rattle.bx_journal.specs.Standing.{PerformFault}
 use Rattle.bx_journal.specs.Undoing.{RedoFault, UndoFault}
-use Rattle.bx_journal_read.specs.declared.fault.SessionFault.TheVariants.{TooFew, JournalFull, NothingToRedo}
+use Rattle.bx_journal_read.specs.declared.fault.SessionFault.TheVariants.{DeviceFailed, TooFew, JournalFull, NothingToRedo}
 use Rattle.bx_cli_commands.specs.declared.command.Command.{Command}
-use Rattle.bx_cli_commands.specs.declared.command.Command.TheVariants.{Undo, Redo}
+use Rattle.bx_cli_commands.specs.declared.command.Command.TheVariants.{Patch, Undo, Redo}
 use Rattle.bx_cli_commands.specs.declared.command.Reply.{Reply}
 use Rattle.bx_cli_commands.specs.declared.command.Reply.TheVariants.{Changed, Copied, Undone, Redone, Refused}
 use Rattle.bx_cli_commands.specs.declared.fault.Fault.TheVariants.{Session}
@@ -29,6 +29,10 @@ module _ {D T : Type 0} where
       PerformFault e × ((e ≡ JournalFull) ↔ ((old.is_broken ≡ false) × (65535 ≤ old.count))) × CountsStay old new
   ChangeTells old (Refused e) new = CountsStay old new
 
+  -- the reply to a patch: a device that fails in its comparison refuses it, be the journal full or not; else as to a change
+  abbrev pub PatchTells : SessionView D T → Reply → SessionView D T → Type 0
+  PatchTells old p new = ((p ≡ Refused (Session DeviceFailed)) × CountsStay old new) ⊎ ChangeTells old p new
+
   -- the reply to an undo of k: how many changes are left, and at most k more are undone, or a fault; it is 41 exactly where fewer than k stand
   abbrev pub UndoTells : ℕ → SessionView D T → Reply → SessionView D T → Type 0
   UndoTells k old (Undone left) new = (left + k ≡ old.count) × (new.count ≡ left) × (new.undone ≤ old.undone + k)
@@ -47,4 +51,5 @@ module _ {D T : Type 0} where
   abbrev pub Tells : {R A : Type 0} → Command R A → SessionView D T → Reply → SessionView D T → Type 0
   Tells (Undo k) old p new = UndoTells k old p new
   Tells (Redo j) old p new = RedoTells j old p new
+  Tells (Patch patch) old p new = PatchTells old p new
   Tells c old p new = ChangeTells old p new

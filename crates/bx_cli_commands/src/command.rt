@@ -3,6 +3,7 @@ ghost use Rattle.std.specs.Prelude.{◌≡◌};
 
 use crate::Fault;
 use bx_dd::{Counts, Plan};
+use bx_patch::Patch;
 use bx_text::{Bytes, Words};
 use std::alloc::{Allocator, Global};
 use std::io::Empty;
@@ -18,6 +19,8 @@ pub enum Command<R = Empty, A: Allocator = Global> {
     Dd { operands: Words<A>, input: R },
     /// The same by a plan, as `bx_dd::parse` makes one of operands.
     Copy { plan: Plan<A>, input: R },
+    /// Makes the change of a patch, where the image agrees with it: it has the length that the patch tells, and the bytes of each `-` line.
+    Patch { patch: Patch<A> },
     /// Takes the last `k` changes back.
     Undo { k: u32 },
     /// Makes the last `j` undone changes again.

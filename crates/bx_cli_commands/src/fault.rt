@@ -6,6 +6,7 @@ ghost use Rattle.bx_text.specs.declared.fault.IoFault.TheVariants as io;
 
 use bx_dd::DdFault;
 use bx_journal::SessionFault;
+use bx_patch::{Other, PatchFault};
 use bx_read::ReadFault;
 use bx_text::{IoFault, NoMemory};
 use std::alloc::AllocError;
@@ -24,6 +25,12 @@ pub enum Fault {
     /// What is wrong with dd's operands, or stopped the reading of its input onto an image.
     #[error(transparent)]
     Dd(DdFault),
+    /// What is wrong with the text of a patch; or a growth was refused where it is read, or taken.
+    #[error(transparent)]
+    Patch(PatchFault),
+    /// What the image has otherwise than a patch expects.
+    #[error(transparent)]
+    Disagrees(Other),
     /// What stopped a call of a session, or its opening.
     #[error(transparent)]
     Session(SessionFault),
@@ -44,6 +51,8 @@ impl Fault {
             Fault::Io(fault) => io_number(fault),
             Fault::Read(fault) => read_number(fault),
             Fault::Dd(fault) => dd_number(fault),
+            Fault::Patch(fault) => patch_number(fault),
+            Fault::Disagrees(other) => other_number(other),
             Fault::Session(fault) => session_number(fault),
             Fault::Usage => 50,
             Fault::OpenFailed => 51,
@@ -93,6 +102,27 @@ fn dd_number(fault: DdFault) -> u8
         DdFault::MissingCbs => 25,
         DdFault::Repeated(_) => 26,
         DdFault::SeekWithoutOutput => 27,
+    }
+}
+
+fn patch_number(fault: PatchFault) -> u8
+    ensures { result ≡ number_of (of.Patch fault) }
+{
+    match fault {
+        PatchFault::NoMemory => 1,
+        PatchFault::Line(fault) => read_number(fault),
+        PatchFault::OfNoKind { .. } => 17,
+        PatchFault::BadLength { .. } => 18,
+        PatchFault::PastLength { .. } => 19,
+    }
+}
+
+fn other_number(other: Other) -> u8
+    ensures { result ≡ number_of (of.Disagrees other) }
+{
+    match other {
+        Other::Bytes { .. } => 34,
+        Other::Length { .. } => 45,
     }
 }
 
@@ -151,6 +181,14 @@ impl From<DdFault> for Fault {
 
     fn from(fault: DdFault) -> Self {
         Fault::Dd(fault)
+    }
+}
+
+impl From<PatchFault> for Fault {
+    ghost from_gives = { λ e f. f ≡ of.Patch e };
+
+    fn from(fault: PatchFault) -> Self {
+        Fault::Patch(fault)
     }
 }
 

@@ -1,8 +1,9 @@
 //! Laws of commands, over their definitions alone.
+ghost use Rattle.bx_cli_commands.specs.Loss.{LossAtAnyCall, LossGoesOn};
 ghost use Rattle.bx_cli_commands.specs.Laws.{KChangesAndUndo, RedoGivesBack, RedoGivesPart, RunsJoin, StackRunsJoin, StopsInPart, UndoGivesBack, UnfailedRuns};
 
-use bx_image::Device;
-use bx_journal_store::TextStore;
+use bx_image::{Device, FuseImage};
+use bx_journal_store::{FuseText, TextStore};
 use std::alloc::Allocator;
 use std::io::Read;
 
@@ -48,4 +49,16 @@ pub fn unfailed_runs<R: Read, A: Allocator>()
 /// i of the k changes that it takes back or makes again. That what is found is an end of the run is said by `run_all`.
 pub fn stops_in_part<R: Read, A: Allocator>()
     ensures { StopsInPart R A R.remaining }
+{}
+
+/// **A loss of power inside a call.** Three honest devices are put behind fuses, which pass some calls and fail all others; they are
+/// opened, and a list of commands is run on them. Whatever the fuses pass, what is then found of the devices below them is what opening found,
+/// or the images after all commands that were answered, or a part of the one that was stopped.
+pub fn loss_at_any_call<D: Device, T: TextStore, R: Read, A: Allocator>()
+    ensures { LossAtAnyCall D.Device T.TextStore ⟦<FuseImage<D> as Device>⟧ ⟦<FuseText<T> as TextStore>⟧ R A R.remaining }
+{}
+
+/// What such a loss leaves has images on the disk again, so all of this holds of the next process too, and of a loss inside it.
+pub fn loss_goes_on<D: Device, T: TextStore, R: Read, A: Allocator>()
+    ensures { LossGoesOn D.Device T.TextStore R A R.remaining }
 {}

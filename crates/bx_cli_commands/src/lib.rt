@@ -17,7 +17,9 @@ pub use fault::Fault;
 pub use jobs::diff::DiffJob;
 pub use jobs::dump::{Done, run_dump};
 pub use jobs::dumps::{DdJob, DumpJob, HexdumpJob, OdJob, StringsJob, XxdJob, XxdLook};
-pub use jobs::images::{ChangeJob, DdImageJob, LogJob, LookJob, RevertJob, ShowJob, StepsJob};
+pub use jobs::images::{
+    ChangeJob, DdImageJob, LogJob, LookJob, PatchJob, RevertJob, ShowJob, StepsJob,
+};
 pub use jobs::job::Job;
 pub use jobs::rest::plan_rest;
 pub use jobs::skip::Skip;

@@ -6,47 +6,26 @@ ghost use Rattle.bx_cli_commands.specs.Standing.{CountsBelow, CountsBy, HoldsAt,
 ghost use Rattle.bx_cli_commands.specs.Command.{IsNear};
 ghost use Rattle.bx_cli_commands.specs.Power.{RunFinds};
 ghost use Rattle.bx_cli_commands.specs.Refusal.{IsOwnRefusal, IsWholeRefusal, KeepsPair};
-ghost use Rattle.bx_cli_commands.specs.Run.{is_failure, ReadStep, DdStep, CommandRun, Runs, Unfailed, made_reply, ChangeStep, UndoesStep, RedoesStep, DumpStep, PlainStep};
+ghost use Rattle.bx_cli_commands.specs.Run.{is_failure, ReadStep, DdStep, CommandRun, Runs, Unfailed, UndoesStep, RedoesStep, DumpStep, PlainStep};
 ghost use Rattle.bx_cli_commands.specs.SessionRun.{AllObey, SessionStep};
 ghost use Rattle.bx_cli_commands.specs.Tells.{ChangeTells, RedoTells, Tells, UndoTells};
 
+mod change;
+mod patch;
+
 use crate::changes::{DdChange, change_of_dd, change_of_dump, change_of_plain, change_of_plan};
 use crate::{Command, Fault, Reply};
-use bx_dd::{Counts, DdFault};
+use bx_dd::DdFault;
 use bx_image::{Change, Device, NoMemory};
 use bx_journal::Session;
 use bx_journal_store::TextStore;
 use bx_read::ReadFault;
 use bx_text::Bytes;
+use change::run_change;
 use core::mem::replace_with;
+use patch::run_patch;
 use std::alloc::Allocator;
 use std::io::Read;
-
-/// Makes the change; the reply has the counts beside its number.
-fn run_change<D: Device, T: TextStore, A: Allocator + Clone>(
-    session: &mut Session<D, T, A>,
-    change: &Change<A>,
-    counts: Option<Counts>,
-) -> Reply
-    requires countable { CountsBelow D.Device T.TextStore u64.MAX session.old }
-    ensures obeys { Obeys D.Device T.TextStore session.old session.new result (λ s. ChangeStep s change.now counts) }
-    ensures tells { ChangeTells session.old result session.new }
-{
-    match session.perform(change) {
-        Ok(number) => made_reply(counts, number),
-        Err(fault) => Reply::Refused(Fault::Session(fault)),
-    }
-}
-
-/// The reply to a change that was made.
-fn made_reply(counts: Option<Counts>, number: u32) -> Reply
-    ensures { result ≡ made_reply counts number }
-{
-    match counts {
-        None => Reply::Changed { number },
-        Some(counts) => Reply::Copied { number, counts },
-    }
-}
 
 /// Takes changes back.
 fn run_undo<D: Device, T: TextStore, A: Allocator + Clone>(
@@ -181,6 +160,7 @@ pub fn run_one<D: Device, T: TextStore, R: Read, A: Allocator + Clone>(
             let made = change_of_plan(alloc, plan, input);
             run_dd(session, made)
         }
+        Command::Patch { patch } => run_patch(alloc, session, patch),
         Command::Undo { k } => run_undo(session, *k),
         Command::Redo { j } => run_redo(session, *j),
     }
@@ -216,7 +196,8 @@ pub fn run_all<D: Device, T: TextStore, R: Read, A: Allocator + Clone>(
     // Each reply, in any list: a command that is refused for a fault of its own leaves the session as it was, and one that
     // is refused, but by no interruption, leaves image, journal and redo text, byte for byte. What another makes of the
     // session is its step, and whatever the devices are, its numbers are the session's counts. Of dd's input as much is read
-    // as its operands read, and nothing where they have a fault. The text of a revert is left empty, whatever became of it.
+    // as its operands read, and nothing where they have a fault. The text of a revert is left empty, whatever
+    // became of it, and a patch with nothing that it asks.
     ensures each { IfOk result (λ p. AllObey D.Device T.TextStore R.remaining session.old list.old list.new p.items session.new) }
 
     // A device's failure raises its count, and as many replies tell of one as the three counts rose by.

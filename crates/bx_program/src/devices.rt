@@ -1,13 +1,15 @@
 //! The devices of a session, and which of them stopped it.
 use crate::files::Made;
-use crate::stopped::{Reason, Stopped};
+use crate::stopped::{Reason, Row, Stopped};
 use bx_cli::{Fault, Target};
 use bx_image::{Device, FileImage, RandomAccess};
 use bx_journal::{Devices, SessionFault};
 use bx_journal_store::{FileText, TextStore};
+use bx_patch::Other;
 use bx_program_system::{CountedFile, take_away};
 use std::fs::File;
 use std::io::{Seek, SeekFrom};
+use std::os::unix::fs::FileExt;
 use std::rt::Files;
 use std::time::Clock;
 
@@ -64,8 +66,11 @@ impl<'a, 'p, 'r, R: Clock + Eprint> Named<'a, CountedFile<'p, 'r, R>> {
 
     /// The device that stopped a session.
     pub fn stopped(&self, fault: Fault) -> Stopped<'a> {
-        let Fault::Session(why) = fault else {
-            return Stopped::from(fault);
+        let why = match fault {
+            Fault::Session(why) => why,
+            Fault::Disagrees(Other::Length { expected }) => return self.differs(fault, expected),
+            Fault::Disagrees(Other::Bytes { at }) => return self.has_others(fault, at),
+            _ => return Stopped::from(fault),
         };
         match why {
             SessionFault::DeviceFailed | SessionFault::Interrupted => self.failed(fault),
@@ -119,6 +124,24 @@ impl<'a, 'p, 'r, R: Clock + Eprint> Named<'a, CountedFile<'p, 'r, R>> {
                 },
             },
             None => Stopped::from(fault),
+        }
+    }
+
+    /// The image, which has other bytes than a patch expects.
+    fn has_others(&self, fault: Fault, at: u64) -> Stopped<'a> {
+        let name = self.target.image.as_str();
+        let Some(file) = self.devices.image.file().file() else {
+            return Stopped::from(fault);
+        };
+        let mut bytes = [0u8; 16];
+        let room = 16 - (at % 16) as usize;
+        match file.file.read_at(&mut bytes[..room], at) {
+            Ok(count) => Stopped {
+                fault,
+                file: Some(name),
+                reason: Reason::There(Row { at, bytes, count }),
+            },
+            Err(error) => Stopped::by(fault, name, error.raw_os_error()),
         }
     }
 

@@ -10,11 +10,12 @@ pub mod seen;
 use crate::hints::commands::{operands_of, push_word, words_of};
 use crate::hints::names::{name_hint, subject};
 use crate::hints::quoted::printed;
-use crate::stopped::{Reason, Stopped};
+use crate::stopped::{Reason, Row, Stopped};
 use bx_cli::{Fault, Job, Known, hint_text, misuse_of};
 use bx_image::FailedCall;
 use bx_text::Words;
 use std::alloc::{AllocError, Global};
+use std::fmt::Write as _;
 use std::io;
 
 /// Writes the text of the fault, and behind it for a person the hint. A hint that can't be made or written is left out. Where
@@ -129,6 +130,8 @@ fn reason_text(
                 "it has {has} bytes and can't grow, and the input goes on behind them"
             )
         }
+        Reason::Stays => String::from_str(alloc, "it is a block device, whose length stays"),
+        Reason::There(row) => there_text(alloc, &row),
         Reason::Lengths { has, expected } => {
             format!(in alloc; "it has {has} bytes and not {expected}")
         }
@@ -142,6 +145,21 @@ fn wide_text(alloc: Global, name: &str, bits: u32) -> Result<String, AllocError>
     )?;
     push_word(&mut text, name)?;
     text.push_str(" narrows it, and -J names a journal elsewhere")?;
+    Ok(text)
+}
+
+/// What an image has where a patch has other bytes, as xxd writes it.
+fn there_text(alloc: Global, row: &Row) -> Result<String, AllocError> {
+    let Row { at, bytes, count } = *row;
+    if count == 0 {
+        return String::from_str(alloc, "it ends before");
+    }
+    let mut text = format!(in alloc; "it has '{at:08x}: ")?;
+    for (i, byte) in bytes[..count.min(bytes.len())].iter().enumerate() {
+        let between = if i > 0 && i % 2 == 0 { " " } else { "" };
+        write!(text, "{between}{byte:02x}")?;
+    }
+    text.push_str("' there")?;
     Ok(text)
 }
 

@@ -10,6 +10,9 @@ use std::io::{self, Seek, SeekFrom};
 use std::os::unix::fs::FileTypeExt;
 use std::rt::Files;
 
+/// The most bytes of a dump or a patch that is read.
+pub const MOST_INPUT: u64 = 1 << 40;
+
 /// Whether a file has a place for each of its bytes: a regular file or a block device.
 fn has_places(file: io::Result<Metadata>) -> bool {
     match file {

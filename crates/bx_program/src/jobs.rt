@@ -10,7 +10,8 @@ use crate::hints::show_fault;
 use crate::images::{
     finish, finish_read, log, log_places, open_session, open_to_look, show_changes,
 };
-use crate::input::{Placed, file, open, size_of, standard};
+use crate::input::{MOST_INPUT, Placed, file, open, size_of, standard};
+use crate::patch::patch;
 use crate::stopped::{Noted, STANDARD_INPUT, Stopped};
 use crate::streams::Held;
 use bx_cli::{
@@ -29,9 +30,6 @@ use std::fs::File;
 use std::io::{self, Read, Write};
 use std::rt::{Env, Files};
 use std::time::Clock;
-
-/// The most bytes of a dump that is reverted.
-const MOST_INPUT: u64 = 1 << 40;
 
 const NOT_UTF_8: &str = "a word is not UTF-8; a file of such a name can be given by a link to it";
 
@@ -189,6 +187,7 @@ where
     match job {
         ChangeJob::Dd(job) => copy_onto(rt, job, remarks),
         ChangeJob::Revert(job) => revert(rt, job, remarks),
+        ChangeJob::Patch(job) => patch(rt, job, remarks),
         ChangeJob::Undo(job) => {
             let undo = Command::Undo { k: job.count };
             take_steps(rt, undo, &job.target, out, remarks)

@@ -12,6 +12,7 @@ mod images;
 mod input;
 mod jobs;
 mod paged;
+mod patch;
 mod stopped;
 mod streams;
 

@@ -3,6 +3,7 @@ use bx_cli::Fault;
 use bx_dd::DdFault;
 use bx_image::FailedCall;
 use bx_journal::SessionFault;
+use bx_patch::PatchFault;
 use bx_read::ReadFault;
 use bx_text::IoFault;
 use std::io::{self, ErrorKind, Read};
@@ -43,11 +44,15 @@ pub enum Reason {
         /// How many it would have.
         wanted: u64,
     },
+    /// The file is a block device, and can't have the length that a patch brings.
+    Stays,
     /// The file can't grow, and the input has more for it than fits.
     Full {
         /// How many it has.
         has: u64,
     },
+    /// The image has these bytes in a row, the first of them where a patch has another one.
+    There(Row),
     /// The file has this many bytes, and should have as many as `expected`.
     Lengths {
         /// How many it has.
@@ -57,12 +62,23 @@ pub enum Reason {
     },
 }
 
+/// What an image has from an address on, up to the end of its row of 16.
+#[derive(Clone, Copy)]
+pub struct Row {
+    /// The address.
+    pub at: u64,
+    /// The bytes, and others behind them.
+    pub bytes: [u8; 16],
+    /// How many there are; none where the image ends before.
+    pub count: usize,
+}
+
 impl Reason {
     /// Whether it says all that a person needs, and what is advised at the fault wouldn't help.
     pub fn is_all(&self) -> bool {
         matches!(
             self,
-            Reason::Begun | Reason::Fixed { .. } | Reason::Full { .. }
+            Reason::Begun | Reason::Fixed { .. } | Reason::Stays | Reason::Full { .. }
         )
     }
 
@@ -166,20 +182,38 @@ impl<'a> Stopped<'a> {
         }
     }
 
-    /// The same, or that the lines of a dump end as in a text of another system, where that is what isn't read.
+    /// The same, or that the lines of a dump or a patch end as in a text of another system, where that is what isn't read.
     pub fn on_returns(self, file: &'a str) -> Stopped<'a> {
         match self.fault {
-            Fault::Read(
+            Fault::Patch(PatchFault::BadLength { .. } | PatchFault::OfNoKind { .. })
+            | Fault::Read(
                 ReadFault::BadAddress { .. }
                 | ReadFault::MissingColon { .. }
                 | ReadFault::BadPair { .. }
                 | ReadFault::NoData { .. },
+            )
+            | Fault::Patch(
+                PatchFault::Line(
+                    ReadFault::BadAddress { .. }
+                    | ReadFault::MissingColon { .. }
+                    | ReadFault::BadPair { .. }
+                    | ReadFault::NoData { .. },
+                ),
             ) => Stopped {
                 file: Some(file),
                 reason: Reason::Told(RETURNS),
                 ..self
             },
             _ => self,
+        }
+    }
+
+    /// By a block device, which can't have the length that a patch brings.
+    pub fn fixed(file: &'a str) -> Stopped<'a> {
+        Stopped {
+            fault: Fault::from(SessionFault::TooLarge),
+            file: Some(file),
+            reason: Reason::Stays,
         }
     }
 

@@ -10,7 +10,7 @@ use Rattle.bx_journal.specs.Session.{HasUndone, IsReady}
 use Rattle.bx_journal.specs.SessionView.{SessionView, devices_of}
 use Rattle.bx_journal_read.specs.declared.fault.SessionFault.{SessionFault}
 use Rattle.bx_cli_commands.specs.declared.command.Command.{Command}
-use Rattle.bx_cli_commands.specs.declared.command.Command.TheVariants.{Copy, Dd, Revert, RevertPlain, Undo, Redo}
+use Rattle.bx_cli_commands.specs.declared.command.Command.TheVariants.{Copy, Dd, Patch, Revert, RevertPlain, Undo, Redo}
 use Rattle.bx_cli_commands.specs.declared.command.Reply.{Reply}
 use Rattle.bx_cli_commands.specs.declared.command.Reply.TheVariants.{Refused}
 use Rattle.bx_cli_commands.specs.declared.fault.Fault.TheVariants.{Session}
@@ -61,6 +61,7 @@ module _ {D T R A : Type 0} (d : DeviceViews D) (t : StoreViews T) (remaining : 
   obeys_command old new (Dd operands input) (Revert text_ offset) reply step = step.2
   obeys_command old new (Dd operands input) (RevertPlain text_ at_) reply step = step.2
   obeys_command old new (Dd operands input) (Copy plan rest) reply step = step.2
+  obeys_command old new (Dd operands input) (Patch rest) reply step = step.2
   obeys_command old new (Dd operands input) (Undo k) reply step = step.2
   obeys_command old new (Dd operands input) (Redo j) reply step = step.2
   obeys_command old new (Copy plan input) (Copy same rest) reply step =
@@ -68,8 +69,16 @@ module _ {D T R A : Type 0} (d : DeviceViews D) (t : StoreViews T) (remaining : 
   obeys_command old new (Copy plan input) (Dd words rest) reply step = step.2
   obeys_command old new (Copy plan input) (Revert text_ offset) reply step = step.2
   obeys_command old new (Copy plan input) (RevertPlain text_ at_) reply step = step.2
+  obeys_command old new (Copy plan input) (Patch rest) reply step = step.2
   obeys_command old new (Copy plan input) (Undo k) reply step = step.2
   obeys_command old new (Copy plan input) (Redo j) reply step = step.2
+  obeys_command old new (Patch patch) (Patch rest) reply step = step.2
+  obeys_command old new (Patch patch) (Dd words rest) reply step = step.2
+  obeys_command old new (Patch patch) (Copy plan rest) reply step = step.2
+  obeys_command old new (Patch patch) (Revert text_ offset) reply step = step.2
+  obeys_command old new (Patch patch) (RevertPlain text_ at_) reply step = step.2
+  obeys_command old new (Patch patch) (Undo k) reply step = step.2
+  obeys_command old new (Patch patch) (Redo j) reply step = step.2
   obeys_command old new (Revert text_ offset) left reply step = step.2
   obeys_command old new (RevertPlain text_ at_) left reply step = step.2
   obeys_command old new (Undo k) left reply step = step.2

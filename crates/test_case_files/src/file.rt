@@ -24,7 +24,7 @@ enum Kind {
 }
 
 /// The words of lines.
-static KNOWN: [&str; 48] = [
+static KNOWN: [&str; 49] = [
     "kind",
     "case",
     "from",
@@ -67,6 +67,7 @@ static KNOWN: [&str; 48] = [
     "new",
     "rows",
     "patch",
+    "reversed",
     "lengths",
     "expected",
     "written",

@@ -20,6 +20,7 @@ is_dump (Help text) = false
 abbrev pub changed_of : ChangeJob → Target
 changed_of (change.Dd job) = job.target
 changed_of (change.Revert job) = job.target
+changed_of (change.Patch job) = job.target
 changed_of (change.Undo job) = job.target
 changed_of (change.Redo job) = job.target
 

@@ -49,6 +49,17 @@ pub struct RevertJob {
     ghost near: { at ≤ 2 ^ 62 },
 }
 
+/// `patch`: the patch, and the image that it changes.
+#[derive(Drop)]
+pub struct PatchJob {
+    /// The name of the patch; none is standard input.
+    pub patch: Option<Name>,
+    /// Whether it is made the other way round: what it writes is expected, and what it expects is written.
+    pub reverse: bool,
+    /// The image that is changed.
+    pub target: Target,
+}
+
 /// `undo` and `redo`: how many changes they take back, or make again.
 #[derive(Drop)]
 pub struct StepsJob {
@@ -89,6 +100,8 @@ pub enum ChangeJob {
     Dd(DdImageJob),
     /// Writes a dump onto it.
     Revert(RevertJob),
+    /// Makes the change of a patch.
+    Patch(PatchJob),
     /// Takes the last changes back.
     Undo(StepsJob),
     /// Makes the last undone changes again.
@@ -105,6 +118,7 @@ impl ChangeJob {
         match self {
             ChangeJob::Dd(job) => &job.target,
             ChangeJob::Revert(job) => &job.target,
+            ChangeJob::Patch(job) => &job.target,
             ChangeJob::Undo(job) | ChangeJob::Redo(job) => &job.target,
         }
     }

@@ -110,6 +110,11 @@ impl Remarks {
         }
     }
 
+    /// Takes whether a patch that was read writes a byte, or brings another length.
+    pub fn look_at_patch(&mut self, changes: bool) {
+        self.is_empty = !changes;
+    }
+
     /// Looks what the change of a dump will make of the image, which is open and not yet written.
     pub fn look_at_change<R>(&mut self, rt: &R, target: &Target, change: &Change)
     where
@@ -162,6 +167,7 @@ impl Remarks {
                 self.tell_of_dump(rt, operands);
                 self.tell_of_effect(rt, name, operands);
             }
+            ChangeJob::Patch(_) => self.tell_of_patch(rt),
             ChangeJob::Dd(_) => self.tell_of_nothing(rt, target),
             ChangeJob::Undo(steps) => self.tell_of_times(rt, name, steps.count, "redo", operands),
             ChangeJob::Redo(steps) => self.tell_of_times(rt, name, steps.count, "undo", operands),
@@ -201,6 +207,17 @@ impl Remarks {
             let _ = eprintln!(rt; "hint: the dump has no bytes, but what was undone is given up");
         } else if self.is_empty {
             let _ = eprintln!(rt; "hint: the dump has no bytes, so no byte was changed");
+        }
+    }
+
+    /// That a patch changed nothing.
+    fn tell_of_patch<R: Eprint>(&self, rt: &R) {
+        if self.is_empty && self.was_undone {
+            let _ = eprintln!(rt;
+                "hint: the patch changes nothing, but what was undone is given up"
+            );
+        } else if self.is_empty {
+            let _ = eprintln!(rt; "hint: the patch changes nothing, so no byte was changed");
         }
     }
 

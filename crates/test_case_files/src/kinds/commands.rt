@@ -32,6 +32,11 @@ pub enum Ask {
         operands: Words,
         input: Vec<u8>,
     },
+    /// Makes the change of a patch, or of the same the other way round.
+    Patch {
+        text: Vec<u8>,
+        reversed: bool,
+    },
     /// Takes this many changes back.
     Undo(u32),
     /// Makes this many changes again.
@@ -150,6 +155,11 @@ fn base(cursor: &Cursor<'_>, value: &[u8]) -> Result<Option<u64>, CaseFault> {
     }
 }
 
+/// A patch.
+fn patch(text: Vec<u8>, reversed: bool) -> Ask {
+    Ask::Patch { text, reversed }
+}
+
 /// A command that changes the image, if the next lines tell one.
 fn change(alloc: Global, cursor: &mut Cursor<'_>) -> Result<Option<Ask>, CaseFault> {
     if let Some(dump) = cursor.bytes(alloc, "revert")? {
@@ -163,6 +173,12 @@ fn change(alloc: Global, cursor: &mut Cursor<'_>) -> Result<Option<Ask>, CaseFau
     if let Some(operands) = cursor.words(alloc, "dd")? {
         let input = needed_bytes(alloc, cursor, "input")?;
         return Ok(Some(Ask::Dd { operands, input }));
+    }
+    if let Some(text) = cursor.bytes(alloc, "patch")? {
+        return Ok(Some(patch(text, false)));
+    }
+    if let Some(text) = cursor.bytes(alloc, "reversed")? {
+        return Ok(Some(patch(text, true)));
     }
     let Some(value) = cursor.value("change")? else {
         return Ok(None);

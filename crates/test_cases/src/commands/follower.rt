@@ -91,6 +91,8 @@ impl<'a> Follower<'a> {
         match self.course {
             Course::Unopened | Course::Refused => match &row.ask {
                 Ask::Undo(_) | Ask::Redo(_) => true,
+                // What it is refused for hangs on the image.
+                Ask::Patch { .. } => false,
                 _ => matches!(&row.answer, Answer::Refused(_)),
             },
             _ => true,

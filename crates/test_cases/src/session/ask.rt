@@ -10,6 +10,7 @@ use bx_dd::parse;
 use bx_image::{Change, Device};
 use bx_journal::{Session, SessionFault};
 use bx_journal_store::TextStore;
+use bx_patch::read_patch;
 use bx_text::{Bytes, IoFault, Piece, Pieces, Words};
 use std::alloc::{Allocator, Global};
 use test_arena::{squeeze, used};
@@ -70,7 +71,7 @@ fn command_of<A: Allocator + Clone>(alloc: A, ask: &Ask) -> Result<Option<Comman
         }
         Ask::Undo(k) => Ok(Some(Command::Undo { k: *k })),
         Ask::Redo(j) => Ok(Some(Command::Redo { j: *j })),
-        Ask::Change { .. } | Ask::Open => Ok(None),
+        Ask::Patch { .. } | Ask::Change { .. } | Ask::Open => Ok(None),
     }
 }
 
@@ -116,6 +117,9 @@ fn ask_command<D: Device, T: TextStore, A: Allocator + Clone>(
     ask: &Ask,
     limit: Limit<'_>,
 ) -> Result<Reply, Wrong> {
+    if let Ask::Patch { text, reversed } = ask {
+        return apply(alloc, session, text.as_slice(), *reversed, limit);
+    }
     if let (Ask::Dd { operands, input }, None) = (ask, limit) {
         return copy(alloc, session, operands, input.as_slice());
     }
@@ -136,6 +140,22 @@ fn copy<D: Device, T: TextStore, A: Allocator + Clone>(
         Ok(plan) => run_one(alloc, session, Command::Copy { plan, input }, None),
         Err(fault) => Ok(Reply::Refused(Fault::Dd(fault))),
     }
+}
+
+/// The change of a patch, which is read first, as the program does it; memory gets short behind that.
+fn apply<D: Device, T: TextStore, A: Allocator + Clone>(
+    alloc: A,
+    session: &mut Session<D, T, A>,
+    text: &[u8],
+    reversed: bool,
+    limit: Limit<'_>,
+) -> Result<Reply, Wrong> {
+    let patch = match read_patch(alloc.clone()?, text) {
+        Ok(patch) if reversed => patch.reversed(),
+        Ok(patch) => patch,
+        Err(fault) => return Ok(Reply::Refused(Fault::from(fault))),
+    };
+    run_one(alloc, session, Command::Patch { patch }, limit)
 }
 
 fn ask_change<D: Device, T: TextStore, A: Allocator + Clone>(

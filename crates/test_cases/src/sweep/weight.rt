@@ -45,7 +45,8 @@ fn row_weight(row: &Row) -> usize {
         Ask::Revert { dump, .. } => dump.len(),
         Ask::Plain { digits, .. } => digits.len(),
         Ask::Dd { input, .. } => input.len(),
-        _ => 0,
+        Ask::Patch { text, .. } => text.len(),
+        Ask::Undo(_) | Ask::Redo(_) | Ask::Change { .. } | Ask::Open => 0,
     };
     given
         .saturating_add(row.left.image.len())

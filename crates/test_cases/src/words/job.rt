@@ -2,7 +2,7 @@
 use crate::report::compare::{Wrong, differs, same_text};
 use bx_cli::{
     Access, ChangeJob, DdImageJob, DdJob, DiffJob, DumpJob, Durability, HexdumpJob, Job, LogJob,
-    LookJob, OdJob, RevertJob, ShowJob, StepsJob, StringsJob, Target, XxdJob, XxdLook,
+    LookJob, OdJob, PatchJob, RevertJob, ShowJob, StepsJob, StringsJob, Target, XxdJob, XxdLook,
 };
 use bx_dd::{Letters, Plan, Shape};
 use bx_dump::od::{Address, Kind, NumForm, Size};
@@ -32,6 +32,7 @@ fn name_of(job: &Job) -> &'static str {
         Job::Dump(DumpJob::Strings(_)) => "strings",
         Job::Dump(DumpJob::Dd(_)) | Job::Change(ChangeJob::Dd(_)) => "dd",
         Job::Change(ChangeJob::Revert(_)) => "revert",
+        Job::Change(ChangeJob::Patch(_)) => "patch",
         Job::Change(ChangeJob::Undo(_)) => "undo",
         Job::Change(ChangeJob::Redo(_)) => "redo",
         Job::Look(LookJob::Log(_)) => "log",
@@ -205,6 +206,14 @@ fn revert_field<'a>(job: &'a RevertJob, name: &str) -> Field<'a> {
     }
 }
 
+fn patch_field<'a>(job: &'a PatchJob, name: &str) -> Field<'a> {
+    match name {
+        "patch" => file(&job.patch),
+        "reverse" => flag(job.reverse),
+        _ => target_field(&job.target, name),
+    }
+}
+
 /// A field of the image that a job works on.
 fn target_field<'a>(target: &'a Target, name: &str) -> Field<'a> {
     match name {
@@ -261,6 +270,7 @@ fn field_of<'a>(job: &'a Job, name: &str) -> Field<'a> {
         Job::Dump(job) => dump_field(job, name),
         Job::Change(ChangeJob::Dd(job)) => dd_image_field(job, name),
         Job::Change(ChangeJob::Revert(job)) => revert_field(job, name),
+        Job::Change(ChangeJob::Patch(job)) => patch_field(job, name),
         Job::Change(ChangeJob::Undo(job) | ChangeJob::Redo(job)) => steps_field(job, name),
         Job::Look(LookJob::Log(job)) => log_field(job, name),
         Job::Look(LookJob::Show(job)) => show_field(job, name),

@@ -19,6 +19,9 @@ returns-in-Copy g c =
     let makes = makes_by _ (g.R.Read.remaining _) (g.R.Read.remaining _) made.result made.ensures.ok made.ensures.err made.ensures.within in
     record { runs = rw c.in-Copy.is (refl, c.run_dd-in-Copy.ensures.tells, (made.result, makes, c.run_dd-in-Copy.ensures.obeys)) }
 
+pub returns-in-Patch : goal.returns-in-Patch
+returns-in-Patch g c = record { runs = rw c.in-Patch.is (c.run_patch.ensures.left, c.run_patch.ensures.tells, c.run_patch.ensures.obeys) }
+
 pub returns-in-Undo : goal.returns-in-Undo
 returns-in-Undo g c = record { runs = rw c.in-Undo.is (refl, c.run_undo.ensures.tells, c.run_undo.ensures.obeys) }
 

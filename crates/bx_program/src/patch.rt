@@ -1,0 +1,108 @@
+//! A patch, read and applied to an image.
+use crate::files::look::is_device;
+use crate::hints::remarks::Remarks;
+use crate::images::{finish, open_session};
+use crate::input::{MOST_INPUT, open, size_of};
+use crate::stopped::{Noted, STANDARD_INPUT, Stopped};
+use bx_cli::{Command, Fault, PatchJob};
+use bx_patch::{Patch, read_patch};
+use bx_program_system::{Counted, Progress};
+use bx_text::Source;
+use std::alloc::Global;
+use std::fs::File;
+use std::io::{Empty, Read};
+use std::rt::Files;
+use std::time::Clock;
+
+/// Applies a patch to an image. It is read to its end, and found right, before anything is opened.
+pub fn patch<'a, R>(rt: &R, job: &'a PatchJob, remarks: &mut Remarks) -> Result<(), Stopped<'a>>
+where
+    R: Files<File = File> + Input + Eprint + Clock + AllocGlobal,
+{
+    let patch = read_named(rt, job, remarks)?;
+    let resizes = changes_length(&patch);
+    remarks.look_at_patch(resizes || !patch.written.is_empty());
+    let image = job.target.image.as_str();
+    if resizes && is_device(rt, image) {
+        return Err(Stopped::fixed(image));
+    }
+    let progress = remarks.progress_of_input(rt, None);
+    let session = open_session(rt, &job.target, true, &progress)?;
+    let asked: Command<Empty> = Command::Patch { patch };
+    finish(rt, session, asked, &job.target)?;
+    Ok(())
+}
+
+/// Whether a patch brings the image to another length.
+fn changes_length(patch: &Patch) -> bool {
+    match patch.lengths {
+        Some(lengths) => lengths.old != lengths.new,
+        None => false,
+    }
+}
+
+/// What the patch asks that a job names, or standard input.
+fn read_named<'a, R>(rt: &R, job: &'a PatchJob, remarks: &Remarks) -> Result<Patch, Stopped<'a>>
+where
+    R: Files<File = File> + Input + Eprint + Clock + AllocGlobal,
+{
+    let alloc = rt.alloc();
+    match &job.patch {
+        Some(name) => {
+            let file = open(rt, name)?;
+            let progress = remarks.progress_of_input(rt, size_of(&file));
+            let text = text_of(alloc, name.as_str(), file, &progress);
+            progress.end();
+            asked_of(alloc, job, name.as_str(), text?)
+        }
+        None => {
+            let progress = remarks.progress_of_input(rt, None);
+            let text = text_of(alloc, STANDARD_INPUT, rt.reader(), &progress);
+            progress.end();
+            asked_of(alloc, job, STANDARD_INPUT, text?)
+        }
+    }
+}
+
+/// All that an input gives.
+fn text_of<'a, R: Eprint + Clock, I: Read + Drop>(
+    alloc: Global,
+    name: &'a str,
+    input: I,
+    progress: &Progress<'_, R>,
+) -> Result<Vec<u8>, Stopped<'a>> {
+    let mut input = Noted::new(input);
+    let counted = Counted::new(&mut input, progress);
+    match Source::new(counted, MOST_INPUT).rest(alloc) {
+        Ok(text) => Ok(text),
+        Err(fault) => Err(Stopped::from(Fault::Io(fault)).on_input(name, input.error)),
+    }
+}
+
+/// What a text asks, which is a patch, in the way of a job.
+fn asked_of<'a>(
+    alloc: Global,
+    job: &PatchJob,
+    name: &'a str,
+    text: Vec<u8>,
+) -> Result<Patch, Stopped<'a>> {
+    match read_patch(alloc, text.as_slice()) {
+        Ok(patch) if job.reverse => Ok(patch.reversed()),
+        Ok(patch) => Ok(patch),
+        Err(fault) => {
+            let stopped = Stopped::from(Fault::Patch(fault));
+            if has_returns(text.as_slice()) {
+                return Err(stopped.on_returns(name));
+            }
+            Err(stopped)
+        }
+    }
+}
+
+/// Whether the first line of a text ends in CR LF.
+fn has_returns(text: &[u8]) -> bool {
+    match text.split(|byte| *byte == b'\n').next() {
+        Some(line) => line.len() < text.len() && line.last() == Some(&b'\r'),
+        None => false,
+    }
+}
