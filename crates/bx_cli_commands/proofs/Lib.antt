@@ -11,6 +11,7 @@ pub mod Obeys
 pub mod Stopped
 pub mod LossParts
 pub mod LossGoesOn
+pub mod ShownDump
 pub mod Tells
 pub mod SessionRuns
 pub mod Agreed

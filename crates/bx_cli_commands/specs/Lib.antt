@@ -13,5 +13,6 @@ pub mod Refusal
 pub mod Laws
 pub mod Loss
 pub mod Listing
+pub mod ShowDump
 pub mod RoundTrip
 pub mod jobs

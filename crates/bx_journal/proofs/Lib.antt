@@ -13,4 +13,6 @@ pub mod LeftLemmas
 pub mod ListLemmas
 pub mod Reopening
 pub mod LossLaws
+pub mod ShownWritten
+pub mod SpelledLaws
 pub mod ForgottenLemmas

@@ -26,4 +26,5 @@ pub mod Looking
 pub mod Losses
 pub mod Opened
 pub mod Recovery
+pub mod ShowLaws
 pub mod private
