@@ -59,6 +59,25 @@ stays_behind {failures = failures} {r = r} {new = new} same honesty unfailed nex
   no_failure = subst (λ n. OnOk r (failures new ≡ n)) unfailed next.no_failure;
 }
 
+-- calls that only looked and did not fail, up to now
+pub record HasStayed {T : Type 0} (honest : T → Type 0) (text : T → List ℕ) (failures : T → ℕ) (old now : T) : Type 0 where
+  pub same : honest old → text now ≡ text old
+  pub honesty : honest now ↔ honest old
+  pub no_failure : failures now ≡ failures old
+
+-- none yet
+pub stayed_none : {T : Type 0} (honest : T → Type 0) (text : T → List ℕ) (failures : T → ℕ) (now : T) → HasStayed honest text failures now now
+stayed_none honest text failures now = record { same = λ h. refl; honesty = ((λ h. h), λ h. h); no_failure = refl }
+
+-- one more
+pub stayed_on : {T : Type 0} {honest : T → Type 0} {text : T → List ℕ} {failures : T → ℕ} {old now new : T} → HasStayed honest text failures old now → (honest now → text new ≡ text now) → (honest new ↔ honest now)
+    → failures new ≡ failures now → HasStayed honest text failures old new
+stayed_on first same honesty unfailed = record {
+  same = λ h. same (first.honesty.1 h) ∙ first.same h;
+  honesty = ((λ h. first.honesty.0 (honesty.0 h)), λ h. honesty.1 (first.honesty.1 h));
+  no_failure = unfailed ∙ first.no_failure;
+}
+
 -- how the counts go on behind calls that did not fail
 pub counts_behind : {R : Type 0} {d t d_now t_now : ℕ} → (d_new t_new : ℕ) → (r : Result R ShowFault) → d_now ≡ d → t_now ≡ t → IfErr r (λ f. LookCounts f d_now t_now d_new t_new) → IfErr r (λ f. LookCounts f d t d_new t_new)
 counts_behind {t = t} {d_now = d_now} d_new t_new r same_d same_t counts =

@@ -12,6 +12,7 @@ pub mod StandLemmas
 pub mod RecoverLemmas
 pub mod WindowLemmas
 pub mod WalkLemmas
+pub mod TextReads
 pub mod ScanLemmas
 pub mod DamageLemmas
 pub mod ZeroLemmas

@@ -5,15 +5,14 @@ use Rattle.std.proofs.lemmas.List.{take_all}
 use Rattle.std.proofs.lemmas.Result.{IfErr-weaker, IfOk-weaker}
 use Rattle.bx_journal_format.specs.Shown.{shown}
 use Rattle.bx_journal_read.specs.declared.fault.SessionFault.{SessionFault}
-use Rattle.bx_journal_read.specs.declared.fault.SessionFault.TheVariants.{NoMemory, TooLarge, DeviceFailed, Damaged, TooFew, JournalFull, Interrupted, Broken, LengthDiffers, NothingToRedo, RedoDamaged}
 use Rattle.bx_journal_read.specs.scan.Looking.{LooksAt}
 use Rattle.bx_journal_read.specs.scan.Recovery.{FindFault}
-use Rattle.bx_journal_read.proofs.WindowLemmas.{looks_before}
+use Rattle.bx_journal_read.proofs.WindowLemmas.{fault_is, looks_before}
 use Rattle.bx_journal_format.specs.declared.read.count.Place.TheVariants.{Between as BetweenPlace}
 use Rattle.bx_journal_format.specs.declared.read.marks.Mark.{Mark}
 use Rattle.bx_journal_format.specs.declared.read.rows.Summed.{Summed}
 use Rattle.bx_journal_format.specs.Spelled.{entry_in, lines_of}
-use Rattle.bx_journal_format.specs.Text.{Between, IsDamagedAt, split, start, after_lines}
+use Rattle.bx_journal_format.specs.Text.{Between, split, start, after_lines}
 use Rattle.bx_journal_format.specs.count.Marks.{GoOnWith, IsMarked}
 use Rattle.bx_journal_format.proofs.TallyLemmas.{HasForm, has_form}
 use Rattle.bx_journal_read.specs.declared.show.marks.MarkScan.{MarkScan}
@@ -55,23 +54,10 @@ marks_all honest now stored text len marks still same long of = record {
 
 -- what is said of a text behind a call that only looked at it
 module _ {T V : Type 0} {honest : T → Type 0} {text : T → List ℕ} {failures : T → ℕ} {v : V} {old now : T} (first : LooksAt honest text failures (Ok v) old now) where
-  pub fault_is : (e : SessionFault) → FindFault (honest now) (shown (text now)) e → FindFault (honest old) (shown (text old)) e
-  fault_is NoMemory f = tt
-  fault_is DeviceFailed f = tt
-  fault_is (Damaged line) f = λ h. subst (λ t. IsDamagedAt (shown t) line) (first.same h) (f (first.honesty.1 h))
-  fault_is TooLarge f = f
-  fault_is (TooFew have) f = f
-  fault_is JournalFull f = f
-  fault_is Interrupted f = f
-  fault_is Broken f = f
-  fault_is (LengthDiffers n) f = f
-  fault_is (NothingToRedo have) f = f
-  fault_is (RedoDamaged line) f = f
-
   pub marks_behind : {A : Type 0} {new : T} → (r : Result (Vec Mark A) SessionFault) → FindsMarks honest text failures r now new → FindsMarks honest text failures r old new
   marks_behind r next = record {
     marks = IfOk-weaker r (λ m. AreAllMarks (honest now) (text now) m.items) (λ m. AreAllMarks (honest old) (text old) m.items)
         (λ m a. record { text = a.text; is = λ h. sym (first.same h) ∙ a.is (first.honesty.1 h); entries = a.entries; spelled = a.spelled; marks_are = a.marks_are }) next.marks;
-    fault = IfErr-weaker r (FindFault (honest now) (shown (text now))) (FindFault (honest old) (shown (text old))) fault_is next.fault;
+    fault = IfErr-weaker r (FindFault (honest now) (shown (text now))) (FindFault (honest old) (shown (text old))) (fault_is first) next.fault;
     looks = looks_before first next.looks;
   }

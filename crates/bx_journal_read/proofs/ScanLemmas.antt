@@ -36,6 +36,10 @@ reached_on honest stored window Leads size from len at m n old new r read within
 pub reached_of : {R E : Type 0} → (P : R → Type 0) (scanned : Result (Option R) E) (found : Option R) (r : R) → scanned ≡ Ok found → found ≡ Some r → IfOk scanned (λ o. IfSome o P) → P r
 reached_of P scanned found r was is there = subst (λ o. IfSome o P) is (subst (λ s. IfOk s (λ o. IfSome o P)) was there)
 
+-- what is said of an answer that is there
+pub some_of : {R : Type 0} → (P : R → Type 0) (found : Option R) (r : R) → found ≡ Some r → IfSome found P → P r
+some_of P found r is there = subst (λ o. IfSome o P) is there
+
 -- the end that was reached is that of all the text, behind a call that only looked at it
 pub reached_all : {S : Type 0} → (H now : Type 0) (stored text : List ℕ) (Leads : S → List ℕ → Type 0) (len at : ℕ) (scan : S) → (H → now) → (H → text ≡ stored) → (H → len ≡ length stored) → at ≡ len
     → (led : IsLedTo now text Leads at scan) → H → stored ≡ led.text

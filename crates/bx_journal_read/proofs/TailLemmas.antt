@@ -1,5 +1,6 @@
 -- The unfinished end of a text that was read.
-use Rattle.std.proofs.Common.{◌≡◌, ℕ, suc, List, [], ◌∷◌, ◌++◌, length, length-append, take, drop, refl, ap, ◌∙◌, arith}
+use Rattle.std.proofs.Common.{◌≡◌, ℕ, suc, List, [], ◌∷◌, ◌++◌, length, length-append, take, drop, refl, ap, sym, ◌∙◌, subst, arith}
+use Rattle.bx_journal_format.specs.declared.read.whole.JournalRead.{JournalRead}
 use Rattle.bx_journal_format.specs.declared.read.types.EntryRead.{EntryRead}
 use Rattle.bx_journal_format.specs.declared.read.types.StageRead.{StageRead}
 use Rattle.bx_journal_format.specs.declared.read.types.StageRead.TheVariants.{Between as BetweenRead, Saving as SavingRead, Ending as EndingRead}
@@ -7,7 +8,12 @@ use Rattle.bx_journal_format.specs.Text.{Entry, Between, Split, split, start, af
 use Rattle.bx_journal_format.proofs.Damage.{split_at_mark}
 use Rattle.bx_journal_read.specs.model.Redo.{BeginsAt}
 use Rattle.bx_journal_format.specs.count.Mark.{IsMark}
-use Rattle.bx_journal_format.specs.Parsed.{entries_of, reading_of, IsMarked}
+use Rattle.bx_journal_format.specs.Parsed.{entries_of, reading_of, stage_of, told_by, IsMarked}
+use Rattle.bx_journal_format.specs.read.Journal.{HasRead}
+use Rattle.bx_journal_format.proofs.ReadLemmas.{length-entries_of}
+use Rattle.bx_journal_format.proofs.ReadLoop.{marked_few}
+use Rattle.bx_journal_read.specs.declared.scan.journal.Torn.{Torn}
+use Rattle.bx_journal_read.specs.scan.Recovery.{HasMark, IsTorn}
 
 -- where what is unfinished begins
 abbrev pub begins_at : {A : Type 0} → (StageRead A) → ℕ → ℕ
@@ -19,6 +25,18 @@ pub begin_mark : {A : Type 0} → (text : List ℕ) (es : List (EntryRead A)) (s
 begin_mark text es BetweenRead at mark m = mark
 begin_mark text es (SavingRead v len runs begins) at mark m = m.1
 begin_mark text es (EndingRead v kept begins saved) at mark m = m.1
+
+-- what is unfinished in a text that was read
+pub torn_read : {A : Type 0} → (text : List ℕ) (j : JournalRead A) (t : Torn) → HasRead text j → t.begins ≡ begins_at j.stage j.whole → t.count ≡ length j.entries.items → t.told ≡ told_by (entries_of j.entries.items)
+    → HasMark text (stage_of j.stage) t.mark → IsTorn text (reading_of j.entries.items j.stage) t
+torn_read text j t read begins count told mark = record {
+  reads = read.reads;
+  begins = subst (λ n. IsMark text n (record { entries = entries_of j.entries.items; stage = Between })) (sym begins) (begin_mark text j.entries.items j.stage j.whole read.places.mark read.places.marked);
+  count = count ∙ sym (length-entries_of j.entries.items);
+  told = told;
+  few = omega (arith, count, marked_few text [] j.entries.items j.stage j.whole read.places.marked);
+  mark = mark;
+}
 
 take_front : (a b : List (List ℕ)) → take (length a) (a ++ b) ≡ a
 take_front [] b = refl

@@ -62,7 +62,7 @@ module _ {T V : Type 0} {honest : T → Type 0} {text : T → List ℕ} {failure
   found_is (Finished counted) f = record { text = f.text; is = λ h. sym (first.same h) ∙ f.is (first.honesty.1 h); counted = f.counted; few = f.few }
   found_is (Unfinished torn) f = record { torn = λ h. subst (λ t. IsTornIn t torn) (first.same h) (f.torn (first.honesty.1 h)); few = f.few; order = f.order }
 
-  fault_is : (e : SessionFault) → FindFault (honest now) (shown (text now)) e → FindFault (honest old) (shown (text old)) e
+  pub fault_is : (e : SessionFault) → FindFault (honest now) (shown (text now)) e → FindFault (honest old) (shown (text old)) e
   fault_is NoMemory f = tt
   fault_is DeviceFailed f = tt
   fault_is (Damaged line) f = λ h. subst (λ t. IsDamagedAt (shown t) line) (first.same h) (f (first.honesty.1 h))

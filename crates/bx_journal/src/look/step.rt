@@ -1,8 +1,8 @@
 //! Steps over changes, as they are shown: a heading, the saved lines, and an empty line for each.
-ghost use Rattle.std.specs.Prelude.{◌≡◌, ◌+◌, ◌<◌, ◌≤◌, ℕ, All, IsTrue, length, OnOk, IfErr};
+ghost use Rattle.std.specs.Prelude.{◌≡◌, ◌+◌, ◌<◌, ◌≤◌, ℕ, All, IsTrue, length, OnOk};
 ghost use Rattle.std.specs.Io.KnownBytes.{Appends};
 ghost use Rattle.bx_journal_read.specs.show.Steps.{first_number, AreStepsPut, mark_step, number_at, saved_at};
-ghost use Rattle.bx_journal_read.specs.show.Showing.{LiesWithin, LookCounts, PutFault, Stays};
+ghost use Rattle.bx_journal_read.specs.show.Showing.{LiesWithin, WritesBeside};
 
 use bx_image::Device;
 use bx_journal_format::Mark;
@@ -29,23 +29,21 @@ fn put_saved<D: Device, T: TextStore, A: Allocator + Clone, W: Write>(
     image: &mut D,
     journal: &mut T,
     writing: &mut Writing<A>,
-    step: Step,
+    compares: bool,
+    mark: Mark,
     out: &mut W,
 ) -> Result<(), ShowFault>
     requires countable { D.failures image.old < u64.MAX }
     requires also_countable { T.failures journal.old < u64.MAX }
-    requires within { T.honest journal.old → step.mark.to ≤ length (T.text journal.old) }
-    requires order { step.mark.from ≤ step.mark.to }
-    ensures put { T.honest journal.old → (IsTrue step.steps.compares → D.honest image.old) → OnOk result
-        (Appends (W.contents out.old) (W.contents out.new) (saved_at step.steps.compares (D.image image.old) (T.text journal.old) step.mark)) }
-    ensures kind { IfErr result PutFault }
-    ensures image { Stays D.honest D.image D.failures result image.old image.new }
-    ensures stays { Stays T.honest T.text T.failures result journal.old journal.new }
-    ensures counts { IfErr result (λ f. LookCounts f (D.failures image.old) (T.failures journal.old) (D.failures image.new) (T.failures journal.new)) }
+    requires within { T.honest journal.old → mark.to ≤ length (T.text journal.old) }
+    requires order { mark.from ≤ mark.to }
+    ensures put { T.honest journal.old → (IsTrue compares → D.honest image.old) → OnOk result
+        (Appends (W.contents out.old) (W.contents out.new) (saved_at compares (D.image image.old) (T.text journal.old) mark)) }
+    ensures puts { WritesBeside D.Device T.TextStore result image.old image.new journal.old journal.new }
 {
-    match step.steps.compares {
-        true => put_differences(image, journal, writing, step.mark, out),
-        false => put_lines(journal, writing, step.mark, out),
+    match compares {
+        true => put_differences(image, journal, writing, mark, out),
+        false => put_lines(journal, writing, mark, out),
     }
 }
 
@@ -63,13 +61,10 @@ fn put_step<D: Device, T: TextStore, A: Allocator + Clone, W: Write>(
     requires order { step.mark.from ≤ step.mark.to }
     ensures step { T.honest journal.old → (IsTrue step.steps.compares → D.honest image.old) → OnOk result
         (Appends (W.contents out.old) (W.contents out.new) (mark_step step.steps (D.image image.old) (T.text journal.old) step.number step.mark)) }
-    ensures kind { IfErr result PutFault }
-    ensures image { Stays D.honest D.image D.failures result image.old image.new }
-    ensures stays { Stays T.honest T.text T.failures result journal.old journal.new }
-    ensures counts { IfErr result (λ f. LookCounts f (D.failures image.old) (T.failures journal.old) (D.failures image.new) (T.failures journal.new)) }
+    ensures puts { WritesBeside D.Device T.TextStore result image.old image.new journal.old journal.new }
 {
     put_heading(journal, writing, step, out)?;
-    put_saved(image, journal, writing, step, out)?;
+    put_saved(image, journal, writing, step.steps.compares, step.mark, out)?;
     writing.written = put(out, writing.written, b"\n")?;
     Ok(())
 }
@@ -89,10 +84,7 @@ pub fn put_steps<D: Device, T: TextStore, A: Allocator + Clone, W: Write>(
     requires lie { (len : ℕ) × (T.honest journal.old → len ≤ length (T.text journal.old)) × All (LiesWithin len) marks.now }
     ensures steps { T.honest journal.old → (IsTrue steps.compares → D.honest image.old) → OnOk result
         (AreStepsPut steps (D.image image.old) (T.text journal.old) steps.count marks.now (W.contents out.old) (W.contents out.new)) }
-    ensures kind { IfErr result PutFault }
-    ensures image { Stays D.honest D.image D.failures result image.old image.new }
-    ensures stays { Stays T.honest T.text T.failures result journal.old journal.new }
-    ensures counts { IfErr result (λ f. LookCounts f (D.failures image.old) (T.failures journal.old) (D.failures image.new) (T.failures journal.new)) }
+    ensures puts { WritesBeside D.Device T.TextStore result image.old image.new journal.old journal.new }
 {
     for i in 0..steps.count {
         let mark = &marks[marks.len() - 1 - i as usize];

@@ -1,6 +1,8 @@
 -- What a look at the changes of a text writes.
 use Rattle.std.specs.Prelude.{ℕ, suc, ◌==◌, None, Some, Option, List, [], ◌∷◌, ◌++◌, length, map, sum, if◌then◌else◌, codes, decimal, ◌≡◌, ◌↔◌, ◌<◌, ◌≤◌, ◌+◌, ◌-◌, Vec, Result, IfOk, IfErr, OnOk, take, drop}
 use Rattle.std.specs.Io.KnownBytes.{Appends}
+use Rattle.bx_image.specs.declared.device.Device.{Ghosts as DeviceViews}
+use Rattle.bx_journal_store.specs.declared.store.TextStore.{Ghosts as StoreViews}
 use Rattle.bx_journal_format.specs.Finished.{IsFinished}
 use Rattle.bx_journal_format.specs.Kept.{Run, Kept}
 use Rattle.bx_journal_format.specs.Ranges.{ranges_text, AreRanged, RangesOn}
@@ -97,6 +99,19 @@ pub record Stays {T R E : Type 0} (honest : T → Type 0) (text : T → List ℕ
   pub same : honest old → text new ≡ text old
   pub honesty : honest new ↔ honest old
   pub no_failure : OnOk result (failures new ≡ failures old)
+
+-- a call that writes what it reads of a device, the image's or a text's: which fault it answers, and that it changes nothing there
+pub record WritesFrom {T R : Type 0} (honest : T → Type 0) (view : T → List ℕ) (failures : T → ℕ) (result : Result R ShowFault) (old new : T) : Type 0 where
+  pub kind : IfErr result PutFault
+  pub stays : Stays honest view failures result old new
+  pub counts : IfErr result (λ f. LookCounts f (failures old) 0 (failures new) 0)
+
+-- the same of one that reads a text beside an image
+pub record WritesBeside {D T R : Type 0} (d : DeviceViews D) (t : StoreViews T) (result : Result R ShowFault) (image_old image_new : D) (text_old text_new : T) : Type 0 where
+  pub kind : IfErr result PutFault
+  pub image : Stays d.honest d.image d.failures result image_old image_new
+  pub text : Stays t.honest t.text t.failures result text_old text_new
+  pub counts : IfErr result (λ f. LookCounts f (d.failures image_old) (t.failures text_old) (d.failures image_new) (t.failures text_new))
 
 -- whole lines at a place of an entry's saved lines end ranges, which were written; the lines are the store's, where that is honest
 pub record PutsOn (honest : Type 0) (stored : List ℕ) (mark : Mark) (old new : Done) (w0 w1 : Option (List ℕ)) : Type 0 where

@@ -1,13 +1,12 @@
 //! A text that is counted in windows.
 ghost use Rattle.std.specs.Prelude.{◌≡◌, ◌<◌, ◌≤◌, length, take, min, is_err, IfOk, IfErr, IfSome};
-ghost use Rattle.bx_image.specs.Device.{GoesOn};
 ghost use Rattle.bx_image.specs.Power.{NoMore};
-ghost use Rattle.bx_journal_read.specs.scan.Looking.{LooksAt};
+ghost use Rattle.bx_journal_read.specs.scan.Looking.{LooksAt, LooksThrough, OnlyReadsText};
 ghost use Rattle.bx_journal_read.specs.model.Fault.{LacksOrFails};
 ghost use Rattle.bx_journal_read.specs.scan.Windows.{HasShortLines, IsAllCounted, IsCountedBy, IsFrontCounted, IsWalkedTo};
 
 use crate::fault::SessionFault;
-use crate::scan::windows::{Scan, Taken, WINDOW, scan_windows};
+use crate::scan::windows::{Scan, Taken, WINDOW, scan_start};
 use bx_image::DeviceFailed;
 use bx_journal_format::{Counted, Front, MOST_CHANGES, Tally, count_lines, counted_by, no_entries};
 use bx_journal_store::TextStore;
@@ -85,9 +84,7 @@ pub fn walk_windows<T: TextStore>(
     requires within { T.honest store.old → len ≤ length (T.text store.old) }
     ensures walked { IfOk result (λ found. IfSome found (IsWalkedTo (T.honest store.old) (T.text store.old) only_second (length window.old) len)) }
     ensures window { length window.new ≡ length window.old }
-    ensures text { T.honest store.old → T.text store.new ≡ T.text store.old }
-    ensures survives { T.honest store.old → NoMore (T.survives store.old) (T.survives store.new) }
-    ensures goes_on { GoesOn T.honest T.room T.failures (is_err result) store.old store.new }
+    ensures reads { OnlyReadsText T.TextStore (is_err result) store.old store.new }
 {
     let scan = CountScan {
         tally: no_entries(),
@@ -95,10 +92,7 @@ pub fn walk_windows<T: TextStore>(
         only_second,
         limit,
     };
-    let scanned = scan_windows(store, window, scan, 0, len)?;
-    let Ok(found) = scanned else {
-        return Ok(None);
-    };
+    let found = scan_start(store, window, scan, len)?;
     let Some(end) = found else {
         return Ok(None);
     };
@@ -125,9 +119,7 @@ pub fn count_windows<T: TextStore>(
     ensures short { IfOk result (λ found. IfSome found (λ f. HasShortLines (T.honest store.old) (take f.at (T.text store.old)) (length window.old))) }
     ensures window { length window.new ≡ length window.old }
     ensures within { IfOk result (λ found. IfSome found (λ f. f.at ≤ len)) }
-    ensures text { T.honest store.old → T.text store.new ≡ T.text store.old }
-    ensures survives { T.honest store.old → NoMore (T.survives store.old) (T.survives store.new) }
-    ensures goes_on { GoesOn T.honest T.room T.failures (is_err result) store.old store.new }
+    ensures reads { OnlyReadsText T.TextStore (is_err result) store.old store.new }
 {
     let found = walk_windows(store, window, len, only_second, limit)?;
     let Some(walk) = found else {
@@ -162,9 +154,7 @@ pub fn count_front<T: TextStore, A: Allocator + Clone>(
     ensures counted { IfOk result (λ found. IfSome found (IsFrontCounted (T.honest store.old) (T.text store.old) only_second)) }
     ensures short { IfOk result (λ found. IfSome found (λ f. HasShortLines (T.honest store.old) (take f.at (T.text store.old)) (min WINDOW len))) }
     ensures within { IfOk result (λ found. IfSome found (λ f. f.at ≤ len)) }
-    ensures fault { IfErr result LacksOrFails }
-    ensures looks { LooksAt T.honest T.text T.failures result store.old store.new }
-    ensures survives { T.honest store.old → NoMore (T.survives store.old) (T.survives store.new) }
+    ensures reads { LooksThrough T.TextStore result store.old store.new }
 {
     let size = WINDOW.min(len) as usize;
     let mut window = vec![in alloc.clone()?; 0u8; size]?;

@@ -1,17 +1,16 @@
 //! At which line a text is damaged: found a window at a time, however long the text or the line is.
 ghost use Rattle.std.specs.Prelude.{◌≡◌, ◌+◌, ◌<◌, ◌≤◌, length, take, false, IsTrue, is_err, IfOk, IfErr, IfSome};
-ghost use Rattle.bx_image.specs.Device.{GoesOn};
 ghost use Rattle.bx_image.specs.Power.{NoMore};
 ghost use Rattle.bx_journal_format.specs.Shown.{shown};
 ghost use Rattle.bx_journal_read.specs.model.Fault.{LacksOrFails};
 ghost use Rattle.bx_journal_read.specs.scan.Damage.{IsDamagedIn, IsInPlace, IsPlainTo};
-ghost use Rattle.bx_journal_read.specs.scan.Looking.{LooksAt};
+ghost use Rattle.bx_journal_read.specs.scan.Looking.{LooksAt, LooksThrough, OnlyReadsText};
 ghost use Rattle.bx_journal_read.specs.scan.Windows.{IsWalkedTo};
 
 use crate::fault::SessionFault;
 use crate::scan::count::Walk;
 use crate::scan::shown::shown_in;
-use crate::scan::windows::{Scan, Taken, WINDOW, scan_windows};
+use crate::scan::windows::{Scan, Taken, WINDOW, scan_start};
 use bx_image::DeviceFailed;
 use bx_journal_format::{SURELY_LONG, Tally, is_damaged, line_end, lines_in_place, no_entries};
 use bx_journal_store::TextStore;
@@ -58,18 +57,13 @@ fn walk_in_place<T: TextStore>(
     requires within { T.honest store.old → len ≤ length (T.text store.old) }
     ensures walked { IfOk result (λ found. IfSome found (IsWalkedTo (T.honest store.old) (T.text store.old) false (length window.old) len)) }
     ensures window { length window.new ≡ length window.old }
-    ensures text { T.honest store.old → T.text store.new ≡ T.text store.old }
-    ensures survives { T.honest store.old → NoMore (T.survives store.old) (T.survives store.new) }
-    ensures goes_on { GoesOn T.honest T.room T.failures (is_err result) store.old store.new }
+    ensures reads { OnlyReadsText T.TextStore (is_err result) store.old store.new }
 {
     let scan = PlaceScan {
         tally: no_entries(),
         lines: 0,
     };
-    let scanned = scan_windows(store, window, scan, 0, len)?;
-    let Ok(found) = scanned else {
-        return Ok(None);
-    };
+    let found = scan_start(store, window, scan, len)?;
     let Some(end) = found else {
         return Ok(None);
     };
@@ -93,9 +87,7 @@ fn is_damaged_behind<T: TextStore>(
     requires walked { IsWalkedTo (T.honest store.old) (T.text store.old) false (length window.old) len walk }
     ensures damaged { IfOk result (λ b. IsTrue b → IsDamagedIn (T.honest store.old) (take len (T.text store.old)) (walk.lines + 1)) }
     ensures window { length window.new ≡ length window.old }
-    ensures text { T.honest store.old → T.text store.new ≡ T.text store.old }
-    ensures survives { T.honest store.old → NoMore (T.survives store.old) (T.survives store.new) }
-    ensures goes_on { GoesOn T.honest T.room T.failures (is_err result) store.old store.new }
+    ensures reads { OnlyReadsText T.TextStore (is_err result) store.old store.new }
 {
     let left = len - walk.at;
     let size = (window.len() as u64).min(left) as usize;
@@ -117,9 +109,7 @@ fn is_endless<T: TextStore>(
     requires some { 0 < length window.old }
     ensures plain { IfOk result (λ b. IsTrue b → IsPlainTo (T.honest store.old) (T.text store.old) from len) }
     ensures window { length window.new ≡ length window.old }
-    ensures text { T.honest store.old → T.text store.new ≡ T.text store.old }
-    ensures survives { T.honest store.old → NoMore (T.survives store.old) (T.survives store.new) }
-    ensures goes_on { GoesOn T.honest T.room T.failures (is_err result) store.old store.new }
+    ensures reads { OnlyReadsText T.TextStore (is_err result) store.old store.new }
 {
     let mut at = from;
     while at < len {
@@ -145,9 +135,7 @@ fn ends_long<T: TextStore>(
     requires within { T.honest store.old → len ≤ length (T.text store.old) }
     requires walked { IsWalkedTo (T.honest store.old) (T.text store.old) false (length window.old) len walk }
     ensures damaged { IfOk result (λ b. IsTrue b → IsDamagedIn (T.honest store.old) (take len (T.text store.old)) (walk.lines + 1)) }
-    ensures text { T.honest store.old → T.text store.new ≡ T.text store.old }
-    ensures survives { T.honest store.old → NoMore (T.survives store.old) (T.survives store.new) }
-    ensures goes_on { GoesOn T.honest T.room T.failures (is_err result) store.old store.new }
+    ensures reads { OnlyReadsText T.TextStore (is_err result) store.old store.new }
 {
     if len - walk.at < SURELY_LONG as u64 {
         return Ok(false);
@@ -169,9 +157,7 @@ fn is_damaged_at<T: TextStore>(
     requires within { T.honest store.old → len ≤ length (T.text store.old) }
     requires walked { IsWalkedTo (T.honest store.old) (T.text store.old) false (length window.old) len walk }
     ensures damaged { IfOk result (λ b. IsTrue b → IsDamagedIn (T.honest store.old) (take len (T.text store.old)) (walk.lines + 1)) }
-    ensures text { T.honest store.old → T.text store.new ≡ T.text store.old }
-    ensures survives { T.honest store.old → NoMore (T.survives store.old) (T.survives store.new) }
-    ensures goes_on { GoesOn T.honest T.room T.failures (is_err result) store.old store.new }
+    ensures reads { OnlyReadsText T.TextStore (is_err result) store.old store.new }
 {
     let damaged = is_damaged_behind(store, window, len, walk)?;
     if damaged {
@@ -190,9 +176,7 @@ fn find_line<T: TextStore>(
     requires countable { T.failures store.old < u64.MAX }
     requires within { T.honest store.old → len ≤ length (T.text store.old) }
     ensures line { IfOk result (λ found. IfSome found (IsDamagedIn (T.honest store.old) (take len (T.text store.old)))) }
-    ensures text { T.honest store.old → T.text store.new ≡ T.text store.old }
-    ensures survives { T.honest store.old → NoMore (T.survives store.old) (T.survives store.new) }
-    ensures goes_on { GoesOn T.honest T.room T.failures (is_err result) store.old store.new }
+    ensures reads { OnlyReadsText T.TextStore (is_err result) store.old store.new }
 {
     let found = walk_in_place(store, window, len)?;
     let Some(walk) = found else {
@@ -217,9 +201,7 @@ fn find_shown<T: TextStore>(
     requires countable { T.failures store.old < u64.MAX }
     requires long { T.honest store.old → len ≡ length (T.text store.old) }
     ensures line { IfOk result (λ found. IfSome found (IsDamagedIn (T.honest store.old) (shown (T.text store.old)))) }
-    ensures text { T.honest store.old → T.text store.new ≡ T.text store.old }
-    ensures survives { T.honest store.old → NoMore (T.survives store.old) (T.survives store.new) }
-    ensures goes_on { GoesOn T.honest T.room T.failures (is_err result) store.old store.new }
+    ensures reads { OnlyReadsText T.TextStore (is_err result) store.old store.new }
 {
     if window.is_empty() {
         return Ok(None);
@@ -236,9 +218,7 @@ pub fn journal_damage<T: TextStore, A: Allocator + Clone>(
 ) -> Result<Option<u64>, SessionFault>
     requires { T.failures store.old < u64.MAX }
     ensures line { IfOk result (λ found. IfSome found (IsDamagedIn (T.honest store.old) (shown (T.text store.old)))) }
-    ensures fault { IfErr result LacksOrFails }
-    ensures looks { LooksAt T.honest T.text T.failures result store.old store.new }
-    ensures survives { T.honest store.old → NoMore (T.survives store.old) (T.survives store.new) }
+    ensures reads { LooksThrough T.TextStore result store.old store.new }
 {
     let len = store.len()?;
     let size = WINDOW.min(len) as usize;

@@ -4,9 +4,8 @@ ghost use Rattle.bx_image.specs.Power.{NoMore};
 ghost use Rattle.bx_journal_format.specs.Text.{Entry};
 ghost use Rattle.bx_journal_format.specs.read.Journal.{HasRead};
 ghost use Rattle.bx_journal_format.specs.read.Lines.{IsReadUpTo};
-ghost use Rattle.bx_journal_read.specs.scan.Looking.{LooksAt};
+ghost use Rattle.bx_journal_read.specs.scan.Looking.{LooksAt, LooksThrough};
 ghost use Rattle.bx_journal_read.specs.model.Undoing.{AgainFault, HasCount, FindsLast, IsLastFrom, IsReadAgain, IsReadBehind, IsReadFrom, LooksForLast, read_whole};
-ghost use Rattle.bx_journal_read.specs.model.Fault.{LacksOrFails};
 ghost use Rattle.bx_journal_read.specs.scan.Windows.{HasShortLines, IsFrontCounted, KeepsShort};
 
 use crate::fault::{SessionFault, of_text};
@@ -139,9 +138,7 @@ fn read_windows<T: TextStore, A: Allocator + Clone>(
     ensures read { IfOk result (λ found. IfSome found (IsReadBehind (T.honest store.old) (T.text store.old) front)) }
     ensures all { IfOk result (λ found. IfSome found (λ r. r.at ≡ len)) }
     ensures short { IfOk result (λ found. IfSome found (λ r. KeepsShort (T.honest store.old) (T.text store.old) (length window.old) front.at r.at)) }
-    ensures fault { IfErr result LacksOrFails }
-    ensures looks { LooksAt T.honest T.text T.failures result store.old store.new }
-    ensures survives { T.honest store.old → NoMore (T.survives store.old) (T.survives store.new) }
+    ensures reads { LooksThrough T.TextStore result store.old store.new }
 {
     let read = nothing_read(alloc, front)?;
     let scan = EntryScan { alloc, front, read };

@@ -1,5 +1,5 @@
 //! What reading a journal finds when a pair is opened for recovery.
-ghost use Rattle.std.specs.Prelude.{◌≡◌, ◌^◌, ◌<◌, ◌≤◌, List, ℕ, length, is_err, IfOk, IfErr, IfSome, IfNone};
+ghost use Rattle.std.specs.Prelude.{◌≡◌, ◌^◌, ◌<◌, ◌≤◌, List, ℕ, length, is_err, IfOk, IfSome, IfNone};
 ghost use Rattle.bx_journal_format.specs.Shown.{shown};
 ghost use Rattle.bx_journal_format.specs.read.Journal.{HasRead};
 ghost use Rattle.bx_journal_format.specs.count.Tally.{IsCounted};
@@ -58,10 +58,7 @@ fn as_counted<A: Allocator>(journal: &JournalRead<A>, len: u64) -> Option<Counte
     }
 }
 
-ghost use Rattle.bx_image.specs.Device.{GoesOn};
-ghost use Rattle.bx_image.specs.Power.{NoMore};
-ghost use Rattle.bx_journal_read.specs.scan.Looking.{LooksAt};
-ghost use Rattle.bx_journal_read.specs.model.Fault.{LacksOrFails};
+ghost use Rattle.bx_journal_read.specs.scan.Looking.{LooksThrough, OnlyReadsText};
 ghost use Rattle.bx_journal_read.specs.scan.Recovery.{FindsText, IsFoundIn, IsTorn};
 ghost use Rattle.bx_journal_format.specs.Parsed.{reading_of};
 
@@ -150,9 +147,7 @@ fn find_plain<T: TextStore>(
     requires long { T.honest store.old → len ≡ length (T.text store.old) }
     ensures found { IfOk result (λ found. IfSome found (IsFoundIn (T.honest store.old) (T.text store.old))) }
     ensures window { length window.new ≡ length window.old }
-    ensures text { T.honest store.old → T.text store.new ≡ T.text store.old }
-    ensures survives { T.honest store.old → NoMore (T.survives store.old) (T.survives store.new) }
-    ensures goes_on { GoesOn T.honest T.room T.failures (is_err result) store.old store.new }
+    ensures reads { OnlyReadsText T.TextStore (is_err result) store.old store.new }
 {
     let walked = walk_windows(store, window, len, false, ALL)?;
     let Some(walk) = walked else {
@@ -182,9 +177,7 @@ fn find_in<T: TextStore>(
     requires countable { T.failures store.old < u64.MAX }
     requires long { T.honest store.old → len ≡ length (T.text store.old) }
     ensures found { IfOk result (λ found. IfSome found (IsFoundIn (T.honest store.old) (T.text store.old))) }
-    ensures text { T.honest store.old → T.text store.new ≡ T.text store.old }
-    ensures survives { T.honest store.old → NoMore (T.survives store.old) (T.survives store.new) }
-    ensures goes_on { GoesOn T.honest T.room T.failures (is_err result) store.old store.new }
+    ensures reads { OnlyReadsText T.TextStore (is_err result) store.old store.new }
 {
     let plain = find_plain(store, window, len)?;
     if let Some(found) = plain {
@@ -208,9 +201,7 @@ fn find_text<T: TextStore, A: Allocator + Clone>(
 ) -> Result<Option<Found>, SessionFault>
     requires { T.failures store.old < u64.MAX }
     ensures found { IfOk result (λ found. IfSome found (IsFoundIn (T.honest store.old) (T.text store.old))) }
-    ensures fault { IfErr result LacksOrFails }
-    ensures looks { LooksAt T.honest T.text T.failures result store.old store.new }
-    ensures survives { T.honest store.old → NoMore (T.survives store.old) (T.survives store.new) }
+    ensures reads { LooksThrough T.TextStore result store.old store.new }
 {
     let len = store.len()?;
     let size = WINDOW.min(len) as usize;

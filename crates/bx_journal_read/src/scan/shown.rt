@@ -1,9 +1,8 @@
 //! How much of a text is read, where a loss of power may have left zeros in it: found a window at a time.
 ghost use Rattle.std.specs.Prelude.{◌≡◌, ◌+◌, ◌<◌, ◌≤◌, length, take, drop, is_err, IfOk};
-ghost use Rattle.bx_image.specs.Device.{GoesOn};
-ghost use Rattle.bx_image.specs.Power.{NoMore};
 ghost use Rattle.bx_journal_format.specs.Shown.{before_zero, shown};
 ghost use Rattle.bx_journal_format.specs.read.Left.{is_torn};
+ghost use Rattle.bx_journal_read.specs.scan.Looking.{OnlyReadsText};
 
 use bx_image::DeviceFailed;
 use bx_journal_format::{LastLine, follow_zero, zero_at};
@@ -23,9 +22,7 @@ pub fn zero_from<T: TextStore>(
     ensures zero { T.honest store.old → IfOk result (λ n. n ≡ from + length (before_zero (drop from (T.text store.old)))) }
     ensures within { IfOk result (λ n. n ≤ len) }
     ensures window { length window.new ≡ length window.old }
-    ensures text { T.honest store.old → T.text store.new ≡ T.text store.old }
-    ensures survives { T.honest store.old → NoMore (T.survives store.old) (T.survives store.new) }
-    ensures goes_on { GoesOn T.honest T.room T.failures (is_err result) store.old store.new }
+    ensures reads { OnlyReadsText T.TextStore (is_err result) store.old store.new }
 {
     let mut at = from;
     while at < len {
@@ -54,9 +51,7 @@ fn is_torn_from<T: TextStore>(
     requires some { 0 < length window.old }
     ensures torn { T.honest store.old → IfOk result (λ b. b ≡ is_torn LastLine.Other (drop from (T.text store.old))) }
     ensures window { length window.new ≡ length window.old }
-    ensures text { T.honest store.old → T.text store.new ≡ T.text store.old }
-    ensures survives { T.honest store.old → NoMore (T.survives store.old) (T.survives store.new) }
-    ensures goes_on { GoesOn T.honest T.room T.failures (is_err result) store.old store.new }
+    ensures reads { OnlyReadsText T.TextStore (is_err result) store.old store.new }
 {
     let mut at = from;
     let mut line = LastLine::Other;
@@ -85,9 +80,7 @@ pub fn shown_in<T: TextStore>(
     ensures shown { T.honest store.old → IfOk result (λ n. take n (T.text store.old) ≡ shown (T.text store.old)) }
     ensures within { IfOk result (λ n. n ≤ len) }
     ensures window { length window.new ≡ length window.old }
-    ensures text { T.honest store.old → T.text store.new ≡ T.text store.old }
-    ensures survives { T.honest store.old → NoMore (T.survives store.old) (T.survives store.new) }
-    ensures goes_on { GoesOn T.honest T.room T.failures (is_err result) store.old store.new }
+    ensures reads { OnlyReadsText T.TextStore (is_err result) store.old store.new }
 {
     let zero = zero_from(store, window, 0, len)?;
     if zero == 0 {

@@ -1,13 +1,12 @@
 //! What is unfinished at the end of a text whose lines were walked along: found by its places, and nothing of it is kept.
 ghost use Rattle.std.specs.Prelude.{◌≡◌, ◌<◌, ◌≤◌, List, ℕ, IsTrue, false, drop, take, length, is_err, IfOk, IfSome};
-ghost use Rattle.bx_image.specs.Device.{GoesOn};
-ghost use Rattle.bx_image.specs.Power.{NoMore};
 ghost use Rattle.bx_journal_format.specs.Text.{Between as Resting, Ending as Closing, IsRest, Reading, split};
 ghost use Rattle.bx_journal_format.specs.Kept.{Kept};
 ghost use Rattle.bx_journal_format.specs.declared.format.version.Version.{Version as Form};
 ghost use Rattle.bx_journal_format.specs.count.Mark.{IsMark};
 ghost use Rattle.bx_journal_format.specs.read.Plain.{HasNoNewline};
 ghost use Rattle.bx_journal_format.specs.count.Tally.{tally_of};
+ghost use Rattle.bx_journal_read.specs.scan.Looking.{OnlyReadsText};
 ghost use Rattle.bx_journal_read.specs.scan.Recovery.{HasMark, IsTornFront, IsUnfinishedIn};
 ghost use Rattle.bx_journal_read.specs.scan.Restoring.{AllShorter, StandsAt};
 ghost use Rattle.bx_journal_read.specs.scan.Windows.{IsWalkedTo, rest_to};
@@ -37,9 +36,7 @@ fn may_follow<T: TextStore>(
     ensures rest { T.honest store.old → (r : Reading) → tally_of r ≡ walk.tally
         → IfOk result (λ b. IsTrue b → IsRest r.entries r.stage (rest_to len walk.at (T.text store.old)) × HasNoNewline (rest_to len walk.at (T.text store.old))) }
     ensures window { length window.new ≡ length window.old }
-    ensures text { T.honest store.old → T.text store.new ≡ T.text store.old }
-    ensures survives { T.honest store.old → NoMore (T.survives store.old) (T.survives store.new) }
-    ensures goes_on { GoesOn T.honest T.room T.failures (is_err result) store.old store.new }
+    ensures reads { OnlyReadsText T.TextStore (is_err result) store.old store.new }
 {
     if len - walk.at > window.len() as u64 {
         return Ok(false);
@@ -65,9 +62,7 @@ fn find_len<T: TextStore>(
     ensures len { T.honest store.old → (r : Reading) (v : Form) (s : Kept) → IsMark (T.text store.old) begins (record { entries = r.entries; stage = Resting })
         → IsMark (T.text store.old) walk.at r → tally_of r ≡ walk.tally → r.stage ≡ Closing v s → IfOk result (λ found. IfSome found (λ n. n ≡ s.len)) }
     ensures window { length window.new ≡ length window.old }
-    ensures text { T.honest store.old → T.text store.new ≡ T.text store.old }
-    ensures survives { T.honest store.old → NoMore (T.survives store.old) (T.survives store.new) }
-    ensures goes_on { GoesOn T.honest T.room T.failures (is_err result) store.old store.new }
+    ensures reads { OnlyReadsText T.TextStore (is_err result) store.old store.new }
 {
     let first = (window.len().min(LONGEST_START) as u64).min(walk.at - begins) as usize;
     let (line, _) = window.split_at_mut(first);
@@ -105,9 +100,7 @@ fn find_record<T: TextStore>(
     ensures order { IfOk result (λ found. IfSome found (λ m. m.lines ≤ m.saved)) }
     ensures ends { IfOk result (λ found. IfSome found (λ m. m.saved ≡ walk.at)) }
     ensures window { length window.new ≡ length window.old }
-    ensures text { T.honest store.old → T.text store.new ≡ T.text store.old }
-    ensures survives { T.honest store.old → NoMore (T.survives store.old) (T.survives store.new) }
-    ensures goes_on { GoesOn T.honest T.room T.failures (is_err result) store.old store.new }
+    ensures reads { OnlyReadsText T.TextStore (is_err result) store.old store.new }
 {
     let longest = window.len() as u64;
     let found = find_len(store, window, begins, walk)?;
@@ -142,9 +135,7 @@ fn find_mark<T: TextStore>(
     ensures order { IfOk result (λ found. IfSome found (λ mark. IfSome mark (λ m. m.lines ≤ m.saved))) }
     ensures ends { IfOk result (λ found. IfSome found (λ mark. IfSome mark (λ m. m.saved ≡ walk.at))) }
     ensures window { length window.new ≡ length window.old }
-    ensures text { T.honest store.old → T.text store.new ≡ T.text store.old }
-    ensures survives { T.honest store.old → NoMore (T.survives store.old) (T.survives store.new) }
-    ensures goes_on { GoesOn T.honest T.room T.failures (is_err result) store.old store.new }
+    ensures reads { OnlyReadsText T.TextStore (is_err result) store.old store.new }
 {
     match walk.tally.place {
         Place::Between => Ok(Some(None)),
@@ -172,9 +163,7 @@ fn find_end<T: TextStore>(
     requires walked { IsWalkedTo (T.honest store.old) (T.text store.old) false (length window.old) len walk }
     ensures found { IfOk result (λ found. IfSome found (IsTornFront (T.honest store.old) (T.text store.old) len)) }
     ensures window { length window.new ≡ length window.old }
-    ensures text { T.honest store.old → T.text store.new ≡ T.text store.old }
-    ensures survives { T.honest store.old → NoMore (T.survives store.old) (T.survives store.new) }
-    ensures goes_on { GoesOn T.honest T.room T.failures (is_err result) store.old store.new }
+    ensures reads { OnlyReadsText T.TextStore (is_err result) store.old store.new }
 {
     let follows = may_follow(store, window, len, walk)?;
     if !follows {
@@ -216,9 +205,7 @@ pub fn find_torn<T: TextStore>(
     requires walked { IsWalkedTo (T.honest store.old) (T.text store.old) false (length window.old) len walk }
     ensures found { IfOk result (λ found. IfSome found (IsUnfinishedIn (T.honest store.old) (T.text store.old))) }
     ensures window { length window.new ≡ length window.old }
-    ensures text { T.honest store.old → T.text store.new ≡ T.text store.old }
-    ensures survives { T.honest store.old → NoMore (T.survives store.old) (T.survives store.new) }
-    ensures goes_on { GoesOn T.honest T.room T.failures (is_err result) store.old store.new }
+    ensures reads { OnlyReadsText T.TextStore (is_err result) store.old store.new }
 {
     let found = find_end(store, window, len, walk)?;
     let Some(torn) = found else {
@@ -245,9 +232,7 @@ pub fn find_faded<T: TextStore>(
     requires long { T.honest store.old → len ≡ length (T.text store.old) }
     requires some { 0 < length window.old }
     ensures found { IfOk result (λ found. IfSome found (IsUnfinishedIn (T.honest store.old) (T.text store.old))) }
-    ensures text { T.honest store.old → T.text store.new ≡ T.text store.old }
-    ensures survives { T.honest store.old → NoMore (T.survives store.old) (T.survives store.new) }
-    ensures goes_on { GoesOn T.honest T.room T.failures (is_err result) store.old store.new }
+    ensures reads { OnlyReadsText T.TextStore (is_err result) store.old store.new }
 {
     let shown = shown_in(store, window, len)?;
     if shown >= len {

@@ -1,8 +1,7 @@
 //! A text that is read in windows: one window is in memory at a time, however long the text is.
 ghost use Rattle.std.specs.Prelude.{◌≡◌, ◌+◌, ◌<◌, ◌≤◌, ◌++◌, ◌^◌, ℕ, List, [], length, take, is_err, IfOk, IfSome};
-ghost use Rattle.bx_image.specs.Device.{GoesOn};
-ghost use Rattle.bx_image.specs.Power.{NoMore};
 ghost use Rattle.bx_journal_format.specs.Text.{split};
+ghost use Rattle.bx_journal_read.specs.scan.Looking.{OnlyReadsText};
 ghost use Rattle.bx_journal_read.specs.scan.Windows.{IfReached, IsLedTo, IsReached};
 
 use bx_image::DeviceFailed;
@@ -70,9 +69,7 @@ pub fn scan_windows<T: TextStore, S: Scan>(
     requires led { IsLedTo (T.honest store.old) (T.text store.old) (S.Leads scan) from scan }
     ensures reached { IfReached result (IsReached (T.honest store.old) (T.text store.old) (S.Leads scan) (length window.old) from len) }
     ensures window { length window.new ≡ length window.old }
-    ensures text { T.honest store.old → T.text store.new ≡ T.text store.old }
-    ensures survives { T.honest store.old → NoMore (T.survives store.old) (T.survives store.new) }
-    ensures goes_on { GoesOn T.honest T.room T.failures (is_err result) store.old store.new }
+    ensures reads { OnlyReadsText T.TextStore (is_err result) store.old store.new }
 {
     let mut scan = scan;
     let mut at = from;
@@ -93,4 +90,26 @@ pub fn scan_windows<T: TextStore, S: Scan>(
         scan = next.scan;
     }
     Ok(Ok(Some(Reached { scan, at })))
+}
+
+/// Goes along the whole lines of a text's first `len` bytes from the start, as `scan_windows` does. It answers none also where memory is
+/// refused.
+pub fn scan_start<T: TextStore, S: Scan>(
+    store: &mut T,
+    window: &mut [u8],
+    scan: S,
+    len: u64,
+) -> Result<Option<Reached<S>>, DeviceFailed>
+    requires countable { T.failures store.old < u64.MAX }
+    requires within { T.honest store.old → len ≤ length (T.text store.old) }
+    requires led { IsLedTo (T.honest store.old) (T.text store.old) (S.Leads scan) 0 scan }
+    ensures reached { IfOk result (λ found. IfSome found (IsReached (T.honest store.old) (T.text store.old) (S.Leads scan) (length window.old) 0 len)) }
+    ensures window { length window.new ≡ length window.old }
+    ensures reads { OnlyReadsText T.TextStore (is_err result) store.old store.new }
+{
+    let scanned = scan_windows(store, window, scan, 0, len)?;
+    let Ok(found) = scanned else {
+        return Ok(None);
+    };
+    Ok(found)
 }

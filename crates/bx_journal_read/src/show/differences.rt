@@ -1,10 +1,10 @@
 //! The saved lines of an entry that is marked, each made from its bytes behind a `+`, and before it what an image has at its
 //! addresses, behind a `-`.
-ghost use Rattle.std.specs.Prelude.{◌≡◌, ◌+◌, ◌<◌, ◌≤◌, ◌++◌, length, take, drop, codes, OnOk, IfOk, IfErr};
+ghost use Rattle.std.specs.Prelude.{◌≡◌, ◌+◌, ◌<◌, ◌≤◌, ◌++◌, length, take, drop, codes, OnOk, IfOk};
 ghost use Rattle.std.specs.Io.KnownBytes.{Appends};
 ghost use Rattle.bx_journal_format.specs.Text.{split};
 ghost use Rattle.bx_journal_read.specs.show.Differences.{diff_line, diff_text, signed_line, AreAdded, AreWritten, HasGoneOn, IsCache};
-ghost use Rattle.bx_journal_read.specs.show.Showing.{LookCounts, PutFault, Stays, lines_at};
+ghost use Rattle.bx_journal_read.specs.show.Showing.{WritesBeside, WritesFrom, lines_at};
 
 use crate::SessionFault;
 use crate::show::cache::{Cached, keep};
@@ -56,9 +56,7 @@ fn push_now<D: Device, A: Allocator>(
     ensures added { D.honest device.old → OnOk result
         (text.new.items ≡ text.old.items ++ signed_line (codes "-") at (take count (drop at (D.image device.old)))) }
     ensures cache { IfOk result (IsCache (D.honest device.old) (D.image device.old) page.new) }
-    ensures kind { IfErr result PutFault }
-    ensures stays { Stays D.honest D.image D.failures result device.old device.new }
-    ensures counts { IfErr result (λ f. LookCounts f (D.failures device.old) 0 (D.failures device.new) 0) }
+    ensures puts { WritesFrom D.honest D.image D.failures result device.old device.new }
 {
     if cached.len <= at {
         return Ok(cached);
@@ -84,9 +82,7 @@ fn push_beside<D: Device, A: Allocator>(
     requires cache { IsCache (D.honest device.old) (D.image device.old) page.old cached }
     ensures added { D.honest device.old → OnOk result (text.new.items ≡ text.old.items ++ diff_line (D.image device.old) before line.now) }
     ensures cache { IfOk result (IsCache (D.honest device.old) (D.image device.old) page.new) }
-    ensures kind { IfErr result PutFault }
-    ensures stays { Stays D.honest D.image D.failures result device.old device.new }
-    ensures counts { IfErr result (λ f. LookCounts f (D.failures device.old) 0 (D.failures device.new) 0) }
+    ensures puts { WritesFrom D.honest D.image D.failures result device.old device.new }
 {
     let Some(saved) = saved_in(before, line) else {
         return Ok(cached);
@@ -112,9 +108,7 @@ fn push_lines<D: Device, A: Allocator>(
     ensures added { D.honest device.old → IfOk result (λ lines. AreAdded (diff_line (D.image device.old) before)
         window.now lines.taken text.old.items text.new.items) }
     ensures cache { IfOk result (λ lines. IsCache (D.honest device.old) (D.image device.old) page.new lines.cached) }
-    ensures kind { IfErr result PutFault }
-    ensures stays { Stays D.honest D.image D.failures result device.old device.new }
-    ensures counts { IfErr result (λ f. LookCounts f (D.failures device.old) 0 (D.failures device.new) 0) }
+    ensures puts { WritesFrom D.honest D.image D.failures result device.old device.new }
 {
     let mut taken: usize = 0;
     let mut now = cached;
@@ -149,10 +143,7 @@ fn put_window<D: Device, T: TextStore, A: Allocator, W: Write>(
         (T.text store.old) now.done.at next.at (W.contents out.old) (W.contents out.new)) }
     ensures on { IfOk result (HasGoneOn now.mark.to now.done) }
     ensures cache { IfOk result (λ next. IsCache (D.honest device.old) (D.image device.old) page.new next.cached) }
-    ensures kind { IfErr result PutFault }
-    ensures image { Stays D.honest D.image D.failures result device.old device.new }
-    ensures text { Stays T.honest T.text T.failures result store.old store.new }
-    ensures counts { IfErr result (λ f. LookCounts f (D.failures device.old) (T.failures store.old) (D.failures device.new) (T.failures store.new)) }
+    ensures puts { WritesBeside D.Device T.TextStore result device.old device.new store.old store.new }
 {
     let window = writing.window.as_mut_slice();
     let more = (window.len() as u64).min(now.mark.to - now.done.at) as usize;
@@ -187,10 +178,7 @@ fn put_windows<D: Device, T: TextStore, A: Allocator, W: Write>(
     requires at { from.done.at ≤ from.mark.to }
     ensures put { D.honest device.old → T.honest store.old → OnOk result (AreWritten (diff_line (D.image device.old) from.mark.len)
         (T.text store.old) from.done.at from.mark.to (W.contents out.old) (W.contents out.new)) }
-    ensures kind { IfErr result PutFault }
-    ensures image { Stays D.honest D.image D.failures result device.old device.new }
-    ensures text { Stays T.honest T.text T.failures result store.old store.new }
-    ensures counts { IfErr result (λ f. LookCounts f (D.failures device.old) (T.failures store.old) (D.failures device.new) (T.failures store.new)) }
+    ensures puts { WritesBeside D.Device T.TextStore result device.old device.new store.old store.new }
 {
     let mut done = from.done;
     while done.at < from.mark.to {
@@ -224,10 +212,7 @@ pub fn put_differences<D: Device, T: TextStore, A: Allocator + Clone, W: Write>(
     requires order { mark.from ≤ mark.to }
     ensures put { D.honest device.old → T.honest store.old → OnOk result (Appends (W.contents out.old) (W.contents out.new)
         (diff_text (D.image device.old) mark.len (split (lines_at (T.text store.old) mark)).lines)) }
-    ensures kind { IfErr result PutFault }
-    ensures image { Stays D.honest D.image D.failures result device.old device.new }
-    ensures text { Stays T.honest T.text T.failures result store.old store.new }
-    ensures counts { IfErr result (λ f. LookCounts f (D.failures device.old) (T.failures store.old) (D.failures device.new) (T.failures store.new)) }
+    ensures puts { WritesBeside D.Device T.TextStore result device.old device.new store.old store.new }
 {
     let mut page = vec![in writing.alloc.clone()?; 0u8; PAGE]?;
     let len = device.len()?;

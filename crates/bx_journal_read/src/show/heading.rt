@@ -1,7 +1,7 @@
 //! The heading of a step: which change, and what the step writes.
 ghost use Rattle.std.specs.Prelude.{◌≡◌, ◌<◌, ◌≤◌, ◌++◌, length, Some, OnOk, IfErr, string_bytes};
 ghost use Rattle.std.specs.Io.KnownBytes.{Appends};
-ghost use Rattle.bx_journal_read.specs.show.Showing.{CountsNone, LookCounts, PutFault, Stays};
+ghost use Rattle.bx_journal_read.specs.show.Showing.{CountsNone, PutFault, WritesFrom};
 ghost use Rattle.bx_journal_read.specs.show.Steps.{amount_text, changed_end, heading_at, heading_end, heading_front, heading_start, kept_end, told_end, where_at, keeps_length};
 
 use crate::show::fault::ShowFault;
@@ -119,9 +119,7 @@ fn put_where<T: TextStore, A: Allocator + Clone, W: Write>(
     requires within { T.honest store.old → mark.to ≤ length (T.text store.old) }
     requires order { mark.from ≤ mark.to }
     ensures put { T.honest store.old → OnOk result (Appends (W.contents out.old) (W.contents out.new) (where_at (T.text store.old) mark)) }
-    ensures kind { IfErr result PutFault }
-    ensures stays { Stays T.honest T.text T.failures result store.old store.new }
-    ensures counts { IfErr result (λ f. LookCounts f (T.failures store.old) 0 (T.failures store.new) 0) }
+    ensures puts { WritesFrom T.honest T.text T.failures result store.old store.new }
 {
     if mark.saved == 0 {
         return Ok(written);
@@ -157,9 +155,7 @@ pub fn put_heading<T: TextStore, A: Allocator + Clone, W: Write>(
     requires order { step.mark.from ≤ step.mark.to }
     ensures heading { T.honest store.old → OnOk result
         (Appends (W.contents out.old) (W.contents out.new) (heading_at (T.text store.old) step.steps.way step.number step.mark)) }
-    ensures kind { IfErr result PutFault }
-    ensures stays { Stays T.honest T.text T.failures result store.old store.new }
-    ensures counts { IfErr result (λ f. LookCounts f (T.failures store.old) 0 (T.failures store.new) 0) }
+    ensures puts { WritesFrom T.honest T.text T.failures result store.old store.new }
 {
     let alloc = &writing.alloc;
     let way = step.steps.way;

@@ -1,10 +1,10 @@
 //! The saved lines of an entry that is marked, each made from the bytes that it gives: no byte of a line reaches the output as it
 //! stands.
-ghost use Rattle.std.specs.Prelude.{◌≡◌, ◌<◌, ◌≤◌, ◌++◌, length, OnOk, IfOk, IfErr};
+ghost use Rattle.std.specs.Prelude.{◌≡◌, ◌<◌, ◌≤◌, ◌++◌, length, OnOk, IfOk};
 ghost use Rattle.std.specs.Io.KnownBytes.{Appends};
 ghost use Rattle.bx_journal_format.specs.Text.{split};
 ghost use Rattle.bx_journal_read.specs.show.Differences.{made_line, made_text, signed_line, AreAdded, AreWritten};
-ghost use Rattle.bx_journal_read.specs.show.Showing.{LookCounts, PutFault, Stays, lines_at};
+ghost use Rattle.bx_journal_read.specs.show.Showing.{WritesFrom, lines_at};
 
 use crate::SessionFault;
 use crate::show::fault::ShowFault;
@@ -88,9 +88,7 @@ fn put_window<T: TextStore, A: Allocator, W: Write>(
     ensures put { T.honest store.old → IfOk result (λ next. AreWritten (made_line mark.len)
         (T.text store.old) at next (W.contents out.old) (W.contents out.new)) }
     ensures on { IfOk result (λ next. (at < next) × (next ≤ mark.to)) }
-    ensures kind { IfErr result PutFault }
-    ensures stays { Stays T.honest T.text T.failures result store.old store.new }
-    ensures counts { IfErr result (λ f. LookCounts f (T.failures store.old) 0 (T.failures store.new) 0) }
+    ensures puts { WritesFrom T.honest T.text T.failures result store.old store.new }
 {
     let window = writing.window.as_mut_slice();
     let more = (window.len() as u64).min(mark.to - at) as usize;
@@ -121,9 +119,7 @@ pub fn put_lines<T: TextStore, A: Allocator, W: Write>(
     requires order { mark.from ≤ mark.to }
     ensures put { T.honest store.old → OnOk result
         (Appends (W.contents out.old) (W.contents out.new) (made_text mark.len (split (lines_at (T.text store.old) mark)).lines)) }
-    ensures kind { IfErr result PutFault }
-    ensures stays { Stays T.honest T.text T.failures result store.old store.new }
-    ensures counts { IfErr result (λ f. LookCounts f (T.failures store.old) 0 (T.failures store.new) 0) }
+    ensures puts { WritesFrom T.honest T.text T.failures result store.old store.new }
 {
     let mut at = mark.from;
     while at < mark.to {

@@ -1,7 +1,7 @@
 //! The saved lines of an entry that is marked, as ranges.
-ghost use Rattle.std.specs.Prelude.{◌≡◌, ◌+◌, ◌<◌, ◌≤◌, length, OnOk, IfOk, IfErr};
+ghost use Rattle.std.specs.Prelude.{◌≡◌, ◌+◌, ◌<◌, ◌≤◌, length, OnOk, IfOk};
 ghost use Rattle.std.specs.Io.KnownBytes.{Appends};
-ghost use Rattle.bx_journal_read.specs.show.Showing.{LookCounts, PutFault, PutsOn, Stays, ranges_at};
+ghost use Rattle.bx_journal_read.specs.show.Showing.{PutsOn, WritesFrom, ranges_at};
 
 use crate::SessionFault;
 use crate::show::fault::ShowFault;
@@ -33,9 +33,7 @@ fn put_window<T: TextStore, A: Allocator + Clone, W: Write>(
     requires at { done.at ≤ mark.to }
     requires below { done.ranging.at + done.ranging.count ≤ mark.len }
     ensures put { IfOk result (λ next. PutsOn (T.honest store.old) (T.text store.old) mark done next (W.contents out.old) (W.contents out.new)) }
-    ensures kind { IfErr result PutFault }
-    ensures stays { Stays T.honest T.text T.failures result store.old store.new }
-    ensures counts { IfErr result (λ f. LookCounts f (T.failures store.old) 0 (T.failures store.new) 0) }
+    ensures puts { WritesFrom T.honest T.text T.failures result store.old store.new }
 {
     let more = (window.len() as u64).min(mark.to - done.at) as usize;
     let (now, _) = window.split_at_mut(more);
@@ -66,9 +64,7 @@ pub fn put_ranges<T: TextStore, A: Allocator + Clone, W: Write>(
     requires within { T.honest store.old → mark.to ≤ length (T.text store.old) }
     requires order { mark.from ≤ mark.to }
     ensures put { T.honest store.old → OnOk result (Appends (W.contents out.old) (W.contents out.new) (ranges_at (T.text store.old) mark)) }
-    ensures kind { IfErr result PutFault }
-    ensures stays { Stays T.honest T.text T.failures result store.old store.new }
-    ensures counts { IfErr result (λ f. LookCounts f (T.failures store.old) 0 (T.failures store.new) 0) }
+    ensures puts { WritesFrom T.honest T.text T.failures result store.old store.new }
 {
     let mut done = Done {
         ranging: nothing_ranged(),

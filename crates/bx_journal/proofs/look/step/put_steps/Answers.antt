@@ -1,10 +1,11 @@
-use Rattle.std.proofs.Common.{◌≡◌, ◌∙◌, ◌-◌, length, refl, ap, subst, sym, arith, None}
+use Rattle.std.proofs.Common.{◌≡◌, ◌-◌, length, ap, subst, sym, arith, None}
 use Rattle.std.proofs.KnownBytes.{Appends-nil}
 use Rattle.std.specs.Io.KnownBytes.{Appends}
 use Rattle.std.proofs.lemmas.List.Elements.{All-get_or}
 use Rattle.bx_journal_format.specs.declared.read.marks.Mark.{Mark}
 use Rattle.bx_journal_read.specs.show.Steps.{first_number, AreStepsPut}
 use Rattle.bx_journal_read.specs.show.Showing.{LiesWithin}
+use Rattle.bx_journal_read.proofs.BesideLemmas.{stayed_none, stayed_on}
 use Rattle.bx_journal_read.proofs.StepTexts.{steps_none, steps_put}
 use Rattle.bx_journal.proofs.look.step.put_steps.Goals as goal
 
@@ -17,12 +18,8 @@ loop-i-init g c = record {
   steps = λ h hd. subst (Appends (g.W.Write.contents c.args.out.now) (g.W.Write.contents c.args.out.now))
       (sym (steps_none c.args.steps (g.D.Device.image c.args.image.now) (g.T.TextStore.text c.args.journal.now) (first_number c.args.steps.way c.args.steps.changes (length c.args.marks.now)) c.args.marks.now))
       (Appends-nil (g.W.Write.contents c.args.out.now));
-  image = λ h. refl;
-  image_honesty = ((λ h. h), λ h. h);
-  image_failures = refl;
-  text = λ h. refl;
-  honesty = ((λ h. h), λ h. h);
-  failures = refl;
+  image = stayed_none g.D.Device.honest g.D.Device.image g.D.Device.failures c.args.image.now;
+  text = stayed_none g.T.TextStore.honest g.T.TextStore.text g.T.TextStore.failures c.args.journal.now;
 }
 
 pub loop-i-preserved : goal.loop-i-preserved
@@ -32,20 +29,16 @@ loop-i-preserved g c =
     record {
       steps = λ h hd. steps_put (g.W.Write.contents c.args.out.now) (g.W.Write.contents c.loop-i.out) (g.W.Write.contents c.put_step.new.out) c.args.steps (g.D.Device.image c.args.image.now) (g.D.Device.image c.loop-i.image)
           (g.T.TextStore.text c.args.journal.now) (g.T.TextStore.text c.loop-i.journal) (first_number c.args.steps.way c.args.steps.changes (length c.args.marks.now)) c.loop-i.i c.step_number-number.result c.args.marks.now none
-          (omega (arith, c.requires.enough)) (λ t. inv.image (hd t)) (inv.text h) c.step_number-number.ensures (inv.steps h hd) (now.step (inv.honesty.1 h) (λ t. inv.image_honesty.1 (hd t)));
-      image = λ h. now.image.same (inv.image_honesty.1 h) ∙ inv.image h;
-      image_honesty = ((λ h. inv.image_honesty.0 (now.image.honesty.0 h)), λ h. now.image.honesty.1 (inv.image_honesty.1 h));
-      image_failures = now.image.no_failure ∙ inv.image_failures;
-      text = λ h. now.stays.same (inv.honesty.1 h) ∙ inv.text h;
-      honesty = ((λ h. inv.honesty.0 (now.stays.honesty.0 h)), λ h. now.stays.honesty.1 (inv.honesty.1 h));
-      failures = now.stays.no_failure ∙ inv.failures;
+          (omega (arith, c.requires.enough)) (λ t. inv.image.same (hd t)) (inv.text.same h) c.step_number-number.ensures (inv.steps h hd) (now.step (inv.text.honesty.1 h) (λ t. inv.image.honesty.1 (hd t)));
+      image = stayed_on inv.image now.puts.image.same now.puts.image.honesty now.puts.image.no_failure;
+      text = stayed_on inv.text now.puts.text.same now.puts.text.honesty now.puts.text.no_failure;
     }
 
 pub put_step-requires-clause-within : goal.put_step-requires-clause-within
 put_step-requires-clause-within g c =
     let inv = c.loop-i.invariant in
     let lies = All-get_or (LiesWithin c.requires.lie.0) c.args.marks.now (length c.args.marks.now - 1 - c.loop-i.i) none (omega (arith, c.requires.enough)) c.requires.lie.2 in
-    λ h. omega (arith, lies.1, c.requires.lie.1 (inv.honesty.0 h), ap length (inv.text (inv.honesty.0 h)))
+    λ h. omega (arith, lies.1, c.requires.lie.1 (inv.text.honesty.0 h), ap length (inv.text.same (inv.text.honesty.0 h)))
 
 pub put_step-requires-clause-order : goal.put_step-requires-clause-order
 put_step-requires-clause-order g c = (All-get_or (LiesWithin c.requires.lie.0) c.args.marks.now (length c.args.marks.now - 1 - c.loop-i.i) none (omega (arith, c.requires.enough)) c.requires.lie.2).0

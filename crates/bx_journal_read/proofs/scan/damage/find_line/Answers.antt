@@ -2,7 +2,7 @@ use Rattle.std.proofs.Common.{◌∙◌, ◌+◌, false, length, take, ap, subst
 use Rattle.std.specs.Prelude.{IfSome}
 use Rattle.bx_journal_read.specs.scan.Windows.{IsWalkedTo}
 use Rattle.bx_journal_read.proofs.DamageLemmas.{damaged_before}
-use Rattle.bx_journal_read.proofs.WalkLemmas.{walked_after}
+use Rattle.bx_journal_read.proofs.TextReads.{read_walked}
 use Rattle.bx_journal_read.proofs.scan.damage.find_line.Goals as goal
 
 pub is_damaged_at-requires-clause-walked : goal.is_damaged_at-requires-clause-walked
@@ -10,15 +10,14 @@ is_damaged_at-requires-clause-walked g c =
     let T = g.T.TextStore in
     let now = c.in_ok-found.ensures in
     let walked = subst (λ o. IfSome o (IsWalkedTo (T.honest c.args.store.now) (T.text c.args.store.now) false (length c.args.window.now) c.args.len)) c.in-Some.is now.walked in
-    walked_after (T.honest c.args.store.now) (T.honest c.walk_in_place.new.store) (T.text c.args.store.now) (T.text c.walk_in_place.new.store) false (length c.args.window.now) (length c.walk_in_place.new.window) c.args.len c.in-Some.walk
-    now.goes_on.honesty.0 now.text now.window walked
+    read_walked T now.reads (length c.args.window.now) (length c.walk_in_place.new.window) c.args.len c.in-Some.walk now.window walked
 
 pub returns-then-damaged-clause-line : goal.returns-then-damaged-clause-line
 returns-then-damaged-clause-line g c =
     let T = g.T.TextStore in
     let now = c.in_ok-found.ensures in
     damaged_before (T.honest c.args.store.now) (T.honest c.walk_in_place.new.store) (take c.args.len (T.text c.args.store.now)) (take c.args.len (T.text c.walk_in_place.new.store)) (c.in-Some.walk.lines + 1)
-    now.goes_on.honesty.1 (λ h. ap (take c.args.len) (now.text h)) (c.in_ok-damaged.ensures.damaged c.if-damaged.true)
+    now.reads.goes_on.honesty.1 (λ h. ap (take c.args.len) (now.reads.text h)) (c.in_ok-damaged.ensures.damaged c.if-damaged.true)
 
 pub overflow_add-result : goal.overflow_add-result
 overflow_add-result g c =

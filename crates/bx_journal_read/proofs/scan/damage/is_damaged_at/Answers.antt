@@ -1,17 +1,16 @@
-use Rattle.std.proofs.Common.{◌+◌, false, length, take, ap}
+use Rattle.std.proofs.Common.{◌+◌, length, take, ap}
 use Rattle.std.specs.Prelude.{IsTrue}
 use Rattle.std.proofs.lemmas.Result.{IfOk-weaker}
 use Rattle.bx_journal_read.specs.scan.Damage.{IsDamagedIn}
 use Rattle.bx_journal_read.proofs.DamageLemmas.{damaged_before}
-use Rattle.bx_journal_read.proofs.WalkLemmas.{walked_after}
+use Rattle.bx_journal_read.proofs.TextReads.{read_walked}
 use Rattle.bx_journal_read.proofs.scan.damage.is_damaged_at.Goals as goal
 
 pub ends_long-requires-clause-walked : goal.ends_long-requires-clause-walked
 ends_long-requires-clause-walked g c =
     let T = g.T.TextStore in
     let now = c.in_ok-damaged.ensures in
-    walked_after (T.honest c.args.store.now) (T.honest c.is_damaged_behind.new.store) (T.text c.args.store.now) (T.text c.is_damaged_behind.new.store) false (length c.args.window.now) (length c.is_damaged_behind.new.window) c.args.len c.args.walk
-    now.goes_on.honesty.0 now.text now.window c.requires.walked
+    read_walked T now.reads (length c.args.window.now) (length c.is_damaged_behind.new.window) c.args.len c.args.walk now.window c.requires.walked
 
 pub returns-clause-damaged : goal.returns-clause-damaged
 returns-clause-damaged g c =
@@ -20,5 +19,5 @@ returns-clause-damaged g c =
     let line = c.args.walk.lines + 1 in
     IfOk-weaker c.ends_long.result (λ b. IsTrue b → IsDamagedIn (T.honest c.is_damaged_behind.new.store) (take c.args.len (T.text c.is_damaged_behind.new.store)) line) (λ b. IsTrue b → IsDamagedIn (T.honest c.args.store.now) (take c.args.len (T.text c.args.store.now)) line)
     (λ b found yes_. damaged_before (T.honest c.args.store.now) (T.honest c.is_damaged_behind.new.store) (take c.args.len (T.text c.args.store.now)) (take c.args.len (T.text c.is_damaged_behind.new.store)) line
-    now.goes_on.honesty.1 (λ h. ap (take c.args.len) (now.text h)) (found yes_))
+    now.reads.goes_on.honesty.1 (λ h. ap (take c.args.len) (now.reads.text h)) (found yes_))
     c.ends_long.ensures.damaged

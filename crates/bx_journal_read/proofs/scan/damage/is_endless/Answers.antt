@@ -1,8 +1,7 @@
-use Rattle.std.proofs.Common.{◌≡◌, ◌∙◌, ℕ, List, length, take, drop, ap, refl, subst, arith}
-use Rattle.bx_image.proofs.Devices.{GoesOn_refl, GoesOn_then}
-use Rattle.bx_image.proofs.Survivors.{NoMore_then}
+use Rattle.std.proofs.Common.{◌≡◌, ℕ, List, length, refl, subst, arith}
 use Rattle.bx_journal_read.specs.scan.Damage.{IsPlainTo}
 use Rattle.bx_journal_read.proofs.DamageLemmas.{plain_none, plain_on}
+use Rattle.bx_journal_read.proofs.TextReads.{read_bytes, read_none, read_then}
 use Rattle.bx_journal_read.proofs.scan.damage.is_endless.Goals as goal
 
 pub loop-at-init : goal.loop-at-init
@@ -10,9 +9,7 @@ loop-at-init g c = record {
   below = c.requires.below;
   plain = plain_none (g.T.TextStore.honest c.args.store.now) (g.T.TextStore.text c.args.store.now) c.args.from;
   window = refl;
-  text = λ h. refl;
-  survives = λ h y there. there;
-  goes_on = GoesOn_refl _ _ _ _;
+  reads = read_none g.T.TextStore c.args.store.now;
 }
 
 pub loop-at-preserved : goal.loop-at-preserved
@@ -25,12 +22,10 @@ loop-at-preserved g c =
     record {
       below = omega (arith, inv.below, c.min-count.ensures);
       plain = plain_on (g.T.TextStore.honest c.args.store.now) stored c.read_at.new.buf c.args.from c.loop-at.at n inv.plain
-          (λ h. now.bytes (inv.goes_on.honesty.1 h) ∙ ap (λ m. take m (drop c.loop-at.at (g.T.TextStore.text c.loop-at.store))) is ∙ ap (λ y. take n (drop c.loop-at.at y)) (inv.text h))
+          (read_bytes g.T.TextStore inv.reads c.read_at.new.buf c.loop-at.at _ n is now.bytes)
           (omega (arith, c.read_at.auto.buf, is)) c.in_default.ensures.none;
       window = omega (arith, inv.window, c.read_at.auto.buf);
-      text = λ h. now.text (inv.goes_on.honesty.1 h) ∙ inv.text h;
-      survives = λ h. NoMore_then _ _ _ (inv.survives h) (now.survives (inv.goes_on.honesty.1 h));
-      goes_on = GoesOn_then _ _ _ _ _ _ _ inv.goes_on now.goes_on;
+      reads = read_then g.T.TextStore inv.reads now.text now.survives now.goes_on;
     }
 
 pub returns-clause-plain : goal.returns-clause-plain

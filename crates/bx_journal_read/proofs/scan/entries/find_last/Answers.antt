@@ -14,32 +14,32 @@ read_from-requires-clause-within g c = subst (λ o. IfSome o (λ (f : Front). f.
 
 pub read_from-requires-clause-long : goal.read_from-requires-clause-long
 read_from-requires-clause-long g c h =
-    let before = c.count_front.ensures.looks.honesty.0 h in
+    let before = c.count_front.ensures.reads.looks.honesty.0 h in
     let first = c.len.ensures.goes_on.honesty.0 before in
-    c.in_ok-len.ensures.len first ∙ sym (ap length (c.count_front.ensures.looks.same before ∙ c.len.ensures.text first))
+    c.in_ok-len.ensures.len first ∙ sym (ap length (c.count_front.ensures.reads.looks.same before ∙ c.len.ensures.text first))
 
 pub read_from-requires-clause-front : goal.read_from-requires-clause-front
 read_from-requires-clause-front g c =
     front_after (g.T.TextStore.honest c.len.new.self) (g.T.TextStore.honest c.count_front.new.store) (g.T.TextStore.text c.len.new.self) (g.T.TextStore.text c.count_front.new.store) false c.in-Some.front
-    c.count_front.ensures.looks.honesty.0 c.count_front.ensures.looks.same
+    c.count_front.ensures.reads.looks.honesty.0 c.count_front.ensures.reads.looks.same
     (subst (λ o. IfSome o (IsFrontCounted (g.T.TextStore.honest c.len.new.self) (g.T.TextStore.text c.len.new.self) false)) c.in-Some.is c.in_ok-found.ensures.counted)
 
 pub returns : goal.returns
 returns g c = record {
   read = found_last_before (g.T.TextStore.honest c.args.store.now) (g.T.TextStore.honest c.count_front.new.store) (g.T.TextStore.text c.args.store.now) (g.T.TextStore.text c.count_front.new.store)
-      (λ h. c.count_front.ensures.looks.honesty.1 (c.len.ensures.goes_on.honesty.1 h)) (λ h. c.count_front.ensures.looks.same (c.len.ensures.goes_on.honesty.1 h) ∙ c.len.ensures.text h) c.args.count c.read_from.result c.read_from.ensures.read;
+      (λ h. c.count_front.ensures.reads.looks.honesty.1 (c.len.ensures.goes_on.honesty.1 h)) (λ h. c.count_front.ensures.reads.looks.same (c.len.ensures.goes_on.honesty.1 h) ∙ c.len.ensures.text h) c.args.count c.read_from.result c.read_from.ensures.read;
   few = c.read_from.ensures.few;
   short = found_short_before (g.T.TextStore.honest c.args.store.now) (g.T.TextStore.honest c.count_front.new.store) (g.T.TextStore.text c.args.store.now) (g.T.TextStore.text c.count_front.new.store) c.read_from.result
-      (λ h. c.count_front.ensures.looks.honesty.1 (c.len.ensures.goes_on.honesty.1 h)) (λ h. c.count_front.ensures.looks.same (c.len.ensures.goes_on.honesty.1 h) ∙ c.len.ensures.text h) c.read_from.ensures.short;
+      (λ h. c.count_front.ensures.reads.looks.honesty.1 (c.len.ensures.goes_on.honesty.1 h)) (λ h. c.count_front.ensures.reads.looks.same (c.len.ensures.goes_on.honesty.1 h) ∙ c.len.ensures.text h) c.read_from.ensures.short;
   fault = c.read_from.ensures.fault;
   looks = search rules;
   found_before = λ h.
       let first = c.len.ensures.goes_on.honesty.1 h in
-      NoMore_then _ _ _ (c.len.ensures.survives h) (NoMore_then _ _ _ (c.count_front.ensures.survives first) (c.read_from.ensures.found_before (c.count_front.ensures.looks.honesty.1 first)));
+      NoMore_then _ _ _ (c.len.ensures.survives h) (NoMore_then _ _ _ (c.count_front.ensures.reads.survives first) (c.read_from.ensures.found_before (c.count_front.ensures.reads.looks.honesty.1 first)));
 }
 
 pub read_from-requires-clause-short : goal.read_from-requires-clause-short
 read_from-requires-clause-short g c h =
-    let before = c.count_front.ensures.looks.honesty.0 h in
+    let before = c.count_front.ensures.reads.looks.honesty.0 h in
     let short = subst (λ o. IfSome o (λ (f : Front). HasShortLines (g.T.TextStore.honest c.len.new.self) (take f.at (g.T.TextStore.text c.len.new.self)) (min 262144 c.in_ok-len.len))) c.in-Some.is c.in_ok-found.ensures.short in
-    subst (λ t. AllShorter (min 262144 c.in_ok-len.len) (split (take c.in-Some.front.at t)).lines) (sym (c.count_front.ensures.looks.same before)) (short before)
+    subst (λ t. AllShorter (min 262144 c.in_ok-len.len) (split (take c.in-Some.front.at t)).lines) (sym (c.count_front.ensures.reads.looks.same before)) (short before)

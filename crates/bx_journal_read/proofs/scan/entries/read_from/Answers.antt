@@ -25,5 +25,5 @@ returns g c =
           c.last_of.ensures.longest;
       fault = tt;
       looks = search rules;
-      found_before = c.read_windows.ensures.survives;
+      found_before = c.read_windows.ensures.reads.survives;
     }

@@ -1,14 +1,11 @@
 use Rattle.std.proofs.Common.{◌∙◌, ◌+◌, [], Some, None, ap, sym, subst, arith}
 use Rattle.bx_journal_format.specs.Kept.{kept_of}
-use Rattle.bx_journal_format.specs.Text.{Between}
 use Rattle.bx_journal_format.specs.Parsed.{told_by, IsMarked, entries_of, stage_of}
-use Rattle.bx_journal_format.specs.count.Mark.{IsMark}
-use Rattle.bx_journal_format.proofs.ReadLemmas.{length-entries_of}
 use Rattle.bx_journal_format.proofs.ReadLoop.{marked_few}
 use Rattle.bx_journal_read.specs.scan.Recovery.{HasMark}
 use Rattle.bx_journal_read.specs.scan.Restoring.{StandsAt}
 use Rattle.bx_journal_read.proofs.StandLemmas.{ending_fits, ending_stands}
-use Rattle.bx_journal_read.proofs.TailLemmas.{begin_mark, begins_at}
+use Rattle.bx_journal_read.proofs.TailLemmas.{begins_at, torn_read}
 use Rattle.bx_journal_read.proofs.scan.journal.as_torn.Goals as goal
 
 pub overflow_cast-count : goal.overflow_cast-count
@@ -20,47 +17,26 @@ overflow_cast-count g c =
 pub returns-in-Between-clause-torn : goal.returns-in-Between-clause-torn
 returns-in-Between-clause-torn g c text read =
     let j = c.args.journal.now in
-    let same = c.deref.ensures.value in
-    let begins = begin_mark text j.entries.items j.stage j.whole read.places.mark read.places.marked in
-    record {
-      reads = read.reads;
-      begins = subst (λ stage. IsMark text (begins_at stage j.whole) (record { entries = entries_of j.entries.items; stage = Between })) c.in-Between.is begins;
-      count = omega (arith, c.len-count.ensures, j.entries.ok.0, j.entries.ok.1, length-entries_of j.entries.items);
-      told = c.told_length-told.ensures ∙ ap (λ es. told_by (entries_of es)) same;
-      few = omega (arith, c.len-count.ensures, j.entries.ok.0, j.entries.ok.1, marked_few text [] j.entries.items j.stage j.whole read.places.marked);
-      mark = subst (λ stage. HasMark text (stage_of stage) None) (sym c.in-Between.is) tt;
-    }
+    torn_read text j _ read (ap (λ stage. begins_at stage j.whole) (sym c.in-Between.is)) (omega (arith, c.len-count.ensures, j.entries.ok.0, j.entries.ok.1))
+    (c.told_length-told.ensures ∙ ap (λ es. told_by (entries_of es)) c.deref.ensures.value)
+    (subst (λ stage. HasMark text (stage_of stage) None) (sym c.in-Between.is) tt)
 
 pub returns-in-Saving-clause-torn : goal.returns-in-Saving-clause-torn
 returns-in-Saving-clause-torn g c text read =
     let j = c.args.journal.now in
-    let same = c.deref.ensures.value in
-    let begins = begin_mark text j.entries.items j.stage j.whole read.places.mark read.places.marked in
-    record {
-      reads = read.reads;
-      begins = subst (λ stage. IsMark text (begins_at stage j.whole) (record { entries = entries_of j.entries.items; stage = Between })) c.in-Saving.is begins;
-      count = omega (arith, c.len-count.ensures, j.entries.ok.0, j.entries.ok.1, length-entries_of j.entries.items);
-      told = c.told_length-told.ensures ∙ ap (λ es. told_by (entries_of es)) same;
-      few = omega (arith, c.len-count.ensures, j.entries.ok.0, j.entries.ok.1, marked_few text [] j.entries.items j.stage j.whole read.places.marked);
-      mark = subst (λ stage. HasMark text (stage_of stage) None) (sym c.in-Saving.is) tt;
-    }
+    torn_read text j _ read (ap (λ stage. begins_at stage j.whole) (sym c.in-Saving.is)) (omega (arith, c.len-count.ensures, j.entries.ok.0, j.entries.ok.1))
+    (c.told_length-told.ensures ∙ ap (λ es. told_by (entries_of es)) c.deref.ensures.value)
+    (subst (λ stage. HasMark text (stage_of stage) None) (sym c.in-Saving.is) tt)
 
 pub returns-in-Ending-clause-torn : goal.returns-in-Ending-clause-torn
 returns-in-Ending-clause-torn g c text read =
     let j = c.args.journal.now in
-    let same = c.deref.ensures.value in
-    let begins = begin_mark text j.entries.items j.stage j.whole read.places.mark read.places.marked in
     let marked = subst (λ stage. IsMarked text [] j.entries.items stage j.whole) c.in-Ending.is read.places.marked in
     let stands = ending_stands text j.entries.items c.in-Ending.version c.in-Ending.kept c.in-Ending.begins c.in-Ending.saved j.whole marked in
     let here = subst (λ n. StandsAt text (record { lines = c.in-Ending.begins + n + 1; saved = c.in-Ending.saved; len = c.in-Ending.kept.len; longest = c.in-Ending.saved }) (kept_of c.in-Ending.kept)) (sym c.start_size.ensures) stands in
-    record {
-      reads = read.reads;
-      begins = subst (λ stage. IsMark text (begins_at stage j.whole) (record { entries = entries_of j.entries.items; stage = Between })) c.in-Ending.is begins;
-      count = omega (arith, c.len-count.ensures, j.entries.ok.0, j.entries.ok.1, length-entries_of j.entries.items);
-      told = c.told_length-told.ensures ∙ ap (λ es. told_by (entries_of es)) same;
-      few = omega (arith, c.len-count.ensures, j.entries.ok.0, j.entries.ok.1, marked_few text [] j.entries.items j.stage j.whole read.places.marked);
-      mark = subst (λ stage. HasMark text (stage_of stage) (Some (record { lines = c.in-Ending.begins + c.start_size.result + 1; saved = c.in-Ending.saved; len = c.in-Ending.kept.len; longest = c.in-Ending.saved }))) (sym c.in-Ending.is) here;
-    }
+    torn_read text j _ read (ap (λ stage. begins_at stage j.whole) (sym c.in-Ending.is)) (omega (arith, c.len-count.ensures, j.entries.ok.0, j.entries.ok.1))
+    (c.told_length-told.ensures ∙ ap (λ es. told_by (entries_of es)) c.deref.ensures.value)
+    (subst (λ stage. HasMark text (stage_of stage) (Some (record { lines = c.in-Ending.begins + c.start_size.result + 1; saved = c.in-Ending.saved; len = c.in-Ending.kept.len; longest = c.in-Ending.saved }))) (sym c.in-Ending.is) here)
 
 pub overflow_add-result : goal.overflow_add-result
 overflow_add-result g c =

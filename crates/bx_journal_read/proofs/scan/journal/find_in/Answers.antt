@@ -1,6 +1,7 @@
 use Rattle.std.proofs.Common.{subst}
 use Rattle.std.specs.Prelude.{IfSome}
-use Rattle.bx_journal_read.specs.scan.Recovery.{IsFoundIn, IsTornIn, IsUnfinishedIn}
+use Rattle.bx_journal_read.specs.scan.Recovery.{IsFoundIn, IsUnfinishedIn}
+use Rattle.bx_journal_read.proofs.TextReads.{read_unfinished}
 use Rattle.bx_journal_read.proofs.scan.journal.find_in.Goals as goal
 
 pub returns-in-Some-clause-found : goal.returns-in-Some-clause-found
@@ -12,8 +13,4 @@ pub returns-clause-found : goal.returns-clause-found
 returns-clause-found g c =
     let T = g.T.TextStore in
     let u = subst (λ o. IfSome o (IsUnfinishedIn (T.honest c.find_plain.new.store) (T.text c.find_plain.new.store))) c.in-Some-faded.is c.in_ok-faded.ensures.found in
-    record {
-      torn = λ h. subst (λ t. IsTornIn t c.in-Some-faded.torn) (c.in_ok-plain.ensures.text h) (u.torn (c.in_ok-plain.ensures.goes_on.honesty.1 h));
-      few = u.few;
-      order = u.order;
-    }
+    read_unfinished T c.in_ok-plain.ensures.reads c.in-Some-faded.torn u

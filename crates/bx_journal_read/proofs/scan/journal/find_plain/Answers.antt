@@ -1,9 +1,9 @@
 use Rattle.std.proofs.Common.{◌∙◌, List, ℕ, false, length, sym, subst, arith}
 use Rattle.std.specs.Prelude.{IfSome}
 use Rattle.std.proofs.lemmas.List.{take_all}
-use Rattle.bx_journal_read.specs.scan.Recovery.{IsTornIn, IsUnfinishedIn}
+use Rattle.bx_journal_read.specs.scan.Recovery.{IsUnfinishedIn}
 use Rattle.bx_journal_read.specs.scan.Windows.{IsWalkedTo}
-use Rattle.bx_journal_read.proofs.WalkLemmas.{walked_after}
+use Rattle.bx_journal_read.proofs.TextReads.{read_unfinished, read_walked}
 use Rattle.bx_journal_read.proofs.scan.journal.find_plain.Goals as goal
 
 pub returns-in-Some-counted_by-clause-found : goal.returns-in-Some-counted_by-clause-found
@@ -24,15 +24,10 @@ find_torn-requires-clause-walked g c =
     let T = g.T.TextStore in
     let now = c.in_ok-walked.ensures in
     let walked = subst (λ o. IfSome o (IsWalkedTo (T.honest c.args.store.now) (T.text c.args.store.now) false (length c.args.window.now) c.args.len)) c.in-Some.is now.walked in
-    walked_after (T.honest c.args.store.now) (T.honest c.walk_windows.new.store) (T.text c.args.store.now) (T.text c.walk_windows.new.store) false (length c.args.window.now) (length c.walk_windows.new.window) c.args.len c.in-Some.walk
-    now.goes_on.honesty.0 now.text now.window walked
+    read_walked T now.reads (length c.args.window.now) (length c.walk_windows.new.window) c.args.len c.in-Some.walk now.window walked
 
 pub returns-clause-found : goal.returns-clause-found
 returns-clause-found g c =
     let T = g.T.TextStore in
     let u = subst (λ o. IfSome o (IsUnfinishedIn (T.honest c.walk_windows.new.store) (T.text c.walk_windows.new.store))) c.in-Some-found.is c.in_ok-found.ensures.found in
-    record {
-      torn = λ h. subst (λ t. IsTornIn t c.in-Some-found.torn) (c.in_ok-walked.ensures.text h) (u.torn (c.in_ok-walked.ensures.goes_on.honesty.1 h));
-      few = u.few;
-      order = u.order;
-    }
+    read_unfinished T c.in_ok-walked.ensures.reads c.in-Some-found.torn u

@@ -15,9 +15,9 @@ returns-in-Some g c =
     record {
       found = tt;
       fault = λ h. subst (λ t. IsDamagedAt t line) (sym (d.is h)) d.damaged;
-      looks = record { same = now.looks.same; honesty = now.looks.honesty; no_failure = tt; counts = (now.looks.no_failure, refl) };
-      found_before = now.survives;
+      looks = record { same = now.reads.looks.same; honesty = now.reads.looks.honesty; no_failure = tt; counts = (now.reads.looks.no_failure, refl) };
+      found_before = now.reads.survives;
     }
 
 pub returns-in-None : goal.returns-in-None
-returns-in-None g c = text_behind g.T.TextStore c.in-Ok.ensures.looks c.in-Ok.ensures.survives c.read_whole.result c.read_whole.ensures
+returns-in-None g c = text_behind g.T.TextStore c.in-Ok.ensures.reads.looks c.in-Ok.ensures.reads.survives c.read_whole.result c.read_whole.ensures

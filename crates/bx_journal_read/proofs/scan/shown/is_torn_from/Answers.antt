@@ -1,7 +1,6 @@
-use Rattle.std.proofs.Common.{◌≡◌, ◌∙◌, ℕ, List, ◌++◌, Some, None, length, take, drop, ap, refl, sym, subst, arith}
-use Rattle.bx_image.proofs.Devices.{GoesOn_refl, GoesOn_then}
-use Rattle.bx_image.proofs.Survivors.{NoMore_then}
+use Rattle.std.proofs.Common.{◌≡◌, ◌∙◌, ℕ, List, ◌++◌, Some, None, length, refl, sym, subst, arith}
 use Rattle.bx_journal_format.specs.read.Left.{IsTornAs, is_torn}
+use Rattle.bx_journal_read.proofs.TextReads.{read_bytes, read_none, read_then}
 use Rattle.bx_journal_read.proofs.ZeroLemmas.{torn_at_end, torn_behind}
 use Rattle.bx_journal_read.proofs.scan.shown.is_torn_from.Goals as goal
 
@@ -10,9 +9,7 @@ loop-at-init g c = record {
   below = c.requires.below;
   torn = λ h. refl;
   window = refl;
-  text = λ h. refl;
-  survives = λ h y there. there;
-  goes_on = GoesOn_refl _ _ _ _;
+  reads = read_none g.T.TextStore c.args.store.now;
 }
 
 pub loop-at-preserved : goal.loop-at-preserved
@@ -25,13 +22,10 @@ loop-at-preserved g c =
     record {
       below = omega (arith, inv.below, c.min-count.ensures);
       torn = λ h.
-          let part : c.read_at.new.buf ≡ take n (drop c.loop-at.at stored) = now.bytes (inv.goes_on.honesty.1 h)
-          ∙ ap (λ m. take m (drop c.loop-at.at (g.T.TextStore.text c.loop-at.store))) is ∙ ap (λ y. take n (drop c.loop-at.at y)) (inv.text h) in
+          let part = read_bytes g.T.TextStore inv.reads c.read_at.new.buf c.loop-at.at _ n is now.bytes h in
           inv.torn h ∙ torn_behind stored c.read_at.new.buf c.loop-at.at n c.loop-at.line (Some c.in-Some.next) part c.in-Some.ensures;
       window = omega (arith, inv.window, c.read_at.auto.buf);
-      text = λ h. now.text (inv.goes_on.honesty.1 h) ∙ inv.text h;
-      survives = λ h. NoMore_then _ _ _ (inv.survives h) (now.survives (inv.goes_on.honesty.1 h));
-      goes_on = GoesOn_then _ _ _ _ _ _ _ inv.goes_on now.goes_on;
+      reads = read_then g.T.TextStore inv.reads now.text now.survives now.goes_on;
     }
 
 pub returns-in_default-clause-torn : goal.returns-in_default-clause-torn
@@ -41,8 +35,7 @@ returns-in_default-clause-torn g c h =
     let stored : List ℕ = g.T.TextStore.text c.args.store.now in
     let n : ℕ = c.min-count.result in
     let is : length c.split_at_mut-part.result.0.now ≡ n = omega (arith, c.split_at_mut-part.ensures.front_len) in
-    let part : c.read_at.new.buf ≡ take n (drop c.loop-at.at stored) = now.bytes (inv.goes_on.honesty.1 h)
-    ∙ ap (λ m. take m (drop c.loop-at.at (g.T.TextStore.text c.loop-at.store))) is ∙ ap (λ y. take n (drop c.loop-at.at y)) (inv.text h) in
+    let part = read_bytes g.T.TextStore inv.reads c.read_at.new.buf c.loop-at.at _ n is now.bytes h in
     sym (inv.torn h ∙ torn_behind stored c.read_at.new.buf c.loop-at.at n c.loop-at.line None part
     (λ rest. subst (λ o. IsTornAs o (is_torn c.loop-at.line (c.read_at.new.buf ++ rest)) rest) c.in_default.is (c.follow_zero.ensures rest)))
 

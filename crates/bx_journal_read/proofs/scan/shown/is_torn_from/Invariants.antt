@@ -1,8 +1,7 @@
 use Rattle.std.proofs.Common.{◌≡◌, ◌-◌, ◌≤◌, length, drop, false}
-use Rattle.bx_image.specs.Device.{GoesOn}
-use Rattle.bx_image.specs.Power.{NoMore}
 use Rattle.bx_journal_format.specs.declared.read.shown.LastLine.TheVariants.{Other}
 use Rattle.bx_journal_format.specs.read.Left.{is_torn}
+use Rattle.bx_journal_read.specs.scan.Looking.{OnlyReadsText}
 use Rattle.bx_journal_read.proofs.scan.shown.is_torn_from.Given as goal
 
 -- what may be left from the place on is said by the last line so far
@@ -13,9 +12,7 @@ invariant-loop-at g l =
       below : l.at ≤ l.len;
       torn : T.honest l.fn.store → is_torn Other (drop l.from (T.text l.fn.store)) ≡ is_torn l.line (drop l.at (T.text l.fn.store));
       window : length l.window ≡ length l.fn.window;
-      text : T.honest l.fn.store → T.text l.store ≡ T.text l.fn.store;
-      survives : T.honest l.fn.store → NoMore (T.survives l.fn.store) (T.survives l.store);
-      goes_on : GoesOn T.honest T.room T.failures false l.fn.store l.store;
+      reads : OnlyReadsText T false l.fn.store l.store;
     }
 
 abbrev pub decreases-loop-at : goal.decreases-loop-at

@@ -1,6 +1,5 @@
-use Rattle.std.proofs.Common.{◌≡◌, ◌∙◌, ℕ, List, length, take, drop, ap, refl, arith}
-use Rattle.bx_image.proofs.Devices.{GoesOn_refl, GoesOn_then}
-use Rattle.bx_image.proofs.Survivors.{NoMore_then}
+use Rattle.std.proofs.Common.{◌≡◌, ℕ, List, length, refl, arith}
+use Rattle.bx_journal_read.proofs.TextReads.{read_bytes, read_none, read_then}
 use Rattle.bx_journal_read.proofs.ZeroLemmas.{zero_at_end, zero_behind, zero_within}
 use Rattle.bx_journal_read.proofs.scan.shown.zero_from.Goals as goal
 
@@ -9,9 +8,7 @@ loop-at-init g c = record {
   below = c.requires.below;
   zero = λ h. refl;
   window = refl;
-  text = λ h. refl;
-  survives = λ h y there. there;
-  goes_on = GoesOn_refl _ _ _ _;
+  reads = read_none g.T.TextStore c.args.store.now;
 }
 
 pub loop-at-preserved : goal.loop-at-preserved
@@ -24,14 +21,11 @@ loop-at-preserved g c =
     record {
       below = omega (arith, inv.below, c.min-count.ensures);
       zero = λ h.
-          let part : c.read_at.new.buf ≡ take n (drop c.loop-at.at stored) = now.bytes (inv.goes_on.honesty.1 h)
-          ∙ ap (λ m. take m (drop c.loop-at.at (g.T.TextStore.text c.loop-at.store))) is ∙ ap (λ y. take n (drop c.loop-at.at y)) (inv.text h) in
+          let part = read_bytes g.T.TextStore inv.reads c.read_at.new.buf c.loop-at.at _ n is now.bytes h in
           let more = zero_behind stored c.read_at.new.buf c.loop-at.at n part (omega (arith, c.read_at.auto.buf, is)) (omega (arith, c.if-zero-count.false, c.zero_at-zero.ensures)) in
           omega (arith, inv.zero h, more);
       window = omega (arith, inv.window, c.read_at.auto.buf);
-      text = λ h. now.text (inv.goes_on.honesty.1 h) ∙ inv.text h;
-      survives = λ h. NoMore_then _ _ _ (inv.survives h) (now.survives (inv.goes_on.honesty.1 h));
-      goes_on = GoesOn_then _ _ _ _ _ _ _ inv.goes_on now.goes_on;
+      reads = read_then g.T.TextStore inv.reads now.text now.survives now.goes_on;
     }
 
 pub returns-clause-zero : goal.returns-clause-zero
@@ -47,7 +41,6 @@ returns-then-zero-count-clause-zero g c h =
     let stored : List ℕ = g.T.TextStore.text c.args.store.now in
     let n : ℕ = c.min-count.result in
     let is : length c.split_at_mut-part.result.0.now ≡ n = omega (arith, c.split_at_mut-part.ensures.front_len) in
-    let part : c.read_at.new.buf ≡ take n (drop c.loop-at.at stored) = now.bytes (inv.goes_on.honesty.1 h)
-    ∙ ap (λ m. take m (drop c.loop-at.at (g.T.TextStore.text c.loop-at.store))) is ∙ ap (λ y. take n (drop c.loop-at.at y)) (inv.text h) in
+    let part = read_bytes g.T.TextStore inv.reads c.read_at.new.buf c.loop-at.at _ n is now.bytes h in
     let here = zero_within stored c.read_at.new.buf c.loop-at.at n part (omega (arith, c.read_at.auto.buf, is)) (omega (arith, c.if-zero-count.true, c.zero_at-zero.ensures)) in
     omega (arith, inv.zero h, here, c.zero_at-zero.ensures)

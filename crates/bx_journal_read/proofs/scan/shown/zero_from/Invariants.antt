@@ -1,7 +1,6 @@
 use Rattle.std.proofs.Common.{◌≡◌, ◌+◌, ◌-◌, ◌≤◌, length, drop, false}
-use Rattle.bx_image.specs.Device.{GoesOn}
-use Rattle.bx_image.specs.Power.{NoMore}
 use Rattle.bx_journal_format.specs.Shown.{before_zero}
+use Rattle.bx_journal_read.specs.scan.Looking.{OnlyReadsText}
 use Rattle.bx_journal_read.proofs.scan.shown.zero_from.Given as goal
 
 -- the first zero from the place on stands no sooner
@@ -12,9 +11,7 @@ invariant-loop-at g l =
       below : l.at ≤ l.len;
       zero : T.honest l.fn.store → l.from + length (before_zero (drop l.from (T.text l.fn.store))) ≡ l.at + length (before_zero (drop l.at (T.text l.fn.store)));
       window : length l.window ≡ length l.fn.window;
-      text : T.honest l.fn.store → T.text l.store ≡ T.text l.fn.store;
-      survives : T.honest l.fn.store → NoMore (T.survives l.fn.store) (T.survives l.store);
-      goes_on : GoesOn T.honest T.room T.failures false l.fn.store l.store;
+      reads : OnlyReadsText T false l.fn.store l.store;
     }
 
 abbrev pub decreases-loop-at : goal.decreases-loop-at

@@ -13,8 +13,8 @@ use Rattle.bx_journal_read.proofs.scan.torn.find_end.Goals as goal
 
 pub count_windows-requires-clause-within : goal.count_windows-requires-clause-within
 count_windows-requires-clause-within g c h =
-    let h0 = c.in_ok-follows.ensures.goes_on.honesty.0 h in
-    omega (arith, c.requires.within h0, ap length (c.in_ok-follows.ensures.text h0))
+    let h0 = c.in_ok-follows.ensures.reads.goes_on.honesty.0 h in
+    omega (arith, c.requires.within h0, ap length (c.in_ok-follows.ensures.reads.text h0))
 
 pub returns-clause-found : goal.returns-clause-found
 returns-clause-found g c =
@@ -31,10 +31,10 @@ returns-clause-found g c =
     let ends = ends_within mark w.at len c.requires.walked.below (subst (λ o. IfSome o (λ mark. IfSome mark (λ m. m.saved ≡ w.at))) c.in-Some-found.is c.in_ok-found.ensures.ends) in
     record {
       torn = λ h.
-          let h1 = c.in_ok-follows.ensures.goes_on.honesty.1 h in
-          let t1 = c.in_ok-follows.ensures.text h in
-          let h2 = c.in_ok-counted.ensures.goes_on.honesty.1 h1 in
-          let t2 = c.in_ok-counted.ensures.text h1 ∙ t1 in
+          let h1 = c.in_ok-follows.ensures.reads.goes_on.honesty.1 h in
+          let t1 = c.in_ok-follows.ensures.reads.text h in
+          let h2 = c.in_ok-counted.ensures.reads.goes_on.honesty.1 h1 in
+          let t2 = c.in_ok-counted.ensures.reads.text h1 ∙ t1 in
           torn_found (take len text) size len w f mark (walked_front text size len w (walked_surely (T.honest c.args.store.now) text false size len w h c.requires.walked))
           (counted_front text len f (omega (arith, before, c.requires.walked.below)) (front_surely (T.honest c.may_follow.new.store) (T.text c.may_follow.new.store) text false f h1 t1 counted))
           (omega (arith, length-take len text, c.requires.within h))

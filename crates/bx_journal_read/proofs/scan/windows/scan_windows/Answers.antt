@@ -1,17 +1,14 @@
-use Rattle.std.proofs.Common.{◌≤◌, ◌∙◌, ◌++◌, ℕ, List, length, take, drop, ap, refl, subst, arith}
+use Rattle.std.proofs.Common.{◌≤◌, ◌++◌, ℕ, List, length, take, refl, subst, arith}
 use Rattle.std.specs.Prelude.{IfSome}
-use Rattle.bx_image.proofs.Devices.{GoesOn_refl, GoesOn_then}
-use Rattle.bx_image.proofs.Survivors.{NoMore_then}
 use Rattle.bx_journal_read.proofs.ScanLemmas.{reached_on}
+use Rattle.bx_journal_read.proofs.TextReads.{read_bytes, read_none, read_then}
 use Rattle.bx_journal_read.proofs.scan.windows.scan_windows.Goals as goal
 
 pub loop-ends-init : goal.loop-ends-init
 loop-ends-init g c = record {
   reached = record { led = c.requires.led; below = c.requires.below; short = λ longest le first. first };
   window = refl;
-  text = λ h. refl;
-  survives = λ h y there. there;
-  goes_on = GoesOn_refl _ _ _ _;
+  reads = read_none g.T.TextStore c.args.store.now;
 }
 
 pub loop-ends-preserved : goal.loop-ends-preserved
@@ -26,10 +23,8 @@ loop-ends-preserved g c =
     let within = subst (λ o. IfSome o (λ t. t.taken ≤ length buf)) c.in-Some.is c.in-Ok.ensures.within in
     record {
       reached = reached_on (g.T.TextStore.honest c.args.store.now) (g.T.TextStore.text c.args.store.now) buf (g.S.Scan.Leads c.args.scan) (length c.args.window.now) c.args.from c.args.len at _ c.in-Some.next.taken c.loop-ends.scan c.in-Some.next.scan
-          inv.reached (λ h. now.bytes (inv.goes_on.honesty.1 h) ∙ ap (λ y. take (length c.split_at_mut-now.result.0.now) (drop at y)) (inv.text h)) within
+          inv.reached (read_bytes g.T.TextStore inv.reads buf at _ _ refl now.bytes) within
           (omega (arith, c.read_at.auto.buf, long, c.min-size.ensures, inv.window)) (omega (arith, c.read_at.auto.buf, long, c.min-size.ensures, inv.reached.below)) (g.met.S.Scan.whole c.args.scan c.loop-ends.scan led.text led.leads) leads;
       window = omega (arith, inv.window, c.read_at.auto.buf, c.take_lines.auto.window);
-      text = λ h. now.text (inv.goes_on.honesty.1 h) ∙ inv.text h;
-      survives = λ h. NoMore_then _ _ _ (inv.survives h) (now.survives (inv.goes_on.honesty.1 h));
-      goes_on = GoesOn_then _ _ _ _ _ _ _ inv.goes_on now.goes_on;
+      reads = read_then g.T.TextStore inv.reads now.text now.survives now.goes_on;
     }

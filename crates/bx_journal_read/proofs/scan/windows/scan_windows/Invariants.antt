@@ -1,6 +1,5 @@
 use Rattle.std.proofs.Common.{◌≡◌, ◌-◌, suc, length, false, if◌then◌else◌}
-use Rattle.bx_image.specs.Device.{GoesOn}
-use Rattle.bx_image.specs.Power.{NoMore}
+use Rattle.bx_journal_read.specs.scan.Looking.{OnlyReadsText}
 use Rattle.bx_journal_read.specs.scan.Windows.{IsReached}
 use Rattle.bx_journal_read.proofs.scan.windows.scan_windows.Given as goal
 
@@ -11,9 +10,7 @@ invariant-loop-ends g l =
     record {
       reached : IsReached (T.honest l.fn.store) (T.text l.fn.store) (g.S.Scan.Leads l.fn.scan) (length l.fn.window) l.from l.len (record { scan = l.scan; at = l.at });
       window : length l.window ≡ length l.fn.window;
-      text : T.honest l.fn.store → T.text l.store ≡ T.text l.fn.store;
-      survives : T.honest l.fn.store → NoMore (T.survives l.fn.store) (T.survives l.store);
-      goes_on : GoesOn T.honest T.room T.failures false l.fn.store l.store;
+      reads : OnlyReadsText T false l.fn.store l.store;
     }
 
 abbrev pub decreases-loop-ends : goal.decreases-loop-ends

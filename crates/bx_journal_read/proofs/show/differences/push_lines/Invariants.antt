@@ -1,6 +1,6 @@
 use Rattle.std.proofs.Common.{◌≡◌, ◌≤◌, length, drop}
-use Rattle.std.specs.Prelude.{◌↔◌}
 use Rattle.bx_journal_read.specs.show.Differences.{diff_line, AreAdded, IsCache}
+use Rattle.bx_journal_read.proofs.BesideLemmas.{HasStayed}
 use Rattle.bx_journal_read.proofs.show.differences.push_lines.Given as goal
 
 -- the lines that were taken are added
@@ -10,9 +10,7 @@ invariant-loop-rest g l = record {
   cache : IsCache (g.D.Device.honest l.fn.device) (g.D.Device.image l.fn.device) l.page l.now;
   left : l.rest ≡ drop l.taken l.window;
   within : l.taken ≤ length l.window;
-  image : g.D.Device.honest l.fn.device → g.D.Device.image l.device ≡ g.D.Device.image l.fn.device;
-  honesty : g.D.Device.honest l.device ↔ g.D.Device.honest l.fn.device;
-  failures : g.D.Device.failures l.device ≡ g.D.Device.failures l.fn.device;
+  image : HasStayed g.D.Device.honest g.D.Device.image g.D.Device.failures l.fn.device l.device;
 }
 
 abbrev pub decreases-loop-rest : goal.decreases-loop-rest

@@ -24,11 +24,20 @@ returns-clause-put g c h k =
     (c.len.ensures.image h) compared.written)
     (c.put_windows.ensures.put (c.len.ensures.goes_on.honesty.1 h) k)
 
-pub returns-in_err-len-clause-image : goal.returns-in_err-len-clause-image
-returns-in_err-len-clause-image g c = record { same = λ h. c.len.ensures.image h; honesty = c.len.ensures.goes_on.honesty; no_failure = search rules }
+pub returns-in_err-len-clause-puts : goal.returns-in_err-len-clause-puts
+returns-in_err-len-clause-puts g c = record {
+  kind = search rules;
+  image = record { same = λ h. c.len.ensures.image h; honesty = c.len.ensures.goes_on.honesty; no_failure = search rules };
+  text = search rules;
+  counts = search rules;
+}
 
-pub returns-clause-image : goal.returns-clause-image
-returns-clause-image g c = stays_behind (λ h. c.len.ensures.image h) c.len.ensures.goes_on.honesty c.in_ok-len.ensures.goes_on.counted c.put_windows.ensures.image
-
-pub returns-clause-counts : goal.returns-clause-counts
-returns-clause-counts g c = counts_behind _ _ c.put_windows.result c.in_ok-len.ensures.goes_on.counted refl c.put_windows.ensures.counts
+pub returns-clause-puts : goal.returns-clause-puts
+returns-clause-puts g c =
+    let last = c.put_windows.ensures.puts in
+    record {
+      kind = last.kind;
+      image = stays_behind (λ h. c.len.ensures.image h) c.len.ensures.goes_on.honesty c.in_ok-len.ensures.goes_on.counted last.image;
+      text = last.text;
+      counts = counts_behind _ _ c.put_windows.result c.in_ok-len.ensures.goes_on.counted refl last.counts;
+    }

@@ -1,7 +1,8 @@
-use Rattle.std.proofs.Common.{◌∙◌, List, ℕ, [], refl, subst, arith, string_bytes}
+use Rattle.std.proofs.Common.{List, ℕ, [], refl, subst, arith, string_bytes}
 use Rattle.std.specs.Prelude.{OnOk}
 use Rattle.std.specs.Io.KnownBytes.{Appends}
 use Rattle.bx_journal_format.specs.Ranges.{EndsRanges}
+use Rattle.bx_journal_read.proofs.BesideLemmas.{stayed_none, stayed_on}
 use Rattle.bx_journal_read.proofs.PutLemmas.{put_none, put_more, puts_from, put_all}
 use Rattle.bx_journal_read.proofs.RowTexts.{ok_weaker}
 use Rattle.bx_journal_read.proofs.show.ranges.put_ranges.Goals as goal
@@ -12,9 +13,7 @@ loop-done-init g c = record {
   behind = omega arith;
   within = c.requires.order;
   below = omega (arith, c.nothing_ranged.ensures.within);
-  text = λ h. refl;
-  honesty = ((λ h. h), λ h. h);
-  failures = refl;
+  text = stayed_none g.T.TextStore.honest g.T.TextStore.text g.T.TextStore.failures c.args.store.now;
 }
 
 pub loop-done-preserved : goal.loop-done-preserved
@@ -26,15 +25,13 @@ loop-done-preserved g c =
     let w0 = g.W.Write.contents c.args.out.now in
     let w1 = g.W.Write.contents c.loop-done.out in
     let w2 = g.W.Write.contents c.put_window.new.out in
-    let more = puts_from honest (g.T.TextStore.honest c.loop-done.store) stored (g.T.TextStore.text c.loop-done.store) c.args.mark c.loop-done.done c.in_ok-done.done w1 w2 inv.honesty.1 inv.text now.put in
+    let more = puts_from honest (g.T.TextStore.honest c.loop-done.store) stored (g.T.TextStore.text c.loop-done.store) c.args.mark c.loop-done.done c.in_ok-done.done w1 w2 inv.text.honesty.1 inv.text.same now.put in
     record {
       put = put_more honest stored c.args.mark c.loop-done.done c.in_ok-done.done w0 w1 w2 inv.behind inv.put more;
       behind = omega (arith, inv.behind, more.some);
       within = more.within;
       below = more.below;
-      text = λ h. now.stays.same (inv.honesty.1 h) ∙ inv.text h;
-      honesty = ((λ h. inv.honesty.0 (now.stays.honesty.0 h)), λ h. now.stays.honesty.1 (inv.honesty.1 h));
-      failures = now.stays.no_failure ∙ inv.failures;
+      text = stayed_on inv.text now.puts.stays.same now.puts.stays.honesty now.puts.stays.no_failure;
     }
 
 pub returns-clause-put : goal.returns-clause-put

@@ -1,6 +1,6 @@
-use Rattle.std.proofs.Common.{◌≡◌, ◌+◌, ◌≤◌, ◌-◌}
-use Rattle.std.specs.Prelude.{◌↔◌}
+use Rattle.std.proofs.Common.{◌+◌, ◌≤◌, ◌-◌}
 use Rattle.bx_journal_read.specs.show.Showing.{ArePutTo}
+use Rattle.bx_journal_read.proofs.BesideLemmas.{HasStayed}
 use Rattle.bx_journal_read.proofs.show.ranges.put_ranges.Given as goal
 
 -- the ranges up to a place are put
@@ -10,9 +10,7 @@ invariant-loop-done g l = record {
   behind : l.mark.from ≤ l.done.at;
   within : l.done.at ≤ l.mark.to;
   below : l.done.ranging.at + l.done.ranging.count ≤ l.mark.len;
-  text : g.T.TextStore.honest l.fn.store → g.T.TextStore.text l.store ≡ g.T.TextStore.text l.fn.store;
-  honesty : g.T.TextStore.honest l.store ↔ g.T.TextStore.honest l.fn.store;
-  failures : g.T.TextStore.failures l.store ≡ g.T.TextStore.failures l.fn.store;
+  text : HasStayed g.T.TextStore.honest g.T.TextStore.text g.T.TextStore.failures l.fn.store l.store;
 }
 
 abbrev pub decreases-loop-done : goal.decreases-loop-done

@@ -1,0 +1,47 @@
+-- Calls that only read a text, one behind another.
+use Rattle.std.proofs.Common.{◌≡◌, ◌∙◌, ℕ, Bool, false, List, take, drop, ap, refl, subst}
+use Rattle.bx_image.specs.Device.{GoesOn}
+use Rattle.bx_image.specs.Power.{NoMore}
+use Rattle.bx_image.proofs.Devices.{GoesOn_refl, GoesOn_then}
+use Rattle.bx_image.proofs.Survivors.{NoMore_then}
+use Rattle.bx_journal_store.specs.declared.store.TextStore.{Ghosts as StoreViews}
+use Rattle.bx_journal_read.specs.declared.scan.count.Walk.{Walk}
+use Rattle.bx_journal_read.specs.declared.scan.journal.Torn.{Torn}
+use Rattle.bx_journal_read.specs.scan.Looking.{OnlyReadsText}
+use Rattle.bx_journal_read.specs.scan.Recovery.{IsTornIn, IsUnfinishedIn}
+use Rattle.bx_journal_read.specs.scan.Windows.{IsWalkedTo}
+use Rattle.bx_journal_read.proofs.WalkLemmas.{walked_after}
+
+module _ {T : Type 0} (t : StoreViews T) where
+  -- no call yet
+  pub read_none : (now : T) → OnlyReadsText t false now now
+  read_none now = record { text = λ h. refl; survives = λ h y there. there; goes_on = GoesOn_refl _ _ _ _ }
+
+  -- one call more
+  pub read_then : {failed : Bool} {old now new : T} → OnlyReadsText t false old now → (t.honest now → t.text new ≡ t.text now) → (t.honest now → NoMore (t.survives now) (t.survives new))
+      → GoesOn t.honest t.room t.failures failed now new → OnlyReadsText t failed old new
+  read_then first text survives goes_on = record {
+    text = λ h. text (first.goes_on.honesty.1 h) ∙ first.text h;
+    survives = λ h. NoMore_then _ _ _ (first.survives h) (survives (first.goes_on.honesty.1 h));
+    goes_on = GoesOn_then _ _ _ _ _ _ _ first.goes_on goes_on;
+  }
+
+  -- the bytes that it reads are those of the text before them all
+  pub read_bytes : {old now : T} → OnlyReadsText t false old now → (bytes : List ℕ) (at m n : ℕ) → m ≡ n → (t.honest now → bytes ≡ take m (drop at (t.text now)))
+      → t.honest old → bytes ≡ take n (drop at (t.text old))
+  read_bytes {now = now} first bytes at m n is read h =
+      read (first.goes_on.honesty.1 h) ∙ ap (λ k. take k (drop at (t.text now))) is ∙ ap (λ y. take n (drop at y)) (first.text h)
+
+  -- what was walked along is so behind it
+  pub read_walked : {old now : T} → OnlyReadsText t false old now → (size more len : ℕ) (w : Walk) → more ≡ size → IsWalkedTo (t.honest old) (t.text old) false size len w
+      → IsWalkedTo (t.honest now) (t.text now) false more len w
+  read_walked {old = old} {now = now} first size more len w same walked =
+      walked_after (t.honest old) (t.honest now) (t.text old) (t.text now) false size more len w first.goes_on.honesty.0 first.text same walked
+
+  -- what is found unfinished behind it is so before
+  pub read_unfinished : {old now : T} → OnlyReadsText t false old now → (torn : Torn) → IsUnfinishedIn (t.honest now) (t.text now) torn → IsUnfinishedIn (t.honest old) (t.text old) torn
+  read_unfinished first torn u = record {
+    torn = λ h. subst (λ y. IsTornIn y torn) (first.text h) (u.torn (first.goes_on.honesty.1 h));
+    few = u.few;
+    order = u.order;
+  }
