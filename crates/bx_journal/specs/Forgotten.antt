@@ -58,6 +58,10 @@ only x = record { stack = x ∷ []; undone = [] }
 abbrev pub OfSome : Images → Images → (Images → Type 0) → Type 0
 OfSome s left Holds = Holds s ⊎ (Holds (emptied s) ⊎ Holds left)
 
+-- behind an interruption this holds
+abbrev pub BehindInterruption : {V : Type 0} → Result V SessionFault → Type 0 → Type 0
+BehindInterruption result holds = IfErr result (λ e. AfterFault e holds (Unit {0}))
+
 -- What a call that was stopped leaves of both texts: fronts, and of the journal all, unless the redo text is empty
 pub record LeavesTexts (journal redo journal_new redo_new : List ℕ) : Type 0 where
   pub journal_part : IsPartlyCut 0 journal journal_new

@@ -2,3 +2,4 @@
 pub mod Again
 pub mod Overwritten
 pub mod Plan
+pub mod Ready

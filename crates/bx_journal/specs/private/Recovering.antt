@@ -1,16 +1,25 @@
 -- What opening leaves of image and journal, step by step.
-use Rattle.std.specs.Prelude.{◌≡◌, ◌⊎◌, [], ℕ, Result, IfOk, IfErr, OnErr, OnOk}
+use Rattle.std.specs.Prelude.{◌≡◌, ◌↔◌, ◌⊎◌, [], ℕ, List, Result, IfOk, IfErr, MatchResult, OnErr, OnOk}
 use Rattle.bx_image.specs.declared.device.Device.{Ghosts as DeviceViews}
 use Rattle.bx_journal_store.specs.declared.store.TextStore.{Ghosts as StoreViews}
+use Rattle.bx_image.specs.Power.{Only}
 use Rattle.bx_journal_protocol.specs.declared.devices.Devices.{Devices}
+use Rattle.bx_journal_protocol.specs.Devices.{AreCounted, AreUnfailed}
+use Rattle.bx_journal_read.specs.declared.answers.How.TheVariants.{Clean}
 use Rattle.bx_journal_read.specs.declared.answers.Recovered.{Recovered}
 use Rattle.bx_journal_read.specs.declared.fault.SessionFault.{SessionFault}
-use Rattle.bx_journal_read.specs.declared.fault.SessionFault.TheVariants.{Damaged}
+use Rattle.bx_journal_read.specs.declared.fault.SessionFault.TheVariants.{Damaged, Interrupted}
+use Rattle.bx_journal_read.specs.declared.scan.journal.Torn.{Torn}
 use Rattle.bx_journal_format.specs.Shown.{shown}
-use Rattle.bx_journal_format.specs.Text.{IsDamagedAt, Reading, Reads}
-use Rattle.bx_journal_read.specs.model.Opening.{IsOpened}
+use Rattle.bx_journal_format.specs.Text.{IsAccepted, IsDamagedAt, Reading, Reads}
+use Rattle.bx_journal_read.specs.model.Calls.{AfterFault}
+use Rattle.bx_journal_read.specs.model.Opening.{IsOpened, RefusesText}
+use Rattle.bx_journal_read.specs.model.Redo.{IsClean}
+use Rattle.bx_journal_read.specs.scan.Recovery.{IsTorn, LookReadFault}
 use Rattle.bx_journal_read.specs.model.Undoing.{HasLeft}
 use Rattle.bx_journal_read.specs.model.Stack.{HaveLengths, image_at}
+use Rattle.bx_journal.specs.Opened.{FaultsAsRead, FindsAgain, KeepsFoundUndone, KeepsPair, KeepsRedoText, RefusesLength, SparesClean, SparesPair, TellsRefused, TellsUndone, TellsUnfit}
+use Rattle.bx_journal.specs.Recovery.{OpenKind}
 
 -- what is left stands for what the journal's reading recovers, where the lengths that its entries record are those of the images
 abbrev pub OpensRead : {D T E : Type 0} → DeviceViews D → StoreViews T → D → T → D → T → Result Recovered E → Type 0
@@ -30,3 +39,60 @@ TellsDamage t s result = t.honest s → IfErr result (λ e. (line : ℕ) → e �
 abbrev pub EmptiesFirst : {D T V E : Type 0} → StoreViews T → Devices D T → Devices D T → Result V E → Type 0
 EmptiesFirst t old new result =
     t.honest old.journal → t.honest old.redo → OnErr result ((t.text new.journal ≡ t.text old.journal) ⊎ (t.text new.redo ≡ []))
+
+-- Behind a success the redo text is empty, and it is emptied before the journal is touched
+pub record EmptiesRedo {D T V E : Type 0} (t : StoreViews T) (old new : Devices D T) (result : Result V E) : Type 0 where
+  pub emptied : t.honest old.redo → OnOk result (t.text new.redo ≡ [])
+  pub emptied_first : EmptiesFirst t old new result
+
+-- where image and journal are honest, and on the disk as they are, this holds
+abbrev pub WherePairSettled : {D T : Type 0} → DeviceViews D → StoreViews T → D → T → Type 0 → Type 0
+WherePairSettled d t x s holds = d.honest x → t.honest s → Only (d.image x) (d.survives x) → Only (t.text s) (t.survives s) → holds
+
+-- a fault is one of looking at an image beside what is unfinished, whatever text and reading that is of
+abbrev pub FaultsOfTorn : {D V : Type 0} → DeviceViews D → D → Torn → Result V SessionFault → Type 0
+FaultsOfTorn d x torn result = (text : List ℕ) (r : Reading) → IsTorn text r torn → IfErr result (LookReadFault (d.honest x) r (d.image x))
+
+-- Of three devices before opening.
+module _ {D T : Type 0} (d : DeviceViews D) (t : StoreViews T) (old : Devices D T) where
+  -- A journal that isn't accepted is never opened, and one that is accepted is never called damaged
+  pub record JudgesJournal (result : Result Recovered SessionFault) : Type 0 where
+    pub accepted : t.honest old.journal → OnOk result (IsAccepted (shown (t.text old.journal)))
+    pub damaged : TellsDamage t old.journal result
+    pub unaccepted : t.honest old.journal → (IsAccepted (shown (t.text old.journal)) → ⊥) → MatchResult result (λ _. ⊥) RefusesText
+
+  -- Which fault comes: one that the journal's reading gives, an interruption only where something was unfinished
+  pub record AnswersAsRead (result : Result Recovered SessionFault) : Type 0 where
+    pub faults : FaultsAsRead d t old result
+    pub kind : IfErr result OpenKind
+    pub unfinished : t.honest old.journal → IfErr result (λ e. e ≡ Interrupted → IsClean (t.text old.journal) → ⊥)
+    pub differs : RefusesLength d t old result
+
+  -- What is left: beside finished entries alone, and behind each fault but an interruption, all is as it was
+  pub record SparesAll (new : Devices D T) (result : Result Recovered SessionFault) : Type 0 where
+    pub clean : SparesClean d t old new result
+    pub refused : SparesPair d t old new result
+    pub redo_same : t.honest old.redo → IfErr result (λ e. AfterFault e (Unit {0}) (t.text new.redo ≡ t.text old.redo))
+    pub keeps : KeepsPair d t old new result
+    pub finds_err : FindsAgain d t old new result
+
+  -- What becomes of the redo text: beside a finished journal it stays, and what is unfinished empties it
+  pub record SetsRedo (new : Devices D T) (result : Result Recovered SessionFault) : Type 0 where
+    pub clean_redo : t.honest old.redo → IfOk result (λ o. o.how ≡ Clean → t.text new.redo ≡ t.text old.redo)
+    pub emptied : t.honest old.redo → IfOk result (λ o. (o.how ≡ Clean → ⊥) → (t.text new.redo ≡ []) × (o.undone ≡ 0))
+    pub undone : TellsUndone d t old new result
+    pub keeps_undone : KeepsFoundUndone d t old new result
+
+  -- A redo text is refused exactly where it isn't one of the image and of as many changes, and then at the one line
+  pub record RefusesRedoText (result : Result Recovered SessionFault) : Type 0 where
+    pub redo_refused : TellsRefused d t old result
+    pub redo_unfit : TellsUnfit d t old result
+    pub redo_kept : KeepsRedoText d t old result
+
+  -- Each device is honest as it was, and the fault tells whether one of them counts a failure more
+  pub record CallsCount (new : Devices D T) (result : Result Recovered SessionFault) : Type 0 where
+    pub image_honesty : d.honest new.image ↔ d.honest old.image
+    pub journal_honesty : t.honest new.journal ↔ t.honest old.journal
+    pub redo_honesty : t.honest new.redo ↔ t.honest old.redo
+    pub no_failure : AreUnfailed d t old new result
+    pub counts : AreCounted d t old new result

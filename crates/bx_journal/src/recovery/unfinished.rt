@@ -10,8 +10,8 @@ ghost use Rattle.bx_image.specs.Power.{NoMore, Only};
 ghost use Rattle.bx_journal_protocol.specs.model.Power.{FoundBefore, RecoverySurvives};
 ghost use Rattle.bx_journal_protocol.specs.protocol.Opening.{HasBuffersFor, HasRoomFor};
 ghost use Rattle.bx_journal.specs.Opened.{CountsStack, FaultsAsRead, KeepsPair, OfAll, Opens, RefusesLength, SparesPair};
-ghost use Rattle.bx_journal.specs.private.Recovering.{EmptiesFirst, LeavesRead, OpensRead};
-ghost use Rattle.bx_journal_read.specs.scan.Recovery.{IsTorn, IsUnfinishedIn, KeepsStack, LookReadFault, RecoverFault};
+ghost use Rattle.bx_journal.specs.private.Recovering.{CallsCount, EmptiesRedo, FaultsOfTorn, LeavesRead, OpensRead, WherePairSettled};
+ghost use Rattle.bx_journal_read.specs.scan.Recovery.{IsTorn, IsUnfinishedIn, KeepsStack, RecoverFault};
 ghost use Rattle.bx_journal_read.specs.model.Stack.{HaveLengths, image_at};
 ghost use Rattle.bx_journal_format.specs.Text.{Reading};
 
@@ -28,7 +28,7 @@ fn prepare<D: Device>(image: &mut D, torn: Torn) -> Result<(), SessionFault>
     requires { D.failures image.old < u64.MAX }
     ensures lengths { D.honest image.old → (text : List ℕ) (r : Reading) → IsTorn text r torn
         → OnOk result (HaveLengths r.entries (image_at r.stage (D.image image.old))) }
-    ensures fault { (text : List ℕ) (r : Reading) → IsTorn text r torn → IfErr result (LookReadFault (D.honest image.old) r (D.image image.old)) }
+    ensures fault { FaultsOfTorn D.Device image.old torn result }
     ensures kind { IfErr result (LookFault ⊥ [] []) }
     ensures room { OnOk result (HasRoomFor torn.mark (D.room image.new)) }
     ensures looks { LooksAt D.honest D.image D.failures result image.old image.new }
@@ -60,8 +60,8 @@ fn cut_unfinished<D: Device, T: TextStore, A: Allocator>(
     ensures unclean { IfOk result (λ o. (o.how ≡ How.Clean → ⊥) × (o.undone ≡ 0)) }
     ensures keeps { D.honest image.old → T.honest journal.old
         → KeepsStack result (T.text journal.old) (D.image image.old) (T.text journal.new) (D.image image.new) }
-    ensures survives { D.honest image.old → T.honest journal.old → Only (D.image image.old) (D.survives image.old) → Only (T.text journal.old) (T.survives journal.old)
-        → PairSurvives (T.text journal.old) (D.image image.old) (D.survives image.new) (T.survives journal.new) }
+    ensures survives { WherePairSettled D.Device T.TextStore image.old journal.old
+        (PairSurvives (T.text journal.old) (D.image image.old) (D.survives image.new) (T.survives journal.new)) }
     ensures settled { D.honest image.old → T.honest journal.old → Only (D.image image.old) (D.survives image.old)
         → OnOk result (Only (D.image image.new) (D.survives image.new) × Only (T.text journal.new) (T.survives journal.new)) }
     ensures changes { IfOk result (λ o. o.changes ≡ torn.count) }
@@ -144,7 +144,7 @@ fn get_ready<D: Device, T: TextStore, A: Allocator + Clone>(
     requires countable { AreBelow D.Device T.TextStore u64.MAX devices.old }
     ensures lengths { D.honest devices.old.image → (text : List ℕ) (r : Reading) → IsTorn text r torn
         → OnOk result (HaveLengths r.entries (image_at r.stage (D.image devices.old.image))) }
-    ensures fault { (text : List ℕ) (r : Reading) → IsTorn text r torn → IfErr result (LookReadFault (D.honest devices.old.image) r (D.image devices.old.image)) }
+    ensures fault { FaultsOfTorn D.Device devices.old.image torn result }
     ensures kind { IfErr result (LookFault ⊥ [] []) }
     ensures room { OnOk result (HasRoomFor torn.mark (D.room devices.new.image)) }
     ensures buffers { IfOk result (HasBuffersFor torn.mark) }
@@ -186,17 +186,12 @@ pub fn recover_read<D: Device, T: TextStore, A: Allocator + Clone>(
     ensures keeps { KeepsPair D.Device T.TextStore devices.old devices.new result }
     ensures counted { CountsStack D.Device T.TextStore devices.old result }
     ensures refused { SparesPair D.Device T.TextStore devices.old devices.new result }
-    ensures emptied { T.honest devices.old.redo → OnOk result (T.text devices.new.redo ≡ []) }
-    ensures emptied_first { EmptiesFirst T.TextStore devices.old devices.new result }
+    ensures empties { EmptiesRedo T.TextStore devices.old devices.new result }
     ensures settled { OfAll D.Device T.TextStore devices.old (OnOk result (AreSettled D.Device T.TextStore devices.new)) }
     ensures found_before { IfErr result (λ e. AfterFault e (Unit {0}) (FoundBefore D.Device T.TextStore devices.old devices.new)) }
     ensures redo_same { T.honest devices.old.redo → IfErr result (λ e. AfterFault e (Unit {0}) (T.text devices.new.redo ≡ T.text devices.old.redo)) }
     ensures survives { OfAll D.Device T.TextStore devices.old (RecoverySurvives D.Device T.TextStore result (λ o. Unit {0}) (λ e. e) devices.old devices.new) }
-    ensures image_honesty { D.honest devices.new.image ↔ D.honest devices.old.image }
-    ensures journal_honesty { T.honest devices.new.journal ↔ T.honest devices.old.journal }
-    ensures redo_honesty { T.honest devices.new.redo ↔ T.honest devices.old.redo }
-    ensures no_failure { AreUnfailed D.Device T.TextStore devices.old devices.new result }
-    ensures counts { AreCounted D.Device T.TextStore devices.old devices.new result }
+    ensures calls { CallsCount D.Device T.TextStore devices.old devices.new result }
 {
     let mut buffers = match get_ready(alloc, devices, torn) {
         Ok(buffers) => buffers,

@@ -35,6 +35,10 @@ AreReady x es [] = Unit {0}
 AreReady x [] (t ∷ ts) = ⊥
 AreReady x (e ∷ es) (t ∷ ts) = IsTakenBy x e t × AreZeros e.kept.len es ts
 
+-- those for the last of the entries, the oldest of both first
+abbrev pub AreReadyLast : {A : Type 0} → List ℕ → List (EntryRead A) → List (Saved A) → Type 0
+AreReadyLast x es ts = AreReady x (reverse es) (reverse ts)
+
 -- the last record was filled from the image x: whatever entries the records are for, they are ready
 abbrev pub AreFilled : {A : Type 0} → List ℕ → List (Saved A) → List (Saved A) → Type 0
 AreFilled {A = A} x old new = (es : List (EntryRead A)) → AreZeros (length x) es (reverse old) → AreReady x es (reverse new)

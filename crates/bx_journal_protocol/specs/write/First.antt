@@ -1,6 +1,7 @@
 -- The first byte of a journal, which is on the disk before any other.
 use Rattle.std.specs.Prelude.{◌≡◌, ◌⊎◌, ◌≤◌, ℕ, List, length}
-use Rattle.bx_image.specs.Power.{IsFaded}
+use Rattle.bx_journal_store.specs.declared.store.TextStore.{Ghosts as StoreViews}
+use Rattle.bx_image.specs.Power.{IsFaded, Only}
 use Rattle.bx_journal_format.specs.read.Faded.{HasFirst}
 
 -- whatever is found is the text, or no longer than a byte
@@ -14,3 +15,7 @@ AllHaveFirst text survives = (c : List ℕ) → survives c → HasFirst text c
 -- whatever is found of a text that is cut to n bytes is what is left of it, with its first byte or no byte behind it
 abbrev pub AllLeft : ℕ → List ℕ → (List ℕ → Type 0) → Type 0
 AllLeft n text survives = (c : List ℕ) → survives c → IsFaded n text c × HasFirst text c
+
+-- where a text is honest, and on the disk as it is, this holds
+abbrev pub WhereSettled : {T : Type 0} → StoreViews T → T → Type 0 → Type 0
+WhereSettled t s holds = t.honest s → Only (t.text s) (t.survives s) → holds

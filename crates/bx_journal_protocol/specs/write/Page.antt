@@ -1,5 +1,7 @@
 -- A text that is appended in pages.
-use Rattle.std.specs.Prelude.{◌≡◌, ℕ, List, ◌++◌, flat_map, map}
+use Rattle.std.specs.Prelude.{◌≡◌, ℕ, List, ◌++◌, Result, OnOk, flat_map, map}
+use Rattle.bx_image.specs.Power.{FadesBehind}
+use Rattle.bx_journal_store.specs.declared.store.TextStore.{Ghosts as StoreViews}
 use Rattle.bx_text.specs.declared.owned.pieces.Piece.{Piece}
 use Rattle.bx_journal_format.specs.DumpLine.{dump_line}
 use Rattle.bx_journal_format.specs.Entry.{rows, rows_text}
@@ -11,6 +13,14 @@ pub record IsPaged (bytes old new page : List ℕ) : Type 0 where
   pub added : List ℕ
   pub text_is : new ≡ old ++ added
   pub bytes_are : added ++ page ≡ bytes
+
+-- behind the call the text has these bytes at its end, where it is honest
+abbrev pub HasAppended : {T V E : Type 0} → StoreViews T → T → List ℕ → T → Result V E → Type 0
+HasAppended t old bytes new result = t.honest old → OnOk result (t.text new ≡ t.text old ++ bytes)
+
+-- the text fades as it did, with these bytes behind it, where it is honest
+abbrev pub FadesWith : {T : Type 0} → StoreViews T → T → List ℕ → T → Type 0
+FadesWith t old bytes new = t.honest old → FadesBehind (t.text old) bytes (t.survives old) (t.survives new)
 
 -- a saved line with its newline
 abbrev pub row_text : ℕ → List ℕ → List ℕ

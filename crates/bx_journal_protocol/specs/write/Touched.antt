@@ -6,6 +6,7 @@ use Rattle.bx_image.specs.declared.change.TheConstants.{MAX_LEN}
 use Rattle.bx_image.specs.declared.record.spans.Span.{Span}
 use Rattle.bx_image.specs.Change.{saved, HaveBytes, Restores}
 use Rattle.bx_image.specs.Over.{saved_over, LieWithin}
+use Rattle.bx_journal_store.specs.declared.store.TextStore.{Ghosts as StoreViews}
 use Rattle.bx_journal_format.specs.Entry.{head_text}
 use Rattle.bx_journal_format.specs.declared.read.types.EntryRead.{EntryRead}
 use Rattle.bx_journal_protocol.specs.declared.write.head.Head.{Head}
@@ -56,6 +57,10 @@ IsFirstWithin len (r ∷ rs) = LieWithin len r.items
 abbrev pub entries_over : {A : Type 0} → List (Vec Span A) → ℕ
 entries_over [] = 0
 entries_over (r ∷ rs) = 80 + left_len r.items 0 + entries_over rs
+
+-- a store has room for them behind its text
+abbrev pub HasRoomForRanges : {T A : Type 0} → StoreViews T → T → List (Vec Span A) → Type 0
+HasRoomForRanges t s takens = length (t.text s) + entries_over takens ≤ t.room s
 
 -- each lies within a length that an entry can tell
 abbrev pub AreToldRanges : {A : Type 0} → List (Vec Span A) → Type 0

@@ -1,9 +1,9 @@
 //! What a change takes before its first write.
 ghost use Rattle.std.specs.Prelude.{◌≡◌, ◌↔◌, ◌+◌, ◌<◌, ◌≤◌, [], length, IfOk, IfErr, OnOk, IsErrOf};
 ghost use Rattle.bx_image.specs.Change.{effect, Fits};
-ghost use Rattle.bx_journal_format.specs.Entry.{end_text};
+ghost use Rattle.bx_journal_protocol.specs.before.Ready.{IsReadyChange};
 ghost use Rattle.bx_journal_protocol.specs.model.Power.{FoundBefore};
-ghost use Rattle.bx_journal_protocol.specs.write.Begun.{rest_of, BeginsEntry, IsHead};
+ghost use Rattle.bx_journal_protocol.specs.write.Begun.{rest_of, IsHead};
 ghost use Rattle.bx_journal_protocol.specs.Devices.{AreCounted, AreUnfailed, HaveStayed};
 ghost use Rattle.bx_journal_read.specs.model.Fault.{PrepareFault};
 ghost use Rattle.bx_journal_protocol.specs.protocol.Written.{AreSettled};
@@ -37,11 +37,8 @@ pub fn prepare_change<D: Device, T: TextStore, A: Allocator + Clone>(
     requires redo_countable { T.failures devices.old.redo < u64.MAX }
     ensures head { IfOk result (λ p. IsHead p.ranges.items p.head) }
     ensures some { IfOk result (λ p. 0 < length p.head.page.items) }
-    ensures begins { D.honest devices.old.image → IfOk result (λ p. BeginsEntry change.now (D.image devices.old.image) p.ranges.items p.head) }
     ensures number { IfOk result (λ p. p.head.number ≡ number) }
-    ensures fits { D.honest devices.old.image → IfOk result (λ p. Fits change.now (length (D.image devices.old.image)) MAX_LEN) }
-    ensures bound { D.honest devices.old.image → IfOk result (λ p. length (effect change.now (D.image devices.old.image)) ≤ MAX_LEN) }
-    ensures end { D.honest devices.old.image → IfOk result (λ p. p.end ≡ end_text number (length (effect change.now (D.image devices.old.image)))) }
+    ensures prepared { D.honest devices.old.image → IfOk result (IsReadyChange change.now (D.image devices.old.image) number) }
     ensures image_room { OnOk result (length (effect change.now []) ≤ D.room devices.new.image) }
     ensures text_room { T.honest devices.old.journal
         → IfOk result (λ p. length (T.text devices.new.journal) + rest_of p.ranges.items p.head + length p.end ≤ T.room devices.new.journal) }

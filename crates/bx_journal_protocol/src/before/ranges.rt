@@ -8,7 +8,7 @@ ghost use Rattle.bx_journal_protocol.specs.model.Power.{FoundBefore};
 ghost use Rattle.bx_journal_protocol.specs.before.Again.{IsReadyAgain};
 ghost use Rattle.bx_journal_protocol.specs.Devices.{AreCounted, AreUnfailed, HaveStayed};
 ghost use Rattle.bx_journal_protocol.specs.protocol.Takens.{length_at};
-ghost use Rattle.bx_journal_protocol.specs.write.Touched.{AreTouched, AreToldRanges, IsFirstBegun, IsFirstWithin, IsTouched, entries_over as entries_long};
+ghost use Rattle.bx_journal_protocol.specs.write.Touched.{AreTouched, AreToldRanges, HasRoomForRanges, IsFirstBegun, IsFirstWithin, IsTouched, entries_over as entries_long};
 ghost use Rattle.bx_journal_read.specs.model.Undoing.{HasRoomFor};
 ghost use Rattle.bx_journal_protocol.specs.protocol.Written.{AreSettled};
 
@@ -187,7 +187,7 @@ fn take_ranges<D: Device, T: TextStore, A: Allocator + Clone>(
     requires few { k ≤ length read.now.entries.items }
     ensures kept { HasRoomFor (D.room devices.new.image) read.now.entries.items k result }
     ensures ready { IfOk result (IsReadyAgain (D.honest devices.old.image) (D.image devices.old.image) read.now.entries.items k number) }
-    ensures roomed { T.honest devices.old.journal → IfOk result (λ o. length (T.text devices.new.journal) + entries_long o.takens.items ≤ T.room devices.new.journal) }
+    ensures roomed { T.honest devices.old.journal → IfOk result (λ o. HasRoomForRanges T.TextStore devices.new.journal o.takens.items) }
     ensures kind { IfErr result DeviceFault }
     ensures stayed { HaveStayed D.Device T.TextStore devices.old devices.new }
     ensures found_before { FoundBefore D.Device T.TextStore devices.old devices.new }
@@ -221,7 +221,7 @@ pub fn prepare_redo<D: Device, T: TextStore, A: Allocator + Clone>(
     requires few { k ≤ length read.now.entries.items }
     ensures kept { HasRoomFor (D.room devices.new.image) read.now.entries.items k result }
     ensures ready { IfOk result (IsReadyAgain (D.honest devices.old.image) (D.image devices.old.image) read.now.entries.items k number) }
-    ensures roomed { T.honest devices.old.journal → IfOk result (λ o. length (T.text devices.new.journal) + entries_long o.takens.items ≤ T.room devices.new.journal) }
+    ensures roomed { T.honest devices.old.journal → IfOk result (λ o. HasRoomForRanges T.TextStore devices.new.journal o.takens.items) }
     ensures settled { D.honest devices.old.image → T.honest devices.old.journal → T.honest devices.old.redo
         → OnOk result (AreSettled D.Device T.TextStore devices.new) }
     ensures kind { IfErr result DeviceFault }

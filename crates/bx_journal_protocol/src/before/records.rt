@@ -7,7 +7,7 @@ ghost use Rattle.bx_journal_protocol.specs.protocol.Written.{AreSettled};
 ghost use Rattle.bx_journal_protocol.specs.before.Overwritten.{AreOrdered, place_in};
 ghost use Rattle.bx_journal_protocol.specs.protocol.Placed.{AllFit, ArePreparedIn};
 ghost use Rattle.bx_journal_protocol.specs.before.Plan.{IsPlan, IsTakenFor};
-ghost use Rattle.bx_journal_protocol.specs.protocol.Takens.{AreReady, AllShaped, HasRoomForEntries, entries_len as entries_long};
+ghost use Rattle.bx_journal_protocol.specs.protocol.Takens.{AreReadyLast, AllShaped, HasRoomForEntries, entries_len as entries_long};
 ghost use Rattle.bx_journal_read.specs.model.Undoing.{AreReadFrom, HasRoomFor};
 ghost use Rattle.bx_journal_read.specs.scan.Windows.{HasShortLines};
 
@@ -154,7 +154,7 @@ fn take_records<D: Device, T: TextStore, A: Allocator + Clone>(
     ensures places { IfOk result (λ o. o.placed.items ≡ map (place_in read.longest) (drop (length read.entries.items - k) read.entries.items)) }
     ensures fit { IfOk result (λ o. AllFit (D.room devices.new.image) (length o.buffers.window.items) o.placed.items) }
     ensures parts { IfOk result (λ o. 0 < vec_capacity o.buffers.parts) }
-    ensures filled { D.honest devices.old.image → IfOk result (λ o. AreReady (D.image devices.old.image) (reverse read.entries.items) (reverse o.takens.items)) }
+    ensures filled { D.honest devices.old.image → IfOk result (λ o. AreReadyLast (D.image devices.old.image) read.entries.items o.takens.items) }
     ensures shaped { IfOk result (λ o. AllShaped o.takens.items) }
     ensures count { IfOk result (λ o. length o.takens.items ≡ k) }
     ensures roomed { T.honest devices.old.redo → IfOk result (λ o. HasRoomForEntries T.TextStore devices.new.redo o.takens.items) }

@@ -3,14 +3,16 @@ ghost use Rattle.std.specs.Prelude.{◌≡◌, ◌↔◌, ◌⊎◌, ◌+◌, �
 ghost use Rattle.bx_journal_format.specs.Kept.{kept_of};
 ghost use Rattle.bx_image.specs.Change.{effect, saved, IsAsGood};
 ghost use Rattle.bx_image.specs.Device.{GoesOn};
-ghost use Rattle.bx_image.specs.Power.{NoMore, Only};
+ghost use Rattle.bx_image.specs.Power.{Only};
 ghost use Rattle.bx_journal_format.specs.Entry.{head_text};
 ghost use Rattle.bx_journal_format.specs.Text.{IsPrefix};
 ghost use Rattle.bx_journal_protocol.specs.write.Begun.{rest_of, IsBegunOver, IsHead, KeepsBuffers};
-ghost use Rattle.bx_journal_protocol.specs.Devices.{AreBelow, ImageIsFirst, StepsOn};
+ghost use Rattle.bx_journal_protocol.specs.Devices.{AreBelow, GoOnPaired, ImageIsFirst, StepsOn};
 ghost use Rattle.bx_journal_read.specs.scan.Looking.{OneMore};
 ghost use Rattle.bx_journal_protocol.specs.protocol.Fading.{AllStayOpenFor, EndSurvives, HeadSurvives};
 ghost use Rattle.bx_journal_read.specs.model.Phase.{StaysOpenFor};
+ghost use Rattle.bx_journal_protocol.specs.write.First.{WhereSettled};
+ghost use Rattle.bx_journal_protocol.specs.write.Page.{HasAppended};
 ghost use Rattle.bx_journal_protocol.specs.write.Ranges.{kept_over};
 ghost use Rattle.bx_journal_read.specs.scan.Step.{EndRests, EndStops, HeadOpens, HeadStops};
 ghost use Rattle.bx_journal_protocol.specs.protocol.Turns.{place_of};
@@ -41,22 +43,15 @@ pub fn append_head_of<D: Device, T: TextStore, A: Allocator>(
     requires fits { T.honest journal.old → length (T.text journal.old) + rest_of ranges.now head.old ≤ T.room journal.old }
     ensures ok { D.honest image.old → HeadOpens T.TextStore journal.old (head_on D.image image.old ranges.now head.old) journal.new result }
     ensures fault { D.honest image.old → HeadStops T.TextStore journal.old (head_on D.image image.old ranges.now head.old) journal.new result }
-    ensures text { D.honest image.old → T.honest journal.old → OnOk result (T.text journal.new ≡ T.text journal.old ++ head_on D.image image.old ranges.now head.old) }
+    ensures text { D.honest image.old → HasAppended T.TextStore journal.old (head_on D.image image.old ranges.now head.old) journal.new result }
     ensures settled { T.honest journal.old → OnOk result (Only (T.text journal.new) (T.survives journal.new)) }
-    ensures survives { D.honest image.old → T.honest journal.old → Only (T.text journal.old) (T.survives journal.old)
-        → HeadSurvives (T.text journal.old) (head_text head.old.number (kept_over (D.image image.old) ranges.now)) (T.survives journal.new) }
+    ensures survives { D.honest image.old → WhereSettled T.TextStore journal.old
+        (HeadSurvives (T.text journal.old) (head_on D.image image.old ranges.now head.old) (T.survives journal.new)) }
     ensures long { T.honest journal.old → OnOk result (length (T.text journal.new) ≡ length (T.text journal.old) + rest_of ranges.now head.old) }
     ensures front { T.honest journal.old → OnOk result (IsPrefix (T.text journal.old) (T.text journal.new)) }
     ensures emptied { OnOk result (head.new.page.items ≡ []) }
     ensures kept { KeepsBuffers head.old head.new }
-    ensures image { D.honest image.old → D.image image.new ≡ D.image image.old }
-    ensures image_survives { D.honest image.old → NoMore (D.survives image.old) (D.survives image.new) }
-    ensures image_honesty { D.honest image.new ↔ D.honest image.old }
-    ensures image_room { D.room image.old ≤ D.room image.new }
-    ensures journal_honesty { T.honest journal.new ↔ T.honest journal.old }
-    ensures journal_room { T.room journal.old ≤ T.room journal.new }
-    ensures no_failure { OnOk result ((D.failures image.new ≡ D.failures image.old) × (T.failures journal.new ≡ T.failures journal.old)) }
-    ensures failure { OnErr result (OneMore (D.failures image.old) (T.failures journal.old) (D.failures image.new) (T.failures journal.new)) }
+    ensures goes_on { GoOnPaired D.Device T.TextStore result image.old journal.old image.new journal.new }
 {
     put_head_from(image, journal, head, ranges)?;
     journal.sync()
@@ -69,9 +64,8 @@ pub fn append_end<T: TextStore>(journal: &mut T, end: &[u8]) -> Result<(), Devic
     ensures ok { T.honest journal.old → EndRests (T.text journal.old) end.now (T.text journal.new) result }
     ensures fault { T.honest journal.old → EndStops (T.text journal.old) end.now (T.text journal.new) result }
     ensures settled { T.honest journal.old → OnOk result (Only (T.text journal.new) (T.survives journal.new)) }
-    ensures survives { T.honest journal.old → Only (T.text journal.old) (T.survives journal.old)
-        → EndSurvives (T.text journal.old) end.now (T.survives journal.new) }
-    ensures text { T.honest journal.old → OnOk result (T.text journal.new ≡ T.text journal.old ++ end.now) }
+    ensures survives { WhereSettled T.TextStore journal.old (EndSurvives (T.text journal.old) end.now (T.survives journal.new)) }
+    ensures text { HasAppended T.TextStore journal.old end.now journal.new result }
     ensures goes_on { GoesOn T.honest T.room T.failures (is_err result) journal.old journal.new }
 {
     journal.append(end)?;

@@ -8,7 +8,7 @@ ghost use Rattle.bx_journal_format.specs.Kept.{Kept};
 ghost use Rattle.bx_journal_format.specs.Shown.{shown};
 ghost use Rattle.bx_journal_format.specs.read.Faded.{HasFirst};
 ghost use Rattle.bx_journal_store.specs.Store.{IsPartlyCut};
-ghost use Rattle.bx_journal_protocol.specs.write.First.{AllLeft};
+ghost use Rattle.bx_journal_protocol.specs.write.First.{AllLeft, WhereSettled};
 ghost use Rattle.bx_journal_protocol.specs.protocol.Opening.{HasBuffersFor};
 ghost use Rattle.bx_journal_read.specs.scan.Restoring.{StandsAt};
 ghost use Rattle.bx_journal_read.specs.scan.Step.{StopsTail, TailRests, TailStops, TakesTail};
@@ -27,8 +27,8 @@ fn keep_first<T: TextStore>(journal: &mut T, begins: u64) -> Result<(), DeviceFa
     ensures part { T.honest journal.old → IsPartlyCut begins (T.text journal.old) (T.text journal.new) }
     ensures first { T.honest journal.old → HasFirst (T.text journal.old) (T.text journal.new) }
     ensures short { T.honest journal.old → OnOk result (begins ≡ 0 → length (T.text journal.new) ≤ 1) }
-    ensures settled { T.honest journal.old → Only (T.text journal.old) (T.survives journal.old) → OnOk result (Only (T.text journal.new) (T.survives journal.new)) }
-    ensures survives { T.honest journal.old → Only (T.text journal.old) (T.survives journal.old) → AllLeft begins (T.text journal.old) (T.survives journal.new) }
+    ensures settled { WhereSettled T.TextStore journal.old (OnOk result (Only (T.text journal.new) (T.survives journal.new))) }
+    ensures survives { WhereSettled T.TextStore journal.old (AllLeft begins (T.text journal.old) (T.survives journal.new)) }
     ensures goes_on { GoesOn T.honest T.room T.failures (is_err result) journal.old journal.new }
 {
     if begins > 0 {
@@ -50,7 +50,7 @@ pub fn drop_tail<T: TextStore>(journal: &mut T, begins: u64) -> Result<(), Devic
     ensures shown_rests { T.honest journal.old → TailRests (shown (T.text journal.old)) begins (T.text journal.new) result }
     ensures shown_stops { T.honest journal.old → TailStops (shown (T.text journal.old)) begins (shown (T.text journal.new)) result }
     ensures settled { T.honest journal.old → OnOk result (Only (T.text journal.new) (T.survives journal.new)) }
-    ensures survives { T.honest journal.old → Only (T.text journal.old) (T.survives journal.old) → TailSurvives (T.text journal.old) begins (T.survives journal.new) }
+    ensures survives { WhereSettled T.TextStore journal.old (TailSurvives (T.text journal.old) begins (T.survives journal.new)) }
     ensures shown_survives { T.honest journal.old → Only (T.text journal.old) (T.survives journal.old)
         → RestSurvives (shown (T.text journal.old)) begins (T.survives journal.new) }
     ensures text { T.honest journal.old → OnOk result (T.text journal.new ≡ take begins (T.text journal.old)) }

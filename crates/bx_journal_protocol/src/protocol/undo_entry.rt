@@ -5,6 +5,7 @@ ghost use Rattle.bx_journal_format.specs.Kept.{Kept};
 ghost use Rattle.bx_image.specs.Device.{GoesOn};
 ghost use Rattle.bx_image.specs.Power.{NoMore, Only};
 ghost use Rattle.bx_journal_protocol.specs.Devices.{AreBelow, ImageIsFirst, StepsOn};
+ghost use Rattle.bx_journal_protocol.specs.write.First.{WhereSettled};
 ghost use Rattle.bx_journal_read.specs.model.Undoing.{LeavesFront};
 ghost use Rattle.bx_journal_protocol.specs.protocol.Entries.{DropsRest, DropsSome, DropsStand, StaySettled, UndoAll, UndoSome, UndoSomeSurvives, UndoTakes};
 ghost use Rattle.bx_journal_protocol.specs.protocol.Placed.{AllFit, ArePreparedIn};
@@ -79,7 +80,7 @@ fn cut_end<T: TextStore>(journal: &mut T, saved: u64) -> Result<(), DeviceFailed
     ensures text { T.honest journal.old → OnOk result (T.text journal.new ≡ take saved (T.text journal.old)) }
     ensures cut { T.honest journal.old → OnErr result (IsPartlyCut saved (T.text journal.old) (T.text journal.new)) }
     ensures settled { T.honest journal.old → OnOk result (Only (T.text journal.new) (T.survives journal.new)) }
-    ensures survives { T.honest journal.old → Only (T.text journal.old) (T.survives journal.old) → CutSurvives (T.text journal.old) saved (T.survives journal.new) }
+    ensures survives { WhereSettled T.TextStore journal.old (CutSurvives (T.text journal.old) saved (T.survives journal.new)) }
     ensures goes_on { GoesOn T.honest T.room T.failures (is_err result) journal.old journal.new }
 {
     journal.cut(saved)?;

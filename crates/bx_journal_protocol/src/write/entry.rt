@@ -3,11 +3,10 @@ ghost use Rattle.std.specs.Prelude.{◌≡◌, ◌+◌, ◌*◌, ◌<◌, ◌≤
 ghost use Rattle.bx_image.specs.Change.{AllWithin};
 ghost use Rattle.bx_image.specs.Device.{GoesOn};
 ghost use Rattle.bx_image.specs.Image.{end_of};
-ghost use Rattle.bx_image.specs.Power.{FadesBehind};
 ghost use Rattle.bx_journal_store.specs.Store.{IsPartlyAppended};
 ghost use Rattle.bx_journal_format.specs.Kept.{kept_of};
 ghost use Rattle.bx_journal_format.specs.Entry.{head_text};
-ghost use Rattle.bx_journal_protocol.specs.write.Page.{IsPaged, row_text, run_text, runs_text};
+ghost use Rattle.bx_journal_protocol.specs.write.Page.{FadesWith, IsPaged, row_text, run_text, runs_text};
 ghost use Rattle.bx_journal_format.specs.Text.{ended};
 
 use crate::write::page::{append_page, make_room, put_bytes};
@@ -31,7 +30,7 @@ pub fn put_head<T: TextStore, A: Allocator>(
     requires room { 82 ≤ vec_capacity page.old }
     ensures ok { T.honest store.old → OnOk result (T.text store.new ≡ T.text store.old ++ head_text number (kept_of kept.now)) }
     ensures fault { T.honest store.old → OnErr result (IsPartlyAppended (head_text number (kept_of kept.now)) (T.text store.old) (T.text store.new)) }
-    ensures fades { T.honest store.old → FadesBehind (T.text store.old) (head_text number (kept_of kept.now)) (T.survives store.old) (T.survives store.new) }
+    ensures fades { FadesWith T.TextStore store.old (head_text number (kept_of kept.now)) store.new }
     ensures emptied { OnOk result (page.new.items ≡ []) }
     ensures page_room { vec_capacity page.old ≤ vec_capacity page.new }
     ensures goes_on { GoesOn T.honest T.room T.failures (is_err result) store.old store.new }
@@ -54,7 +53,7 @@ pub fn put_words<T: TextStore, A: Allocator>(
     requires short { length line < 34 }
     ensures ok { T.honest store.old → OnOk result (IsPaged (page.old.items ++ ended line) (T.text store.old) (T.text store.new) page.new.items) }
     ensures fault { T.honest store.old → OnErr result (IsPartlyAppended (page.old.items ++ ended line) (T.text store.old) (T.text store.new)) }
-    ensures fades { T.honest store.old → FadesBehind (T.text store.old) (page.old.items ++ ended line) (T.survives store.old) (T.survives store.new) }
+    ensures fades { FadesWith T.TextStore store.old (page.old.items ++ ended line) store.new }
     ensures room { vec_capacity page.old ≤ vec_capacity page.new }
     ensures goes_on { GoesOn T.honest T.room T.failures (is_err result) store.old store.new }
 {
@@ -75,7 +74,7 @@ fn put_runs<T: TextStore, A: Allocator>(
     requires room { 82 ≤ vec_capacity page.old }
     ensures ok { T.honest store.old → OnOk result (IsPaged (page.old.items ++ runs_text kept.now.runs) (T.text store.old) (T.text store.new) page.new.items) }
     ensures fault { T.honest store.old → OnErr result (IsPartlyAppended (page.old.items ++ runs_text kept.now.runs) (T.text store.old) (T.text store.new)) }
-    ensures fades { T.honest store.old → FadesBehind (T.text store.old) (page.old.items ++ runs_text kept.now.runs) (T.survives store.old) (T.survives store.new) }
+    ensures fades { FadesWith T.TextStore store.old (page.old.items ++ runs_text kept.now.runs) store.new }
     ensures room { vec_capacity page.old ≤ vec_capacity page.new }
     ensures goes_on { GoesOn T.honest T.room T.failures (is_err result) store.old store.new }
 {
@@ -99,7 +98,7 @@ fn put_run<T: TextStore, A: Allocator>(
     requires room { 82 ≤ vec_capacity page.old }
     ensures ok { T.honest store.old → OnOk result (IsPaged (page.old.items ++ run_text run.now) (T.text store.old) (T.text store.new) page.new.items) }
     ensures fault { T.honest store.old → OnErr result (IsPartlyAppended (page.old.items ++ run_text run.now) (T.text store.old) (T.text store.new)) }
-    ensures fades { T.honest store.old → FadesBehind (T.text store.old) (page.old.items ++ run_text run.now) (T.survives store.old) (T.survives store.new) }
+    ensures fades { FadesWith T.TextStore store.old (page.old.items ++ run_text run.now) store.new }
     ensures room { vec_capacity page.old ≤ vec_capacity page.new }
     ensures goes_on { GoesOn T.honest T.room T.failures (is_err result) store.old store.new }
 {
@@ -130,7 +129,7 @@ fn put_row<T: TextStore, A: Allocator>(
     requires room { 82 ≤ vec_capacity page.old }
     ensures ok { T.honest store.old → OnOk result (IsPaged (page.old.items ++ row_text at bytes.now) (T.text store.old) (T.text store.new) page.new.items) }
     ensures fault { T.honest store.old → OnErr result (IsPartlyAppended (page.old.items ++ row_text at bytes.now) (T.text store.old) (T.text store.new)) }
-    ensures fades { T.honest store.old → FadesBehind (T.text store.old) (page.old.items ++ row_text at bytes.now) (T.survives store.old) (T.survives store.new) }
+    ensures fades { FadesWith T.TextStore store.old (page.old.items ++ row_text at bytes.now) store.new }
     ensures room { vec_capacity page.old ≤ vec_capacity page.new }
     ensures goes_on { GoesOn T.honest T.room T.failures (is_err result) store.old store.new }
 {
@@ -155,7 +154,7 @@ fn put_full_row<T: TextStore, A: Allocator>(
     requires room { 82 ≤ vec_capacity page.old }
     ensures ok { T.honest store.old → OnOk result (IsPaged (page.old.items ++ row_text at bytes.now) (T.text store.old) (T.text store.new) page.new.items) }
     ensures fault { T.honest store.old → OnErr result (IsPartlyAppended (page.old.items ++ row_text at bytes.now) (T.text store.old) (T.text store.new)) }
-    ensures fades { T.honest store.old → FadesBehind (T.text store.old) (page.old.items ++ row_text at bytes.now) (T.survives store.old) (T.survives store.new) }
+    ensures fades { FadesWith T.TextStore store.old (page.old.items ++ row_text at bytes.now) store.new }
     ensures room { vec_capacity page.old ≤ vec_capacity page.new }
     ensures goes_on { GoesOn T.honest T.room T.failures (is_err result) store.old store.new }
 {

@@ -5,8 +5,8 @@ ghost use Rattle.bx_image.specs.Power.{FadesBehind, NoMore, Only};
 ghost use Rattle.bx_journal_store.specs.Store.{IsPartlyAppended};
 ghost use Rattle.bx_journal_format.specs.Entry.{rows, head_text, rows_text};
 ghost use Rattle.bx_journal_format.specs.Text.{ended, IsPrefix};
+ghost use Rattle.bx_journal_protocol.specs.Devices.{GoOnPaired};
 ghost use Rattle.bx_journal_protocol.specs.write.Begun.{rest_of, IsHead, KeepsBuffers};
-ghost use Rattle.bx_journal_read.specs.scan.Looking.{OneMore};
 ghost use Rattle.bx_journal_protocol.specs.write.First.{AllHaveFirst};
 ghost use Rattle.bx_journal_protocol.specs.write.Page.{IsPaged, row_text};
 ghost use Rattle.bx_journal_protocol.specs.write.Ranges.{range_text, range_len, head_from, kept_over, left_len, rest_text, rest_len, AreRanges, IsBehind, IsPlace};
@@ -219,14 +219,7 @@ pub fn put_pages<D: Device, T: TextStore, A: Allocator>(
     ensures front { T.honest journal.old → OnOk result (IsPrefix (T.text journal.old) (T.text journal.new)) }
     ensures window { length window.new ≡ length window.old }
     ensures room { vec_capacity page.old ≤ vec_capacity page.new }
-    ensures image { D.honest image.old → D.image image.new ≡ D.image image.old }
-    ensures image_survives { D.honest image.old → NoMore (D.survives image.old) (D.survives image.new) }
-    ensures image_honesty { D.honest image.new ↔ D.honest image.old }
-    ensures image_room { D.room image.old ≤ D.room image.new }
-    ensures journal_honesty { T.honest journal.new ↔ T.honest journal.old }
-    ensures journal_room { T.room journal.old ≤ T.room journal.new }
-    ensures no_failure { OnOk result ((D.failures image.new ≡ D.failures image.old) × (T.failures journal.new ≡ T.failures journal.old)) }
-    ensures failure { OnErr result (OneMore (D.failures image.old) (T.failures journal.old) (D.failures image.new) (T.failures journal.new)) }
+    ensures goes_on { GoOnPaired D.Device T.TextStore result image.old journal.old image.new journal.new }
 {
     let mut now = place;
     while now.range < ranges.len() {
@@ -303,14 +296,7 @@ fn put_rest_of<D: Device, T: TextStore, A: Allocator>(
     ensures front { T.honest journal.old → OnOk result (IsPrefix (T.text journal.old) (T.text journal.new)) }
     ensures emptied { OnOk result (head.new.page.items ≡ []) }
     ensures kept { KeepsBuffers head.old head.new }
-    ensures image { D.honest image.old → D.image image.new ≡ D.image image.old }
-    ensures image_survives { D.honest image.old → NoMore (D.survives image.old) (D.survives image.new) }
-    ensures image_honesty { D.honest image.new ↔ D.honest image.old }
-    ensures image_room { D.room image.old ≤ D.room image.new }
-    ensures journal_honesty { T.honest journal.new ↔ T.honest journal.old }
-    ensures journal_room { T.room journal.old ≤ T.room journal.new }
-    ensures no_failure { OnOk result ((D.failures image.new ≡ D.failures image.old) × (T.failures journal.new ≡ T.failures journal.old)) }
-    ensures failure { OnErr result (OneMore (D.failures image.old) (T.failures journal.old) (D.failures image.new) (T.failures journal.new)) }
+    ensures goes_on { GoOnPaired D.Device T.TextStore result image.old journal.old image.new journal.new }
 {
     let window = head.window.as_mut_slice();
     let page = &mut head.page;
@@ -344,14 +330,7 @@ pub fn put_head_from<D: Device, T: TextStore, A: Allocator>(
     ensures front { T.honest journal.old → OnOk result (IsPrefix (T.text journal.old) (T.text journal.new)) }
     ensures emptied { OnOk result (head.new.page.items ≡ []) }
     ensures kept { KeepsBuffers head.old head.new }
-    ensures image { D.honest image.old → D.image image.new ≡ D.image image.old }
-    ensures image_survives { D.honest image.old → NoMore (D.survives image.old) (D.survives image.new) }
-    ensures image_honesty { D.honest image.new ↔ D.honest image.old }
-    ensures image_room { D.room image.old ≤ D.room image.new }
-    ensures journal_honesty { T.honest journal.new ↔ T.honest journal.old }
-    ensures journal_room { T.room journal.old ≤ T.room journal.new }
-    ensures no_failure { OnOk result ((D.failures image.new ≡ D.failures image.old) × (T.failures journal.new ≡ T.failures journal.old)) }
-    ensures failure { OnErr result (OneMore (D.failures image.old) (T.failures journal.old) (D.failures image.new) (T.failures journal.new)) }
+    ensures goes_on { GoOnPaired D.Device T.TextStore result image.old journal.old image.new journal.new }
 {
     put_first(journal, &mut head.page)?;
     put_rest_of(image, journal, head, ranges)

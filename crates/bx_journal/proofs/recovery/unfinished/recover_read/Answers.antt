@@ -33,8 +33,10 @@ returns-in-Err-clause-keeps g c dh th stack rec = (tt, (subst (λ t. Recovers (s
 pub returns-in-Err-clause-refused : goal.returns-in-Err-clause-refused
 returns-in-Err-clause-refused g c dh th = after_same c.in-Err.fault _ (c.get_ready.ensures.stayed.text_same th, c.get_ready.ensures.stayed.image_same dh)
 
-pub returns-in-Err-clause-counts : goal.returns-in-Err-clause-counts
-returns-in-Err-clause-counts g c = c.in-Err.ensures.counts
+pub returns-in-Err-clause-calls : goal.returns-in-Err-clause-calls
+returns-in-Err-clause-calls g c =
+    let stayed = c.get_ready.ensures.stayed in
+    record { image_honesty = stayed.image_honesty; journal_honesty = stayed.journal_honesty; redo_honesty = stayed.redo_honesty; no_failure = tt; counts = c.in-Err.ensures.counts }
 
 pub returns-in-Err-clause-kind : goal.returns-in-Err-clause-kind
 returns-in-Err-clause-kind g c = look_kind ⊥ [] [] c.in-Err.fault c.in-Err.ensures.kind
@@ -77,9 +79,19 @@ returns-in-Ok-finish-clause-counted g c dh th stack rec =
     torn_stack (shown (g.T.TextStore.text c.args.devices.now.journal)) (shown (g.T.TextStore.text c.args.devices.now.journal)) (g.D.Device.image c.args.devices.now.image) stack c.args.torn (c.requires.found.torn th).reading (c.requires.found.torn th).torn refl rec
     ∙ ap suc (sym c.in-Ok-finish.ensures.changes)
 
-pub returns-in-Ok-finish-clause-image_honesty : goal.returns-in-Ok-finish-clause-image_honesty
-returns-in-Ok-finish-clause-image_honesty g c =
-    (λ h. c.get_ready.ensures.stayed.image_honesty.0 (c.finish.ensures.steps_on.image_honesty.0 h), λ h. c.finish.ensures.steps_on.image_honesty.1 (c.get_ready.ensures.stayed.image_honesty.1 h))
+pub returns-in-Ok-finish-clause-calls : goal.returns-in-Ok-finish-clause-calls
+returns-in-Ok-finish-clause-calls g c =
+    let stayed = c.get_ready.ensures.stayed in
+    let on = c.finish.ensures.steps_on in
+    let a = c.in-Ok-finish.ensures.steps_on.no_failure in
+    let b = c.in-Ok.ensures.no_failure in
+    record {
+      image_honesty = (λ h. stayed.image_honesty.0 (on.image_honesty.0 h), λ h. on.image_honesty.1 (stayed.image_honesty.1 h));
+      journal_honesty = (λ h. stayed.journal_honesty.0 (on.journal_honesty.0 h), λ h. on.journal_honesty.1 (stayed.journal_honesty.1 h));
+      redo_honesty = (λ h. stayed.redo_honesty.0 (on.redo_honesty.0 h), λ h. on.redo_honesty.1 (stayed.redo_honesty.1 h));
+      no_failure = (a.0 ∙ b.0, a.1 ∙ b.1, a.2 ∙ b.2);
+      counts = tt;
+    }
 
 pub returns-in-Ok-finish-clause-left : goal.returns-in-Ok-finish-clause-left
 returns-in-Ok-finish-clause-left g c th r reads =
@@ -87,8 +99,8 @@ returns-in-Ok-finish-clause-left g c th r reads =
     subst (λ t. HasLeft t (g.T.TextStore.text c.finish.new.devices.journal) r.entries) text
     (c.in-Ok-finish.ensures.left (c.get_ready.ensures.stayed.journal_honesty.1 th) r (subst (λ t. Reads (shown t) r) (sym text) reads))
 
-pub returns-in-Err-clause-emptied_first : goal.returns-in-Err-clause-emptied_first
-returns-in-Err-clause-emptied_first g c th rh = inl (c.get_ready.ensures.stayed.text_same th)
+pub returns-in-Err-clause-empties : goal.returns-in-Err-clause-empties
+returns-in-Err-clause-empties g c = record { emptied = λ rh. tt; emptied_first = λ th rh. inl (c.get_ready.ensures.stayed.text_same th) }
 
 pub returns-in-Err-clause-survives : goal.returns-in-Err-clause-survives
 returns-in-Err-clause-survives g c dh th rh s found = look_silent ⊥ [] [] _ c.in-Err.fault c.in-Err.ensures.kind
@@ -103,19 +115,8 @@ finish-requires-clause-found g c = record {
 pub finish-requires-clause-countable : goal.finish-requires-clause-countable
 finish-requires-clause-countable g c = let n = c.in-Ok.ensures.no_failure in (omega (arith, n.0, c.requires.countable.0), omega (arith, n.1, c.requires.countable.1), omega (arith, n.2, c.requires.countable.2))
 
-pub returns-in-Ok-finish-clause-emptied : goal.returns-in-Ok-finish-clause-emptied
-returns-in-Ok-finish-clause-emptied g c rh = c.in-Ok-finish.ensures.emptied (c.get_ready.ensures.stayed.redo_honesty.1 rh)
-
-pub returns-in-Ok-finish-clause-journal_honesty : goal.returns-in-Ok-finish-clause-journal_honesty
-returns-in-Ok-finish-clause-journal_honesty g c =
-    (λ h. c.get_ready.ensures.stayed.journal_honesty.0 (c.finish.ensures.steps_on.journal_honesty.0 h), λ h. c.finish.ensures.steps_on.journal_honesty.1 (c.get_ready.ensures.stayed.journal_honesty.1 h))
-
-pub returns-in-Ok-finish-clause-redo_honesty : goal.returns-in-Ok-finish-clause-redo_honesty
-returns-in-Ok-finish-clause-redo_honesty g c =
-    (λ h. c.get_ready.ensures.stayed.redo_honesty.0 (c.finish.ensures.steps_on.redo_honesty.0 h), λ h. c.finish.ensures.steps_on.redo_honesty.1 (c.get_ready.ensures.stayed.redo_honesty.1 h))
-
-pub returns-in-Ok-finish-clause-no_failure : goal.returns-in-Ok-finish-clause-no_failure
-returns-in-Ok-finish-clause-no_failure g c = let a = c.in-Ok-finish.ensures.steps_on.no_failure in let b = c.in-Ok.ensures.no_failure in (a.0 ∙ b.0, a.1 ∙ b.1, a.2 ∙ b.2)
+pub returns-in-Ok-finish-clause-empties : goal.returns-in-Ok-finish-clause-empties
+returns-in-Ok-finish-clause-empties g c = record { emptied = λ rh. c.in-Ok-finish.ensures.emptied (c.get_ready.ensures.stayed.redo_honesty.1 rh); emptied_first = λ th rh. tt }
 
 pub returns-in-Ok-finish-clause-survives : goal.returns-in-Ok-finish-clause-survives
 returns-in-Ok-finish-clause-survives g c dh th rh s found done =

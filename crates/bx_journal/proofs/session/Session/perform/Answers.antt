@@ -37,7 +37,7 @@ module _ (g : _) (c : After-write_change g) where
 
   -- what the entry begins with is of the image as it is now
   begins : g.D.Device.honest c.self.inside.devices.image → BeginsEntry c.args.change.now x c.in_ok-ready.ready.ranges.items c.in_ok-ready.ready.head
-  begins dh = subst (λ y. BeginsEntry c.args.change.now y c.in_ok-ready.ready.ranges.items c.in_ok-ready.ready.head) (sym (c.prepare_change.ensures.stayed.image_same dh)) (c.in_ok-ready.ensures.begins dh)
+  begins dh = subst (λ y. BeginsEntry c.args.change.now y c.in_ok-ready.ready.ranges.items c.in_ok-ready.ready.head) (sym (c.prepare_change.ensures.stayed.image_same dh)) (c.in_ok-ready.ensures.prepared dh).begins
 
   stayed : HaveStayed g.D.Device g.T.TextStore c.self.inside.devices c.prepare_change.new.devices
   stayed = c.prepare_change.ensures.stayed
@@ -48,13 +48,13 @@ module _ (g : _) (c : After-write_change g) where
       let same = stayed.image_same dh in
       record {
         few = omega arith;
-        long = subst (λ y. length y ≤ MAX_LEN) (sym same) (ready.fits dh).len_fits;
+        long = subst (λ y. length y ≤ MAX_LEN) (sym same) (ready.prepared dh).fits.len_fits;
         saved_is = subst (λ r. kept_over x r ≡ kept_of (saved c.args.change.now x)) (sym c.as_slice-ranges.ensures.value) (begins dh).saved_is;
         kept = subst (λ r. IsOf (kept_over x r) x) (sym c.as_slice-ranges.ensures.value) (begins dh).kept;
         after_is = refl;
-        fits = subst (λ y. length (effect c.args.change.now y) ≤ MAX_LEN) (sym same) (ready.bound dh);
+        fits = subst (λ y. length (effect c.args.change.now y) ≤ MAX_LEN) (sym same) (ready.prepared dh).bound;
         head_is = ap (λ n. head_text n kept) ready.number;
-        line_is = c.as_bytes-line.ensures.value ∙ ready.end dh ∙ ap (λ y. end_text (c.self.inside.count + 1) (length (effect c.args.change.now y))) (sym same);
+        line_is = c.as_bytes-line.ensures.value ∙ (ready.prepared dh).end ∙ ap (λ y. end_text (c.self.inside.count + 1) (length (effect c.args.change.now y))) (sym same);
       }
 
   writes : g.D.Device.honest c.self.inside.devices.image → g.T.TextStore.honest c.self.inside.devices.journal → (stack : List (List ℕ)) → IsAtRest (g.T.TextStore.text c.self.inside.devices.journal) (g.D.Device.image c.self.inside.devices.image) stack → length stack ≡ suc c.self.inside.count
@@ -70,7 +70,7 @@ returns-in-Ok-clause-accepted g c =
     let d = before.image_honesty.1 dh in
     let stands = pair_stays (λ t y. StandsFor t y stack) before dh th standing.stands in
     let same : top stack ≡ g.D.Device.image c.self.inside.devices.image = top_of_stands _ _ stack standing.stands in (
-      (omega arith, subst (λ y. Fits c.args.change.now (length y) MAX_LEN) (sym same) (c.in_ok-ready.ensures.fits dh), omega arith, refl),
+      (omega arith, subst (λ y. Fits c.args.change.now (length y) MAX_LEN) (sym same) (c.in_ok-ready.ensures.prepared dh).fits, omega arith, refl),
       record {
         stands = performs (prepared g b dh) stands standing.count (c.in-Ok.ensures.image d) (c.in-Ok.ensures.back d) (c.in-Ok.ensures.text (before.image_honesty.1 dh) (before.journal_honesty.1 th));
         count = omega arith;

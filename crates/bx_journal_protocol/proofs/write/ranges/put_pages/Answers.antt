@@ -1,4 +1,4 @@
-use Rattle.std.proofs.Common.{◌≡◌, ℕ, List, [], ◌++◌, length, ap, sym, refl, ◌∙◌, subst, arith, append_assoc, append-nil, length-append}
+use Rattle.std.proofs.Common.{rules, ◌≡◌, ℕ, List, [], ◌++◌, length, ap, sym, refl, ◌∙◌, subst, arith, append_assoc, append-nil, length-append}
 use Rattle.bx_image.proofs.Devices.{GoesOn_refl, GoesOn_then}
 use Rattle.bx_journal_protocol.specs.write.Ranges.{rest_text}
 use Rattle.bx_journal_protocol.proofs.PageLemmas.{part_last, part_all, part_front, part_is, paged_all, at_err}
@@ -95,7 +95,16 @@ returns-in_err-now-clause-fades g c dh th =
     let put = before.puts dh th in
     fades_within put.0 (rest_text (g.D.Device.image c.args.image.now) c.args.ranges.now c.loop-now.now) _ _ _ _ _ _ _ put.1 put.2 (before.fades dh th) (c.in_ok-append_page.ensures.fades (before.journal_goes_on.honesty.1 th))
 
-pub returns-in_err-now-clause-image_survives : goal.returns-in_err-now-clause-image_survives
-returns-in_err-now-clause-image_survives g c dh y there =
+pub returns-in_err-now-clause-goes_on : goal.returns-in_err-now-clause-goes_on
+returns-in_err-now-clause-goes_on g c =
     let before = c.loop-now.invariant in
-    before.survives dh y (c.in_err-now.ensures.survives (before.image_goes_on.honesty.1 dh) y there)
+    record {
+      image = λ dh. c.in_err-now.ensures.image (before.image_goes_on.honesty.1 dh) ∙ before.image dh;
+      survives = λ dh y there. before.survives dh y (c.in_err-now.ensures.survives (before.image_goes_on.honesty.1 dh) y there);
+      image_honesty = search rules;
+      image_room = search rules;
+      journal_honesty = search rules;
+      journal_room = search rules;
+      no_failure = search rules;
+      failure = search rules;
+    }
