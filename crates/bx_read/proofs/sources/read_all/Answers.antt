@@ -20,7 +20,7 @@ loop-count-init g c = record {
 pub returns-in-Err-clause-stopped : goal.returns-in-Err-clause-stopped
 returns-in-Err-clause-stopped g c was_open =
     let before = c.loop-count.invariant in
-    let more = c.in-Err.ensures.stopped (before.state ∙ was_open) in (
+    let more = c.in-Err.ensures.stops.stopped (before.state ∙ was_open) in (
       before.text ++ more.0,
       Consumes-trans _ _ _ _ _ before.bytes more.1,
       cause_more c.in-Err.fault _ _ _ _ _ (length before.text) more.2 (omega (arith, length-append before.text more.0))

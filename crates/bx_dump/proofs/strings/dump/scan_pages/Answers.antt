@@ -35,7 +35,7 @@ returns-in-Err-clause-err g c =
     let before = c.loop-n.invariant in
     let now = before.so_far in
     let runs = c.args.runs.now in
-    let stop = rw before.limit at (c.in-Err.ensures.stopped before.open_now) in
+    let stop = rw before.limit at (c.in-Err.ensures.stops.stopped before.open_now) in
     read_stop (scan_text runs.least runs.offsets 0 []) _ _ _ _ _ now.0 c.loop-n.meter.taken _ c.in-Err.fault now.1 (omega (arith, before.limit, c.loop-n.meter.within))
     (scan_grows runs.least runs.offsets now.0) now.2 now.3 stop
 

@@ -8,7 +8,7 @@ pub returns-in-Err-clause-stopped : goal.returns-in-Err-clause-stopped
 returns-in-Err-clause-stopped g c was_open =
     let before = c.loop-left.invariant in
     let now = before.so_far in
-    let stop = c.in-Err.ensures.stopped before.open_now in
+    let stop = c.in-Err.ensures.stops.stopped before.open_now in
     let size : length (take c.min-want.result c.loop-left.buf) ≡ c.min-want.result = length-take-le c.min-want.result c.loop-left.buf (omega (arith, c.min-want.ensures)) in (
       now.0 ++ stop.0,
       Consumes-trans _ _ _ _ _ now.3 stop.1,
@@ -59,7 +59,7 @@ pub returns-in-Err-clause-counted : goal.returns-in-Err-clause-counted
 returns-in-Err-clause-counted g c =
     let before = c.loop-left.invariant in
     let now = before.so_far in
-    let more = c.in-Err.ensures.counted in
+    let more = c.in-Err.ensures.stops.counted in
     (now.0 ++ more.0, Consumes-trans _ _ _ _ _ now.3 more.1, omega (arith, more.2, now.2, before.limit, length-append now.0 more.0))
 
 pub returns-then-n-want-clause-counted : goal.returns-then-n-want-clause-counted

@@ -13,46 +13,49 @@ cause_more NoMemory wanted room more n m k p q r = absurd p
 cause_more (WriteFailed written) wanted room more n m k p q r = absurd p
 cause_more SkipPastEnd wanted room more n m k p q r = absurd p
 
-pub returns-in-Err-clause-stopped : goal.returns-in-Err-clause-stopped
-returns-in-Err-clause-stopped g c was_open =
-    let before = c.loop-count.invariant in
-    let more = c.in-Err.ensures.stopped (before.state ∙ was_open) in (
-      c.loop-count.bytes.items ++ more.0,
-      Consumes-trans _ _ _ _ _ before.bytes more.1,
-      cause_more c.in-Err.fault _ _ _ _ _ (length c.loop-count.bytes.items) more.2 (omega (arith, length-append c.loop-count.bytes.items more.0))
-          (omega (arith, before.taken, before.limit, c.loop-count.self.meter.within)),
-    )
+pub returns-in-Err-clause-stops : goal.returns-in-Err-clause-stops
+returns-in-Err-clause-stops g c =
+    record {
+      err = search rules;
+      memory = search rules;
+      stopped = λ was_open.
+          let before = c.loop-count.invariant in
+          let more = c.in-Err.ensures.stops.stopped (before.state ∙ was_open) in (
+            c.loop-count.bytes.items ++ more.0,
+            Consumes-trans _ _ _ _ _ before.bytes more.1,
+            cause_more c.in-Err.fault _ _ _ _ _ (length c.loop-count.bytes.items) more.2 (omega (arith, length-append c.loop-count.bytes.items more.0))
+                (omega (arith, before.taken, before.limit, c.loop-count.self.meter.within)),
+          );
+      counted =
+          let before = c.loop-count.invariant in
+          let more = c.in-Err.ensures.stops.counted in
+          let front = c.loop-count.bytes.items in
+          (front ++ more.0, Consumes-trans _ _ _ _ _ before.bytes more.1, omega (arith, more.2, before.taken, before.limit, length-append front more.0));
+    }
 
-pub returns-then-is_err-clause-stopped : goal.returns-then-is_err-clause-stopped
-returns-then-is_err-clause-stopped g c was_open =
-    let before = c.loop-count.invariant in
-    let read = c.in-Ok.ensures in
-    let part = take c.in-Ok.count c.fill.new.buf in
-    let same : c.self.inside.reader ≡ c.fill.new.self.reader = ap (λ (v : SourceView _). v.reader) c.self.view_is in (
-      c.loop-count.bytes.items ++ part,
-      rw same (Consumes-trans _ _ _ _ _ before.bytes read.bytes),
-      omega (arith, length-append c.loop-count.bytes.items part, length-take-le c.in-Ok.count c.fill.new.buf read.bound.0, before.taken, before.limit, read.taken, read.limit, c.fill.new.self.meter.within),
-    )
-
-pub returns-in-Err-clause-counted : goal.returns-in-Err-clause-counted
-returns-in-Err-clause-counted g c =
-    let before = c.loop-count.invariant in
-    let more = c.in-Err.ensures.counted in
-    let front = c.loop-count.bytes.items in
-    (front ++ more.0, Consumes-trans _ _ _ _ _ before.bytes more.1, omega (arith, more.2, before.taken, before.limit, length-append front more.0))
-
-pub returns-then-is_err-clause-counted : goal.returns-then-is_err-clause-counted
-returns-then-is_err-clause-counted g c =
-    let before = c.loop-count.invariant in
-    let read = c.in-Ok.ensures in
-    let front = c.loop-count.bytes.items in
-    let part = take c.in-Ok.count c.fill.new.buf in
-    let same : c.self.inside.reader ≡ c.fill.new.self.reader = ap (λ (v : SourceView _). v.reader) c.self.view_is in
-    let as_read : c.self.inside.meter.taken ≡ c.fill.new.self.meter.taken = ap (λ (v : SourceView _). v.meter.taken) c.self.view_is in (
-      front ++ part,
-      rw same (Consumes-trans _ _ _ _ _ before.bytes read.bytes),
-      omega (arith, length-append front part, length-take-le c.in-Ok.count c.fill.new.buf read.bound.0, before.taken, before.limit, read.taken, read.limit, c.stop.ensures.taken, as_read, c.fill.new.self.meter.within),
-    )
-
-pub returns-then-is_err-clause-err : goal.returns-then-is_err-clause-err
-returns-then-is_err-clause-err g c = search rules
+pub returns-then-is_err-clause-stops : goal.returns-then-is_err-clause-stops
+returns-then-is_err-clause-stops g c =
+    record {
+      err = search rules;
+      memory = search rules;
+      stopped = λ was_open.
+          let before = c.loop-count.invariant in
+          let read = c.in-Ok.ensures in
+          let part = take c.in-Ok.count c.fill.new.buf in
+          let same : c.self.inside.reader ≡ c.fill.new.self.reader = ap (λ (v : SourceView _). v.reader) c.self.view_is in (
+            c.loop-count.bytes.items ++ part,
+            rw same (Consumes-trans _ _ _ _ _ before.bytes read.bytes),
+            omega (arith, length-append c.loop-count.bytes.items part, length-take-le c.in-Ok.count c.fill.new.buf read.bound.0, before.taken, before.limit, read.taken, read.limit, c.fill.new.self.meter.within),
+          );
+      counted =
+          let before = c.loop-count.invariant in
+          let read = c.in-Ok.ensures in
+          let front = c.loop-count.bytes.items in
+          let part = take c.in-Ok.count c.fill.new.buf in
+          let same : c.self.inside.reader ≡ c.fill.new.self.reader = ap (λ (v : SourceView _). v.reader) c.self.view_is in
+          let as_read : c.self.inside.meter.taken ≡ c.fill.new.self.meter.taken = ap (λ (v : SourceView _). v.meter.taken) c.self.view_is in (
+            front ++ part,
+            rw same (Consumes-trans _ _ _ _ _ before.bytes read.bytes),
+            omega (arith, length-append front part, length-take-le c.in-Ok.count c.fill.new.buf read.bound.0, before.taken, before.limit, read.taken, read.limit, c.stop.ensures.taken, as_read, c.fill.new.self.meter.within),
+          );
+    }
