@@ -58,7 +58,7 @@ _bx_dd() {
 
 _bx() {
     local cur=${COMP_WORDS[COMP_CWORD]} prev=${COMP_WORDS[COMP_CWORD - 1]} command=${COMP_WORDS[1]} lead=''
-    local commands='xxd od hexdump strings dd revert undo redo log show diff patch' options
+    local commands='xxd od hexdump strings dd revert undo redo log show diff patch forget' options
     COMPREPLY=()
     if ((COMP_CWORD == 1)); then
         _bx_words "$commands help -h --help -V --version"
@@ -73,13 +73,14 @@ _bx() {
     od) options='-A -N -b -c -d -j -o -s -t -v -x' ;;
     hexdump) options='-C -n -s -v' ;;
     strings) options='-a -n -t' ;;
-    dd) options='-J -U --mounted' ;;
-    revert) options='-J -U -f -p -s --mounted' ;;
+    dd) options='-J -U --fresh --mounted' ;;
+    revert) options='-J -U -f -p -s --fresh --mounted' ;;
     undo | redo) options='-J -U -k --mounted' ;;
     log) options='-J -U -v --mounted' ;;
     show) options='-J -d -k -r' ;;
     diff) options='-v' ;;
-    patch) options='-J -R -U -f --mounted' ;;
+    patch) options='-J -R -U -f --fresh --mounted' ;;
+    forget) options='-J -U --mounted' ;;
     *) return ;;
     esac
     case $command:$prev in
@@ -92,7 +93,7 @@ _bx() {
         case $command:$cur in
         *:-*) _bx_words "$options -h --help" ;;
         dd:*) _bx_dd ;;
-        revert:* | undo:* | redo:* | log:* | show:* | patch:*) _bx_images ;;
+        revert:* | undo:* | redo:* | log:* | show:* | patch:* | forget:*) _bx_images ;;
         *) _bx_files ;;
         esac
         ;;

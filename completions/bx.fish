@@ -30,7 +30,7 @@ function __bx_operand
     end
 end
 
-set -l commands xxd od hexdump strings dd revert undo redo log show diff patch
+set -l commands xxd od hexdump strings dd revert undo redo log show diff patch forget
 set -l none "not __fish_seen_subcommand_from $commands help"
 
 complete -c bx -f
@@ -49,11 +49,12 @@ complete -c bx -n $none -a log -d 'List the changes of an image'
 complete -c bx -n $none -a show -d 'Show what an undo or a redo would do'
 complete -c bx -n $none -a diff -d 'Write what differs between two files, as a patch'
 complete -c bx -n $none -a patch -d 'Apply a patch of bx diff to an image'
+complete -c bx -n $none -a forget -d 'Accept all changes of an image'
 complete -c bx -n $none -a help -d 'Show the help of a command'
 complete -c bx -n '__fish_seen_subcommand_from help' -a "$commands"
 
 complete -c bx -n '__fish_seen_subcommand_from xxd od hexdump strings diff' -F
-complete -c bx -n '__fish_seen_subcommand_from revert undo redo log show patch' -a '(__bx_image (commandline -ct))'
+complete -c bx -n '__fish_seen_subcommand_from revert undo redo log show patch forget' -a '(__bx_image (commandline -ct))'
 
 complete -c bx -n '__fish_seen_subcommand_from xxd' -s b -d 'Eight binary digits for each byte'
 complete -c bx -n '__fish_seen_subcommand_from xxd' -s c -x -d 'Bytes on a line, 1 to 256'
@@ -88,11 +89,13 @@ complete -c bx -n '__fish_seen_subcommand_from strings' -s t -x -a 'd o x' -d 'S
 
 complete -c bx -n '__fish_seen_subcommand_from dd' -s J -r -F -d 'Journal of the image'
 complete -c bx -n '__fish_seen_subcommand_from dd' -s U -d 'Do not wait for the disk'
+complete -c bx -n '__fish_seen_subcommand_from dd' -l fresh -d 'Drop the history of the image first'
 complete -c bx -n '__fish_seen_subcommand_from dd' -l mounted -d 'Change a device that is mounted'
 complete -c bx -n '__fish_seen_subcommand_from dd' -a '(__bx_operand)'
 
 complete -c bx -n '__fish_seen_subcommand_from revert' -s J -r -F -d 'Journal of the image'
 complete -c bx -n '__fish_seen_subcommand_from revert' -s U -d 'Do not wait for the disk'
+complete -c bx -n '__fish_seen_subcommand_from revert' -l fresh -d 'Drop the history of the image first'
 complete -c bx -n '__fish_seen_subcommand_from revert' -l mounted -d 'Change a device that is mounted'
 complete -c bx -n '__fish_seen_subcommand_from revert' -s f -r -F -d 'File to read the dump from'
 complete -c bx -n '__fish_seen_subcommand_from revert' -s p -d 'The dump is digits alone'
@@ -122,5 +125,10 @@ complete -c bx -n '__fish_seen_subcommand_from diff' -s v -d 'Write whole rows w
 complete -c bx -n '__fish_seen_subcommand_from patch' -s J -r -F -d 'Journal of the image'
 complete -c bx -n '__fish_seen_subcommand_from patch' -s R -d 'Apply the patch the other way round'
 complete -c bx -n '__fish_seen_subcommand_from patch' -s U -d 'Do not wait for the disk'
+complete -c bx -n '__fish_seen_subcommand_from patch' -l fresh -d 'Drop the history of the image first'
 complete -c bx -n '__fish_seen_subcommand_from patch' -l mounted -d 'Change a device that is mounted'
 complete -c bx -n '__fish_seen_subcommand_from patch' -s f -r -F -d 'File to read the patch from'
+
+complete -c bx -n '__fish_seen_subcommand_from forget' -s J -r -F -d 'Journal of the image'
+complete -c bx -n '__fish_seen_subcommand_from forget' -s U -d 'Do not wait for the disk'
+complete -c bx -n '__fish_seen_subcommand_from forget' -l mounted -d 'Take a change of a mounted device back'

@@ -8,6 +8,7 @@ function of bash is called with the words as bash cuts them, zsh is asked at a t
 It exits 1 where an offer differs, or where no shell was asked. What bx takes is compared with the same files by
 tools/pages/options.py.
 """
+import argparse
 import os
 import pty
 import re
@@ -15,11 +16,10 @@ import select
 import shutil
 import subprocess
 import sys
+import tempfile
 import time
 
-from common import ROOT, folder, write
-
-COMMANDS = ["xxd", "od", "hexdump", "strings", "dd", "revert", "undo", "redo", "log", "show", "diff", "patch"]
+COMMANDS = ["xxd", "od", "hexdump", "strings", "dd", "revert", "undo", "redo", "log", "show", "diff", "patch", "forget"]
 TYPES = ["c"] + [form + size for form in "doux" for size in "1248"]
 OPERANDS = ["if=", "of=", "ibs=", "obs=", "bs=", "cbs=", "skip=", "seek=", "count=", "conv="]
 CONVERSIONS = ["block", "unblock", "lcase", "ucase", "swab", "sync", "notrunc"]
@@ -49,6 +49,7 @@ CASES = [
     ("bx diff ", FILES),
     ("bx diff image im", FILES[1:]),
     ("bx patch ", IMAGES),
+    ("bx forget ", IMAGES),
     ("bx patch -f ", FILES),
     ("bx revert ", IMAGES),
     ("bx redo im", ["image"]),
@@ -68,19 +69,21 @@ CASES = [
 ]
 # Options, which zsh and fish list in their own way: of bash and fish alone. Those of one letter, and the longer ones.
 MOUNTED = ["--mounted"]
+FRESH = ["--fresh", "--mounted"]
 OPTIONS = [
     ("bx xxd -", "bcgilopsu", []),
     ("bx od -", "ANbcdjostvx", []),
     ("bx hexdump -", "Cnsv", []),
     ("bx strings -", "ant", []),
-    ("bx revert -", "JUfps", MOUNTED),
+    ("bx revert -", "JUfps", FRESH),
     ("bx undo -", "JUk", MOUNTED),
     ("bx redo -", "JUk", MOUNTED),
     ("bx log -", "JUv", MOUNTED),
     ("bx show -", "Jdkr", []),
     ("bx diff -", "v", []),
-    ("bx patch -", "JRUf", MOUNTED),
-    ("bx dd -", "JU", MOUNTED),
+    ("bx patch -", "JRUf", FRESH),
+    ("bx forget -", "JU", MOUNTED),
+    ("bx dd -", "JU", FRESH),
 ]
 
 
@@ -89,71 +92,86 @@ def value_of(word):
     return re.sub(r"^\w+=(?=.)", "", word).rsplit(",", 1)[-1]
 
 
-def cut_at_equals(line):
-    """A line of dd as bash cuts it, with a space at each '='."""
-    cut = re.sub("=", " = ", line).replace("=  ", "= ") if line.startswith("bx dd") else line
-    return cut[:-1] if cut.endswith("= ") and not line.endswith(" ") else cut
+class Terminal:
+    """A shell at a terminal of its own."""
+
+    def __init__(self, words, folder, env):
+        self.pid, self.end = pty.fork()
+        if self.pid == 0:
+            os.chdir(folder)
+            os.execvpe(words[0], words, {**os.environ, "LC_ALL": "C", "TERM": "dumb", "COLUMNS": "500", **env})
+
+    def read(self, until, seconds=20):
+        """What it writes up to a text, or up to the end of the time."""
+        text, end = b"", time.monotonic() + seconds
+        while until.encode() not in text and time.monotonic() < end:
+            if select.select([self.end], [], [], 0.2)[0]:
+                try:
+                    text += os.read(self.end, 65536)
+                except OSError:
+                    break
+        return text.decode(errors="replace")
+
+    def ask(self, text, until):
+        os.write(self.end, text.encode())
+        return self.read(until)
+
+    def close(self):
+        os.close(self.end)
+        os.waitpid(self.pid, 0)
 
 
-def output(shell, words, **how):
-    """What a shell writes; what it complains of is shown."""
-    done = subprocess.run([shell, *words], capture_output=True, text=True, check=True, **how)
-    print(f"{shell} says: {done.stderr.strip()}\n" if done.stderr else "", end="")
-    return done.stdout
-
-
-def bash(lines, source, _place):
+def bash(lines, source, folder):
     """What bash offers: the completion is called with the words as bash cuts them, at '=' too."""
     script = ['. "$1"; shift', 'for line; do read -ra COMP_WORDS <<< "$line"; [[ $line == *" " ]] && COMP_WORDS+=("")',
               'COMP_CWORD=$((${#COMP_WORDS[@]} - 1)); COMPREPLY=(); _bx; printf "%s\\n" "${COMPREPLY[@]}" "=="; done']
-    said = output("bash", ["-c", "\n".join(script), "bash", source, *map(cut_at_equals, lines)])
-    return [[word for word in part.split("\n") if word] for part in said.split("==\n")[:-1]]
+    cut = [re.sub("=", " = ", line).replace("=  ", "= ") if line.startswith("bx dd") else line for line in lines]
+    cut = [line[:-1] if line.endswith("= ") and not whole.endswith(" ") else line for line, whole in zip(cut, lines)]
+    done = subprocess.run(["bash", "-c", "\n".join(script), "bash", source, *cut], cwd=folder, capture_output=True, text=True, check=True)
+    if done.stderr:
+        print(f"bash says: {done.stderr.strip()}")
+    return [[word for word in part.split("\n") if word] for part in done.stdout.split("==\n")[:-1]]
 
 
-def fish(lines, source, place):
+def fish(lines, source, folder):
     """What fish offers."""
-    said = [output("fish", ["--no-config", "-c", f"source {source}; complete -C '{line}'"],
-                   env={**os.environ, "HOME": str(place)}) for line in lines]
-    return [[word.split("\t")[0].replace("\\ ", " ") for word in text.splitlines()] for text in said]
+    found = []
+    for line in lines:
+        done = subprocess.run(["fish", "--no-config", "-c", f"source {source}; complete -C '{line}'"], cwd=folder,
+                              capture_output=True, text=True, check=True, env={**os.environ, "HOME": folder})
+        if done.stderr:
+            print(f"fish says: {done.stderr.strip()}")
+        found.append([word.split("\t")[0].replace("\\ ", " ") for word in done.stdout.splitlines()])
+    return found
 
 
-def zsh(lines, source, place):
-    """What zsh offers, at a terminal of its own: what its completion adds is written down by a `compadd` of our own."""
-    hits, start = place.parent / f"{place.name}.hits", place.parent / f"{place.name}.zsh"
-    write(start, f"""
-PS1=; unsetopt zle_bracketed_paste 2> /dev/null; fpath=({source.parent} $fpath); autoload -U compinit
+def zsh(lines, source, folder):
+    """What zsh offers: what its completion adds is written down by a `compadd` of our own."""
+    start = f"""
+PS1=; unsetopt zle_bracketed_paste 2> /dev/null; fpath=({os.path.dirname(source)} $fpath); autoload -U compinit
 compinit -u -D; compdef _bx bx; zstyle ':completion:*' verbose no; zstyle ':completion:*' menu no
 compadd() {{
   if [[ ${{@[1,(i)(-|--)]}} == *-(O|A|D)* ]]; then builtin compadd "$@"; return; fi
   local -a hits; builtin compadd -A hits -D nothing "$@" 2> /dev/null; builtin compadd -A hits "$@"
-  print -rl -- $hits >> {hits}; return 1
+  print -rl -- $hits >> $ZSH_HITS; return 1
 }}
-ask() {{ : > {hits}; zle complete-word; zle kill-buffer; print -r -- "=asked=" }}
+ask() {{ : > $ZSH_HITS; zle complete-word; zle kill-buffer; print -r -- "=asked=" }}
 zle -N ask; bindkey '^X' ask; print =ready=
-""")
-    pid, end = pty.fork()
-    if pid == 0:
-        os.execvpe("zsh", ["zsh", "-f", "-i"], {**os.environ, "LC_ALL": "C", "TERM": "dumb", "COLUMNS": "500"})
-
-    def ask(text, until, seconds=20):
-        os.write(end, text.encode())
-        said, last = b"", time.monotonic() + seconds
-        while until.encode() not in said and time.monotonic() < last:
-            if select.select([end], [], [], 0.2)[0]:
-                said += os.read(end, 65536)
-
+"""
+    hits = os.path.join(folder, "..", "hits")
+    terminal = Terminal(["zsh", "-f", "-i"], folder, {"ZSH_HITS": hits})
     try:
-        ask(f". {start}\n", "=ready=\r")
+        with open(os.path.join(folder, "..", "start.zsh"), "w", encoding="utf-8") as out:
+            out.write(start)
+        terminal.ask(". ../start.zsh\n", "=ready=\r")
         found = []
         for line in lines:
-            ask(line + "\x18", "=asked=")
-            found.append([word.replace("\\ ", " ") for word in hits.read_text(encoding="utf-8").split("\n") if word])
-        return found
+            terminal.ask(line + "\x18", "=asked=")
+            with open(hits, encoding="utf-8") as text:
+                found.append([word.replace("\\ ", " ") for word in text.read().split("\n") if word])
     finally:
-        os.close(end)
-        os.waitpid(pid, 0)
-        hits.unlink(missing_ok=True)
-        start.unlink()
+        terminal.close()
+    return found
 
 
 SHELLS = {"bash": (bash, "bx.bash"), "zsh": (zsh, "_bx"), "fish": (fish, "bx.fish")}
@@ -162,25 +180,37 @@ SHELLS = {"bash": (bash, "bx.bash"), "zsh": (zsh, "_bx"), "fish": (fish, "bx.fis
 def differences(shell):
     """How many offers of a shell differ, each of which is told."""
     offers, name = SHELLS[shell]
-    rows = [(line, set(words)) for line, words in CASES]
-    rows += [(line, {f"-{letter}" for letter in letters} | set(longer)) for line, letters, longer in OPTIONS if shell != "zsh"]
-    with folder() as place:
+    source = os.path.abspath(os.path.join(os.path.dirname(__file__), "..", "completions", name))
+    with tempfile.TemporaryDirectory() as folder:
+        work = os.path.join(folder, "work")
+        os.mkdir(work)
         for file in FILES:
-            write(file)
-        given = offers([line for line, _ in rows], ROOT / "completions" / name, place)
-    got = [{value_of(word) for word in words} - {"-h", "--help", "-V", "--version"} for words in given]
-    bad = [(line, want, found) for (line, want), found in zip(rows, got) if found != want]
-    for line, want, found in bad:
-        print(f"{shell}, {line!r}: wanted {sorted(want)}, got {sorted(found)}")
-    print(f"{shell}: {len(rows) - len(bad)} of {len(rows)} lines are completed as wanted")
-    return len(bad)
+            with open(os.path.join(work, file), "wb"):
+                pass
+        asked = [line for line, _ in CASES] + ([line for line, _, _ in OPTIONS] if shell != "zsh" else [])
+        given = offers(asked, source, work)
+    wanted = [set(words) for _, words in CASES] + [{f"-{letter}" for letter in letters} | set(longer) for _, letters, longer in OPTIONS]
+    bad = 0
+    for line, words, want in zip(asked, given, wanted):
+        got = {value_of(word) for word in words} - {"-h", "--help", "-V", "--version"}
+        if got != want:
+            bad += 1
+            print(f"{shell}, {line!r}: wanted {sorted(want)}, got {sorted(got)}")
+    print(f"{shell}: {len(asked) - bad} of {len(asked)} lines are completed as wanted")
+    return bad
 
 
 def main():
-    asked = sys.argv[1:] or list(SHELLS)
-    there = [shell for shell in asked if shutil.which(shell)]
-    print("".join(f"left out: {shell} isn't installed\n" for shell in asked if shell not in there), end="")
-    sys.exit(1 if sum(map(differences, there)) or not there else 0)
+    parser = argparse.ArgumentParser(description=__doc__.split("\n")[0])
+    parser.add_argument("shells", nargs="*", metavar="SHELL", default=list(SHELLS))
+    bad = asked = 0
+    for shell in parser.parse_args().shells:
+        if shutil.which(shell):
+            asked += 1
+            bad += differences(shell)
+        else:
+            print(f"{shell} isn't installed: not asked")
+    sys.exit(1 if bad or not asked else 0)
 
 
 if __name__ == "__main__":

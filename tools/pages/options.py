@@ -5,15 +5,13 @@ Compared both ways: subcommands; options, and whether they have a value; operand
 and the texts of faults with their numbers. Help has no line above 80 columns.
 """
 import os
-import pathlib
 import re
 import string
 import subprocess
 import tempfile
 
-from sources import ROOT, read
+from sources import ROOT
 
-NEEDS_BX = True
 # the file of each fault: its texts, and in the last one the numbers of all
 FAULTS = {
     "IoFault": "bx_text/src/fault.rt",
@@ -24,30 +22,43 @@ FAULTS = {
     "SessionFault": "bx_journal_read/src/fault.rt",
     "Fault": "bx_cli_commands/src/fault.rt",
 }
-COMMANDS = ["xxd", "od", "hexdump", "strings", "dd", "revert", "undo", "redo", "log", "show", "diff", "patch"]
-# what a command wants in front of an option that is tried
-WANTED = {**dict.fromkeys(["revert", "undo", "redo", "log", "show", "patch"], ["image"]), "diff": ["image", "other"], "hexdump": ["-C"]}
+COMMANDS = ["xxd", "od", "hexdump", "strings", "dd", "revert", "undo", "redo", "log", "show", "diff", "patch", "forget"]
+# what a command wants beside an option, where it isn't an image
+COMMON = {"dd": [], "xxd": [], "od": [], "strings": [], "hexdump": ["-C"]}
+# what stands in front of the option that is tried
+OPERANDS_OF = {**dict.fromkeys(["revert", "undo", "redo", "log", "show", "patch", "forget"], ["image"]), "diff": ["image", "other"]}
 VALUES = ["1", "x", "x1", "other"]
 OPERANDS = ["if", "of", "ibs", "obs", "bs", "cbs", "skip", "seek", "count", "conv", "files", "status", "iflag", "oflag"]
 WORDS = ["block", "unblock", "lcase", "ucase", "swab", "sync", "notrunc", "noerror", "fdatasync", "fsync", "ascii",
          "ebcdic", "ibm", "sparse", "excl", "nocreat"]
 
 
+NEEDS_BX = True
+
+
+def arguments(parser):
+    pass
+
+
+def read(name):
+    return (ROOT / name).read_text(encoding="utf-8")
+
+
 class Program:
     """bx in an empty folder."""
 
     def __init__(self, path, folder):
-        self.path, self.folder = path, pathlib.Path(folder)
+        self.path, self.folder = path, folder
 
     def run(self, *words):
-        for name in ("image", "other", "image.bxj", "1", "x", "x1"):
-            (self.folder / name).write_bytes(b"ABCDEFGH\n" if name in ("image", "other") else b"")
-        return subprocess.run([self.path, *words], stdin=subprocess.DEVNULL, capture_output=True, text=True, cwd=self.folder,
-                              timeout=60,
-                              check=False)
-
-    def help(self, *command):
-        return self.run(*command, "--help").stdout
+        for name in ("image", "other"):
+            with open(os.path.join(self.folder, name), "wb") as out:
+                out.write(b"ABCDEFGH\n")
+        for name in ("image.bxj", "1", "x", "x1"):
+            with open(os.path.join(self.folder, name), "wb"):
+                pass
+        return subprocess.run([self.path, *words], stdin=subprocess.DEVNULL, capture_output=True, text=True,
+                              cwd=self.folder, timeout=60)
 
     def takes(self, *words):
         done = self.run(*words)
@@ -55,128 +66,170 @@ class Program:
 
     def options(self, command):
         """Each option letter, and whether it has a value. The option stands last, so that a value is missed."""
+        front = [command] + OPERANDS_OF.get(command, [])
         found = {}
-        for letter in string.ascii_letters.replace("h", "") + string.digits:
-            front = [command] + [word for word in WANTED.get(command, []) if word != f"-{letter}"]
-            if self.takes(*front, f"-{letter}"):
+        for letter in string.ascii_letters + string.digits:
+            if letter == "h":
+                continue
+            rest = front + (["-C"] if command == "hexdump" and letter != "C" else [])
+            if self.takes(*rest, "-" + letter):
                 found[letter] = False
-            elif any(self.takes(*front, f"-{letter}", value) for value in VALUES):
+            elif any(self.takes(*rest, "-" + letter, value) for value in VALUES):
                 found[letter] = True
         return found
 
+    def commands(self):
+        return {name for name in COMMANDS if self.run(name, "--help").returncode == 0}
+
     def operands(self):
-        return {name for name in OPERANDS for value in ("1", "image", "notrunc")
-                if self.takes("dd", f"{name}={value}", *([] if name == "of" else ["of=image"]))}
+        values = ["1", "image", "notrunc"]
+        return {name for name in OPERANDS if any(self.takes("dd", f"{name}={value}", *(["of=image"] if name != "of" else []))
+                                                 for value in values)}
 
-
-def found_in(pattern, text):
-    return re.findall(pattern, text, re.M)
+    def words(self):
+        return {word for word in WORDS if self.takes("dd", "cbs=4", f"conv={word}")}
 
 
 def flags(text):
     """Options as a synopsis or a help names them: a letter, and perhaps a value in upper case."""
-    return {letter: bool(value) for letter, value in found_in(r"(?<![\w-])-([A-Za-z0-9])\b(?: <?([A-Z]+)>?)?", text)
-            if letter != "h"}
+    return {letter: bool(value) for letter, value in re.findall(r"(?<![\w-])-([A-Za-z0-9])\b(?: <?([A-Z]+)>?)?", text)}
+
+
+def help_options(bx, command):
+    lines = bx.run(command, "--help").stdout.splitlines()
+    return {k: v for line in lines if line.startswith("  -") for k, v in flags(line.split("  ")[1]).items() if k != "h"}
+
+
+def wide_lines(bx, commands):
+    texts = [bx.run("--help").stdout] + [bx.run(command, "--help").stdout for command in sorted(commands)]
+    return [line for text in texts for line in text.splitlines() if len(line) > 80]
 
 
 def man_parts(man):
     """For each command its part of the synopsis, and its section."""
-    parts = [part.split(None, 2) + [part] for part in re.split(r"^\.Nm bx ?", man.split(".Sh DESCRIPTION")[0], flags=re.M)[1:]]
-    synopsis = {part[1]: part[-1] for part in parts if part[0] == "Cm"}
-    return synopsis, {part.split()[1]: part for part in re.split(r"^\.S[sh] ", man, flags=re.M)[1:] if part.startswith("bx ")}
+    synopsis, sections = {}, {}
+    for part in re.split(r"^\.Nm bx ?", man.split(".Sh DESCRIPTION")[0], flags=re.M)[1:]:
+        words = part.split()
+        if words[:1] == ["Cm"]:
+            synopsis[words[1]] = part
+    for part in re.split(r"^\.S[sh] ", man, flags=re.M)[1:]:
+        if part.startswith("bx "):
+            sections[part.split()[1]] = part
+    return synopsis, sections
 
 
 def macro_options(text):
-    """Options of a synopsis: letters, of which the last may have a value."""
     found = {}
-    for letters, argument in found_in(r"Fl ((?:\w )*\w)\b(?: (Ar|Cm))?", text):
+    for letters, argument in re.findall(r"Fl ((?:\w )*\w)\b(?: (Ar|Cm))?", text):
         for letter in letters.split():
             found[letter] = found.get(letter, False) or argument == "Ar"
     return found
 
 
-def places(bx, command, texts):
-    """For each place that names the options of a command: those of a letter, and the long ones."""
-    said, line = bx.help(command), next((line for line in texts["README.md"].splitlines() if line.startswith(f"bx {command} ")),
-                                        "")
-    synopsis, section = (part.get(command, "") for part in man_parts(texts["man/bx.1"]))
-    block = "".join(found_in(rf"(?s)^    {command}\)\n(.*?)^      ;;", texts["completions/_bx"]))
-    mine = rf"^complete -c bx -n '__fish_seen_subcommand_from {command}'"
+def man_items(section):
+    return {letter: bool(value) for letter, value in re.findall(r"^\.It Fl (\w)(?: Ar (\w+))?", section, re.M)}
+
+
+def readme_options(readme, command):
+    lines = [line for line in readme.splitlines() if line.startswith(f"bx {command} ")]
+    return flags(lines[0]) if lines else {}
+
+
+def bash_options(command):
+    script = f'. {ROOT}/completions/bx.bash; COMP_WORDS=(bx {command} -) COMP_CWORD=2; _bx; printf "%s\\n" "${{COMPREPLY[@]}}"'
+    lines = subprocess.run(["bash", "-c", script], capture_output=True, text=True, check=True).stdout.split()
+    return {line[1] for line in lines if re.fullmatch("-[A-Za-z0-9]", line)} - {"h"}
+
+
+def zsh_options(text, command):
+    block = re.search(rf"^    {command}\)\n(.*?)^      ;;", text, re.M | re.S)
+    found = re.findall(r"'(?:\([^)]*\))?-(\w)(\+?)\[", block.group(1)) if block else []
+    return {letter: plus == "+" for letter, plus in found}
+
+
+def fish_options(text, command):
+    found = re.findall(rf"^complete -c bx -n '__fish_seen_subcommand_from {command}' -s (\w)( -x| -r)?", text, re.M)
+    return {letter: bool(value) for letter, value in found}
+
+
+def long_options(bx, command, synopsis, section, readme, zsh, fish):
+    """The long options of a command: those of its help, and what each other place has."""
     script = f'. {ROOT}/completions/bx.bash; COMP_WORDS=(bx {command} -) COMP_CWORD=2; _bx; printf "%s\\n" "${{COMPREPLY[@]}}"'
     bash = subprocess.run(["bash", "-c", script], capture_output=True, text=True, check=True).stdout
-    fish = texts["completions/bx.fish"]
-    options = [row for row in said.splitlines() if row.startswith("  -")]
-    return {
-        "--help": ({letter: value for row in options for letter, value in flags(row.split("  ")[1]).items()},
-                   found_in(r"^ +(?:-\w, )?--([a-z]\w+)", said)),
-        "the man page's synopsis": (macro_options(synopsis), found_in(r"Fl -(\w+)", synopsis)),
-        "the man page": ({letter: bool(value) for letter, value in found_in(r"^\.It Fl (\w)(?: Ar (\w+))?", section)},
-                         found_in(r"^\.It Fl -(\w+)", section)),
-        "README.md": (flags(line), found_in(r"\[--(\w+)\]", line)),
-        "bx.bash": (set(found_in(r"^-([A-Za-z0-9])$", bash)) - {"h"}, found_in(r"--(\w+)", bash)),
-        "_bx": ({letter: plus == "+" for letter, plus in found_in(r"'(?:\([^)]*\))?-(\w)(\+?)\[", block)},
-                found_in(r"'--(\w+)\[", block)),
-        "bx.fish": ({letter: bool(value) for letter, value in found_in(rf"{mine} -s (\w)( -x| -r)?", fish)},
-                    found_in(rf"{mine} -l (\w+)", fish)),
+    block = re.search(rf"^    {command}\)\n(.*?)^      ;;", zsh, re.M | re.S)
+    line = next((line for line in readme.splitlines() if line.startswith(f"bx {command} ")), "")
+    found = {
+        f"bx {command} --help": re.findall(r"^ +(?:-\w, )?--([a-z]\w+)", bx.run(command, "--help").stdout, re.M),
+        f"{command} in the man page's synopsis": re.findall(r"Fl -(\w+)", synopsis),
+        f"{command} in the man page": re.findall(r"^\.It Fl -(\w+)", section, re.M),
+        f"{command} in README.md": re.findall(r"\[--(\w+)\]", line),
+        f"{command} in bx.bash": re.findall(r"--(\w+)", bash),
+        f"{command} in _bx": re.findall(r"'--(\w+)\[", block.group(1) if block else ""),
+        f"{command} in bx.fish": re.findall(rf"^complete -c bx -n '__fish_seen_subcommand_from {command}' -l (\w+)", fish, re.M),
     }
-
-
-def compared_options(bx, command, texts):
-    """(place, what bx has, what is found) of the options of a command."""
-    taken, rows = bx.options(command), places(bx, command, texts)
-    front = WANTED.get(command, [])[:1]
-    longer = {name for name in set(rows["--help"][1]) - {"help"} if bx.takes(command, *front, f"--{name}")}
-    for place, (letters, names) in rows.items():
-        yield f"{command} in {place}", set(taken) if place == "bx.bash" else taken, letters
-        yield f"long options of {command} in {place}", longer, set(names) - {"help"}
-
-
-def compared_dd(bx, texts):
-    """The same of dd's operands and of the words of its conversions."""
-    operands, words = bx.operands(), {word for word in WORDS if bx.takes("dd", "cbs=4", f"conv={word}")}
-    yield "operands in bx dd --help", operands, set(found_in(r"^  (\w+)=", bx.help("dd"))) & set(OPERANDS)
-    yield "operands in the man page", operands, set(found_in(r"^\.It Cm (\w+)=", texts["man/bx.1"]))
-    for name in ("bx.bash", "_bx", "bx.fish"):
-        text = texts[f"completions/{name}"]
-        yield f"operands in {name}", operands, set(found_in(r"\b(\w+)=(?=[ ':\\])", text)) & set(OPERANDS)
-        yield f"words of conv in {name}", words, {word for word in WORDS if re.search(rf"\b{word}\b", text)}
-
-
-def compared(bx, commands, texts):
-    """The same of all that is compared."""
-    synopsis, sections = man_parts(texts["man/bx.1"])
-    listed = found_in(r"^  (\w+)", bx.help().split("Commands:")[1].split("\n\n")[0])
-    yield "bx --help", commands, set(listed) - {"help"}
-    yield "synopsis of the man page", commands | {"help"}, set(synopsis)
-    yield "sections of the man page", commands | {"help"}, set(sections)
-    yield "lines of help above 80 columns", [], [line for command in ["", *commands]
-                                                 for line in bx.help(*command.split()).splitlines() if len(line) > 80]
-    yield "README.md", commands, {command for command in COMMANDS if re.search(rf"^bx {command} ", texts["README.md"], re.M)}
-    yield "bx.bash", commands, set(re.search(r"commands='(.*?)'", texts["completions/bx.bash"])[1].split())
-    yield "_bx", commands, set(found_in(r"^    '([a-z]\w*):", texts["completions/_bx"]))
-    yield "bx.fish", commands, set(found_in(r"-a (\w+) -d", texts["completions/bx.fish"])) - {"help"}
-    for command in sorted(commands):
-        yield from compared_options(bx, command, texts)
-    yield from compared_dd(bx, texts)
-    for page, row in (("docs/FORMATS.md", r"^\| (\d+) \| `(.*?)` \|$"), ("man/bx.1", r"^\.It (\d+)  (.*)$")):
-        yield f"faults in {page}", fault_texts(), {int(number): text for number, text in found_in(row, read(ROOT / page))}
+    return {name: set(options) - {"help"} for name, options in found.items()}
 
 
 def fault_texts():
     """Numbers and texts of the faults, as the sources of the crates have them."""
-    files = {kind: read(ROOT / "crates" / name) for kind, name in FAULTS.items()}
-    texts = {(kind, variant): re.sub(r"\{\w+\}", "N", said) for kind, text in files.items()
-             for said, variant in re.findall(r'#\[error\("(.*?)"\)\]\s+(\w+)', text)}
-    numbers = re.findall(r"\b(\w*Fault|Other)::(\w+)(?: \{ \.\. \}|\(_\))? => (\d+),", files["Fault"])
+    texts = {}
+    for kind, name in FAULTS.items():
+        for text, variant in re.findall(r'#\[error\("(.*?)"\)\]\s+(\w+)', read(f"crates/{name}")):
+            texts[kind, variant] = re.sub(r"\{\w+\}", "N", text)
+    numbers = re.findall(r"\b(\w*Fault|Other)::(\w+)(?: \{ \.\. \}|\(_\))? => (\d+),", read(f"crates/{FAULTS['Fault']}"))
     return {int(number): texts[kind, variant] for kind, variant, number in numbers}
 
 
+class Report:
+    def __init__(self):
+        self.bad = []
+
+    def same(self, what, wanted, given):
+        if wanted != given:
+            self.bad.append(f"{what}: bx has {wanted}, but found {given}")
+
+
 def check(options):
-    texts = {name: read(ROOT / name) for name in ("man/bx.1", "README.md", "completions/_bx", "completions/bx.fish",
-                                                  "completions/bx.bash")}
+    path = os.path.abspath(options.bx)
+    man, readme, zsh, fish = (read(name) for name in ("man/bx.1", "README.md", "completions/_bx", "completions/bx.fish"))
+    bash = read("completions/bx.bash")
+    synopsis, sections = man_parts(man)
+    report = Report()
     with tempfile.TemporaryDirectory() as folder:
-        bx = Program(os.path.abspath(options.bx), folder)
-        commands = {name for name in COMMANDS if bx.run(name, "--help").returncode == 0}
-        wrong = [f"{what}: bx has {wanted}, but found {given}" for what, wanted, given in compared(bx, commands, texts)
-                 if wanted != given]
-    return wrong, f"{', '.join(sorted(commands))}: all as bx has it"
+        bx = Program(path, folder)
+        commands = bx.commands()
+        listed = re.findall(r"^  (\w+)", bx.run("--help").stdout.split("Commands:")[1].split("\n\n")[0], re.M)
+        report.same("bx --help", commands, set(listed) - {"help"})
+        report.same("synopsis of the man page", commands | {"help"}, set(synopsis))
+        report.same("sections of the man page", commands | {"help"}, set(sections))
+        report.same("lines of help above 80 columns", [], wide_lines(bx, commands))
+        report.same("README.md", commands, {c for c in COMMANDS if re.search(rf"^bx {c} ", readme, re.M)})
+        report.same("bx.bash", commands, set(re.search(r"commands='(.*?)'", bash).group(1).split()))
+        report.same("_bx", commands, set(re.findall(r"^    '([a-z]\w*):", zsh, re.M)))
+        report.same("bx.fish", commands, set(re.findall(r"-a (\w+) -d", fish)) - {"help"})
+        for command in sorted(commands):
+            taken = bx.options(command)
+            report.same(f"bx {command} --help", taken, help_options(bx, command))
+            report.same(f"{command} in the man page's synopsis", taken, macro_options(synopsis.get(command, "")))
+            report.same(f"{command} in the man page", taken, man_items(sections.get(command, "")))
+            report.same(f"{command} in README.md", taken, readme_options(readme, command))
+            report.same(f"{command} in bx.bash", set(taken), bash_options(command))
+            report.same(f"{command} in _bx", taken, zsh_options(zsh, command))
+            report.same(f"{command} in bx.fish", taken, fish_options(fish, command))
+            longer = long_options(bx, command, synopsis.get(command, ""), sections.get(command, ""), readme, zsh, fish)
+            taken = {name for name in longer[f"bx {command} --help"] if bx.takes(command, *COMMON.get(command, ["image"]), f"--{name}")}
+            for place, options in longer.items():
+                report.same(f"long options of {place}", taken, options)
+        if "dd" in commands:
+            operands, words = bx.operands(), bx.words()
+            report.same("operands in bx dd --help", operands, set(re.findall(r"^  (\w+)=", bx.run("dd", "--help").stdout, re.M)) & set(OPERANDS))
+            report.same("operands in the man page", operands, set(re.findall(r"^\.It Cm (\w+)=", man, re.M)))
+            for name, text in (("bx.bash", bash), ("_bx", zsh), ("bx.fish", fish)):
+                report.same(f"operands in {name}", operands, set(re.findall(r"\b(\w+)=(?=[ ':\\])", text)) & set(OPERANDS))
+            for name, text in (("bx.bash", bash), ("_bx", zsh), ("bx.fish", fish)):
+                report.same(f"words of conv in {name}", words, {w for w in WORDS if re.search(rf"\b{w}\b", text)})
+    faults = fault_texts()
+    table = {int(n): text for n, text in re.findall(r"^\| (\d+) \| `(.*?)` \|$", read("docs/FORMATS.md"), re.M)}
+    report.same("faults in docs/FORMATS.md", faults, table)
+    report.same("faults in the man page", faults, {int(n): t for n, t in re.findall(r"^\.It (\d+)  (.*)$", man, re.M)})
+    return report.bad, f"{', '.join(sorted(commands))}: all as bx has it"

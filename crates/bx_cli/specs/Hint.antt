@@ -48,7 +48,7 @@ advice_of (Session session.TooLarge) = codes "an image has at most 2814749767106
 advice_of (Session session.DeviceFailed) = codes "nothing was changed"
 advice_of (Session (session.Damaged _)) = codes "repair that line, or move the journal and the redo file away (their undo history is lost)"
 advice_of (Session (session.TooFew _)) = codes "bx log"
-advice_of (Session session.JournalFull) = codes "move the journal and the redo file away to go on (their undo history is lost)"
+advice_of (Session session.JournalFull) = codes "bx forget accepts all changes, and nothing can be undone then"
 advice_of (Session session.Interrupted) = codes "each command on the image but bx show first takes back or drops what was begun; look by bx show"
 advice_of (Session (session.LengthDiffers _)) = codes "it may have another journal; where its length alone was changed, truncate -s"
 advice_of (Session (session.NothingToRedo _)) = codes "a change that is no redo gives up what was undone, and a journal that is moved takes its redo file along"
@@ -59,7 +59,7 @@ advice_of _ = []
 abbrev pub rest_of : Fault → List ℕ
 rest_of (Session (session.TooFew _)) = codes " lists the changes"
 rest_of (Session session.Interrupted) = codes ", which writes nothing"
-rest_of (Session (session.LengthDiffers _)) = codes " gives that back; or move the journal and the redo file away (their undo history is lost)"
+rest_of (Session (session.LengthDiffers _)) = codes " gives that back; or bx forget accepts it as it is (the undo history is lost)"
 rest_of _ = []
 
 -- what is at fault and why, and what can be done

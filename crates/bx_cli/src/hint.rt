@@ -137,7 +137,7 @@ fn session_advice(fault: SessionFault) -> &'static str
         }
         SessionFault::TooFew { .. } => "bx log",
         SessionFault::JournalFull =>
-            "move the journal and the redo file away to go on (their undo history is lost)",
+            "bx forget accepts all changes, and nothing can be undone then",
         SessionFault::Interrupted =>
             "each command on the image but bx show first takes back or drops what was begun; look by bx show",
         SessionFault::LengthDiffers { .. } => {
@@ -160,7 +160,7 @@ fn rest(fault: Fault) -> &'static str
         Fault::Session(SessionFault::TooFew { .. }) => " lists the changes",
         Fault::Session(SessionFault::Interrupted) => ", which writes nothing",
         Fault::Session(SessionFault::LengthDiffers { .. }) => {
-            " gives that back; or move the journal and the redo file away (their undo history is lost)"
+            " gives that back; or bx forget accepts it as it is (the undo history is lost)"
         }
         _ => "",
     }

@@ -37,7 +37,8 @@ fn alone(name: &str) -> &'static str {
     match name {
         "revert" => "one word is the image; a dump is named by -f: bx revert -f DUMP IMAGE",
         "patch" => "one word is the image; a patch is named by -f: bx patch -f PATCH IMAGE",
-        "undo" | "redo" | "log" | "show" => "one word is the image, and there is no other",
+        "undo" | "redo" | "log" | "show" | "forget" =>
+            "one word is the image, and there is no other",
         "od" | "xxd" | "hexdump" | "strings" => {
             "one word is the file that is read; the dump goes to standard output"
         }

@@ -19,10 +19,11 @@ mod plan;
 
 pub use beside::unlike_line;
 pub use bx_cli_commands::{
-    Access, ChangeJob, Command, DdImageJob, DdJob, DiffJob, Done, DumpJob, Durability, Fault, Form,
-    HexdumpJob, Job, LogJob, LookJob, OdJob, PatchJob, Reply, RevertJob, ShowJob, Skip, StepsJob,
-    StringsJob, Target, Texts, XxdJob, XxdLook, change_from, change_if_read, list_ranges,
-    list_steps, log_text, plan_rest, run_all, run_dump, run_one,
+    Access, ChangeJob, Command, DdChange, DdImageJob, DdJob, DiffJob, Done, DumpJob, Durability,
+    Fault, ForgetJob, Form, HexdumpJob, Job, LogJob, LookJob, OdJob, PatchJob, Reply, RevertJob,
+    ShowJob, Skip, StepsJob, StringsJob, Target, Texts, XxdJob, XxdLook, change_from,
+    change_if_read, change_of_plan, list_ranges, list_steps, log_text, plan_rest, run_all, run_dd,
+    run_dump, run_one,
 };
 pub use hint::{Known, Misuse, hint_text, misuse_of};
 pub use plan::plan_words;

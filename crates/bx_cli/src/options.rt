@@ -395,6 +395,14 @@ fn with_mounted<'a>(
     with_rows(alloc, command, rows)?.arg(mounted(alloc, help))
 }
 
+/// For build scripts, which write the image anew.
+fn fresh<'a>(alloc: Global) -> Arg<'a> {
+    Arg::new(alloc, "fresh")
+        .long("fresh")
+        .action(ArgAction::SetTrue)
+        .help("Drop the image's history first: its changes are accepted")
+}
+
 fn mounted<'a>(alloc: Global, help: &'static str) -> Arg<'a> {
     Arg::new(alloc, "mounted")
         .long("mounted")
@@ -472,6 +480,7 @@ fn dd<'a>(alloc: Global) -> Result<Command<'a>, AllocError> {
         &DD,
         "Change a block device even while it is mounted",
     )?
+    .arg(fresh(alloc))?
     .arg(operands(alloc))
 }
 
@@ -489,7 +498,7 @@ fn revert<'a>(alloc: Global) -> Result<Command<'a>, AllocError> {
         .after_help(
             "OFFSET: decimal, 0x and hexadecimal, or 0 and octal.\nImage, journal and redo file are made where they are missing.\n\nA line: an address in hexadecimal, a colon, a space, pairs of hexadecimal digits\nwith at most one space between two. From two spaces on nothing is read, so edit\nthe digits and not the characters beside them. Lines end in a newline alone.\n\nRead, but not as they are meant: dumps of xxd -b (binary digits), of xxd -e\n(bytes in another order) and of xxd -d (decimal addresses), and pairs behind a\ngap of two spaces, as in lines of hexdump -C.\n\nEXAMPLES:\n  echo '00000002: 7879' | bx revert disk.img     two bytes at place 2\n  bx revert -f edited.txt disk.img               a dump of xxd that was edited\n  echo 7879 | bx revert -p -s 0x200 disk.img     two bytes at place 512",
         );
-    changer(alloc, command, &REVERT)
+    changer(alloc, command, &REVERT)?.arg(fresh(alloc))
 }
 
 fn undo<'a>(alloc: Global) -> Result<Command<'a>, AllocError> {
@@ -551,7 +560,22 @@ fn patch<'a>(alloc: Global) -> Result<Command<'a>, AllocError> {
         .after_help(
             "The patch is read whole, and found right before anything is opened. The image\nhas to have the length that it states and the bytes behind each -; else nothing\nis changed. Image, journal and redo file are made where they are missing.\n\nEXAMPLES:\n  bx diff old.bin new.bin | bx patch disk.img    what makes new.bin of old.bin\n  bx patch -f fix.patch disk.img                 a patch that was kept\n  bx patch -R -f fix.patch disk.img              the same, the other way round",
         );
-    changer(alloc, command, &PATCH)
+    changer(alloc, command, &PATCH)?.arg(fresh(alloc))
+}
+
+fn forget<'a>(alloc: Global) -> Result<Command<'a>, AllocError> {
+    let command = Command::new(alloc, "forget")
+        .about("Accept all changes of an image, and drop their history")
+        .after_help(
+            "Journal and redo file are emptied, so nothing can be undone or redone then. The\nimage isn't written, unless a change was stopped, which is taken back first.\n\nEXAMPLES:\n  bx forget disk.img",
+        );
+    with_mounted(
+        alloc,
+        command,
+        &FORGET,
+        "Recover on a block device even while it is mounted",
+    )?
+    .arg(image(alloc))
 }
 
 /// One of the files that are compared.
@@ -577,10 +601,11 @@ pub enum Verb {
     Show,
     Diff,
     Patch,
+    Forget,
 }
 
 /// All subcommands, in the order of the help.
-static VERBS: [Verb; 12] = [
+static VERBS: [Verb; 13] = [
     Verb::Od,
     Verb::Xxd,
     Verb::Hexdump,
@@ -593,6 +618,7 @@ static VERBS: [Verb; 12] = [
     Verb::Show,
     Verb::Diff,
     Verb::Patch,
+    Verb::Forget,
 ];
 
 impl Verb {
@@ -611,6 +637,7 @@ impl Verb {
             Verb::Show => "show",
             Verb::Diff => "diff",
             Verb::Patch => "patch",
+            Verb::Forget => "forget",
         }
     }
 
@@ -629,6 +656,7 @@ impl Verb {
             Verb::Show => show(alloc),
             Verb::Diff => diff(alloc),
             Verb::Patch => patch(alloc),
+            Verb::Forget => forget(alloc),
         }
     }
 

@@ -3,10 +3,10 @@ ghost use Rattle.std.specs.Prelude.{◌≡◌, IfOk};
 
 use crate::options::{Verb, program};
 use bx_cli_commands::{
-    Access, ChangeJob, DdImageJob, DdJob, DiffJob, DumpJob, Durability, Fault, HexdumpJob, Job,
-    LogJob, LookJob, MOST_COLUMNS, MOST_LEAST, MOST_STEPS, OdJob, PatchJob, RevertJob, ShowJob,
-    StepsJob, StringsJob, Target, XxdJob, XxdLook, columns, count_or, kind_word, name_of, number,
-    number_or, radix, texts_of,
+    Access, ChangeJob, DdImageJob, DdJob, DiffJob, DumpJob, Durability, Fault, ForgetJob,
+    HexdumpJob, Job, LogJob, LookJob, MOST_COLUMNS, MOST_LEAST, MOST_STEPS, OdJob, PatchJob,
+    RevertJob, ShowJob, StepsJob, StringsJob, Target, XxdJob, XxdLook, columns, count_or,
+    kind_word, name_of, number, number_or, radix, texts_of,
 };
 use bx_dd::parse;
 use bx_dump::hexdump::HexdumpOptions;
@@ -89,6 +89,7 @@ fn job_of(alloc: Global, verb: Verb, inner: &ArgMatches<'_>) -> Result<Job, Faul
         Verb::Show => Ok(Job::Look(LookJob::Show(show(alloc, inner)?))),
         Verb::Diff => Ok(Job::Diff(diff(alloc, inner)?)),
         Verb::Patch => Ok(Job::Change(ChangeJob::Patch(patch(alloc, inner)?))),
+        Verb::Forget => Ok(Job::Change(ChangeJob::Forget(forget(alloc, inner)?))),
     }
 }
 
@@ -242,6 +243,7 @@ fn dd(alloc: Global, m: &ArgMatches<'_>) -> Result<Job, Fault> {
         plan,
         operands,
         target,
+        fresh: m.get_flag("fresh"),
     })))
 }
 
@@ -253,6 +255,7 @@ fn revert(alloc: Global, m: &ArgMatches<'_>) -> Result<RevertJob, Fault> {
         plain: m.get_flag("plain"),
         at,
         target,
+        fresh: m.get_flag("fresh"),
     })
 }
 
@@ -262,7 +265,13 @@ fn patch(alloc: Global, m: &ArgMatches<'_>) -> Result<PatchJob, Fault> {
         patch: name(alloc, m, "patch")?,
         reverse: m.get_flag("reverse"),
         target,
+        fresh: m.get_flag("fresh"),
     })
+}
+
+fn forget(alloc: Global, m: &ArgMatches<'_>) -> Result<ForgetJob, Fault> {
+    let target = target(alloc, m, access(m))?;
+    Ok(ForgetJob { target })
 }
 
 fn steps(alloc: Global, m: &ArgMatches<'_>) -> Result<StepsJob, Fault> {

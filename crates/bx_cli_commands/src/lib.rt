@@ -12,13 +12,14 @@ mod reading;
 pub mod round_trip;
 mod run;
 
+pub use changes::{DdChange, change_of_plan};
 pub use command::{Command, Reply};
 pub use fault::Fault;
 pub use jobs::diff::DiffJob;
 pub use jobs::dump::{Done, run_dump};
 pub use jobs::dumps::{DdJob, DumpJob, HexdumpJob, OdJob, StringsJob, XxdJob, XxdLook};
 pub use jobs::images::{
-    ChangeJob, DdImageJob, LogJob, LookJob, PatchJob, RevertJob, ShowJob, StepsJob,
+    ChangeJob, DdImageJob, ForgetJob, LogJob, LookJob, PatchJob, RevertJob, ShowJob, StepsJob,
 };
 pub use jobs::job::Job;
 pub use jobs::rest::plan_rest;
@@ -30,4 +31,4 @@ pub use jobs::values::{
 };
 pub use listing::{list_ranges, list_steps, log_text};
 pub use reading::{Form, change_from};
-pub use run::{change_if_read, run_all, run_one};
+pub use run::{change_if_read, run_all, run_dd, run_one};

@@ -72,8 +72,8 @@ pub fn change_if_read<D: Device, T: TextStore, A: Allocator + Clone>(
     }
 }
 
-/// Makes the change that dd asks for.
-fn run_dd<D: Device, T: TextStore, A: Allocator + Clone>(
+/// Makes the change that dd asks for, or refuses it for the fault of its operands or its input.
+pub fn run_dd<D: Device, T: TextStore, A: Allocator + Clone>(
     session: &mut Session<D, T, A>,
     made: Result<DdChange<A>, DdFault>,
 ) -> Reply

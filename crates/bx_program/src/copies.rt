@@ -4,10 +4,11 @@ ghost use Rattle.bx_cli_commands.specs.jobs.Passing.{CanPass, plan_skip};
 use crate::files::look::is_device;
 use crate::fitting::Fitting;
 use crate::hints::remarks::Remarks;
+use crate::images::forget::{finish_copy, open_to_renew, renewed};
 use crate::images::{finish, open_session};
 use crate::input::{Placed, file, standard};
 use crate::stopped::{Noted, Stopped};
-use bx_cli::{Command, DdImageJob, Fault, plan_rest};
+use bx_cli::{Command, DdImageJob, Fault, change_of_plan, plan_rest};
 use bx_dd::{Counts, Plan, report};
 use bx_program_system::Progress;
 use bx_text::IoFault;
@@ -73,6 +74,9 @@ where
     R: Files<File = File> + Eprint + Clock + AllocGlobal,
     requires { CanPass input.passed (plan_skip job.now.plan) }
 {
+    if job.fresh {
+        return copy_anew(rt, job, input, progress);
+    }
     let keeps_length = is_device(rt, job.target.image.as_str());
     let session = open_session(rt, &job.target, true, progress)?;
     let (from, passed) = (input.name, input.passed);
@@ -87,6 +91,38 @@ where
         Ok(reply) => Ok(reply.counts()),
         Err(stopped) if fitting.is_full() => Err(stopped.on_more_input()),
         Err(stopped) => Err(stopped.on_input(from, fitting.input.error)),
+    }
+}
+
+/// The same, with a history that begins with this change: the one before it is dropped once the input is read.
+fn copy_anew<'a, R, I: Read + Drop>(
+    rt: &R,
+    job: &'a DdImageJob,
+    input: Placed<'a, I>,
+    progress: &Progress<'_, R>,
+) -> Result<Option<Counts>, Stopped<'a>>
+where
+    R: Files<File = File> + Eprint + Clock + AllocGlobal,
+    requires { CanPass input.passed (plan_skip job.now.plan) }
+{
+    let keeps_length = is_device(rt, job.target.image.as_str());
+    let ready = open_to_renew(rt, &job.target, progress)?;
+    let (from, passed) = (input.name, input.passed);
+    let plan = plan_for(&job.plan, passed, keeps_length);
+    let input = Noted::new(input.reader);
+    let mut fitting = Fitting::new(input, &job.plan, passed, ready.length);
+    let made = match change_of_plan(&rt.alloc(), &plan, &mut fitting) {
+        Ok(made) => made,
+        Err(fault) => {
+            let stopped = ready.refused(rt, Fault::from(fault), &job.target);
+            return Err(stopped.on_input(from, fitting.input.error));
+        }
+    };
+    let session = renewed(rt, ready, &job.target)?;
+    match finish_copy(rt, session, made, &job.target) {
+        Ok(reply) => Ok(reply.counts()),
+        Err(stopped) if fitting.is_full() => Err(stopped.on_more_input()),
+        Err(stopped) => Err(stopped),
     }
 }
 

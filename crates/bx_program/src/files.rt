@@ -199,9 +199,33 @@ pub fn existing<'a, R>(
 where
     R: Files<File = File> + AllocGlobal,
 {
+    existing_for(rt, target, purpose, purpose)
+}
+
+/// The same, with texts that are to be changed beside an image that is read.
+///
+/// # Errors
+/// As of `trio`.
+pub fn only_texts<'a, R>(rt: &R, target: &'a Target) -> Result<SessionFiles, Stopped<'a>>
+where
+    R: Files<File = File> + AllocGlobal,
+{
+    existing_for(rt, target, Purpose::Read, Purpose::Change)
+}
+
+/// The three as far as they are there, the image opened for one purpose and its texts for another.
+fn existing_for<'a, R>(
+    rt: &R,
+    target: &'a Target,
+    of_image: Purpose,
+    purpose: Purpose,
+) -> Result<SessionFiles, Stopped<'a>>
+where
+    R: Files<File = File> + AllocGlobal,
+{
     let Target { image, texts, .. } = target;
     let redo_is_there = look(rt, texts.redo.as_str(), true, Holds::Text(None))?.is_some();
-    let image = Opened::new(rt, image.as_str(), purpose, Holds::Image)?;
+    let image = Opened::new(rt, image.as_str(), of_image, Holds::Image)?;
     let holds = match image.file.metadata() {
         Ok(file) => Holds::Text(Some(Guard::of(&file))),
         Err(error) => return Err(Stopped::unopened(image.name, error)),

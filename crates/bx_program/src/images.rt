@@ -2,6 +2,8 @@
 ghost use Rattle.std.specs.Prelude.{◌≡◌, ◌<◌, IfOk};
 ghost use Rattle.bx_cli_commands.specs.Command.{IsNear};
 
+pub mod forget;
+
 use crate::devices::{FileDevices, ImageFile, Named, TextFile};
 use crate::files::look::{Makes, Use, look_at_all};
 use crate::files::open::Purpose;

@@ -7,6 +7,7 @@ use crate::diff::diff;
 use crate::hints::remarks::Remarks;
 use crate::hints::seen::{Seen, Watched};
 use crate::hints::show_fault;
+use crate::images::forget::{forget, open_fresh, open_to_forget};
 use crate::images::{
     finish, finish_read, log, log_places, open_session, open_to_look, show_changes,
 };
@@ -15,8 +16,8 @@ use crate::patch::patch;
 use crate::stopped::{Noted, STANDARD_INPUT, Stopped};
 use crate::streams::Held;
 use bx_cli::{
-    ChangeJob, Command, Done, DumpJob, Fault, Form, Job, LogJob, LookJob, RevertJob, ShowJob,
-    Target, change_from, plan_words, run_dump,
+    ChangeJob, Command, Done, DumpJob, Fault, ForgetJob, Form, Job, LogJob, LookJob, RevertJob,
+    ShowJob, Target, change_from, plan_words, run_dump,
 };
 use bx_dd::Counts;
 use bx_image::Change;
@@ -188,6 +189,7 @@ where
         ChangeJob::Dd(job) => copy_onto(rt, job, remarks),
         ChangeJob::Revert(job) => revert(rt, job, remarks),
         ChangeJob::Patch(job) => patch(rt, job, remarks),
+        ChangeJob::Forget(job) => forget_changes(rt, job, remarks),
         ChangeJob::Undo(job) => {
             let undo = Command::Undo { k: job.count };
             take_steps(rt, undo, &job.target, out, remarks)
@@ -197,6 +199,16 @@ where
             take_steps(rt, redo, &job.target, out, remarks)
         }
     }
+}
+
+/// Accepts all changes of an image, and drops their history.
+fn forget_changes<'a, R>(rt: &R, job: &'a ForgetJob, remarks: &Remarks) -> Result<(), Stopped<'a>>
+where
+    R: Files<File = File> + Eprint + Clock + AllocGlobal,
+{
+    let progress = remarks.progress_of_input(rt, None);
+    let ready = open_to_forget(rt, &job.target, &progress)?;
+    forget(rt, ready, &job.target)
 }
 
 /// Takes changes back or makes undone ones again, and shows how many changes then stand.
@@ -328,7 +340,11 @@ where
     R: Files<File = File> + Eprint + Clock + AllocGlobal,
 {
     let progress = remarks.progress_of_input(rt, None);
-    let session = open_session(rt, &job.target, true, &progress)?;
+    let session = if job.fresh && read.is_ok() {
+        open_fresh(rt, &job.target, &progress)?
+    } else {
+        open_session(rt, &job.target, true, &progress)?
+    };
     if let Ok(change) = &read {
         remarks.look_at_change(rt, &job.target, change);
     }

@@ -1,6 +1,7 @@
 //! A patch, read and applied to an image.
 use crate::files::look::is_device;
 use crate::hints::remarks::Remarks;
+use crate::images::forget::open_agreeing;
 use crate::images::{finish, open_session};
 use crate::input::{MOST_INPUT, open, size_of};
 use crate::stopped::{Noted, STANDARD_INPUT, Stopped};
@@ -27,7 +28,11 @@ where
         return Err(Stopped::fixed(image));
     }
     let progress = remarks.progress_of_input(rt, None);
-    let session = open_session(rt, &job.target, true, &progress)?;
+    let session = if job.fresh {
+        open_agreeing(rt, &job.target, &patch, &progress)?
+    } else {
+        open_session(rt, &job.target, true, &progress)?
+    };
     let asked: Command<Empty> = Command::Patch { patch };
     finish(rt, session, asked, &job.target)?;
     Ok(())

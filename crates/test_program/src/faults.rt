@@ -2,6 +2,7 @@
 use bx_cli::Fault;
 use bx_dd::DdFault;
 use bx_journal::SessionFault;
+use bx_patch::{Other, PatchFault};
 use bx_read::ReadFault;
 use bx_text::IoFault;
 use std::alloc::Global;
@@ -14,7 +15,7 @@ fn shows(alloc: Global, fault: Fault, text: &str) -> bool {
 }
 
 // What several crates have has one number and one text.
-static FAULTS: [(Fault, u8, &str); 37] = [
+static FAULTS: [(Fault, u8, &str); 44] = [
     (Fault::Io(IoFault::NoMemory), 1, "out of memory"),
     (Fault::Io(IoFault::ReadFailed), 2, "read failed"),
     (
@@ -31,6 +32,39 @@ static FAULTS: [(Fault, u8, &str); 37] = [
     (Fault::Read(ReadFault::NoMemory), 1, "out of memory"),
     (Fault::Dd(DdFault::NoMemory), 1, "out of memory"),
     (Fault::Session(SessionFault::NoMemory), 1, "out of memory"),
+    (Fault::Patch(PatchFault::NoMemory), 1, "out of memory"),
+    (
+        Fault::Patch(PatchFault::Line(ReadFault::BadPair { line: 2 })),
+        12,
+        "line 2: bad pair",
+    ),
+    (
+        Fault::Patch(PatchFault::OfNoKind { line: 1 }),
+        17,
+        "line 1: not a line of a patch",
+    ),
+    (
+        Fault::Patch(PatchFault::BadLength { line: 3 }),
+        18,
+        "line 3: bad length",
+    ),
+    (
+        Fault::Patch(PatchFault::PastLength { line: 4 }),
+        19,
+        "line 4: past the length",
+    ),
+    (
+        Fault::Disagrees(Other::Bytes {
+            at: 18446744073709551615,
+        }),
+        34,
+        "the image has other bytes at 18446744073709551615",
+    ),
+    (
+        Fault::Disagrees(Other::Length { expected: 8 }),
+        45,
+        "image should have 8 bytes",
+    ),
     (Fault::Dd(DdFault::ReadFailed), 2, "read failed"),
     (Fault::Dd(DdFault::InputTooLong), 4, "input too long"),
     (

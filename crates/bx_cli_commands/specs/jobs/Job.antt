@@ -23,6 +23,7 @@ changed_of (change.Revert job) = job.target
 changed_of (change.Patch job) = job.target
 changed_of (change.Undo job) = job.target
 changed_of (change.Redo job) = job.target
+changed_of (change.Forget job) = job.target
 
 -- the image whose changes a job shows
 abbrev pub shown_of : LookJob → Target

@@ -16,6 +16,8 @@ pub struct DdImageJob {
     pub operands: Words,
     /// The image that `of=` names.
     pub target: Target,
+    /// Whether the image's history is dropped before the change.
+    pub fresh: bool,
     ghost planned: { IsPlanOf operands plan },
     ghost named: { plan.output ≡ Some target.image },
 }
@@ -46,6 +48,8 @@ pub struct RevertJob {
     pub at: u64,
     /// The image that is changed.
     pub target: Target,
+    /// Whether the image's history is dropped before the change.
+    pub fresh: bool,
     ghost near: { at ≤ 2 ^ 62 },
 }
 
@@ -57,6 +61,15 @@ pub struct PatchJob {
     /// Whether it is made the other way round: what it writes is expected, and what it expects is written.
     pub reverse: bool,
     /// The image that is changed.
+    pub target: Target,
+    /// Whether the image's history is dropped before the change.
+    pub fresh: bool,
+}
+
+/// `forget`: the image whose changes are accepted.
+#[derive(Drop)]
+pub struct ForgetJob {
+    /// The image, which is changed only where something is recovered.
     pub target: Target,
 }
 
@@ -106,6 +119,8 @@ pub enum ChangeJob {
     Undo(StepsJob),
     /// Makes the last undone changes again.
     Redo(StepsJob),
+    /// Accepts its changes, and drops their history.
+    Forget(ForgetJob),
 }
 
 impl ChangeJob {
@@ -120,6 +135,7 @@ impl ChangeJob {
             ChangeJob::Revert(job) => &job.target,
             ChangeJob::Patch(job) => &job.target,
             ChangeJob::Undo(job) | ChangeJob::Redo(job) => &job.target,
+            ChangeJob::Forget(job) => &job.target,
         }
     }
 }

@@ -169,6 +169,7 @@ impl Remarks {
             }
             ChangeJob::Patch(_) => self.tell_of_patch(rt),
             ChangeJob::Dd(_) => self.tell_of_nothing(rt, target),
+            ChangeJob::Forget(_) => {}
             ChangeJob::Undo(steps) => self.tell_of_times(rt, name, steps.count, "redo", operands),
             ChangeJob::Redo(steps) => self.tell_of_times(rt, name, steps.count, "undo", operands),
         }

@@ -1,8 +1,9 @@
 //! The fields of jobs, as a case file names them.
 use crate::report::compare::{Wrong, differs, same_text};
 use bx_cli::{
-    Access, ChangeJob, DdImageJob, DdJob, DiffJob, DumpJob, Durability, HexdumpJob, Job, LogJob,
-    LookJob, OdJob, PatchJob, RevertJob, ShowJob, StepsJob, StringsJob, Target, XxdJob, XxdLook,
+    Access, ChangeJob, DdImageJob, DdJob, DiffJob, DumpJob, Durability, ForgetJob, HexdumpJob, Job,
+    LogJob, LookJob, OdJob, PatchJob, RevertJob, ShowJob, StepsJob, StringsJob, Target, XxdJob,
+    XxdLook,
 };
 use bx_dd::{Letters, Plan, Shape};
 use bx_dump::od::{Address, Kind, NumForm, Size};
@@ -33,6 +34,7 @@ fn name_of(job: &Job) -> &'static str {
         Job::Dump(DumpJob::Dd(_)) | Job::Change(ChangeJob::Dd(_)) => "dd",
         Job::Change(ChangeJob::Revert(_)) => "revert",
         Job::Change(ChangeJob::Patch(_)) => "patch",
+        Job::Change(ChangeJob::Forget(_)) => "forget",
         Job::Change(ChangeJob::Undo(_)) => "undo",
         Job::Change(ChangeJob::Redo(_)) => "redo",
         Job::Look(LookJob::Log(_)) => "log",
@@ -166,6 +168,7 @@ fn dd_image_field<'a>(job: &'a DdImageJob, name: &str) -> Field<'a> {
     match name {
         "operands" => Field::Joined(&job.operands),
         "journal" | "redo" | "unsynced" | "mounted" => target_field(&job.target, name),
+        "fresh" => flag(job.fresh),
         _ => plan_field(&job.plan, name),
     }
 }
@@ -202,6 +205,7 @@ fn revert_field<'a>(job: &'a RevertJob, name: &str) -> Field<'a> {
         "dump" => file(&job.dump),
         "plain" => flag(job.plain),
         "at" => Field::Number(job.at),
+        "fresh" => flag(job.fresh),
         _ => target_field(&job.target, name),
     }
 }
@@ -210,8 +214,13 @@ fn patch_field<'a>(job: &'a PatchJob, name: &str) -> Field<'a> {
     match name {
         "patch" => file(&job.patch),
         "reverse" => flag(job.reverse),
+        "fresh" => flag(job.fresh),
         _ => target_field(&job.target, name),
     }
+}
+
+fn forget_field<'a>(job: &'a ForgetJob, name: &str) -> Field<'a> {
+    target_field(&job.target, name)
 }
 
 /// A field of the image that a job works on.
@@ -271,6 +280,7 @@ fn field_of<'a>(job: &'a Job, name: &str) -> Field<'a> {
         Job::Change(ChangeJob::Dd(job)) => dd_image_field(job, name),
         Job::Change(ChangeJob::Revert(job)) => revert_field(job, name),
         Job::Change(ChangeJob::Patch(job)) => patch_field(job, name),
+        Job::Change(ChangeJob::Forget(job)) => forget_field(job, name),
         Job::Change(ChangeJob::Undo(job) | ChangeJob::Redo(job)) => steps_field(job, name),
         Job::Look(LookJob::Log(job)) => log_field(job, name),
         Job::Look(LookJob::Show(job)) => show_field(job, name),
