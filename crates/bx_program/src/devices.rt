@@ -1,15 +1,13 @@
 //! The devices of a session, and which of them stopped it.
 use crate::files::Made;
-use crate::stopped::{Reason, Row, Stopped};
+use crate::left::{differs, length_of, stopped_by};
+use crate::stopped::Stopped;
 use bx_cli::{Fault, Target};
-use bx_image::{Device, FileImage, RandomAccess};
+use bx_image::{FileImage, RandomAccess};
 use bx_journal::{Devices, SessionFault};
-use bx_journal_store::{FileText, TextStore};
-use bx_patch::Other;
-use bx_program_system::{CountedFile, take_away};
+use bx_journal_store::FileText;
+use bx_program_system::{CountedFile, Left, take_away};
 use std::fs::File;
-use std::io::{Seek, SeekFrom};
-use std::os::unix::fs::FileExt;
 use std::rt::Files;
 use std::time::Clock;
 
@@ -66,98 +64,19 @@ impl<'a, 'p, 'r, R: Clock + Eprint> Named<'a, CountedFile<'p, 'r, R>> {
 
     /// The device that stopped a session.
     pub fn stopped(&self, fault: Fault) -> Stopped<'a> {
-        let why = match fault {
-            Fault::Session(why) => why,
-            Fault::Disagrees(Other::Length { expected }) => return self.differs(fault, expected),
-            Fault::Disagrees(Other::Bytes { at }) => return self.has_others(fault, at),
-            _ => return Stopped::from(fault),
-        };
-        match why {
-            SessionFault::DeviceFailed | SessionFault::Interrupted => self.failed(fault),
-            SessionFault::LengthDiffers { expected } => self.differs(fault, expected),
-            SessionFault::NoMemory => self.unfitting(fault),
-            SessionFault::Damaged { .. } => Stopped::by(
-                fault,
-                self.target.texts.journal.as_str(),
-                None,
-            ),
-            SessionFault::RedoDamaged { .. } => Stopped::by(
-                fault,
-                self.target.texts.redo.as_str(),
-                None,
-            ),
-            _ => Stopped::from(fault),
-        }
-    }
-
-    /// The first device that had a failed call.
-    fn failed(&self, fault: Fault) -> Stopped<'a> {
         let Devices {
             image,
             journal,
             redo,
         } = &self.devices;
-        if image.faults() > 0 {
-            Stopped::failed(fault, self.target.image.as_str(), image.file().failed())
-        } else if journal.faults() > 0 {
-            Stopped::failed(
+        match (fault, image.file().file()) {
+            (Fault::Session(SessionFault::LengthDiffers { expected }), Some(file)) => differs(
+                self.target.image.as_str(),
+                length_of(&file.file),
                 fault,
-                self.target.texts.journal.as_str(),
-                journal.file().failed(),
-            )
-        } else if redo.faults() > 0 {
-            Stopped::failed(fault, self.target.texts.redo.as_str(), redo.file().failed())
-        } else {
-            Stopped::from(fault)
-        }
-    }
-
-    /// The image, where it can't grow and the change doesn't fit.
-    fn unfitting(&self, fault: Fault) -> Stopped<'a> {
-        match self.devices.image.refused() {
-            Some(wanted) => Stopped {
-                fault: Fault::from(SessionFault::TooLarge),
-                file: Some(self.target.image.as_str()),
-                reason: Reason::Fixed {
-                    has: self.devices.image.reserved(),
-                    wanted,
-                },
-            },
-            None => Stopped::from(fault),
-        }
-    }
-
-    /// The image, which has other bytes than a patch expects.
-    fn has_others(&self, fault: Fault, at: u64) -> Stopped<'a> {
-        let name = self.target.image.as_str();
-        let Some(file) = self.devices.image.file().file() else {
-            return Stopped::from(fault);
-        };
-        let mut bytes = [0u8; 16];
-        let room = 16 - (at % 16) as usize;
-        match file.file.read_at(&mut bytes[..room], at) {
-            Ok(count) => Stopped {
-                fault,
-                file: Some(name),
-                reason: Reason::There(Row { at, bytes, count }),
-            },
-            Err(error) => Stopped::by(fault, name, error.raw_os_error()),
-        }
-    }
-
-    /// The image, which has not the length that it should have.
-    fn differs(&self, fault: Fault, expected: u64) -> Stopped<'a> {
-        let Some(file) = self.devices.image.file().file() else {
-            return Stopped::from(fault);
-        };
-        let mut file = &file.file;
-        match file.seek(SeekFrom::End(0)) {
-            Ok(has) => Stopped {
-                fault,
-                file: Some(self.target.image.as_str()),
-                reason: Reason::Lengths { has, expected },
-            },
-            Err(error) => Stopped::by(fault, self.target.image.as_str(), error.raw_os_error()),
+                expected,
+            ),
+            (fault, _) => stopped_by(self.target, &Left::of(image, journal, redo, 0), fault),
         }
     }
 }

@@ -6,6 +6,7 @@ pub mod look;
 mod mounts;
 pub mod open;
 mod unfit;
+pub mod unopened;
 
 use crate::files::guard::Guard;
 use crate::files::look::{Holds, Makes, Use, look, look_at_all};

@@ -1,36 +1,35 @@
 //! The jobs, and one run of the program.
 ghost use Rattle.bx_cli_commands.specs.jobs.Passing.{CanPass, skip_of};
-ghost use Rattle.bx_cli_commands.specs.Command.{IsNear};
 
 use crate::copies::{copy_onto, most_of_dd, tell};
 use crate::diff::diff;
 use crate::hints::remarks::Remarks;
 use crate::hints::seen::{Seen, Watched};
 use crate::hints::show_fault;
-use crate::images::forget::{forget, open_fresh, open_to_forget};
-use crate::images::{
-    finish, finish_read, log, log_places, open_session, open_to_look, show_changes,
-};
-use crate::input::{MOST_INPUT, Placed, file, open, size_of, standard};
-use crate::patch::patch;
+use crate::images::{finish_read, log, log_places, open_session, open_to_look, show_changes};
+use crate::input::{Placed, file, open, size_of, standard};
+use crate::steps::take_steps;
 use crate::stopped::{Noted, STANDARD_INPUT, Stopped};
 use crate::streams::Held;
 use bx_cli::{
-    ChangeJob, Command, Done, DumpJob, Fault, ForgetJob, Form, Job, LogJob, LookJob, RevertJob,
-    ShowJob, Target, change_from, plan_words, run_dump,
+    ChangeJob, Done, DumpJob, Fault, Form, Job, LogJob, LookJob, RevertJob, ShowJob, change_from,
+    plan_words, run_dump,
 };
 use bx_dd::Counts;
 use bx_image::Change;
-use bx_journal::Steps;
+use bx_journal::{Steps, Way};
 use bx_program_system::{Counted, Progress, Tally, Terminals};
 use bx_read::ReadFault;
-use bx_text::{IoFault, Source, Words, dec_field, emit, emit_after};
+use bx_text::{IoFault, Source, Words, emit};
 use std::alloc::Global;
 use std::env;
 use std::fs::File;
 use std::io::{self, Read, Write};
 use std::rt::{Env, Files};
 use std::time::Clock;
+
+/// The most bytes of a dump that is reverted.
+const MOST_INPUT: u64 = 1 << 40;
 
 const NOT_UTF_8: &str = "a word is not UTF-8; a file of such a name can be given by a link to it";
 
@@ -152,12 +151,12 @@ fn run_job<'a, R, W: Write>(
     remarks: &mut Remarks,
 ) -> Result<Option<Counts>, Stopped<'a>>
 where
-    R: Files<File = File> + Input + Eprint + Clock + AllocGlobal,
+    R: Files<File = File> + Input + Print + Eprint + Clock + AllocGlobal,
 {
     match job {
         Job::Dump(job) => dump(rt, job, out, remarks),
         Job::Change(job) => {
-            change(rt, job, out, remarks)?;
+            change(rt, job, remarks)?;
             Ok(None)
         }
         Job::Look(job) => {
@@ -176,58 +175,16 @@ where
 }
 
 /// Runs a job that changes an image.
-fn change<'a, R, W: Write>(
-    rt: &R,
-    job: &'a ChangeJob,
-    out: &mut W,
-    remarks: &mut Remarks,
-) -> Result<(), Stopped<'a>>
+fn change<'a, R>(rt: &R, job: &'a ChangeJob, remarks: &mut Remarks) -> Result<(), Stopped<'a>>
 where
-    R: Files<File = File> + Input + Eprint + Clock + AllocGlobal,
+    R: Files<File = File> + Input + Print + Eprint + Clock + AllocGlobal,
 {
     match job {
         ChangeJob::Dd(job) => copy_onto(rt, job, remarks),
         ChangeJob::Revert(job) => revert(rt, job, remarks),
-        ChangeJob::Patch(job) => patch(rt, job, remarks),
-        ChangeJob::Forget(job) => forget_changes(rt, job, remarks),
-        ChangeJob::Undo(job) => {
-            let undo = Command::Undo { k: job.count };
-            take_steps(rt, undo, &job.target, out, remarks)
-        }
-        ChangeJob::Redo(job) => {
-            let redo = Command::Redo { j: job.count };
-            take_steps(rt, redo, &job.target, out, remarks)
-        }
+        ChangeJob::Undo(job) => take_steps(rt, Way::Undo, job, remarks),
+        ChangeJob::Redo(job) => take_steps(rt, Way::Redo, job, remarks),
     }
-}
-
-/// Accepts all changes of an image, and drops their history.
-fn forget_changes<'a, R>(rt: &R, job: &'a ForgetJob, remarks: &Remarks) -> Result<(), Stopped<'a>>
-where
-    R: Files<File = File> + Eprint + Clock + AllocGlobal,
-{
-    let progress = remarks.progress_of_input(rt, None);
-    let ready = open_to_forget(rt, &job.target, &progress)?;
-    forget(rt, ready, &job.target)
-}
-
-/// Takes changes back or makes undone ones again, and shows how many changes then stand.
-fn take_steps<'a, R, W: Write>(
-    rt: &R,
-    asked: Command,
-    target: &'a Target,
-    out: &mut W,
-    remarks: &mut Remarks,
-) -> Result<(), Stopped<'a>>
-where
-    R: Files<File = File> + Eprint + Clock + AllocGlobal,
-    requires { IsNear asked }
-{
-    let progress = remarks.progress_of_input(rt, None);
-    let session = open_session(rt, target, false, &progress)?;
-    remarks.look_at_times(rt, target);
-    let reply = finish(rt, session, asked, target)?;
-    Ok(show_number(out, reply.standing()?)?)
 }
 
 /// Shows the changes of an image.
@@ -268,14 +225,6 @@ where
 
 fn show<W: Write>(out: &mut W, text: &str) -> Result<(), Fault> {
     Ok(emit(out, text.as_bytes())?)
-}
-
-/// A number on a line of its own. It takes no memory, since what it tells of is done.
-fn show_number<W: Write>(out: &mut W, number: u32) -> Result<(), Fault> {
-    let digits = dec_field(number as i128, 1, b' ');
-    emit(out, digits.as_bytes())?;
-    let written = digits.as_bytes().len().min(22) as u64;
-    Ok(emit_after(out, written, b"\n")?)
 }
 
 /// Puts the bytes of a dump onto the image: the whole dump is read first.
@@ -340,11 +289,7 @@ where
     R: Files<File = File> + Eprint + Clock + AllocGlobal,
 {
     let progress = remarks.progress_of_input(rt, None);
-    let session = if job.fresh && read.is_ok() {
-        open_fresh(rt, &job.target, &progress)?
-    } else {
-        open_session(rt, &job.target, true, &progress)?
-    };
+    let session = open_session(rt, &job.target, true, &progress)?;
     if let Ok(change) = &read {
         remarks.look_at_change(rt, &job.target, change);
     }

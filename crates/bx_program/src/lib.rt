@@ -11,8 +11,9 @@ mod hints;
 mod images;
 mod input;
 mod jobs;
+mod left;
 mod paged;
-mod patch;
+mod steps;
 mod stopped;
 mod streams;
 

@@ -247,10 +247,10 @@ impl<'a> Stopped<'a> {
         }
     }
 
-    /// The same, or that standard output was not written, where it is that.
+    /// The same, or that standard output was not written, where it is that and isn't said yet.
     pub fn on_output(self, error: Option<i32>) -> Stopped<'a> {
         match self.fault {
-            Fault::Io(IoFault::WriteFailed { .. }) => {
+            Fault::Io(IoFault::WriteFailed { .. }) if self.file.is_none() => {
                 Stopped::by(self.fault, STANDARD_OUTPUT, error)
             }
             _ => self,

@@ -37,13 +37,13 @@ fn unfit_of(caller: u32, image: &Stat, look: Look) -> Option<Unfit>
     }
 }
 
-/// Looks at a text of this image, which may be missing.
+/// Looks at a text of this image, and answers whether it is there.
 fn look_at_text<W: World>(
     world: &mut W,
     name: &str,
     which: Which,
     image: &Stat,
-) -> Result<(), Unopened>
+) -> Result<bool, Unopened>
     ensures fit { W.honest world.old
         → OnOk result ((n : ℕ) → (W.sight world.old).stat n ≡ image.now → MayBeText n (W.sight world.old) name.now) }
     ensures same { W.honest world.old → W.sight world.new ≡ W.sight world.old }
@@ -55,18 +55,23 @@ fn look_at_text<W: World>(
     };
     let caller = world.caller();
     match unfit_of(caller, image, look) {
-        None => Ok(()),
+        None => Ok(look.found.is_some()),
         Some(unfit) => Err(which.unfit(unfit)),
     }
 }
 
-/// Looks at all three before one is opened.
+/// Looks at all three before one is opened. The redo text may be missing.
 pub fn look_at_all<W: World>(world: &mut W, names: &Names, mounted: bool) -> Result<(), Unopened>
     ensures fit { W.honest world.old → OnOk result (AreFit names.now mounted (W.sight world.old)) }
     ensures same { W.honest world.old → W.sight world.new ≡ W.sight world.old }
     ensures honesty { W.honest world.new ↔ W.honest world.old }
 {
     let image = look_at_image(world, names.image.as_str(), mounted)?;
-    look_at_text(world, names.journal.as_str(), Which::Journal, &image)?;
-    look_at_text(world, names.redo.as_str(), Which::Redo, &image)
+    if !look_at_text(world, names.journal.as_str(), Which::Journal, &image)? {
+        return Err(Which::Journal.refused(Refusal::Missing));
+    }
+    match look_at_text(world, names.redo.as_str(), Which::Redo, &image) {
+        Ok(_) => Ok(()),
+        Err(unopened) => Err(unopened),
+    }
 }

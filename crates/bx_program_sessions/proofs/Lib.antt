@@ -1,5 +1,5 @@
 pub mod Obeyed
 pub mod Refused
 pub mod Files
-pub mod Moved
+pub mod Answered
 pub mod Lines

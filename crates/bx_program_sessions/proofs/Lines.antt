@@ -1,48 +1,49 @@
 -- A line that is written in parts, behind what a command made of files.
-use Rattle.std.proofs.Common.{◌≡◌, ◌∙◌, ◌++◌, ◌≤◌, ◌+◌, ℕ, List, [], Option, Some, None, take, drop, length, refl, sym, ap, subst, inr, append_assoc, length-append, arith}
-use Rattle.std.specs.Prelude.{Result, Ok, Err, OnOk, IfErr}
+use Rattle.std.proofs.Common.{◌≡◌, ◌∙◌, ◌++◌, ◌≤◌, ◌+◌, ℕ, zero, suc, List, [], Option, Some, None, take, length, refl, sym, ap, subst, inl, inr, append_assoc, append-nil, length-append, arith}
+use Rattle.std.specs.Prelude.{Result, Ok, Err, OnOk, IfOk, IfErr, IfSome}
 use Rattle.std.specs.Option.{option_map_or}
-use Rattle.std.proofs.lemmas.List.{take-append-drop}
-use Rattle.bx_text.specs.declared.fault.IoFault.TheVariants.{WriteFailed}
 use Rattle.bx_program_world.specs.World.{KeepsFiles, Sight, held}
+use Rattle.bx_program_files.specs.Files.{LeavesFiles}
 use Rattle.bx_program_files.specs.declared.names.Names.{Names}
+use Rattle.bx_program_files.specs.declared.unopened.Unopened.{Unopened}
+use Rattle.bx_journal_read.specs.declared.answers.How.{How}
+use Rattle.bx_journal_read.specs.declared.fault.SessionFault.TheVariants.{Interrupted}
 use Rattle.bx_cli_commands.specs.declared.fault.Fault.{Fault}
-use Rattle.bx_cli_commands.specs.declared.fault.Fault.TheVariants.{Io}
-use Rattle.bx_program_sessions.specs.Contents.{Holds}
-use Rattle.bx_program_sessions.specs.Moves.{Course, IsMoved, Moves, StopsLine, StopsMove, number_line}
-use Rattle.bx_program_sessions.specs.Named.{contents_of}
+use Rattle.bx_cli_commands.specs.declared.fault.Fault.TheVariants.{OpenFailed, Session}
+use Rattle.bx_program_sessions.specs.Contents.{FindsIn, Holds}
+use Rattle.bx_program_sessions.specs.Moves.{Course, IsMoved, Moves, RefusesMove, StopsLine, StopsMove, StopsPart, TellsRecovered, number_line, recovered_line}
+use Rattle.bx_program_sessions.specs.Named.{IsUnrecovered, KeepsOthers, contents_of}
 
 -- the first part couldn't be written
-pub stops_first : (n : ℕ) (first second old new : List ℕ) (e : Fault) → new ≡ old ++ take n first → e ≡ Io (WriteFailed 0)
-    → StopsLine (first ++ second) old new e
-stops_first n first second old new e is fault = record {
-  front = take n first;
-  rest = drop n first ++ second;
-  told = 0;
-  whole = ap (λ xs. xs ++ second) (sym (take-append-drop n first)) ∙ append_assoc (take n first) (drop n first) second;
-  output = is;
-  least = omega arith;
-  fault = fault;
+pub stops_first : (first second old new : List ℕ) (e : Fault) → StopsPart 0 first old new e → StopsLine (first ++ second) old new e
+stops_first first second old new e stops = record {
+  front = stops.2.front;
+  rest = stops.2.rest ++ second;
+  told = stops.0;
+  whole = ap (λ xs. xs ++ second) stops.2.whole ∙ append_assoc stops.2.front stops.2.rest second;
+  output = stops.2.output;
+  least = stops.2.least;
+  fault = let none : 0 + stops.0 ≡ stops.0 = omega arith in rw none at stops.1;
 }
 
 -- the first part is written, and the second couldn't be
-stops_second : (n told : ℕ) (first second old mid new : List ℕ) (e : Fault) → mid ≡ old ++ first → new ≡ mid ++ take n second → told ≤ length first
-    → e ≡ Io (WriteFailed told) → StopsLine (first ++ second) old new e
-stops_second n told first second old mid new e is more least fault = record {
-  front = first ++ take n second;
-  rest = drop n second;
-  told = told;
-  whole = ap (λ xs. first ++ xs) (sym (take-append-drop n second)) ∙ sym (append_assoc first (take n second) (drop n second));
-  output = more ∙ ap (λ xs. xs ++ take n second) is ∙ append_assoc old first (take n second);
-  least = let both = length-append first (take n second) in omega (arith, least, both);
-  fault = fault;
+stops_second : (before : ℕ) (first second old mid new : List ℕ) (e : Fault) → mid ≡ old ++ first → before ≤ length first
+    → StopsPart before second mid new e → StopsLine (first ++ second) old new e
+stops_second before first second old mid new e is least stops = record {
+  front = first ++ stops.2.front;
+  rest = stops.2.rest;
+  told = before + stops.0;
+  whole = ap (λ xs. first ++ xs) stops.2.whole ∙ sym (append_assoc first stops.2.front stops.2.rest);
+  output = stops.2.output ∙ ap (λ xs. xs ++ stops.2.front) is ∙ append_assoc old first stops.2.front;
+  least = let both = length-append first stops.2.front in let more = stops.2.least in omega (arith, least, more, both);
+  fault = stops.1;
 }
 
 -- the same, whatever is answered
-pub after_first : {V : Type 0} (r : Result V Fault) (told : ℕ) (first second old mid new : List ℕ) → mid ≡ old ++ first → told ≤ length first
-    → IfErr r (λ _. (n : ℕ) × (new ≡ mid ++ take n second)) → IfErr r (λ e. e ≡ Io (WriteFailed told)) → IfErr r (StopsLine (first ++ second) old new)
-after_first (Ok v) told first second old mid new is least more fault = tt
-after_first (Err e) told first second old mid new is least more fault = stops_second more.0 told first second old mid new e is more.1 least fault
+pub after_first : {V : Type 0} (r : Result V Fault) (before : ℕ) (first second old mid new : List ℕ) → mid ≡ old ++ first → before ≤ length first
+    → IfErr r (StopsPart before second mid new) → IfErr r (StopsLine (first ++ second) old new)
+after_first (Ok v) before first second old mid new is least more = tt
+after_first (Err e) before first second old mid new is least more = stops_second before first second old mid new e is least more
 
 held_kept : (mid new : Sight) (name : List ℕ) → KeepsFiles mid new → held new name ≡ held mid name
 held_kept mid new name keeps = at_name (mid.named name) (keeps.named name)
@@ -83,3 +84,111 @@ module _ (names : Names) (k : ℕ) (course : Course) (left : ℕ) (old mid new :
       fault = line.fault;
     };
   })
+
+-- of files that hold images nothing is said
+take_none : (n : ℕ) → ◌≡◌ {A = List ℕ} (take n []) []
+take_none zero = refl
+take_none (suc n) = refl
+
+unrecovered_line : (how : Option How) → IsUnrecovered how → recovered_line how ≡ []
+unrecovered_line None is = refl
+unrecovered_line (Some h) is = rw is refl
+
+silent_line : (how : Option How) (old new : List ℕ) → IsUnrecovered how → TellsRecovered how old new → new ≡ old
+silent_line how old new is tells =
+    tells.1 ∙ ap (λ xs. old ++ take tells.0 xs) (unrecovered_line how is) ∙ ap (λ xs. old ++ xs) (take_none tells.0) ∙ append-nil old
+
+-- what is said, where nothing else is written to standard error
+pub tells_alone : (how : Option How) (old mid told new : List ℕ) → mid ≡ old → TellsRecovered how mid told → new ≡ told → TellsRecovered how old new
+tells_alone how old mid told new before tells behind = (tells.0, behind ∙ tells.1 ∙ ap (λ xs. xs ++ take tells.0 (recovered_line how)) before)
+
+-- two steps that leave files
+pub keeps_then : (old mid new : Sight) → KeepsFiles old mid → KeepsFiles mid new → KeepsFiles old new
+keeps_then old mid new first second = record {
+  named = λ m. second.named m ∙ first.named m;
+  is_link = λ m. second.is_link m ∙ first.is_link m;
+  bytes = λ i. second.bytes i ∙ first.bytes i;
+  stat = λ i. second.stat i ∙ first.stat i;
+  caller = second.caller ∙ first.caller;
+  there = second.there ∙ first.there;
+  before = second.before ∙ first.before;
+  lent = second.lent ∙ first.lent;
+  stuck = second.stuck ∙ first.stuck;
+}
+
+-- files that were left, and then were kept, and nothing was written
+leaves_kept : (old mid new : Sight) → LeavesFiles old mid → KeepsFiles mid new → new.output ≡ mid.output → new.errors ≡ mid.errors → LeavesFiles old new
+leaves_kept old mid new left keeps output errors = record {
+  bytes = λ i below. keeps.bytes i ∙ left.bytes i below;
+  stat = λ i below. keeps.stat i ∙ left.stat i below;
+  named = λ stuck m. keeps.named m ∙ left.named (sym keeps.stuck ∙ stuck) m;
+  still = λ m n named. keeps.named m ∙ left.still m n named;
+  stuck = let least = left.stuck in let same = keeps.stuck in omega (arith, least, same);
+  streams = record {
+    is_link = λ m. keeps.is_link m ∙ left.streams.is_link m;
+    caller = keeps.caller ∙ left.streams.caller;
+    output = output ∙ left.streams.output;
+    errors = errors ∙ left.streams.errors;
+    before = keeps.before ∙ left.streams.before;
+    lent = keeps.lent ∙ left.streams.lent;
+  };
+}
+
+-- no other file was changed, and then all were kept
+pub others_kept : (names : Names) (old mid new : Sight) → KeepsOthers names old mid → KeepsFiles mid new → KeepsOthers names old new
+others_kept names old mid new others keeps = record {
+  bytes = λ n below image journal redo. keeps.bytes n ∙ others.bytes n below image journal redo;
+  stat = λ n below. keeps.stat n ∙ others.stat n below;
+  named = λ m n named. keeps.named m ∙ others.named m n named;
+}
+
+-- files that weren't opened
+pub unopened_kept : {V W : Type 0} (u : Option Unopened) (how : Option How) (standing : Result V Fault) (r : Result W Fault) (old mid told new : Sight)
+    → IfSome u (λ _. (standing ≡ Err OpenFailed) × (how ≡ None) × LeavesFiles old mid) → KeepsFiles mid told → told.output ≡ mid.output
+    → TellsRecovered how mid.errors told.errors → IfErr standing (λ e. (r ≡ Err e) × (new ≡ told))
+    → IfSome u (λ _. (r ≡ Err OpenFailed) × (how ≡ None) × LeavesFiles old new)
+unopened_kept None how standing r old mid told new none keeps output tells refused = tt
+unopened_kept (Some u) how standing r old mid told new none keeps output tells refused =
+    let is = rw none.0 at refused in
+    let unrecovered : IsUnrecovered how = rw none.1 tt in
+    let left = leaves_kept old mid told none.2 keeps output (silent_line how mid.errors told.errors unrecovered tells) in
+    (is.0, none.1, subst (λ w. LeavesFiles old w) (sym is.1) left)
+
+module _ (names : Names) (k : ℕ) (course : Course) (old mid told new : Sight) where
+  -- moved, and the number written behind the line on what was recovered
+  pub done_behind : (standing : Result ℕ Fault) (r : Result Unit Fault) → IfOk standing (λ left. IsMoved k course left (contents_of names mid))
+      → KeepsFiles mid told → KeepsFiles told new → mid.output ≡ old.output → told.output ≡ mid.output
+      → IfOk standing (λ left. OnOk r (new.output ≡ told.output ++ number_line left)) → IfErr standing (λ e. (r ≡ Err e) × (new ≡ told))
+      → OnOk r (Moves names k course old new)
+  done_behind (Ok left) r moved first second before between line refused =
+      written names k course left old told new r (subst (IsMoved k course left) (sym (contents_kept names mid told first)) moved) second
+      (between ∙ before) line
+  done_behind (Err e) r moved first second before between line refused = rw refused.0 tt
+
+  refuses_kept : (e : Fault) → RefusesMove names k course old mid e → KeepsFiles mid told → told.output ≡ mid.output → told.errors ≡ mid.errors
+      → RefusesMove names k course old told e
+  refuses_kept (Session Interrupted) refuses keeps output errors =
+      (refuses.0, refuses.1, subst (λ c. FindsIn c (course.moved refuses.0)) (sym (contents_kept names mid told keeps)) refuses.2)
+  refuses_kept e refuses keeps output errors = (refuses.0, leaves_kept old mid told refuses.1 keeps output errors)
+
+  -- stopped
+  pub stopped_behind : (how : Option How) (standing : Result ℕ Fault) (r : Result Unit Fault) → IsUnrecovered how
+      → IfOk standing (λ left. IsMoved k course left (contents_of names mid)) → IfErr standing (RefusesMove names k course old mid)
+      → KeepsFiles mid told → KeepsFiles told new → mid.output ≡ old.output → told.output ≡ mid.output → TellsRecovered how mid.errors told.errors
+      → IfOk standing (λ left. IfErr r (StopsLine (number_line left) told.output new.output)) → IfErr standing (λ e. (r ≡ Err e) × (new ≡ told))
+      → IfErr r (StopsMove names k course old new)
+  stopped_behind how (Ok left) r is moved refuses first second before between tells line refused =
+      unwritten names k course left old told new r (subst (IsMoved k course left) (sym (contents_kept names mid told first)) moved) second
+      (between ∙ before) line
+  stopped_behind how (Err e) r is moved refuses first second before between tells line refused =
+      rw (refused.0, refused.1) (inl (refuses_kept e refuses first between (silent_line _ _ _ is tells), between ∙ before))
+
+-- the same of what is recovered
+pub recovered_behind : (names : Names) (k : ℕ) (course : How → Course) (old mid told new : Sight) (how : Option How) (standing : Result ℕ Fault)
+    (r : Result Unit Fault) → IfSome how (λ h. IfOk standing (λ left. IsMoved k (course h) left (contents_of names mid)))
+    → KeepsFiles mid told → KeepsFiles told new → mid.output ≡ old.output → told.output ≡ mid.output
+    → IfOk standing (λ left. OnOk r (new.output ≡ told.output ++ number_line left)) → IfErr standing (λ e. (r ≡ Err e) × (new ≡ told))
+    → IfSome how (λ h. OnOk r (Moves names k (course h) old new))
+recovered_behind names k course old mid told new None standing r moved first second before between line refused = tt
+recovered_behind names k course old mid told new (Some h) standing r moved first second before between line refused =
+    done_behind names k (course h) old mid told new standing r moved first second before between line refused

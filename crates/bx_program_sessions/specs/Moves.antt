@@ -1,17 +1,20 @@
 -- What a person sees of an undo and of a redo: files and standard output.
-use Rattle.std.specs.Prelude.{◌≡◌, ◌⊎◌, ◌<◌, ◌≤◌, ◌+◌, ◌-◌, ◌++◌, ℕ, List, codes, decimal, length}
+use Rattle.std.specs.Prelude.{◌≡◌, ◌⊎◌, ◌<◌, ◌≤◌, ◌+◌, ◌-◌, ◌++◌, ℕ, List, [], Option, None, Some, Err, codes, decimal, length, take}
 use Rattle.bx_text.specs.declared.fault.IoFault.TheVariants.{WriteFailed}
-use Rattle.bx_program_world.specs.World.{Sight}
+use Rattle.bx_program_world.specs.World.{Sight, WritesPart}
 use Rattle.bx_program_files.specs.Files.{LeavesFiles}
 use Rattle.bx_program_files.specs.declared.names.Names.{Names}
 use Rattle.bx_journal.specs.Images.{Images, redo_of, undo_of}
 use Rattle.bx_journal.specs.Machine.{changes_of}
+use Rattle.bx_journal_read.specs.declared.answers.How.{How}
+use Rattle.bx_journal_read.specs.declared.answers.How.TheVariants.{Clean, Dropped, Restored}
 use Rattle.bx_journal_read.specs.declared.fault.SessionFault.{SessionFault}
 use Rattle.bx_journal_read.specs.declared.fault.SessionFault.TheVariants.{DeviceFailed, Interrupted, NoMemory, NothingToRedo, TooFew}
 use Rattle.bx_cli_commands.specs.declared.fault.Fault.{Fault}
 use Rattle.bx_cli_commands.specs.declared.fault.Fault.TheVariants.{Io, OpenFailed, Session}
 use Rattle.bx_program_sessions.specs.Contents.{Contents, FindsIn, Holds}
 use Rattle.bx_program_sessions.specs.Named.{contents_of}
+use Rattle.bx_program_sessions.specs.declared.moves.Moved.{Moved}
 
 -- Changes that are moved one by one, taken back or made again: how many there are, the fault where more are asked for, the images behind the
 -- first i of them, and how many changes then stand
@@ -34,6 +37,21 @@ pub record IsMoved (k : ℕ) (course : Course) (left : ℕ) (new : Contents) : T
   pub enough : k ≤ course.most
   pub left_is : left ≡ course.left k
   pub files : Holds new (course.moved k)
+
+-- what is said on standard error of what opening found unfinished
+abbrev pub recovered_line : Option How → List ℕ
+recovered_line None = []
+recovered_line (Some Clean) = []
+recovered_line (Some Dropped) = codes "bx: recovered: an unfinished entry was dropped\n"
+recovered_line (Some (Restored number)) = codes "bx: recovered: change " ++ decimal number ++ codes " was taken back\n"
+
+-- what opening found unfinished is said on standard error, as far as that can be written
+abbrev pub TellsRecovered : Option How → List ℕ → List ℕ → Type 0
+TellsRecovered how old new = (n : ℕ) × (new ≡ old ++ take n (recovered_line how))
+
+-- files weren't opened: the fault says so, nothing was recovered, and all files are as they were
+abbrev pub NothingMoved : {V : Type 0} → Moved V → Sight → Sight → Type 0
+NothingMoved moved old new = (moved.outcome ≡ Err OpenFailed) × (moved.how ≡ None) × LeavesFiles old new
 
 -- a number on a line of its own
 abbrev pub number_line : ℕ → List ℕ
@@ -58,6 +76,10 @@ MayNotMove k course e = ⊥
 abbrev pub RefusesMove : Names → ℕ → Course → Sight → Sight → Fault → Type 0
 RefusesMove names k course old new (Session Interrupted) = (i : ℕ) × (i ≤ k) × FindsIn (contents_of names new) (course.moved i)
 RefusesMove names k course old new e = MayNotMove k course e × LeavesFiles old new
+
+-- a part of a line couldn't be written, behind `before` bytes of the line
+abbrev pub StopsPart : ℕ → List ℕ → List ℕ → List ℕ → Fault → Type 0
+StopsPart before part old new e = (told : ℕ) × (e ≡ Io (WriteFailed (before + told))) × WritesPart told old new part
 
 -- A line couldn't be written: a front of it is behind what was written, and the fault tells no more bytes than that has
 pub record StopsLine (line old new : List ℕ) (e : Fault) : Type 0 where

@@ -1,34 +1,47 @@
 //! An undo and a redo on files, with the number that they write.
-ghost use Rattle.std.specs.Prelude.{◌≡◌, ◌↔◌, ◌++◌, ℕ, decimal, None, IfOk, IfErr, OnOk, take};
-ghost use Rattle.bx_text.specs.declared.fault.IoFault.TheVariants.{WriteFailed};
+ghost use Rattle.std.specs.Prelude.{◌≡◌, ◌↔◌, ◌++◌, ◌+◌, ◌<◌, ◌^◌, ℕ, decimal, length, Err, None, IfOk, IfErr, IfSome, OnOk};
 ghost use Rattle.bx_journal.specs.Images.{Images};
-ghost use Rattle.bx_cli_commands.specs.declared.fault.Fault.TheVariants.{Io};
 ghost use Rattle.bx_program_world.specs.World.{KeepsFiles, KeepsStreams};
-ghost use Rattle.bx_program_sessions.specs.Contents.{Holds};
-ghost use Rattle.bx_program_sessions.specs.Named.{KeepsOthers, contents_of};
-ghost use Rattle.bx_program_sessions.specs.Moves.{IsMoved, Moves, RefusesMove, StopsLine, StopsMove, again, back, number_line};
+ghost use Rattle.bx_program_files.specs.Fit.{AreFit};
+ghost use Rattle.bx_program_sessions.specs.Contents.{FoundIn, Holds, recovered_as};
+ghost use Rattle.bx_program_sessions.specs.Named.{IsUnrecovered, KeepsOthers, contents_of};
+ghost use Rattle.bx_program_sessions.specs.Moves.{IsMoved, Moves, NothingMoved, RefusesMove, StopsLine, StopsMove, StopsPart, TellsRecovered, again, back, number_line, recovered_line};
 
 use crate::named::run_command;
 use bx_cli_commands::{Command, Fault};
-use bx_program_files::Names;
+use bx_journal::How;
+use bx_program_files::{Names, Unopened};
 use bx_program_world::World;
-use bx_text::{Field, IoFault, dec_field};
+use bx_text::{Field, IoFault, ShortText, dec_field};
 use std::alloc::Global;
 use std::io::Empty;
 
+/// What an undo or a redo answers.
+#[derive(Drop)]
+pub struct Moved<V> {
+    /// That it is done, or the fault that stopped it.
+    pub outcome: Result<V, Fault>,
+    /// Why the files were not opened; none where they were.
+    pub unopened: Option<Unopened>,
+    /// What opening the session found unfinished; none where it was refused, and where the files were not opened.
+    pub how: Option<How>,
+}
+
 /// Writes a part of a line on standard output; `before` bytes of the line are out.
 fn put<W: World>(world: &mut W, before: u64, bytes: &[u8]) -> Result<(), Fault>
+    requires room { before + length bytes.now < 2 ^ 64 }
     ensures ok { W.honest world.old → OnOk result ((W.sight world.new).output ≡ (W.sight world.old).output ++ bytes.now) }
     ensures err { W.honest world.old
-        → IfErr result (λ _. (n : ℕ) × (W.sight world.new).output ≡ (W.sight world.old).output ++ take n bytes.now) }
-    ensures fault { IfErr result (λ e. e ≡ Io (WriteFailed before)) }
+        → IfErr result (StopsPart before bytes.now (W.sight world.old).output (W.sight world.new).output) }
     ensures errors { W.honest world.old → (W.sight world.new).errors ≡ (W.sight world.old).errors }
     ensures files { W.honest world.old → KeepsFiles (W.sight world.old) (W.sight world.new) }
     ensures honesty { W.honest world.new ↔ W.honest world.old }
 {
     match world.print(bytes) {
         Ok(()) => Ok(()),
-        Err(_) => Err(Fault::Io(IoFault::WriteFailed { written: before })),
+        Err(unwritten) => Err(Fault::Io(IoFault::WriteFailed {
+            written: before + unwritten.written,
+        })),
     }
 }
 
@@ -58,6 +71,54 @@ fn put_number<W: World>(world: &mut W, number: u32) -> Result<(), Fault>
     }
 }
 
+/// Writes the number of changes that stand, where they were moved.
+fn tell_number<W: World>(world: &mut W, standing: Result<u32, Fault>) -> Result<(), Fault>
+    ensures done { W.honest world.old
+        → IfOk standing (λ left. OnOk result ((W.sight world.new).output ≡ (W.sight world.old).output ++ number_line left)) }
+    ensures lost { W.honest world.old
+        → IfOk standing (λ left. IfErr result (StopsLine (number_line left) (W.sight world.old).output (W.sight world.new).output)) }
+    ensures refused { W.honest world.old → IfErr standing (λ e. (result ≡ Err e) × (W.sight world.new ≡ W.sight world.old)) }
+    ensures errors { W.honest world.old → (W.sight world.new).errors ≡ (W.sight world.old).errors }
+    ensures files { W.honest world.old → KeepsFiles (W.sight world.old) (W.sight world.new) }
+    ensures honesty { W.honest world.new ↔ W.honest world.old }
+{
+    match standing {
+        Ok(left) => put_number(world, left),
+        Err(fault) => Err(fault),
+    }
+}
+
+/// What is said of what opening found unfinished.
+fn line_of(how: Option<How>) -> ShortText<64>
+    ensures { result ≡ recovered_line how }
+{
+    let mut line: ShortText<64> = ShortText::new();
+    match how {
+        None | Some(How::Clean) => {}
+        Some(How::Dropped) => {
+            line.push_all(b"bx: recovered: an unfinished entry was dropped\n");
+        }
+        Some(How::Restored { number }) => {
+            line.push_all(b"bx: recovered: change ");
+            let digits = digits_of(number);
+            line.push_all(digits.as_bytes());
+            line.push_all(b" was taken back\n");
+        }
+    }
+    line
+}
+
+/// Says on standard error what opening found unfinished.
+fn tell_recovered<W: World>(world: &mut W, how: Option<How>)
+    ensures errors { W.honest world.old → TellsRecovered how (W.sight world.old).errors (W.sight world.new).errors }
+    ensures output { W.honest world.old → (W.sight world.new).output ≡ (W.sight world.old).output }
+    ensures files { W.honest world.old → KeepsFiles (W.sight world.old) (W.sight world.new) }
+    ensures honesty { W.honest world.new ↔ W.honest world.old }
+{
+    let line = line_of(how);
+    world.complain(line.as_bytes());
+}
+
 /// Takes the last changes of an image back, and answers how many stand.
 fn take_back<W: World>(
     world: &mut W,
@@ -65,12 +126,18 @@ fn take_back<W: World>(
     names: &Names,
     mounted: bool,
     count: u32,
-) -> Result<u32, Fault>
+) -> Moved<u32>
     requires free { W.honest world.old → (W.sight world.old).lent ≡ None }
     ensures done { W.honest world.old → (s : Images) → Holds (contents_of names.now (W.sight world.old)) s
-        → IfOk result (λ left. IsMoved count (back s) left (contents_of names.now (W.sight world.new))) }
+        → IfOk result.outcome (λ left. IsMoved count (back s) left (contents_of names.now (W.sight world.new))) }
     ensures refused { W.honest world.old → (s : Images) → Holds (contents_of names.now (W.sight world.old)) s
-        → IfErr result (RefusesMove names.now count (back s) (W.sight world.old) (W.sight world.new)) }
+        → IfErr result.outcome (RefusesMove names.now count (back s) (W.sight world.old) (W.sight world.new)) }
+    ensures unopened { W.honest world.old → IfSome result.unopened (λ _. NothingMoved result (W.sight world.old) (W.sight world.new)) }
+    ensures fit { W.honest world.old → result.unopened ≡ None → AreFit names.now mounted (W.sight world.old) }
+    ensures how { W.honest world.old → (s : Images) → Holds (contents_of names.now (W.sight world.old)) s → IsUnrecovered result.how }
+    ensures recovered { W.honest world.old → (s : Images) → FoundIn (contents_of names.now (W.sight world.old)) s → result.unopened ≡ None
+        → IfSome result.how (λ how. IfOk result.outcome (λ left.
+        IsMoved count (back (recovered_as how s)) left (contents_of names.now (W.sight world.new)))) }
     ensures others { W.honest world.old → KeepsOthers names.now (W.sight world.old) (W.sight world.new) }
     ensures silent { W.honest world.old → KeepsStreams (W.sight world.old) (W.sight world.new) }
     ensures honesty { W.honest world.new ↔ W.honest world.old }
@@ -78,7 +145,11 @@ fn take_back<W: World>(
     let mut command: Command<Empty> = Command::Undo { k: count };
     let answer = run_command(world, alloc, names, mounted, &mut command);
     drop(command);
-    answer.reply.standing()
+    Moved {
+        outcome: answer.reply.standing(),
+        unopened: answer.unopened,
+        how: answer.how,
+    }
 }
 
 /// Makes the last undone changes of an image again, and answers how many stand.
@@ -88,12 +159,18 @@ fn make_again<W: World>(
     names: &Names,
     mounted: bool,
     count: u32,
-) -> Result<u32, Fault>
+) -> Moved<u32>
     requires free { W.honest world.old → (W.sight world.old).lent ≡ None }
     ensures done { W.honest world.old → (s : Images) → Holds (contents_of names.now (W.sight world.old)) s
-        → IfOk result (λ left. IsMoved count (again s) left (contents_of names.now (W.sight world.new))) }
+        → IfOk result.outcome (λ left. IsMoved count (again s) left (contents_of names.now (W.sight world.new))) }
     ensures refused { W.honest world.old → (s : Images) → Holds (contents_of names.now (W.sight world.old)) s
-        → IfErr result (RefusesMove names.now count (again s) (W.sight world.old) (W.sight world.new)) }
+        → IfErr result.outcome (RefusesMove names.now count (again s) (W.sight world.old) (W.sight world.new)) }
+    ensures unopened { W.honest world.old → IfSome result.unopened (λ _. NothingMoved result (W.sight world.old) (W.sight world.new)) }
+    ensures fit { W.honest world.old → result.unopened ≡ None → AreFit names.now mounted (W.sight world.old) }
+    ensures how { W.honest world.old → (s : Images) → Holds (contents_of names.now (W.sight world.old)) s → IsUnrecovered result.how }
+    ensures recovered { W.honest world.old → (s : Images) → FoundIn (contents_of names.now (W.sight world.old)) s → result.unopened ≡ None
+        → IfSome result.how (λ how. IfOk result.outcome (λ left.
+        IsMoved count (again (recovered_as how s)) left (contents_of names.now (W.sight world.new)))) }
     ensures others { W.honest world.old → KeepsOthers names.now (W.sight world.old) (W.sight world.new) }
     ensures silent { W.honest world.old → KeepsStreams (W.sight world.old) (W.sight world.new) }
     ensures honesty { W.honest world.new ↔ W.honest world.old }
@@ -101,10 +178,14 @@ fn make_again<W: World>(
     let mut command: Command<Empty> = Command::Redo { j: count };
     let answer = run_command(world, alloc, names, mounted, &mut command);
     drop(command);
-    answer.reply.standing()
+    Moved {
+        outcome: answer.reply.standing(),
+        unopened: answer.unopened,
+        how: answer.how,
+    }
 }
 
-/// Takes the last changes of an image back, and writes how many stand.
+/// Takes the last changes of an image back, says on standard error what was recovered, and writes how many changes stand.
 ///
 /// # Errors
 /// Where it was refused, and nothing is written; and where the number can't be written, behind an undo that is done.
@@ -114,23 +195,33 @@ pub fn undo<W: World>(
     names: &Names,
     mounted: bool,
     count: u32,
-) -> Result<(), Fault>
+) -> Moved<()>
     requires free { W.honest world.old → (W.sight world.old).lent ≡ None }
     ensures done { W.honest world.old → (s : Images) → Holds (contents_of names.now (W.sight world.old)) s
-        → OnOk result (Moves names.now count (back s) (W.sight world.old) (W.sight world.new)) }
+        → OnOk result.outcome (Moves names.now count (back s) (W.sight world.old) (W.sight world.new)) }
     ensures stopped { W.honest world.old → (s : Images) → Holds (contents_of names.now (W.sight world.old)) s
-        → IfErr result (StopsMove names.now count (back s) (W.sight world.old) (W.sight world.new)) }
+        → IfErr result.outcome (StopsMove names.now count (back s) (W.sight world.old) (W.sight world.new)) }
+    ensures unopened { W.honest world.old → IfSome result.unopened (λ _. NothingMoved result (W.sight world.old) (W.sight world.new)) }
+    ensures fit { W.honest world.old → result.unopened ≡ None → AreFit names.now mounted (W.sight world.old) }
+    ensures how { W.honest world.old → (s : Images) → Holds (contents_of names.now (W.sight world.old)) s → IsUnrecovered result.how }
+    ensures recovered { W.honest world.old → (s : Images) → FoundIn (contents_of names.now (W.sight world.old)) s → result.unopened ≡ None
+        → IfSome result.how (λ how. OnOk result.outcome
+        (Moves names.now count (back (recovered_as how s)) (W.sight world.old) (W.sight world.new))) }
     ensures others { W.honest world.old → KeepsOthers names.now (W.sight world.old) (W.sight world.new) }
-    ensures errors { W.honest world.old → (W.sight world.new).errors ≡ (W.sight world.old).errors }
+    ensures errors { W.honest world.old → TellsRecovered result.how (W.sight world.old).errors (W.sight world.new).errors }
     ensures honesty { W.honest world.new ↔ W.honest world.old }
 {
-    match take_back(world, alloc, names, mounted, count) {
-        Ok(left) => put_number(world, left),
-        Err(fault) => Err(fault),
+    let moved = take_back(world, alloc, names, mounted, count);
+    tell_recovered(world, moved.how);
+    let outcome = tell_number(world, moved.outcome);
+    Moved {
+        outcome,
+        unopened: moved.unopened,
+        how: moved.how,
     }
 }
 
-/// Makes the last undone changes of an image again, and writes how many stand.
+/// Makes the last undone changes of an image again, says on standard error what was recovered, and writes how many changes stand.
 ///
 /// # Errors
 /// Where it was refused, and nothing is written; and where the number can't be written, behind a redo that is done.
@@ -140,18 +231,28 @@ pub fn redo<W: World>(
     names: &Names,
     mounted: bool,
     count: u32,
-) -> Result<(), Fault>
+) -> Moved<()>
     requires free { W.honest world.old → (W.sight world.old).lent ≡ None }
     ensures done { W.honest world.old → (s : Images) → Holds (contents_of names.now (W.sight world.old)) s
-        → OnOk result (Moves names.now count (again s) (W.sight world.old) (W.sight world.new)) }
+        → OnOk result.outcome (Moves names.now count (again s) (W.sight world.old) (W.sight world.new)) }
     ensures stopped { W.honest world.old → (s : Images) → Holds (contents_of names.now (W.sight world.old)) s
-        → IfErr result (StopsMove names.now count (again s) (W.sight world.old) (W.sight world.new)) }
+        → IfErr result.outcome (StopsMove names.now count (again s) (W.sight world.old) (W.sight world.new)) }
+    ensures unopened { W.honest world.old → IfSome result.unopened (λ _. NothingMoved result (W.sight world.old) (W.sight world.new)) }
+    ensures fit { W.honest world.old → result.unopened ≡ None → AreFit names.now mounted (W.sight world.old) }
+    ensures how { W.honest world.old → (s : Images) → Holds (contents_of names.now (W.sight world.old)) s → IsUnrecovered result.how }
+    ensures recovered { W.honest world.old → (s : Images) → FoundIn (contents_of names.now (W.sight world.old)) s → result.unopened ≡ None
+        → IfSome result.how (λ how. OnOk result.outcome
+        (Moves names.now count (again (recovered_as how s)) (W.sight world.old) (W.sight world.new))) }
     ensures others { W.honest world.old → KeepsOthers names.now (W.sight world.old) (W.sight world.new) }
-    ensures errors { W.honest world.old → (W.sight world.new).errors ≡ (W.sight world.old).errors }
+    ensures errors { W.honest world.old → TellsRecovered result.how (W.sight world.old).errors (W.sight world.new).errors }
     ensures honesty { W.honest world.new ↔ W.honest world.old }
 {
-    match make_again(world, alloc, names, mounted, count) {
-        Ok(left) => put_number(world, left),
-        Err(fault) => Err(fault),
+    let moved = make_again(world, alloc, names, mounted, count);
+    tell_recovered(world, moved.how);
+    let outcome = tell_number(world, moved.outcome);
+    Moved {
+        outcome,
+        unopened: moved.unopened,
+        how: moved.how,
     }
 }

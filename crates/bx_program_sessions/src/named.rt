@@ -3,13 +3,11 @@ ghost use Rattle.std.specs.Prelude.{◌≡◌, ◌↔◌, ◌≤◌, None, IfSom
 ghost use Rattle.bx_journal.specs.Images.{Images};
 ghost use Rattle.bx_cli_commands.specs.Command.{IsNear};
 ghost use Rattle.bx_cli_commands.specs.Refusal.{IsWholeRefusal};
-ghost use Rattle.bx_cli_commands.specs.declared.command.Reply.TheVariants.{Refused};
-ghost use Rattle.bx_cli_commands.specs.declared.fault.Fault.TheVariants.{OpenFailed};
 ghost use Rattle.bx_program_world.specs.World.{KeepsStreams, Sight, TakesAtMost, Trio};
 ghost use Rattle.bx_program_files.specs.Files.{HasMade, IsWithin, LeavesFiles, if_made};
 ghost use Rattle.bx_program_files.specs.Fit.{AreFit};
 ghost use Rattle.bx_program_sessions.specs.Contents.{DoesFound, FoundIn, Holds, StepsTo, Survives};
-ghost use Rattle.bx_program_sessions.specs.Named.{AreNamed, IsUnrecovered, KeepsOthers, MayRefuse, contents_of};
+ghost use Rattle.bx_program_sessions.specs.Named.{AreNamed, IsUnrecovered, KeepsOthers, MayRefuse, NothingDone, contents_of};
 
 use crate::lent::{Done, run_lent};
 use bx_cli_commands::{Command, Fault, Reply};
@@ -97,14 +95,15 @@ pub fn run_command<W: World, R: Read>(
     ensures refused { W.honest world.old → (s : Images) → Holds (contents_of names.now (W.sight world.old)) s → IsWholeRefusal result.reply
         → LeavesFiles (W.sight world.old) (W.sight world.new) }
     ensures unopened { W.honest world.old
-        → IfSome result.unopened (λ _. (result.reply ≡ Refused OpenFailed) × LeavesFiles (W.sight world.old) (W.sight world.new)) }
+        → IfSome result.unopened (λ _. NothingDone result.reply result.how (W.sight world.old) (W.sight world.new)) }
 
     // Why it was refused, where the files were opened, which may be so only with files that may be changed.
     ensures why { W.honest world.old → (s : Images) → Holds (contents_of names.now (W.sight world.old)) s → result.unopened ≡ None
         → IsWholeRefusal result.reply → MayRefuse R.remaining s command.old result.reply }
     ensures fit { W.honest world.old → result.unopened ≡ None → AreFit names.now mounted (W.sight world.old) }
 
-    // After a crash it is done on what opening recovers.
+    // After a crash it is done on what opening recovers; of files that hold images nothing is recovered.
+    ensures how { W.honest world.old → (s : Images) → Holds (contents_of names.now (W.sight world.old)) s → IsUnrecovered result.how }
     ensures recovered { W.honest world.old → (s : Images) → FoundIn (contents_of names.now (W.sight world.old)) s → result.unopened ≡ None
         → DoesFound R.remaining s command.old result.how result.reply (contents_of names.now (W.sight world.new)) }
 

@@ -1,5 +1,5 @@
 //! The system as a world.
-ghost use Rattle.std.specs.Prelude.{◌≡◌, false};
+ghost use Rattle.std.specs.Prelude.{◌≡◌, ◌≤◌, false, IfErr, length};
 ghost use Rattle.bx_program_system.specs.Unseen.{unseen};
 
 use crate::facts::alias::is_same;
@@ -19,9 +19,9 @@ use crate::tally::Tally;
 use bx_image::FileImage;
 use bx_journal_store::FileText;
 use bx_program_world::{Look, Refusal, Stat, Unwritten, World};
-use bx_text::emit;
+use bx_text::{IoFault, emit};
 use std::fs::{self, File, TryLockError};
-use std::io;
+use std::io::{self, Write};
 use std::os::unix::fs::MetadataExt;
 use std::rt::Files;
 use std::time::Clock;
@@ -113,6 +113,19 @@ where
     fn size_of(&self, journal: &OpenFile<'p, 'r, R>, redo: &OpenFile<'p, 'r, R>) -> Option<u64> {
         let redo = redo.system().ok()?;
         size_of_texts(self.progress, journal.system().ok()?, Some(redo))
+    }
+}
+
+/// Writes the bytes, or says how many of them went out.
+fn put<W: Write>(out: &mut W, bytes: &[u8]) -> Result<(), Unwritten>
+    ensures { IfErr result (λ e. e.written ≤ length bytes.now) }
+{
+    match emit(out, bytes) {
+        Ok(()) => Ok(()),
+        Err(IoFault::WriteFailed { written }) => Err(Unwritten { written }),
+        Err(
+            IoFault::NoMemory | IoFault::ReadFailed | IoFault::InputTooLong | IoFault::SkipPastEnd,
+        ) => Err(Unwritten { written: 0 }),
     }
 }
 
@@ -278,16 +291,18 @@ where
 
     fn print(&mut self, bytes: &[u8]) -> Result<(), Unwritten> {
         let mut out = Tally::new(io::writer(self.rt));
-        match emit(&mut out, bytes) {
+        match put(&mut out, bytes) {
             Ok(()) => Ok(()),
-            Err(_) => {
+            Err(unwritten) => {
                 self.unwritten = out.error;
-                Err(Unwritten)
+                Err(unwritten)
             }
         }
     }
 
-    fn complain(&mut self, text: &str) {
-        let _ = eprint!(self.rt; "{text}");
+    fn complain(&mut self, bytes: &[u8]) {
+        if !bytes.is_empty() {
+            let _ = eprint!(self.rt; "{}", str::from_utf8(bytes).unwrap_or(""));
+        }
     }
 }

@@ -1,5 +1,5 @@
 -- The world of a program: files under names, and the standard streams.
-use Rattle.std.specs.Prelude.{◌≡◌, ◌⊎◌, ◌<◌, ◌+◌, ℕ, Bool, true, false, List, [], Option, None, Some, Result, Ok, Err}
+use Rattle.std.specs.Prelude.{◌≡◌, ◌⊎◌, ◌<◌, ◌≤◌, ◌+◌, ◌++◌, ℕ, Bool, true, false, List, [], length, Option, None, Some, Result, Ok, Err}
 use Rattle.std.specs.Option.{option_map_or}
 use Rattle.bx_image.specs.Power.{NoMore}
 use Rattle.bx_program_world.specs.Rule.{image_unfit, text_unfit}
@@ -137,6 +137,14 @@ pub record KeepsFiles (old new : Sight) : Type 0 where
   pub before : new.before ≡ old.before
   pub lent : new.lent ≡ old.lent
   pub stuck : new.stuck ≡ old.stuck
+
+-- a front of the bytes is behind what was written, and has at least `count` of them
+pub record WritesPart (count : ℕ) (old new bytes : List ℕ) : Type 0 where
+  pub front : List ℕ
+  pub rest : List ℕ
+  pub whole : bytes ≡ front ++ rest
+  pub least : count ≤ length front
+  pub output : new ≡ old ++ front
 
 -- what the system tells of a name's file; none where it leads to none
 abbrev pub stat_named : Sight → List ℕ → Option Stat

@@ -435,15 +435,15 @@ impl World for MemoryWorld {
 
     fn print(&mut self, bytes: &[u8]) -> Result<(), Unwritten> {
         if self.refuses() {
-            return Err(Unwritten);
+            return Err(Unwritten { written: 0 });
         }
-        self.run
-            .output
-            .extend_from_slice(bytes)
-            .map_err(|_| Unwritten)
+        match self.run.output.extend_from_slice(bytes) {
+            Ok(()) => Ok(()),
+            Err(_) => Err(Unwritten { written: 0 }),
+        }
     }
 
-    fn complain(&mut self, text: &str) {
-        let _ = self.run.errors.extend_from_slice(text.as_bytes());
+    fn complain(&mut self, bytes: &[u8]) {
+        let _ = self.run.errors.extend_from_slice(bytes);
     }
 }

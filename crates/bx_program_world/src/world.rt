@@ -1,7 +1,7 @@
 //! The world that a program runs in.
-ghost use Rattle.std.specs.Prelude.{◌≡◌, ◌↔◌, ◌⊎◌, ◌+◌, ◌<◌, ◌≤◌, ◌^◌, ◌++◌, ℕ, List, Bool, true, Err, None, Some, IfOk, OnOk, OnErr, take};
+ghost use Rattle.std.specs.Prelude.{◌≡◌, ◌↔◌, ◌⊎◌, ◌+◌, ◌<◌, ◌≤◌, ◌^◌, ◌++◌, ℕ, List, Bool, true, Err, None, Some, IfOk, IfErr, OnOk, OnErr, length, take};
 ghost use Rattle.bx_program_world.specs.declared.world.Refusal.TheVariants.{Locked, Missing};
-ghost use Rattle.bx_program_world.specs.World.{AreApart, ChangesOnly, NotesRefusal, GivesBack, IsEmptyUnder, IsOwnText, IsStuck, KeepsFiles, LeavesTrio, Lends, Makes, MayBeImage, MayBeText, NothingNew, NothingNewBelow, NothingNewOf, Sight, TakesAtMost, TakesAway, Trio, stat_named};
+ghost use Rattle.bx_program_world.specs.World.{AreApart, ChangesOnly, NotesRefusal, GivesBack, IsEmptyUnder, IsOwnText, IsStuck, KeepsFiles, LeavesTrio, Lends, Makes, MayBeImage, MayBeText, NothingNew, NothingNewBelow, NothingNewOf, Sight, TakesAtMost, TakesAway, Trio, WritesPart, stat_named};
 ghost use Rattle.bx_image.specs.Power.{NoMore};
 
 use crate::stat::{Look, Stat};
@@ -25,7 +25,10 @@ pub enum Refusal {
 
 /// A standard stream was not written in full.
 #[derive(Clone, Copy, Debug, PartialEq, Eq)]
-pub struct Unwritten;
+pub struct Unwritten {
+    /// How many bytes are known to have gone out.
+    pub written: u64,
+}
 
 /// All that a program asks of the system: files by name, and the standard streams.
 ///
@@ -192,18 +195,20 @@ pub trait World {
         ensures others { honest self.old → (t : Trio) → (sight self.old).lent ≡ Some t → NothingNewOf t (survives self.old) (survives self.new) }
         ensures honesty { honest self.new ↔ honest self.old };
 
-    /// Writes to standard output. What a fault leaves is a front of the bytes.
+    /// Writes to standard output. What a fault leaves is a front of the bytes, with no fewer than it tells.
     fn print(&mut self, bytes: &[u8]) -> Result<(), Unwritten>
+        ensures few { IfErr result (λ e. e.written ≤ length bytes.now) }
         ensures ok { honest self.old → OnOk result ((sight self.new).output ≡ (sight self.old).output ++ bytes.now) }
-        ensures err { honest self.old → OnErr result ((n : ℕ) × (sight self.new).output ≡ (sight self.old).output ++ take n bytes.now) }
+        ensures err { honest self.old
+            → IfErr result (λ e. WritesPart e.written (sight self.old).output (sight self.new).output bytes.now) }
         ensures errors { honest self.old → (sight self.new).errors ≡ (sight self.old).errors }
         ensures files { honest self.old → KeepsFiles (sight self.old) (sight self.new) }
         ensures survives { honest self.old → NothingNew (survives self.old) (survives self.new) }
         ensures honesty { honest self.new ↔ honest self.old };
 
     /// Writes to standard error; how much of it arrives isn't known.
-    fn complain(&mut self, text: &str)
-        ensures errors { honest self.old → (n : ℕ) × (sight self.new).errors ≡ (sight self.old).errors ++ take n text.now }
+    fn complain(&mut self, bytes: &[u8])
+        ensures errors { honest self.old → (n : ℕ) × (sight self.new).errors ≡ (sight self.old).errors ++ take n bytes.now }
         ensures output { honest self.old → (sight self.new).output ≡ (sight self.old).output }
         ensures files { honest self.old → KeepsFiles (sight self.old) (sight self.new) }
         ensures survives { honest self.old → NothingNew (survives self.old) (survives self.new) }

@@ -8,7 +8,7 @@ use std::rt::Files;
 const NO_DEVICE: &str = "there is no such device, and no file is made among the devices";
 
 /// What is said of a text that would be.
-const NO_TEXT: &str =
+pub const NO_TEXT: &str =
     "no file is made among the devices, where none lasts; -J names a journal elsewhere";
 
 /// Refuses an image of this name that would be made at a place among the devices.

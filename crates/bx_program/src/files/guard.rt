@@ -59,12 +59,15 @@ impl Guard {
             &stat,
         ) {
             None => Ok(()),
-            Some(unfit) => {
-                let most = allowed(&self.image, stat.group) | !GROUP_AND_OTHERS;
-                Err(unfit_text(name, unfit, text.mode() & 0o777 & most))
-            }
+            Some(unfit) => { Err(unfit_text(name, unfit, bits_left(&self.image, text))) }
         }
     }
+}
+
+/// The bits that a text may have beside its image, of those that it has.
+pub fn bits_left(image: &Stat, text: &Metadata) -> u32 {
+    let most = allowed(image, text.gid()) | !GROUP_AND_OTHERS;
+    text.mode() & 0o777 & most
 }
 
 /// Refuses a text of an image that is missing: a link, no regular file, and one with a second name. Whose it may be isn't known, so

@@ -49,8 +49,8 @@ impl Holds {
 }
 
 /// What is said of a journal that is missing and isn't to be made.
-const NO_JOURNAL: &str =
-    "no journal is here, so no change is known; -J names one that is elsewhere, and bx revert, bx patch and bx dd make one";
+pub const NO_JOURNAL: &str =
+    "no journal is here, so no change is known; -J names one that is elsewhere, and bx revert and bx dd make one";
 
 /// What stands under a name. None is a file that is missing and may be. It is asked before any file is opened, since to open a
 /// pipe or a device may already do something to it, and since whoever made a file that is no text of the image may gain by its
@@ -84,6 +84,24 @@ pub fn is_device<R: Files<File = File>>(rt: &R, name: &str) -> bool {
 /// The journal of a block device has a name of its own, since the folder of devices is no place that lasts.
 fn is_journal_missing(image_name: &str, journal_name: &str) -> bool {
     journal_name.strip_prefix(image_name) == Some(".bxj")
+}
+
+/// What is said of a block device whose journal would have a name beside it.
+const WANTS_JOURNAL: &str = "a block device wants -J and a journal elsewhere";
+
+/// Refuses a block device whose journal has the name beside it.
+///
+/// # Errors
+/// `OpenFailed`.
+pub fn refuse_without_journal<'a, R>(rt: &R, target: &'a Target) -> Result<(), Stopped<'a>>
+where
+    R: Files<File = File>,
+{
+    let name = target.image.as_str();
+    if is_journal_missing(name, target.texts.journal.as_str()) && is_device(rt, name) {
+        return Err(Stopped::refused(name, WANTS_JOURNAL));
+    }
+    Ok(())
 }
 
 /// What is done to an image.
@@ -120,7 +138,7 @@ where
     R: Files<File = File> + AllocGlobal,
 {
     if is_journal_missing(name, journal) {
-        return Err(Stopped::refused(name, "a block device wants -J and a journal elsewhere"));
+        return Err(Stopped::refused(name, WANTS_JOURNAL));
     }
     match used {
         Use::Read => Ok(()),

@@ -9,7 +9,7 @@ use std::fs::{File, Metadata};
 use std::rt::Files;
 
 /// What is said of a device where the system doesn't tell what is mounted.
-const IS_UNKNOWN: &str =
+pub const IS_UNKNOWN: &str =
     "whether it is mounted isn't known, since /proc/self/mountinfo can't be read; --mounted goes on without";
 
 /// Refuses a block device that can't be written, and, unless it may be `mounted`, one that a file system is mounted from, as the

@@ -115,7 +115,13 @@ fn lock_for(file: &File, purpose: Purpose) -> Result<(), TryLockError> {
 }
 
 /// What is said of a file that is locked.
-const HELD: &str = "another program has it locked, or it is one of the others by another name";
+pub const HELD: &str = "another program has it locked, or it is one of the others by another name";
+
+/// What is said of a file whose name leads to another one by now.
+pub const IS_MOVED: &str = "another file has its name now";
+
+/// What is said of a file that has the name of another one too.
+pub const IS_ALIAS: &str = "it is one of the others by another name";
 
 impl<'a> Opened<'a> {
     /// Opens a file, locks it, and looks at it again. One that was made is taken away again where it is refused.
@@ -155,7 +161,7 @@ impl<'a> Opened<'a> {
             (Err(e), _) | (_, Err(e)) => return Err(Stopped::unopened(self.name, e)),
         };
         if !is_same(&found, &named) {
-            return Err(Stopped::refused(self.name, "another file has its name now"));
+            return Err(Stopped::refused(self.name, IS_MOVED));
         }
         holds.admit(rt, self.name, &found)?;
         holds.admit(rt, self.name, &named)
@@ -169,7 +175,7 @@ impl<'a> Opened<'a> {
             (Err(error), _) | (_, Err(error)) => return Err(Stopped::unopened(self.name, error)),
         };
         if is_one {
-            return Err(Stopped::refused(self.name, "it is one of the others by another name"));
+            return Err(Stopped::refused(self.name, IS_ALIAS));
         }
         Ok(())
     }

@@ -8,6 +8,7 @@ use crate::hints::seen::Seen;
 use bx_cli::{ChangeJob, Job, Target};
 use bx_dd::Counts;
 use bx_image::Change;
+use bx_journal::How;
 use bx_program_system::{Progress, Terminals};
 use std::alloc::Global;
 use std::fs::{self, File};
@@ -87,12 +88,19 @@ impl Remarks {
         }
     }
 
-    /// Looks which of image and journal was modified later, once what was unfinished is recovered and before the command
-    /// writes. A block device has no such time.
+    /// Looks which of image and journal was modified later, before the files are opened. A block device has no such time.
     pub fn look_at_times<R: Files<File = File>>(&mut self, rt: &R, target: &Target) {
         if self.person {
             let (image, journal) = (target.image.as_str(), target.texts.journal.as_str());
             self.is_later = is_later(rt, image, journal) == Some(true);
+        }
+    }
+
+    /// Takes what opening found unfinished: recovery writes the journal last.
+    pub fn look_at_recovered(&mut self, how: Option<How>) {
+        match how {
+            None | Some(How::Clean) => {}
+            Some(How::Dropped | How::Restored { .. }) => self.is_later = false,
         }
     }
 

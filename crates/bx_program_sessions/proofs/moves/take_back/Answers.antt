@@ -1,5 +1,5 @@
 use Rattle.bx_program_sessions.specs.Named.{contents_of}
-use Rattle.bx_program_sessions.proofs.Moved.{undone_err, undone_ok, reason}
+use Rattle.bx_program_sessions.proofs.Answered.{nothing_moved, reason, undone_err, undone_found, undone_ok}
 use Rattle.bx_program_sessions.proofs.moves.take_back.Goals as goal
 
 pub returns-clause-done : goal.returns-clause-done
@@ -16,4 +16,17 @@ returns-clause-refused g c old s holds =
     let said = c.run_command-answer.ensures in
     rw c.standing.ensures
     (undone_err s c.args.count c.args.names.now before behind answer.reply (said.done old s holds) (said.refused old s holds)
-    (reason _ _ answer.unopened answer.reply (said.unopened old) (said.why old s holds)))
+    (reason _ answer.unopened answer.reply answer.how before behind (said.unopened old) (said.why old s holds)))
+
+pub returns-clause-unopened : goal.returns-clause-unopened
+returns-clause-unopened g c old =
+    let answer = c.run_command-answer.result in
+    rw c.standing.ensures (nothing_moved answer.unopened answer.reply answer.how _ _ (c.run_command-answer.ensures.unopened old))
+
+pub returns-clause-recovered : goal.returns-clause-recovered
+returns-clause-recovered g c old s found is_opened =
+    let behind = g.W.World.sight c.run_command-answer.new.world in
+    let answer = c.run_command-answer.result in
+    rw c.standing.ensures
+    (undone_found s c.args.count answer.how answer.reply (contents_of c.args.names.now behind)
+    (λ h is. rw is at (c.run_command-answer.ensures.recovered old s found is_opened)))

@@ -1,14 +1,55 @@
-use Rattle.bx_program_sessions.proofs.Lines.{unwritten, written}
+use Rattle.bx_program_sessions.specs.Contents.{recovered_as}
+use Rattle.bx_program_sessions.specs.Moves.{back}
+use Rattle.bx_program_sessions.proofs.Lines.{done_behind, keeps_then, others_kept, recovered_behind, stopped_behind, tells_alone, unopened_kept}
 use Rattle.bx_program_sessions.proofs.moves.undo.Goals as goal
 
-pub returns-in-Ok-clause-done : goal.returns-in-Ok-clause-done
-returns-in-Ok-clause-done g c old s holds =
-    let behind = c.take_back.ensures.honesty.1 old in
-    written _ _ _ _ _ _ _ _ (c.in-Ok.ensures.done old s holds) (c.put_number.ensures.files behind) (c.take_back.ensures.silent old).output
-    (c.put_number.ensures.ok behind)
+pub returns-clause-done : goal.returns-clause-done
+returns-clause-done g c old s holds =
+    let moved = c.take_back-moved.ensures in
+    let behind = moved.honesty.1 old in
+    let told = c.tell_recovered.ensures.honesty.1 behind in
+    let line = c.tell_number-outcome.ensures in
+    done_behind _ _ _ _ _ _ _ _ _ (moved.done old s holds) (c.tell_recovered.ensures.files behind) (line.files told) (moved.silent old).output
+    (c.tell_recovered.ensures.output behind) (line.done told) (line.refused told)
 
-pub returns-in-Ok-clause-stopped : goal.returns-in-Ok-clause-stopped
-returns-in-Ok-clause-stopped g c old s holds =
-    let behind = c.take_back.ensures.honesty.1 old in
-    unwritten _ _ _ _ _ _ _ _ (c.in-Ok.ensures.done old s holds) (c.put_number.ensures.files behind) (c.take_back.ensures.silent old).output
-    (c.put_number.ensures.err behind)
+pub returns-clause-stopped : goal.returns-clause-stopped
+returns-clause-stopped g c old s holds =
+    let moved = c.take_back-moved.ensures in
+    let behind = moved.honesty.1 old in
+    let told = c.tell_recovered.ensures.honesty.1 behind in
+    let line = c.tell_number-outcome.ensures in
+    stopped_behind _ _ _ _ _ _ _ _ _ _ (moved.how old s holds) (moved.done old s holds) (moved.refused old s holds)
+    (c.tell_recovered.ensures.files behind) (line.files told) (moved.silent old).output (c.tell_recovered.ensures.output behind)
+    (c.tell_recovered.ensures.errors behind) (line.lost told) (line.refused told)
+
+pub returns-clause-unopened : goal.returns-clause-unopened
+returns-clause-unopened g c old =
+    let moved = c.take_back-moved.ensures in
+    let behind = moved.honesty.1 old in
+    let told = c.tell_recovered.ensures.honesty.1 behind in
+    unopened_kept _ _ _ _ _ _ _ _ (moved.unopened old) (c.tell_recovered.ensures.files behind) (c.tell_recovered.ensures.output behind)
+    (c.tell_recovered.ensures.errors behind) (c.tell_number-outcome.ensures.refused told)
+
+pub returns-clause-recovered : goal.returns-clause-recovered
+returns-clause-recovered g c old s found is_opened =
+    let moved = c.take_back-moved.ensures in
+    let behind = moved.honesty.1 old in
+    let told = c.tell_recovered.ensures.honesty.1 behind in
+    let line = c.tell_number-outcome.ensures in
+    recovered_behind _ _ (λ h. back (recovered_as h s)) _ _ _ _ _ _ _ (moved.recovered old s found is_opened)
+    (c.tell_recovered.ensures.files behind) (line.files told) (moved.silent old).output (c.tell_recovered.ensures.output behind)
+    (line.done told) (line.refused told)
+
+pub returns-clause-others : goal.returns-clause-others
+returns-clause-others g c old =
+    let moved = c.take_back-moved.ensures in
+    let behind = moved.honesty.1 old in
+    let told = c.tell_recovered.ensures.honesty.1 behind in
+    others_kept _ _ _ _ (moved.others old) (keeps_then _ _ _ (c.tell_recovered.ensures.files behind) (c.tell_number-outcome.ensures.files told))
+
+pub returns-clause-errors : goal.returns-clause-errors
+returns-clause-errors g c old =
+    let moved = c.take_back-moved.ensures in
+    let behind = moved.honesty.1 old in
+    let told = c.tell_recovered.ensures.honesty.1 behind in
+    tells_alone _ _ _ _ _ (moved.silent old).errors (c.tell_recovered.ensures.errors behind) (c.tell_number-outcome.ensures.errors told)

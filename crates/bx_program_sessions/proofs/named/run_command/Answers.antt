@@ -38,6 +38,14 @@ returns-clause-refused g c old s holds whole =
     c.clear.ensures.left (c.run_lent-done.ensures.honesty.1 opening) whole (c.run_lent-done.ensures.how opening s held) _ within
     (rw (c.run_lent-done.ensures.redo opening) has)
 
+pub returns-clause-how : goal.returns-clause-how
+returns-clause-how g c old s holds =
+    let opening = c.open_trio.ensures.honesty.1 old in
+    let within : IsWithin (g.W.World.sight c.args.world.now) = λ name n e. g.met.W.World.within c.args.world.now name n old e in
+    let opened = c.in-Ok.ensures.ok old in
+    let held = subst (λ contents. Holds contents s) (sym (contents_before _ _ _ _ _ _ within opened)) holds in
+    c.run_lent-done.ensures.how opening s held
+
 pub returns-clause-why : goal.returns-clause-why
 returns-clause-why g c old s holds is_opened whole =
     let opening = c.open_trio.ensures.honesty.1 old in

@@ -4,6 +4,7 @@ use Rattle.std.specs.Prelude.{Result, Ok, Err, IfOk, IfErr, IfSome}
 use Rattle.bx_journal.specs.Fault.{DeviceFault}
 use Rattle.bx_journal.specs.Images.{Images, redo_of, undo_of}
 use Rattle.bx_journal.specs.Machine.{RedoStep, UndoStep}
+use Rattle.bx_journal_read.specs.declared.answers.How.{How}
 use Rattle.bx_journal_read.specs.declared.fault.SessionFault.{SessionFault}
 use Rattle.bx_journal_read.specs.declared.fault.SessionFault.TheVariants.{NoMemory, TooLarge, DeviceFailed, Damaged, TooFew, JournalFull, Interrupted, Broken, LengthDiffers, NothingToRedo, RedoDamaged}
 use Rattle.bx_program_world.specs.World.{Sight}
@@ -18,9 +19,9 @@ use Rattle.bx_cli_commands.specs.declared.command.Reply.{Reply}
 use Rattle.bx_cli_commands.specs.declared.command.Reply.TheVariants.{Changed, Copied, Redone, Refused, Undone}
 use Rattle.bx_cli_commands.specs.declared.fault.Fault.{Fault}
 use Rattle.bx_cli_commands.specs.declared.fault.Fault.TheVariants.{OpenFailed, Session}
-use Rattle.bx_program_sessions.specs.Contents.{Contents, EndsAt, FindsIn, IsUnopened}
+use Rattle.bx_program_sessions.specs.Contents.{Contents, EndsAt, FindsIn, IsUnopened, recovered_as}
 use Rattle.bx_program_sessions.specs.Moves.{Course, IsMoved, MayNotMove, RefusesMove, again, back}
-use Rattle.bx_program_sessions.specs.Named.{contents_of}
+use Rattle.bx_program_sessions.specs.Named.{NothingDone, contents_of}
 
 abbrev number_or : ℕ → Result ℕ Fault → ℕ
 number_or m (Ok n) = n
@@ -30,10 +31,17 @@ ok_injective : (m n : ℕ) → ◌≡◌ {A = Result ℕ Fault} (Ok m) (Ok n) �
 ok_injective m n is = ap (number_or m) is
 
 -- why a command was refused, whether its files were opened or not
-pub reason : (P Why : Type 0) (u : Option Unopened) (reply : Reply) → IfSome u (λ _. (reply ≡ Refused OpenFailed) × P)
-    → (u ≡ None → IsWholeRefusal reply → Why) → IsWholeRefusal reply → (reply ≡ Refused OpenFailed) ⊎ Why
-reason P Why None reply un why whole = inr (why refl whole)
-reason P Why (Some x) reply un why whole = inl un.0
+pub reason : (Why : Type 0) (u : Option Unopened) (reply : Reply) (how : Option How) (old new : Sight)
+    → IfSome u (λ _. NothingDone reply how old new) → (u ≡ None → IsWholeRefusal reply → Why) → IsWholeRefusal reply
+    → (reply ≡ Refused OpenFailed) ⊎ Why
+reason Why None reply how old new un why whole = inr (why refl whole)
+reason Why (Some x) reply how old new un why whole = inl un.0
+
+-- files that weren't opened
+pub nothing_moved : (u : Option Unopened) (reply : Reply) (how : Option How) (old new : Sight) → IfSome u (λ _. NothingDone reply how old new)
+    → IfSome u (λ _. (stands_by reply ≡ Err OpenFailed) × (how ≡ None) × LeavesFiles old new)
+nothing_moved None reply how old new un = tt
+nothing_moved (Some x) reply how old new un = (ap stands_by un.0, un.1, un.2)
 
 -- a device, or want of memory
 device_may : (k : ℕ) (course : Course) (e : SessionFault) → DeviceFault e → MayNotMove k course (Session e)
@@ -181,3 +189,17 @@ module _ (s : Images) (k : ℕ) where
   redone_err names old new reply steps leaves why =
       answers_err s k (again s) redo_of Redone RedoStep (λ i. refl) (λ n. refl) (λ n new step. (step.0, step.1))
       (redo_refuses s k) names old new reply steps leaves why
+
+-- what is recovered, undone
+pub undone_found : (s : Images) (k : ℕ) (how : Option How) (reply : Reply) (c : Contents)
+    → ((h : How) → how ≡ Some h → (after : Standing) × UndoesStep (Standing.Up (recovered_as h s)) k reply after × EndsAt c after)
+    → IfSome how (λ h. IfOk (stands_by reply) (λ left. IsMoved k (back (recovered_as h s)) left c))
+undone_found s k None reply c steps = tt
+undone_found s k (Some h) reply c steps = undone_ok (recovered_as h s) k reply c (λ _. steps h refl)
+
+-- and redone
+pub redone_found : (s : Images) (k : ℕ) (how : Option How) (reply : Reply) (c : Contents)
+    → ((h : How) → how ≡ Some h → (after : Standing) × RedoesStep (Standing.Up (recovered_as h s)) k reply after × EndsAt c after)
+    → IfSome how (λ h. IfOk (stands_by reply) (λ left. IsMoved k (again (recovered_as h s)) left c))
+redone_found s k None reply c steps = tt
+redone_found s k (Some h) reply c steps = redone_ok (recovered_as h s) k reply c (λ _. steps h refl)

@@ -1,0 +1,95 @@
+//! What is said of the files of a session that weren't opened, by what opening them answered.
+use crate::files::dev::NO_TEXT;
+use crate::files::guard::bits_left;
+use crate::files::look::NO_JOURNAL;
+use crate::files::mounts::IS_UNKNOWN;
+use crate::files::open::{HELD, IS_ALIAS, IS_MOVED};
+use crate::files::unfit::{unfit_image, unfit_text};
+use crate::stopped::Stopped;
+use bx_cli::{Fault, Target};
+use bx_program_files::{Unopened, Which, Why};
+use bx_program_system::{Unknown, folder_of, is_among_devices, is_mounted, stat_of};
+use bx_program_world::{Refusal, Unfit};
+use std::fs::{self, File};
+use std::rt::Files;
+
+/// The system's number for a file that is missing, and for one that is there already.
+const MISSING: i32 = 2;
+
+const IS_THERE: i32 = 17;
+
+/// What stopped a command whose files weren't opened. `is_unkept` says whether a name wasn't put on the disk.
+pub fn not_opened<'a, R>(
+    rt: &R,
+    target: &'a Target,
+    unopened: Unopened,
+    is_unkept: bool,
+) -> Stopped<'a>
+where
+    R: Files<File = File> + AllocGlobal,
+{
+    let name = match unopened.which {
+        Which::Image => target.image.as_str(),
+        Which::Journal => target.texts.journal.as_str(),
+        Which::Redo => target.texts.redo.as_str(),
+    };
+    match unopened.why {
+        Why::System(Refusal::Other(code)) if is_unkept => {
+            Stopped::by(Fault::OpenFailed, folder_of(name), code)
+        }
+        Why::System(refusal) => refused(rt, name, unopened.which, refusal),
+        Why::Unfit(unfit) => unfit_file(rt, target.image.as_str(), name, unopened.which, unfit),
+        Why::Alias => Stopped::refused(name, IS_ALIAS),
+    }
+}
+
+/// By a file that the system refused, or has none of this name.
+fn refused<'a, R>(rt: &R, name: &'a str, which: Which, refusal: Refusal) -> Stopped<'a>
+where
+    R: Files<File = File> + AllocGlobal,
+{
+    match refusal {
+        Refusal::Missing if which == Which::Journal => Stopped::refused(name, NO_JOURNAL),
+        Refusal::Missing => Stopped::by(Fault::OpenFailed, name, Some(MISSING)),
+        Refusal::Taken => Stopped::by(Fault::OpenFailed, name, Some(IS_THERE)),
+        Refusal::Locked => Stopped::refused(name, HELD),
+        Refusal::Moved => Stopped::refused(name, IS_MOVED),
+        Refusal::Other(None) if which == Which::Redo && is_among_devices(rt, folder_of(name)) => {
+            Stopped::refused(name, NO_TEXT)
+        }
+        Refusal::Other(code) => Stopped::by(Fault::OpenFailed, name, code),
+    }
+}
+
+/// By a file that may not be opened; `image` is the name of the image.
+fn unfit_file<'a, R>(rt: &R, image: &str, name: &'a str, which: Which, unfit: Unfit) -> Stopped<'a>
+where
+    R: Files<File = File> + AllocGlobal,
+{
+    match which {
+        Which::Image if unfit == Unfit::Mounted && is_unknown(rt, name) => {
+            Stopped::refused(name, IS_UNKNOWN)
+        }
+        Which::Image => unfit_image(name, unfit),
+        Which::Journal | Which::Redo => unfit_text(name, unfit, bits_of(rt, image, name)),
+    }
+}
+
+/// Whether the system doesn't tell if a device is mounted, which then counts as mounted.
+fn is_unknown<R>(rt: &R, name: &str) -> bool
+where
+    R: Files<File = File> + AllocGlobal,
+{
+    match fs::metadata(rt, name) {
+        Ok(file) => matches!(is_mounted(rt, &file), Err(Unknown::NoTable)),
+        Err(_) => false,
+    }
+}
+
+/// The bits that a text may have beside its image, of those that it has.
+fn bits_of<R: Files<File = File>>(rt: &R, image: &str, text: &str) -> u32 {
+    match (fs::metadata(rt, image), fs::symlink_metadata(rt, text)) {
+        (Ok(image), Ok(text)) => bits_left(&stat_of(&image, false), &text),
+        (Err(_), _) | (_, Err(_)) => 0,
+    }
+}

@@ -1,0 +1,90 @@
+//! Which device stopped a session, by what the three said of their calls.
+use crate::stopped::{Reason, Stopped};
+use bx_cli::{Fault, Target};
+use bx_journal::SessionFault;
+use bx_program_system::{Left, open_there};
+use std::fs::File;
+use std::io::{self, Seek, SeekFrom};
+use std::rt::Files;
+
+/// What stopped a session on the files of a target, whose devices said this.
+pub fn stopped_by<'a>(target: &'a Target, left: &Left, fault: Fault) -> Stopped<'a> {
+    let Fault::Session(why) = fault else {
+        return Stopped::from(fault);
+    };
+    let texts = &target.texts;
+    match why {
+        SessionFault::DeviceFailed | SessionFault::Interrupted => failed(target, left, fault),
+        SessionFault::NoMemory => unfitting(target, left, fault),
+        SessionFault::Damaged { .. } => Stopped::by(fault, texts.journal.as_str(), None),
+        SessionFault::RedoDamaged { .. } => Stopped::by(fault, texts.redo.as_str(), None),
+        SessionFault::LengthDiffers { .. }
+        | SessionFault::TooLarge
+        | SessionFault::TooFew { .. }
+        | SessionFault::JournalFull
+        | SessionFault::Broken
+        | SessionFault::NothingToRedo { .. } => Stopped::from(fault),
+    }
+}
+
+/// The first device that had a failed call.
+fn failed<'a>(target: &'a Target, left: &Left, fault: Fault) -> Stopped<'a> {
+    let Target { image, texts, .. } = target;
+    if left.image.has_failed {
+        Stopped::failed(fault, image.as_str(), left.image.call)
+    } else if left.journal.has_failed {
+        Stopped::failed(fault, texts.journal.as_str(), left.journal.call)
+    } else if left.redo.has_failed {
+        Stopped::failed(fault, texts.redo.as_str(), left.redo.call)
+    } else {
+        Stopped::from(fault)
+    }
+}
+
+/// The image, where it can't grow and the change doesn't fit.
+fn unfitting<'a>(target: &'a Target, left: &Left, fault: Fault) -> Stopped<'a> {
+    match left.wanted {
+        Some(wanted) => Stopped {
+            fault: Fault::from(SessionFault::TooLarge),
+            file: Some(target.image.as_str()),
+            reason: Reason::Fixed {
+                has: left.most,
+                wanted,
+            },
+        },
+        None => Stopped::from(fault),
+    }
+}
+
+/// The image of this name, which has not the length that it should have.
+pub fn differs_by_name<'a, R>(rt: &R, name: &'a str, fault: Fault, expected: u64) -> Stopped<'a>
+where
+    R: Files<File = File>,
+{
+    match open_there(rt, name, false) {
+        Ok(file) => differs(name, length_of(&file), fault, expected),
+        Err(error) => Stopped::by(fault, name, error.raw_os_error()),
+    }
+}
+
+/// The same of a file, by the length that was asked for.
+pub fn differs<'a>(
+    name: &'a str,
+    length: io::Result<u64>,
+    fault: Fault,
+    expected: u64,
+) -> Stopped<'a> {
+    match length {
+        Ok(has) => Stopped {
+            fault,
+            file: Some(name),
+            reason: Reason::Lengths { has, expected },
+        },
+        Err(error) => Stopped::by(fault, name, error.raw_os_error()),
+    }
+}
+
+/// How many bytes a file or a device has.
+pub fn length_of(mut file: &File) -> io::Result<u64> {
+    file.seek(SeekFrom::End(0))
+}
