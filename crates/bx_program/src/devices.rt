@@ -1,13 +1,15 @@
 //! The devices of a session, and which of them stopped it.
 use crate::files::Made;
 use crate::left::{differs, length_of, stopped_by};
-use crate::stopped::Stopped;
+use crate::stopped::{Reason, Row, Stopped};
 use bx_cli::{Fault, Target};
 use bx_image::{FileImage, RandomAccess};
 use bx_journal::{Devices, SessionFault};
 use bx_journal_store::FileText;
+use bx_patch::Other;
 use bx_program_system::{CountedFile, Left, take_away};
 use std::fs::File;
+use std::os::unix::fs::FileExt;
 use std::rt::Files;
 use std::time::Clock;
 
@@ -69,14 +71,31 @@ impl<'a, 'p, 'r, R: Clock + Eprint> Named<'a, CountedFile<'p, 'r, R>> {
             journal,
             redo,
         } = &self.devices;
+        let name = self.target.image.as_str();
         match (fault, image.file().file()) {
-            (Fault::Session(SessionFault::LengthDiffers { expected }), Some(file)) => differs(
-                self.target.image.as_str(),
-                length_of(&file.file),
-                fault,
-                expected,
-            ),
+            (
+                Fault::Session(SessionFault::LengthDiffers { expected })
+                | Fault::Disagrees(Other::Length { expected }),
+                Some(file),
+            ) => differs(name, length_of(&file.file), fault, expected),
+            (Fault::Disagrees(Other::Bytes { at }), Some(file)) => {
+                has_others(name, &file.file, fault, at)
+            }
             (fault, _) => stopped_by(self.target, &Left::of(image, journal, redo, 0), fault),
         }
+    }
+}
+
+/// The image, which has other bytes than a patch expects.
+fn has_others<'a>(name: &'a str, file: &File, fault: Fault, at: u64) -> Stopped<'a> {
+    let mut bytes = [0u8; 16];
+    let room = 16 - (at % 16) as usize;
+    match file.read_at(&mut bytes[..room], at) {
+        Ok(count) => Stopped {
+            fault,
+            file: Some(name),
+            reason: Reason::There(Row { at, bytes, count }),
+        },
+        Err(error) => Stopped::by(fault, name, error.raw_os_error()),
     }
 }

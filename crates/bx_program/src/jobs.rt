@@ -6,14 +6,16 @@ use crate::diff::diff;
 use crate::hints::remarks::Remarks;
 use crate::hints::seen::{Seen, Watched};
 use crate::hints::show_fault;
+use crate::images::forget::{forget, open_fresh, open_to_forget};
 use crate::images::{finish_read, log, log_places, open_session, open_to_look, show_changes};
-use crate::input::{Placed, file, open, size_of, standard};
+use crate::input::{MOST_INPUT, Placed, file, open, size_of, standard};
+use crate::patch::patch;
 use crate::steps::take_steps;
 use crate::stopped::{Noted, STANDARD_INPUT, Stopped};
 use crate::streams::Held;
 use bx_cli::{
-    ChangeJob, Done, DumpJob, Fault, Form, Job, LogJob, LookJob, RevertJob, ShowJob, change_from,
-    plan_words, run_dump,
+    ChangeJob, Done, DumpJob, Fault, ForgetJob, Form, Job, LogJob, LookJob, RevertJob, ShowJob,
+    change_from, plan_words, run_dump,
 };
 use bx_dd::Counts;
 use bx_image::Change;
@@ -27,9 +29,6 @@ use std::fs::File;
 use std::io::{self, Read, Write};
 use std::rt::{Env, Files};
 use std::time::Clock;
-
-/// The most bytes of a dump that is reverted.
-const MOST_INPUT: u64 = 1 << 40;
 
 const NOT_UTF_8: &str = "a word is not UTF-8; a file of such a name can be given by a link to it";
 
@@ -182,9 +181,21 @@ where
     match job {
         ChangeJob::Dd(job) => copy_onto(rt, job, remarks),
         ChangeJob::Revert(job) => revert(rt, job, remarks),
+        ChangeJob::Patch(job) => patch(rt, job, remarks),
+        ChangeJob::Forget(job) => forget_changes(rt, job, remarks),
         ChangeJob::Undo(job) => take_steps(rt, Way::Undo, job, remarks),
         ChangeJob::Redo(job) => take_steps(rt, Way::Redo, job, remarks),
     }
+}
+
+/// Accepts all changes of an image, and drops their history.
+fn forget_changes<'a, R>(rt: &R, job: &'a ForgetJob, remarks: &Remarks) -> Result<(), Stopped<'a>>
+where
+    R: Files<File = File> + Eprint + Clock + AllocGlobal,
+{
+    let progress = remarks.progress_of_input(rt, None);
+    let ready = open_to_forget(rt, &job.target, &progress)?;
+    forget(rt, ready, &job.target)
 }
 
 /// Shows the changes of an image.
@@ -289,7 +300,11 @@ where
     R: Files<File = File> + Eprint + Clock + AllocGlobal,
 {
     let progress = remarks.progress_of_input(rt, None);
-    let session = open_session(rt, &job.target, true, &progress)?;
+    let session = if job.fresh && read.is_ok() {
+        open_fresh(rt, &job.target, &progress)?
+    } else {
+        open_session(rt, &job.target, true, &progress)?
+    };
     if let Ok(change) = &read {
         remarks.look_at_change(rt, &job.target, change);
     }

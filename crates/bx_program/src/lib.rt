@@ -13,6 +13,7 @@ mod input;
 mod jobs;
 mod left;
 mod paged;
+mod patch;
 mod steps;
 mod stopped;
 mod streams;

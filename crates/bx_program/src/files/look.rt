@@ -50,7 +50,7 @@ impl Holds {
 
 /// What is said of a journal that is missing and isn't to be made.
 pub const NO_JOURNAL: &str =
-    "no journal is here, so no change is known; -J names one that is elsewhere, and bx revert and bx dd make one";
+    "no journal is here, so no change is known; -J names one that is elsewhere, and bx revert, bx patch and bx dd make one";
 
 /// What stands under a name. None is a file that is missing and may be. It is asked before any file is opened, since to open a
 /// pipe or a device may already do something to it, and since whoever made a file that is no text of the image may gain by its
