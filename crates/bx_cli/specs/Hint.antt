@@ -10,8 +10,8 @@ use Rattle.bx_cli_commands.specs.declared.fault.Fault.TheVariants.{Io, Read, Dd,
 use Rattle.bx_cli.specs.declared.hint.Known.{Known}
 
 -- two parts with a text between them, where neither is empty
-abbrev pub joined : List ℕ → List ℕ → List ℕ → List ℕ
-joined front between back = if length back == 0 then front else if length front == 0 then back else front ++ between ++ back
+abbrev pub with_between : List ℕ → List ℕ → List ℕ → List ℕ
+with_between front between back = if length back == 0 then front else if length front == 0 then back else front ++ between ++ back
 
 -- a text that ends in the name of a command, with its words and the rest behind it; where there is no rest, the text alone
 abbrev pub completed : List ℕ → List ℕ → List ℕ → List ℕ
@@ -56,16 +56,16 @@ advice_of (Session (session.RedoDamaged _)) = codes "move the redo file away to 
 advice_of _ = []
 
 -- what stands behind the words of the command that is given
-abbrev pub rest_of : Fault → List ℕ
-rest_of (Session (session.TooFew _)) = codes " lists the changes"
-rest_of (Session session.Interrupted) = codes ", which writes nothing"
-rest_of (Session (session.LengthDiffers _)) = codes " gives that back; or bx forget accepts it as it is (the undo history is lost)"
-rest_of _ = []
+abbrev pub hint_rest : Fault → List ℕ
+hint_rest (Session (session.TooFew _)) = codes " lists the changes"
+hint_rest (Session session.Interrupted) = codes ", which writes nothing"
+hint_rest (Session (session.LengthDiffers _)) = codes " gives that back; or bx forget accepts it as it is (the undo history is lost)"
+hint_rest _ = []
 
 -- what is at fault and why, and what can be done
 abbrev pub advised : Fault → Known → List ℕ
-advised fault known = joined (joined known.subject.now (codes ": ") known.reason.now) (codes "; ") (advice_of fault)
+advised fault known = with_between (with_between known.subject.now (codes ": ") known.reason.now) (codes "; ") (advice_of fault)
 
 -- the same, with the whole command, and how the one at fault is called
 abbrev pub hint_of : Fault → Known → List ℕ
-hint_of fault known = joined (completed (advised fault known) known.words.now (rest_of fault)) (codes "; ") known.usage.now
+hint_of fault known = with_between (completed (advised fault known) known.words.now (hint_rest fault)) (codes "; ") known.usage.now

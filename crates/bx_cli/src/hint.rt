@@ -1,7 +1,7 @@
 //! Hints, which a person can act on, behind the texts of faults.
 ghost use Rattle.std.specs.Prelude.{◌≡◌, [], OnOk, IfSome, string_bytes};
 ghost use Rattle.bx_patch.specs.declared.read.fault.PatchFault.TheVariants as patch;
-ghost use Rattle.bx_cli.specs.Hint.{advice_of, completed, hint_of, joined, rest_of};
+ghost use Rattle.bx_cli.specs.Hint.{advice_of, completed, hint_of, with_between, hint_rest};
 
 use crate::instead::{
     has_negative, instead, is_negative, is_unexpected, negative, no_negative, similar,
@@ -154,7 +154,7 @@ fn session_advice(fault: SessionFault) -> &'static str
 
 /// What stands behind the words of the command that is advised; empty where none is.
 fn rest(fault: Fault) -> &'static str
-    ensures { result.now ≡ rest_of fault }
+    ensures { result.now ≡ hint_rest fault }
 {
     match fault {
         Fault::Session(SessionFault::TooFew { .. }) => " lists the changes",
@@ -183,7 +183,7 @@ fn push_part<A: Allocator>(
     between: &str,
     part: &str,
 ) -> Result<(), AllocError>
-    ensures { OnOk result (string_bytes text.new ≡ joined (string_bytes text.old) between.now part.now) }
+    ensures { OnOk result (string_bytes text.new ≡ with_between (string_bytes text.old) between.now part.now) }
 {
     if part.is_empty() {
         return Ok(());

@@ -14,7 +14,7 @@ use Rattle.bx_dump.specs.OdDump.{StopsOd, StopsReaching, od_of}
 use Rattle.bx_dump.specs.Pages.{Dump, WritesAll, WritesFrontOf}
 use Rattle.bx_dump.specs.Styles.{xxd_of}
 use Rattle.bx_dump.proofs.BehindLemmas.{hexdump_rest, od_rest, xxd_rest}
-use Rattle.bx_dd.specs.Behind.{IsRest}
+use Rattle.bx_dd.specs.Behind.{IsPlanRest}
 use Rattle.bx_dd.specs.declared.operands.plan.Plan.{Plan}
 use Rattle.bx_dd.specs.declared.counts.Counts.{Counts}
 use Rattle.bx_cli_commands.specs.declared.fault.Fault.{Fault}
@@ -66,11 +66,11 @@ hexdump_err n o rest r0 r1 w0 w1 (Ok k) is stop = tt
 hexdump_err n o rest r0 r1 w0 w1 (Err f) is stop = subst (λ (d : Dump). WritesFrontOf d r0 r1 w0 w1 f) (hexdump_rest n o rest is) stop
 
 pub copy_ok : {A : Type 0} (n : ℕ) (plan rest : Plan A) (r0 r1 w0 w1 : Option (List ℕ)) (result : Result Counts Fault) →
-    IsRest n plan rest → IfOk result (CopiesOut rest r0 r1 w0 w1) → IfOk result (CopiesBehind n plan r0 r1 w0 w1)
+    IsPlanRest n plan rest → IfOk result (CopiesOut rest r0 r1 w0 w1) → IfOk result (CopiesBehind n plan r0 r1 w0 w1)
 copy_ok n plan rest r0 r1 w0 w1 (Ok k) is done = (rest, is, done)
 copy_ok n plan rest r0 r1 w0 w1 (Err e) is done = tt
 
 pub copy_err : {A : Type 0} (n : ℕ) (plan rest : Plan A) (r0 r1 w0 w1 : Option (List ℕ)) (result : Result Counts Fault) →
-    IsRest n plan rest → IfErr result (StopsOut rest r0 r1 w0 w1) → IfErr result (StopsCopyBehind n plan r0 r1 w0 w1)
+    IsPlanRest n plan rest → IfErr result (StopsOut rest r0 r1 w0 w1) → IfErr result (StopsCopyBehind n plan r0 r1 w0 w1)
 copy_err n plan rest r0 r1 w0 w1 (Ok k) is stop = tt
 copy_err n plan rest r0 r1 w0 w1 (Err e) is stop = (rest, is, stop)

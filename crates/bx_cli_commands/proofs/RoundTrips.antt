@@ -13,7 +13,7 @@ use Rattle.bx_journal.specs.SessionView.{SessionView, devices_of}
 use Rattle.bx_journal.specs.Stack.{StandsFor}
 use Rattle.bx_journal_protocol.specs.declared.devices.Devices.{Devices}
 use Rattle.bx_journal_protocol.proofs.Ready.{top_of}
-use Rattle.bx_cli_commands.specs.RoundTrip.{RestsIn, StandAt, UndoneFrom, change_of}
+use Rattle.bx_cli_commands.specs.RoundTrip.{RestsIn, StandAt, UndoneFrom, images_after}
 
 module _ {D T : Type 0} (d : DeviceViews D) (t : StoreViews T) where
   -- the image of a session is the newest that it shows
@@ -56,15 +56,15 @@ module _ {D T : Type 0} (d : DeviceViews D) (t : StoreViews T) where
   -- an undo behind a change, if there is one
   pub undone_from : {A : Type 0} (x : Devices D T) (c : Change A) (i : Images) → StandAt d t x i → ((n : ℕ) × PerformStep i.stack c (Ok n) (changed c i.stack))
       → (result : Option (SessionView D T))
-      → IfSome result (λ new. RestsIn d t new (undo_of 1 (change_of c i)) × ((n : ℕ) × UndoStep (changed c i.stack) 1 (Ok n) i.stack))
+      → IfSome result (λ new. RestsIn d t new (undo_of 1 (images_after c i)) × ((n : ℕ) × UndoStep (changed c i.stack) 1 (Ok n) i.stack))
       → IfSome result (UndoneFrom d t x c)
   undone_from x c i stood made None undone = tt
   undone_from x c i stood made (Some new) undone =
-      (record { start = i; stood = stood; made = made; undone = undone.1; stand = at_rest new (undo_of 1 (change_of c i)) undone.0 }, undone.0)
+      (record { start = i; stood = stood; made = made; undone = undone.1; stand = at_rest new (undo_of 1 (images_after c i)) undone.0 }, undone.0)
 
   -- behind a change and an undo the image is the first
   pub undone_image : {A : Type 0} (x : Devices D T) (c : Change A) (s : SessionView D T) → UndoneFrom d t x c s → d.image s.image ≡ d.image x.image
-  undone_image x c s from = top_rests s (undo_of 1 (change_of c from.0.start)) from.1 ∙ trip_top x from.0.start from.0.stood
+  undone_image x c s from = top_rests s (undo_of 1 (images_after c from.0.start)) from.1 ∙ trip_top x from.0.start from.0.stood
 
   undone_some : (b : Bool) (y : List ℕ) (stack : List (List ℕ)) → 1 ≤ length (if b then y ∷ [] else [])
       → top (redone_by 1 (if b then y ∷ [] else []) stack) ≡ y
@@ -73,8 +73,8 @@ module _ {D T : Type 0} (d : DeviceViews D) (t : StoreViews T) where
 
   -- and behind a redo it is what the change makes of that
   pub redone_image : {A : Type 0} (x : List ℕ) (c : Change A) (i : Images) (s : SessionView D T) → top i.stack ≡ x
-      → 1 ≤ length (undo_of 1 (change_of c i)).undone
-      → RestsIn d t s (redo_of 1 (undo_of 1 (change_of c i))) → d.image s.image ≡ effect c x
+      → 1 ≤ length (undo_of 1 (images_after c i)).undone
+      → RestsIn d t s (redo_of 1 (undo_of 1 (images_after c i))) → d.image s.image ≡ effect c x
   redone_image x c i s is some rests =
       let y = effect c (top i.stack) in
-      top_rests s (redo_of 1 (undo_of 1 (change_of c i))) rests ∙ undone_some (nat_le (length y) MAX_LEN) y i.stack some ∙ ap (effect c) is
+      top_rests s (redo_of 1 (undo_of 1 (images_after c i))) rests ∙ undone_some (nat_le (length y) MAX_LEN) y i.stack some ∙ ap (effect c) is

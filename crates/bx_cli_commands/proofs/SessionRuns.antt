@@ -14,11 +14,11 @@ use Rattle.bx_cli_commands.specs.declared.command.Command.TheVariants.{Revert, R
 use Rattle.bx_cli_commands.specs.declared.command.Reply.{Reply}
 use Rattle.bx_cli_commands.specs.Obeys.{Obeys}
 use Rattle.bx_cli_commands.specs.Power.{FindsEnd, IsAt, RunFinds, images_of}
-use Rattle.bx_cli_commands.specs.Refusal.{IsOwnRefusal, IsWholeRefusal, KeepsPair}
+use Rattle.bx_cli_commands.specs.Refusal.{IsOwnRefusal, IsWholeRefusal, KeepsImageAndJournal}
 use Rattle.bx_cli_commands.specs.Run.{is_failure, CommandRun, CommandStep, StackRun, Unfailed, CountsOn}
 use Rattle.bx_cli_commands.specs.SessionRun.{SessionRun, SessionStep}
 use Rattle.bx_cli_commands.specs.Tells.{Tells}
-use Rattle.bx_cli_commands.specs.Standing.{CountsBy, HoldsAt, Leads, Shows, Standing}
+use Rattle.bx_cli_commands.specs.Standing.{CountsBy, HoldsAt, LeadsOn, Shows, Standing}
 use Rattle.bx_cli_commands.proofs.Obeys.{obeys_next}
 use Rattle.bx_cli_commands.proofs.Refusals.{nothing_new_here, nothing_new_on, redo_same_here, redo_same_on, same_here, same_on}
 use Rattle.bx_cli_commands.proofs.Steps.{true_is_not_false}
@@ -185,9 +185,9 @@ module _ {D T R A : Type 0} (d : DeviceViews D) (t : StoreViews T) (remaining : 
 
   -- from where the session stands
   pub run_of : (old new : SessionView D T) (list left : List (Command R A)) (replies : List Reply) → Runs old list left replies new
-      → Leads (HoldsAt d t) (λ start. CommandRun remaining start list replies) old new
+      → LeadsOn (HoldsAt d t) (λ start. CommandRun remaining start list replies) old new
   run_of = run_induction Step
-      (λ old list replies new. Leads (HoldsAt d t) (λ start. CommandRun remaining start list replies) old new)
+      (λ old list replies new. LeadsOn (HoldsAt d t) (λ start. CommandRun remaining start list replies) old new)
       (λ s start h. (start, h, refl))
       (λ old now new c left list p replies step later start h.
       let made = (obeys_command old now c left p step).step start h in
@@ -196,9 +196,9 @@ module _ {D T R A : Type 0} (d : DeviceViews D) (t : StoreViews T) (remaining : 
 
   -- from the images that honest devices stand for, where no reply tells of a failure
   pub stacks_of : (old new : SessionView D T) (list left : List (Command R A)) (replies : List Reply) → Runs old list left replies new
-      → AreHonest d t old → All Unfailed replies → Leads (Shows d.image t.text) (λ start. StackRun remaining start list replies) old new
+      → AreHonest d t old → All Unfailed replies → LeadsOn (Shows d.image t.text) (λ start. StackRun remaining start list replies) old new
   stacks_of = run_induction Step
-      (λ old list replies new. AreHonest d t old → All Unfailed replies → Leads (Shows d.image t.text) (λ start. StackRun remaining start list replies) old new)
+      (λ old list replies new. AreHonest d t old → All Unfailed replies → LeadsOn (Shows d.image t.text) (λ start. StackRun remaining start list replies) old new)
       (λ s honest all start shows. (start, shows, refl))
       (λ old now new c left list p replies step later honest all start shows.
       let obeys = obeys_command old now c left p step in
@@ -235,8 +235,8 @@ module _ {D T R A : Type 0} (d : DeviceViews D) (t : StoreViews T) (remaining : 
       later (all_tail IsOwnRefusal p replies all) ∙ (obeys_command old now c left p step).own (all_head IsOwnRefusal p replies all))
 
   pub same_of : (old new : SessionView D T) (list left : List (Command R A)) (replies : List Reply) → Runs old list left replies new
-      → All IsWholeRefusal replies → KeepsPair d t old new
-  same_of = run_induction Step (λ old list replies new. All IsWholeRefusal replies → KeepsPair d t old new)
+      → All IsWholeRefusal replies → KeepsImageAndJournal d t old new
+  same_of = run_induction Step (λ old list replies new. All IsWholeRefusal replies → KeepsImageAndJournal d t old new)
       (λ s all device store. same_here d.image t.text s)
       (λ old now new c left list p replies step later all device store.
       let obeys = obeys_command old now c left p step in
@@ -256,7 +256,7 @@ module _ {D T R A : Type 0} (d : DeviceViews D) (t : StoreViews T) (remaining : 
   Finds old list replies new = RunFinds d t remaining old list replies new
 
   abbrev Goes : SessionView D T → List (Command R A) → List Reply → SessionView D T → Type 0
-  Goes old list replies new = Leads (HoldsAt d t) (λ start. CommandRun remaining start list replies) old new
+  Goes old list replies new = LeadsOn (HoldsAt d t) (λ start. CommandRun remaining start list replies) old new
 
   -- behind a refusal
   survives_refused : (old now new : SessionView D T) (c left : Command R A) (list : List (Command R A)) (p : Reply) (replies : List Reply) → Step old c left p now

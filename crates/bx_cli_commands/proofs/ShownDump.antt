@@ -8,7 +8,7 @@ use Rattle.bx_image.specs.Image.{cut, place}
 use Rattle.bx_image.proofs.Edits.{resized_cut}
 use Rattle.bx_image.proofs.Records.{length-restore, placed-cut}
 use Rattle.bx_read.specs.Grammar.{GivesPieces, IsLine}
-use Rattle.bx_read.specs.Laws.{line_text}
+use Rattle.bx_read.specs.Laws.{dump_line_text}
 use Rattle.bx_read.specs.Text.{contents, lines_of}
 use Rattle.bx_read.proofs.DumpLemmas.{only, small}
 use Rattle.bx_read.proofs.FullLines.{first_line}
@@ -29,19 +29,19 @@ use Rattle.bx_cli_commands.proofs.Unfailed.{all_tail}
 line_gives : (line hex bytes : List ℕ) (at : ℕ) → IsLine line at hex bytes → (0 < length bytes) × (length bytes ≤ 256) × (at < 2 ^ 62) × All (λ b. b < 256) bytes
 line_gives line hex bytes at is = small (line ∷ []) ((at, bytes) ∷ []) (inr (at, hex, bytes, [], is, refl, refl)) 0 (at, bytes) (omega arith)
 
-signed : (at : ℕ) (bytes : List ℕ) → 0 < length bytes → signed_line [] at bytes ≡ line_text at bytes ++ 10 ∷ []
+signed : (at : ℕ) (bytes : List ℕ) → 0 < length bytes → signed_line [] at bytes ≡ dump_line_text at bytes ++ 10 ∷ []
 unfolding dump_line
 signed at [] some = absurd (omega (arith, some))
 signed at (b ∷ bytes) some = refl
 
 -- the lines of a text that begins with xxd's default line for such bytes
 lines_are : (at : ℕ) (bytes made rest : List ℕ) → 0 < length bytes → length bytes ≤ 16 → at < 2 ^ 62 → All (λ b. b < 256) bytes
-    → (lines_of ((signed_line [] at bytes ++ made) ++ rest) ≡ line_text at bytes ∷ lines_of (made ++ rest)) × ((hex : List ℕ) × IsLine (line_text at bytes) at hex bytes)
+    → (lines_of ((signed_line [] at bytes ++ made) ++ rest) ≡ dump_line_text at bytes ∷ lines_of (made ++ rest)) × ((hex : List ℕ) × IsLine (dump_line_text at bytes) at hex bytes)
 lines_are at bytes made rest some few near are =
     let back = reads_back false 16 2 at bytes (omega arith) some few (omega arith) are near in
-    let whole : (signed_line [] at bytes ++ made) ++ rest ≡ line_text at bytes ++ 10 ∷ (made ++ rest) =
-    ap (λ l. (l ++ made) ++ rest) (signed at bytes some) ∙ append_assoc (line_text at bytes ++ 10 ∷ []) made rest ∙ append_assoc (line_text at bytes) (10 ∷ []) (made ++ rest) in
-    (ap lines_of whole ∙ first_line (line_text at bytes) (made ++ rest) back.3, back.1)
+    let whole : (signed_line [] at bytes ++ made) ++ rest ≡ dump_line_text at bytes ++ 10 ∷ (made ++ rest) =
+    ap (λ l. (l ++ made) ++ rest) (signed at bytes some) ∙ append_assoc (dump_line_text at bytes ++ 10 ∷ []) made rest ∙ append_assoc (dump_line_text at bytes) (10 ∷ []) (made ++ rest) in
+    (ap lines_of whole ∙ first_line (dump_line_text at bytes) (made ++ rest) back.3, back.1)
 
 -- what is shown of saved lines gives their runs, in front of what follows
 gives : (len : ℕ) (lines : List (List ℕ)) (rest : List ℕ) (ps : List (ℕ × List ℕ)) → GivesPieces (lines_of rest) ps

@@ -20,7 +20,7 @@ use Rattle.bx_cli_commands.specs.declared.changes.DdChange.{DdChange}
 use Rattle.bx_cli_commands.specs.declared.fault.Fault.{Fault}
 use Rattle.bx_cli_commands.specs.declared.fault.Fault.TheVariants.{Io, Read, Dd, Patch, Disagrees, Session, Usage, OpenFailed}
 use Rattle.bx_cli_commands.specs.Command.{dump_change, plain_change}
-use Rattle.bx_cli_commands.specs.Copy.{Makes, MakesBy}
+use Rattle.bx_cli_commands.specs.Copy.{MakesCopy, MakesBy}
 use Rattle.bx_cli_commands.specs.Power.{FindsPart, IsChanged, IsPart, images_of}
 use Rattle.bx_cli_commands.specs.Refusal.{IsWholeRefusal}
 use Rattle.bx_patch.specs.Patch.{Agrees, Asked, patch_change}
@@ -275,7 +275,7 @@ step_part {R = R} {A = A} remaining old found (RevertPlain text at) p step = eli
 step_part remaining old found (Dd operands input) p step =
     let part = dd_part old found step.1.0 p step.1.1.1 in (
       part.0,
-      (step.0, part.1.0, subst (λ made. Makes operands (remaining input) step.0 made) part.1.1 step.1.1.0, part.1.2),
+      (step.0, part.1.0, subst (λ made. MakesCopy operands (remaining input) step.0 made) part.1.1 step.1.1.0, part.1.2),
     )
 step_part remaining old found (Copy plan input) p step =
     let part = dd_part old found step.1.0 p step.1.1.1 in (

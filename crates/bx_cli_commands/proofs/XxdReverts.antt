@@ -4,7 +4,7 @@ use Rattle.std.specs.List.{range_with_len}
 use Rattle.std.proofs.lemmas.List.{take_all}
 use Rattle.bx_text.specs.declared.owned.pieces.Piece.{Piece}
 use Rattle.bx_read.specs.declared.fault.ReadFault.{ReadFault}
-use Rattle.bx_dump.specs.Pages.{part_of}
+use Rattle.bx_dump.specs.Pages.{bytes_dumped}
 use Rattle.bx_dump.proofs.LinesLemmas.{line_begin, line_end}
 use Rattle.bx_image.specs.Image.{place}
 use Rattle.bx_image.specs.Change.{effect, placed}
@@ -55,6 +55,6 @@ ok_same x y h = cc
 
 pub text_reverts : (A : Type 0) → NormalTextReverts A
 text_reverts A o input image offset pieces is read =
-    let part = part_of o.seek o.limit input in
+    let part = bytes_dumped o.seek o.limit input in
     let same : pieces ≡ dumped_chunks o input = ok_same pieces (dumped_chunks o input) (sym read ∙ (text_reads o input is).0) in
     ap (λ ps. effect {A = A} (dump_change offset ps) image) same ∙ all_chunks A offset o.cols (o.seek + o.shift) part image o.some

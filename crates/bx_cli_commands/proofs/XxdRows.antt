@@ -11,7 +11,7 @@ use Rattle.bx_read.proofs.DumpLemmas.{only, one_list}
 use Rattle.bx_read.proofs.RowsLemmas.{IsRow, rows_give}
 use Rattle.bx_read.proofs.WrittenLemmas.{reads_back}
 use Rattle.bx_dump.specs.Lines.{in_lines}
-use Rattle.bx_dump.specs.Pages.{part_of}
+use Rattle.bx_dump.specs.Pages.{bytes_dumped}
 use Rattle.bx_dump.specs.Styles.{group_of}
 use Rattle.bx_dump.specs.Laws.{xxd_text}
 use Rattle.bx_text.specs.Dump.{dump_line}
@@ -60,13 +60,13 @@ some_group cols (suc g) some = either (eqb (suc g) 0)
     either true = some
     either false = omega arith
 
-part_are_bytes : (skip : ℕ) (limit : Option ℕ) (input : List ℕ) → All (λ b. b < 256) input → All (λ b. b < 256) (part_of skip limit input)
+part_are_bytes : (skip : ℕ) (limit : Option ℕ) (input : List ℕ) → All (λ b. b < 256) input → All (λ b. b < 256) (bytes_dumped skip limit input)
 part_are_bytes skip None input are = All-drop (λ b. b < 256) skip input are
 part_are_bytes skip (Some most) input are = All-take (λ b. b < 256) most (drop skip input) (All-drop (λ b. b < 256) skip input are)
 
 pub text_gives : (o : XxdOptions) (input : List ℕ) → IsNormalDump o input → GivesPieces (lines_of (xxd_text Normal o input)) (dumped_chunks o input)
 text_gives o input is =
-    lines_give o.upper o.cols (group_of o.cols o.group) (o.seek + o.shift) (part_of o.seek o.limit input)
+    lines_give o.upper o.cols (group_of o.cols o.group) (o.seek + o.shift) (bytes_dumped o.seek o.limit input)
     (some_group o.cols o.group o.some) o.some o.few (part_are_bytes o.seek o.limit input is.are_bytes) is.near
 
 pub text_reads : NormalTextReadsBack

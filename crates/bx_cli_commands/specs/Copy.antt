@@ -4,7 +4,7 @@ use Rattle.std.specs.Io.KnownBytes.{Consumes}
 use Rattle.bx_dd.specs.declared.fault.DdFault.{DdFault}
 use Rattle.bx_dd.specs.declared.fault.DdFault.TheVariants.{NoMemory}
 use Rattle.bx_dd.specs.declared.operands.plan.Plan.{Plan}
-use Rattle.bx_dd.specs.Operands.{fault_of, block_size, number_given, number_or}
+use Rattle.bx_dd.specs.Operands.{operands_fault, block_size, number_given, number_or}
 use Rattle.bx_dd.specs.Parsing.{IsPlanOf}
 use Rattle.bx_dd.specs.Plan.{change_of}
 use Rattle.bx_dd.specs.Transfer.{Copies, HasStopped, ReadsWithin}
@@ -12,9 +12,9 @@ use Rattle.bx_cli_commands.specs.declared.changes.DdChange.{DdChange}
 
 -- Why nothing is made: the first fault of the operands, or want of memory, and then nothing was read; else a fault of the
 -- input or want of memory after some bytes
-abbrev pub StopsCopy : Option DdFault → Option (List ℕ) → Option (List ℕ) → DdFault → Type 0
-StopsCopy (Some fault) old left e = ((e ≡ fault) ⊎ (e ≡ NoMemory)) × (left ≡ old)
-StopsCopy None old left e = HasStopped old left (2 ^ 40) e
+abbrev pub StopsMaking : Option DdFault → Option (List ℕ) → Option (List ℕ) → DdFault → Type 0
+StopsMaking (Some fault) old left e = ((e ≡ fault) ⊎ (e ≡ NoMemory)) × (left ≡ old)
+StopsMaking None old left e = HasStopped old left (2 ^ 40) e
 
 -- no more was read than the operands' skip and count ask for
 abbrev pub ReadsAsked : List (List ℕ) → Option (List ℕ) → Option (List ℕ) → Type 0
@@ -23,10 +23,10 @@ ReadsAsked words old left = (input : List ℕ) × Consumes old left input
 
 -- What dd's operands make of what a reader gives, which then has `left`: the change of what their plan copies, and its counts.
 -- After a fault no more was read than they ask for.
-abbrev pub Makes : {A : Type 0} → List (List ℕ) → Option (List ℕ) → Option (List ℕ) → Result (DdChange A) DdFault → Type 0
-Makes {A = A} words old left (Ok made) = (fault_of words ≡ None) × ((plan : Plan A) × IsPlanOf words plan
+abbrev pub MakesCopy : {A : Type 0} → List (List ℕ) → Option (List ℕ) → Option (List ℕ) → Result (DdChange A) DdFault → Type 0
+MakesCopy {A = A} words old left (Ok made) = (operands_fault words ≡ None) × ((plan : Plan A) × IsPlanOf words plan
     × ((bytes : List ℕ) × Copies plan old left bytes made.counts × (made.change ≡ change_of plan bytes)))
-Makes words old left (Err e) = StopsCopy (fault_of words) old left e × ReadsAsked words old left
+MakesCopy words old left (Err e) = StopsMaking (operands_fault words) old left e × ReadsAsked words old left
 
 -- of what a reader gave, which then has `left`: the change of the plan, and the counts
 abbrev pub CopiesBy : {A : Type 0} → Plan A → Option (List ℕ) → Option (List ℕ) → DdChange A → Type 0

@@ -7,9 +7,9 @@ use Rattle.bx_journal.specs.Session.{IsRedoSame}
 use Rattle.bx_journal.specs.SessionView.{SessionView}
 use Rattle.bx_cli_commands.specs.declared.command.Reply.{Reply}
 use Rattle.bx_cli_commands.specs.Power.{FindsEnd}
-use Rattle.bx_cli_commands.specs.Refusal.{IsOwnRefusal, IsWholeRefusal, KeepsPair}
+use Rattle.bx_cli_commands.specs.Refusal.{IsOwnRefusal, IsWholeRefusal, KeepsImageAndJournal}
 use Rattle.bx_cli_commands.specs.Run.{is_failure, Unfailed}
-use Rattle.bx_cli_commands.specs.Standing.{CountsBy, HoldsAt, Leads, Shows, Standing}
+use Rattle.bx_cli_commands.specs.Standing.{CountsBy, HoldsAt, LeadsOn, Shows, Standing}
 
 -- The session and the reply behind a command are as the step says, from where the session stood: on any devices, up to a
 -- failure, and without one from any images that the devices stand for. After a loss of power opening finds what the step
@@ -17,9 +17,9 @@ use Rattle.bx_cli_commands.specs.Standing.{CountsBy, HoldsAt, Leads, Shows, Stan
 -- leaves the session, and one that is refused, but by no interruption, leaves image, journal and redo text, byte for byte.
 pub record Obeys {D T : Type 0} (d : DeviceViews D) (t : StoreViews T) (old new : SessionView D T) (reply : Reply)
     (Step : Standing → Reply → Standing → Type 0) : Type 0 where
-  pub step : Leads (HoldsAt d t) (λ before. Step before reply) old new
+  pub step : LeadsOn (HoldsAt d t) (λ before. Step before reply) old new
   pub stands : d.honest old.image → t.honest old.journal → t.honest old.redo → Unfailed reply
-      → Leads (Shows d.image t.text) (λ before after. Step (Standing.Up before) reply (Standing.Up after)) old new
+      → LeadsOn (Shows d.image t.text) (λ before after. Step (Standing.Up before) reply (Standing.Up after)) old new
   pub finds : (IsWholeRefusal reply → ⊥) → (before : Standing) → HoldsAt d t old before → FindsEnd d t new (Step before reply)
   pub found_before : IsWholeRefusal reply → NothingNew d t old new
   pub image_honesty : d.honest new.image ↔ d.honest old.image
@@ -27,5 +27,5 @@ pub record Obeys {D T : Type 0} (d : DeviceViews D) (t : StoreViews T) (old new 
   pub redo_honesty : t.honest new.redo ↔ t.honest old.redo
   pub counts : CountsBy d t old new (cond (is_failure reply) 1 0)
   pub own : IsOwnRefusal reply → new ≡ old
-  pub same : IsWholeRefusal reply → KeepsPair d t old new
+  pub same : IsWholeRefusal reply → KeepsImageAndJournal d t old new
   pub redo_same : t.honest old.redo → IsWholeRefusal reply → IsRedoSame t.text old new

@@ -20,7 +20,7 @@ use Rattle.bx_cli_commands.specs.declared.command.Reply.TheVariants.{Refused}
 use Rattle.bx_cli_commands.specs.declared.fault.Fault.TheVariants.{Session}
 use Rattle.bx_cli_commands.specs.declared.changes.DdChange.{DdChange}
 use Rattle.bx_cli_commands.specs.Command.{dump_change, plain_change}
-use Rattle.bx_cli_commands.specs.Copy.{Makes, MakesBy}
+use Rattle.bx_cli_commands.specs.Copy.{MakesCopy, MakesBy}
 use Rattle.bx_cli_commands.specs.Refusal.{IsWholeRefusal}
 use Rattle.bx_cli_commands.specs.Run.{CommandRun, CommandStep}
 use Rattle.bx_cli_commands.specs.Standing.{HoldsAt, Standing}
@@ -59,7 +59,7 @@ IsPart {A = A} remaining (Revert text offset) s found =
     (pieces : List (ℕ × List ℕ)) × (dump_pieces text ≡ Ok pieces) × IsChanged (dump_change {A = A} offset pieces) s found
 IsPart {A = A} remaining (RevertPlain text at) s found = (bytes : List ℕ) × (plain_answer text ≡ Ok bytes) × IsChanged (plain_change {A = A} at bytes) s found
 IsPart {A = A} remaining (Dd operands input) s found =
-    (left : Option (List ℕ)) × (made : DdChange A) × Makes operands (remaining input) left (Ok made) × IsChanged made.change s found
+    (left : Option (List ℕ)) × (made : DdChange A) × MakesCopy operands (remaining input) left (Ok made) × IsChanged made.change s found
 IsPart {A = A} remaining (Copy plan input) s found =
     (left : Option (List ℕ)) × (made : DdChange A) × MakesBy plan (remaining input) left (Ok made) × IsChanged made.change s found
 IsPart {A = A} remaining (Patch patch) s found =

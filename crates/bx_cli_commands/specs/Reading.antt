@@ -15,6 +15,6 @@ IsChangeOf Dump text at change = (pieces : List (ℕ × List ℕ)) × (dump_piec
 IsChangeOf Plain text at change = (bytes : List ℕ) × (plain_answer text ≡ Ok bytes) × (change ≡ plain_change at bytes)
 
 -- the text's fault
-abbrev pub IsFaultOf : Form → List ℕ → ReadFault → Type 0
-IsFaultOf Dump text fault = dump_pieces text ≡ Err fault
-IsFaultOf Plain text fault = plain_answer text ≡ Err fault
+abbrev pub IsTextFault : Form → List ℕ → ReadFault → Type 0
+IsTextFault Dump text fault = dump_pieces text ≡ Err fault
+IsTextFault Plain text fault = plain_answer text ≡ Err fault

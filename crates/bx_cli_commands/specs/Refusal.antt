@@ -23,5 +23,5 @@ IsWholeRefusal (Refused e) = e ≢ Session Interrupted
 IsWholeRefusal p = ⊥
 
 -- image, journal and count are as they were, where the two devices are honest
-abbrev pub KeepsPair : {D T : Type 0} → DeviceViews D → StoreViews T → SessionView D T → SessionView D T → Type 0
-KeepsPair d t old new = d.honest old.image → t.honest old.journal → IsSame d.image t.text old new
+abbrev pub KeepsImageAndJournal : {D T : Type 0} → DeviceViews D → StoreViews T → SessionView D T → SessionView D T → Type 0
+KeepsImageAndJournal d t old new = d.honest old.image → t.honest old.journal → IsSame d.image t.text old new

@@ -14,8 +14,8 @@ use Rattle.bx_journal.specs.Stack.{StandsFor}
 use Rattle.bx_cli_commands.specs.Standing.{Shows}
 
 -- the images behind a change
-abbrev pub change_of : {A : Type 0} → Change A → Images → Images
-change_of c i = change_to (effect c (top i.stack)) i
+abbrev pub images_after : {A : Type 0} → Change A → Images → Images
+images_after c i = change_to (effect c (top i.stack)) i
 
 -- Of a device and stores with these views.
 module _ {D T : Type 0} (d : DeviceViews D) (t : StoreViews T) where
@@ -54,13 +54,13 @@ module _ {D T : Type 0} (d : DeviceViews D) (t : StoreViews T) where
     pub stood : StandAt old start
     pub made : (n : ℕ) × PerformStep start.stack c (Ok n) (changed c start.stack)
     pub undone : (n : ℕ) × UndoStep (changed c start.stack) 1 (Ok n) start.stack
-    pub stand : StandAt new (next (undo_of 1 (change_of c start)))
+    pub stand : StandAt new (next (undo_of 1 (images_after c start)))
 
   -- and it was made again
   abbrev pub ChangesAgain : {A : Type 0} → Devices D T → Change A → Devices D T → Type 0
   ChangesAgain old c new = (trip : ChangesAndUndoes old c (redo_of 1) new)
-      × ((n : ℕ) × RedoStep (undo_of 1 (change_of c trip.start)) 1 (Ok n) (redo_of 1 (undo_of 1 (change_of c trip.start))))
+      × ((n : ℕ) × RedoStep (undo_of 1 (images_after c trip.start)) 1 (Ok n) (redo_of 1 (undo_of 1 (images_after c trip.start))))
 
   -- such a trip, by a session that shows the images
   abbrev pub UndoneFrom : {A : Type 0} → Devices D T → Change A → SessionView D T → Type 0
-  UndoneFrom old c s = (trip : ChangesAndUndoes old c (λ i. i) (devices_of s)) × RestsIn s (undo_of 1 (change_of c trip.start))
+  UndoneFrom old c s = (trip : ChangesAndUndoes old c (λ i. i) (devices_of s)) × RestsIn s (undo_of 1 (images_after c trip.start))

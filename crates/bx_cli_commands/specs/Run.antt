@@ -26,8 +26,8 @@ use Rattle.bx_journal.specs.Session.{IsUnfailed}
 use Rattle.bx_journal.specs.SessionView.{SessionView}
 use Rattle.bx_cli_commands.specs.declared.changes.DdChange.{DdChange}
 use Rattle.bx_cli_commands.specs.Command.{dump_change, plain_change}
-use Rattle.bx_cli_commands.specs.Copy.{Makes, MakesBy}
-use Rattle.bx_cli_commands.specs.Standing.{Standing, Leads, MovesUp, PerformUp, CountsBy}
+use Rattle.bx_cli_commands.specs.Copy.{MakesCopy, MakesBy}
+use Rattle.bx_cli_commands.specs.Standing.{Standing, LeadsOn, MovesUp, PerformUp, CountsBy}
 use Rattle.bx_dd.specs.declared.counts.Counts.{Counts}
 
 -- the reply that tells what the session answered; `made` tells what was done
@@ -77,7 +77,7 @@ PatchStep A before p reply after = ((reply ≡ Refused (Patch of_patch.NoMemory)
 abbrev pub CommandStep : {R A : Type 0} → (R → Option (List ℕ)) → Standing → Command R A → Reply → Standing → Type 0
 CommandStep {A = A} remaining before (Revert text offset) reply after = TextStep before (dump_change {A = A} offset) (dump_pieces text) reply after
 CommandStep {A = A} remaining before (RevertPlain text at) reply after = TextStep before (plain_change {A = A} at) (plain_answer text) reply after
-CommandStep {A = A} remaining before (Dd operands input) reply after = CopyStep {A = A} before (Makes operands (remaining input)) reply after
+CommandStep {A = A} remaining before (Dd operands input) reply after = CopyStep {A = A} before (MakesCopy operands (remaining input)) reply after
 CommandStep {A = A} remaining before (Copy plan input) reply after = CopyStep {A = A} before (MakesBy plan (remaining input)) reply after
 CommandStep {A = A} remaining before (Patch patch) reply after = PatchStep A before (asked_of patch) reply after
 CommandStep remaining before (Undo k) reply after = CallStep Undone (MovesUp (λ s k r t. UndoStep s.stack k r t.stack) undo_of k) before reply after
@@ -117,7 +117,7 @@ abbrev pub Runs : {D T R A : Type 0} → DeviceViews D → StoreViews T → (Ses
     → SessionView D T → List (Command R A) → List Reply → SessionView D T → Type 0
 Runs d t Stands remaining old list replies new =
     d.honest old.image → t.honest old.journal → t.honest old.redo → IsUnfailed d.failures t.failures old new
-    → Leads Stands (λ start. StackRun remaining start list replies) old new
+    → LeadsOn Stands (λ start. StackRun remaining start list replies) old new
 
 -- the reply to a change that was made; dd's tells its counts too
 abbrev pub made_reply : Option Counts → ℕ → Reply

@@ -10,7 +10,7 @@ use Rattle.bx_cli_commands.specs.declared.changes.DdChange.{DdChange}
 use Rattle.bx_cli_commands.specs.declared.command.Command.{Command}
 use Rattle.bx_cli_commands.specs.declared.command.Command.TheVariants.{Dd, Copy, Patch, Revert, RevertPlain}
 use Rattle.bx_cli_commands.specs.declared.command.Reply.{Reply}
-use Rattle.bx_cli_commands.specs.Copy.{Makes, MakesBy}
+use Rattle.bx_cli_commands.specs.Copy.{MakesCopy, MakesBy}
 use Rattle.bx_cli_commands.specs.Obeys.{Obeys}
 use Rattle.bx_cli_commands.specs.Run.{CommandStep, DdStep}
 use Rattle.bx_cli_commands.specs.Standing.{Standing}
@@ -30,7 +30,7 @@ abbrev pub SessionStep : {S R A : Type 0} → (S → S → Reply → (Standing �
     → S → Command R A → Command R A → Reply → S → Type 0
 SessionStep {A = A} Obey Tell remaining old (Dd operands input) (Dd words left) reply new =
     (words ≡ operands) × Tell (Dd operands input) old reply new
-    × ((r : Result (DdChange A) DdFault) × Makes operands (remaining input) (remaining left) r × Obey old new reply (λ s. DdStep s r))
+    × ((r : Result (DdChange A) DdFault) × MakesCopy operands (remaining input) (remaining left) r × Obey old new reply (λ s. DdStep s r))
 SessionStep {A = A} Obey Tell remaining old (Copy plan input) (Copy same left) reply new =
     (same ≡ plan) × Tell (Copy plan input) old reply new
     × ((r : Result (DdChange A) DdFault) × MakesBy plan (remaining input) (remaining left) r × Obey old new reply (λ s. DdStep s r))

@@ -33,8 +33,8 @@ HoldsAt d t s (Down images) =
     d.honest s.image × t.honest s.journal × t.honest s.redo × ((s.is_broken ≡ true) × SessionFinds d.image t.text s images)
 
 -- wherever the first session stands, the last one stands where the step leads from there
-abbrev pub Leads : {S X : Type 0} → (S → X → Type 0) → (X → X → Type 0) → S → S → Type 0
-Leads {X = X} Stands Step old new = (before : X) → Stands old before → (after : X) × Stands new after × Step before after
+abbrev pub LeadsOn : {S X : Type 0} → (S → X → Type 0) → (X → X → Type 0) → S → S → Type 0
+LeadsOn {X = X} Stands Step old new = (before : X) → Stands old before → (after : X) × Stands new after × Step before after
 
 -- A change gives up what was undone. A device that fails before the first write refuses it; one that fails later stops the
 -- session, and opening finds the images before or after the change. Only a change that fits meets want of memory, or is stopped;

@@ -1,7 +1,7 @@
 //! From the texts of commands to changes.
 ghost use Rattle.std.specs.Prelude.{◌≡◌, ◌⊎◌, ◌+◌, ◌^◌, ◌<◌, ◌≤◌, ℕ, List, map, None, Ok, Err, MatchResult, IfOk, IfErr, OnErr, All};
 ghost use Rattle.bx_cli_commands.specs.Command.{dump_change, plain_change, moved};
-ghost use Rattle.bx_cli_commands.specs.Copy.{Makes, CopiesBy};
+ghost use Rattle.bx_cli_commands.specs.Copy.{MakesCopy, CopiesBy};
 ghost use Rattle.bx_dd.specs.Transfer.{HasStopped, ReadsWithin};
 ghost use Rattle.bx_read.specs.Plain.{plain_answer};
 ghost use Rattle.bx_read.specs.Runs.{joined};
@@ -97,7 +97,7 @@ pub fn change_of_dd<R: Read, A: Allocator + Clone>(
     operands: &Words<A>,
     input: &mut R,
 ) -> Result<DdChange<A>, DdFault>
-    ensures { Makes operands.now (R.remaining input.old) (R.remaining input.new) result }
+    ensures { MakesCopy operands.now (R.remaining input.old) (R.remaining input.new) result }
 {
     let plan = match parse(alloc.clone()?, operands) {
         Ok(plan) => plan,

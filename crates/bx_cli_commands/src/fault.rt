@@ -1,6 +1,6 @@
 //! The faults of all crates, with their numbers.
 ghost use Rattle.std.specs.Prelude.{◌≡◌};
-ghost use Rattle.bx_cli_commands.specs.Fault.{number_of};
+ghost use Rattle.bx_cli_commands.specs.Fault.{fault_number};
 ghost use Rattle.bx_cli_commands.specs.declared.fault.Fault.TheVariants as of;
 ghost use Rattle.bx_text.specs.declared.fault.IoFault.TheVariants as io;
 
@@ -45,7 +45,7 @@ pub enum Fault {
 impl Fault {
     /// The number by which documents name the fault.
     pub fn number(&self) -> u8
-        ensures { result ≡ number_of self.now }
+        ensures { result ≡ fault_number self.now }
     {
         match *self {
             Fault::Io(fault) => io_number(fault),
@@ -61,7 +61,7 @@ impl Fault {
 }
 
 fn io_number(fault: IoFault) -> u8
-    ensures { result ≡ number_of (of.Io fault) }
+    ensures { result ≡ fault_number (of.Io fault) }
 {
     match fault {
         IoFault::NoMemory => 1,
@@ -73,7 +73,7 @@ fn io_number(fault: IoFault) -> u8
 }
 
 fn read_number(fault: ReadFault) -> u8
-    ensures { result ≡ number_of (of.Read fault) }
+    ensures { result ≡ fault_number (of.Read fault) }
 {
     match fault {
         ReadFault::NoMemory => 1,
@@ -88,7 +88,7 @@ fn read_number(fault: ReadFault) -> u8
 }
 
 fn dd_number(fault: DdFault) -> u8
-    ensures { result ≡ number_of (of.Dd fault) }
+    ensures { result ≡ fault_number (of.Dd fault) }
 {
     match fault {
         DdFault::NoMemory => 1,
@@ -106,7 +106,7 @@ fn dd_number(fault: DdFault) -> u8
 }
 
 fn patch_number(fault: PatchFault) -> u8
-    ensures { result ≡ number_of (of.Patch fault) }
+    ensures { result ≡ fault_number (of.Patch fault) }
 {
     match fault {
         PatchFault::NoMemory => 1,
@@ -118,7 +118,7 @@ fn patch_number(fault: PatchFault) -> u8
 }
 
 fn other_number(other: Other) -> u8
-    ensures { result ≡ number_of (of.Disagrees other) }
+    ensures { result ≡ fault_number (of.Disagrees other) }
 {
     match other {
         Other::Bytes { .. } => 34,
@@ -127,7 +127,7 @@ fn other_number(other: Other) -> u8
 }
 
 fn session_number(fault: SessionFault) -> u8
-    ensures { result ≡ number_of (of.Session fault) }
+    ensures { result ≡ fault_number (of.Session fault) }
 {
     match fault {
         SessionFault::NoMemory => 1,

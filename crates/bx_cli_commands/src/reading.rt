@@ -4,7 +4,7 @@ ghost use Rattle.std.specs.Io.KnownBytes.{Consumes, IsAtEnd};
 ghost use Rattle.bx_text.specs.Stream.{fault_of, IsRestCause, StopsIn};
 ghost use Rattle.bx_text.specs.declared.stream.State.{State};
 ghost use Rattle.bx_text.specs.declared.fault.IoFault.{IoFault};
-ghost use Rattle.bx_cli_commands.specs.Reading.{IsChangeOf, IsFaultOf};
+ghost use Rattle.bx_cli_commands.specs.Reading.{IsChangeOf, IsTextFault};
 
 use crate::changes::{change_of_bytes, change_of_runs};
 use bx_image::Change;
@@ -35,7 +35,7 @@ pub fn change_from<R: Read + Drop, A: Allocator + Clone>(
 
     // What was read is the text, up to the end.
     ensures change { IfOk result (λ read. (text : List ℕ) × Consumes (R.remaining source.old.reader) (R.remaining source.new.reader) text
-        × MatchResult read (IsChangeOf form text at) (IsFaultOf form text)) }
+        × MatchResult read (IsChangeOf form text at) (IsTextFault form text)) }
     ensures end { OnOk result (source.old.meter.state ≡ State.Open → IsAtEnd (R.remaining source.new.reader)) }
 
     // A fault of the source is the same from then on.
@@ -43,7 +43,7 @@ pub fn change_from<R: Read + Drop, A: Allocator + Clone>(
     ensures stopped { IfErr result (λ e. StopsIn source.old.meter (R.remaining source.old.reader) (R.remaining source.new.reader) (IsRestCause e)) }
 
     // Where nothing more can be read, nothing is: no text is left.
-    ensures none_left { source.old.meter.state ≡ State.Ended → IfOk result (λ read. MatchResult read (IsChangeOf form [] at) (IsFaultOf form [])) }
+    ensures none_left { source.old.meter.state ≡ State.Ended → IfOk result (λ read. MatchResult read (IsChangeOf form [] at) (IsTextFault form [])) }
     ensures lasting { IfSome (fault_of source.old.meter.state) (λ e. IsErrOf result e ⊎ IsErrOf result IoFault.NoMemory) }
     ensures closed { source.old.meter.state ≢ State.Open → source.new.reader ≡ source.old.reader }
 {
@@ -61,12 +61,12 @@ fn dump_from<R: Read + Drop, A: Allocator + Clone>(
 ) -> Result<Result<Change<A>, ReadFault>, IoFault>
     requires { offset ≤ 2 ^ 62 }
     ensures change { IfOk result (λ read. (text : List ℕ) × Consumes (R.remaining source.old.reader) (R.remaining source.new.reader) text
-        × MatchResult read (IsChangeOf Form.Dump text offset) (IsFaultOf Form.Dump text)) }
+        × MatchResult read (IsChangeOf Form.Dump text offset) (IsTextFault Form.Dump text)) }
     ensures end { OnOk result (source.old.meter.state ≡ State.Open → IsAtEnd (R.remaining source.new.reader)) }
     ensures err { IfErr result (λ e. (e ≡ IoFault.NoMemory) ⊎ (fault_of source.new.meter.state ≡ Some e)) }
     ensures stopped { IfErr result (λ e. StopsIn source.old.meter (R.remaining source.old.reader) (R.remaining source.new.reader) (IsRestCause e)) }
     ensures none_left { source.old.meter.state ≡ State.Ended
-        → IfOk result (λ read. MatchResult read (IsChangeOf Form.Dump [] offset) (IsFaultOf Form.Dump [])) }
+        → IfOk result (λ read. MatchResult read (IsChangeOf Form.Dump [] offset) (IsTextFault Form.Dump [])) }
     ensures lasting { IfSome (fault_of source.old.meter.state) (λ e. IsErrOf result e ⊎ IsErrOf result IoFault.NoMemory) }
     ensures closed { source.old.meter.state ≢ State.Open → source.new.reader ≡ source.old.reader }
 {
@@ -85,11 +85,11 @@ fn plain_from<R: Read + Drop, A: Allocator + Clone>(
     at: u64,
 ) -> Result<Result<Change<A>, ReadFault>, IoFault>
     ensures change { IfOk result (λ read. (text : List ℕ) × Consumes (R.remaining source.old.reader) (R.remaining source.new.reader) text
-        × MatchResult read (IsChangeOf Form.Plain text at) (IsFaultOf Form.Plain text)) }
+        × MatchResult read (IsChangeOf Form.Plain text at) (IsTextFault Form.Plain text)) }
     ensures end { OnOk result (source.old.meter.state ≡ State.Open → IsAtEnd (R.remaining source.new.reader)) }
     ensures err { IfErr result (λ e. (e ≡ IoFault.NoMemory) ⊎ (fault_of source.new.meter.state ≡ Some e)) }
     ensures stopped { IfErr result (λ e. StopsIn source.old.meter (R.remaining source.old.reader) (R.remaining source.new.reader) (IsRestCause e)) }
-    ensures none_left { source.old.meter.state ≡ State.Ended → IfOk result (λ read. MatchResult read (IsChangeOf Form.Plain [] at) (IsFaultOf Form.Plain [])) }
+    ensures none_left { source.old.meter.state ≡ State.Ended → IfOk result (λ read. MatchResult read (IsChangeOf Form.Plain [] at) (IsTextFault Form.Plain [])) }
     ensures lasting { IfSome (fault_of source.old.meter.state) (λ e. IsErrOf result e ⊎ IsErrOf result IoFault.NoMemory) }
     ensures closed { source.old.meter.state ≢ State.Open → source.new.reader ≡ source.old.reader }
 {

@@ -6,7 +6,7 @@ ghost use Rattle.bx_journal.specs.Machine.{PerformStep, RedoStep, UndoStep};
 ghost use Rattle.bx_journal.specs.Opened.{OfAll};
 ghost use Rattle.bx_journal_protocol.specs.Devices.{AreBelow};
 ghost use Rattle.bx_cli_commands.specs.Standing.{CountsBelow};
-ghost use Rattle.bx_cli_commands.specs.RoundTrip.{ChangesAgain, ChangesAndUndoes, MovesBy, MovesOn, OpensAt, RestsIn, UndoneFrom, change_of};
+ghost use Rattle.bx_cli_commands.specs.RoundTrip.{ChangesAgain, ChangesAndUndoes, MovesBy, MovesOn, OpensAt, RestsIn, UndoneFrom, images_after};
 
 use bx_image::{Change, Device};
 use bx_journal::laws::{one_stack, one_undone};
@@ -77,7 +77,7 @@ fn changed<D: Device + Drop, T: TextStore + Drop, A: Allocator + Clone>(
 ) -> Option<Session<D, T, A>>
     requires countable { CountsBelow D.Device T.TextStore u64.MAX session }
     ensures countable { IfSome result (CountsBelow D.Device T.TextStore u64.MAX) }
-    ensures moves { MovesBy D.Device T.TextStore (λ i r next. PerformStep i.stack change.now r next.stack) (change_of change.now) session result }
+    ensures moves { MovesBy D.Device T.TextStore (λ i r next. PerformStep i.stack change.now r next.stack) (images_after change.now) session result }
 {
     let mut session = session;
     match session.perform(change) {

@@ -2,10 +2,10 @@
 ghost use Rattle.std.specs.Prelude.{◌≡◌, ◌+◌, ◌^◌, ◌≤◌, ℕ, [], length, IfOk, OnErr, All, count_by};
 ghost use Rattle.bx_journal.specs.Session.{IsRedoSame, IsUnfailed};
 ghost use Rattle.bx_cli_commands.specs.Obeys.{Obeys};
-ghost use Rattle.bx_cli_commands.specs.Standing.{CountsBelow, CountsBy, HoldsAt, Leads, RestsAt, Shows};
+ghost use Rattle.bx_cli_commands.specs.Standing.{CountsBelow, CountsBy, HoldsAt, LeadsOn, RestsAt, Shows};
 ghost use Rattle.bx_cli_commands.specs.Command.{IsNear};
 ghost use Rattle.bx_cli_commands.specs.Power.{RunFinds};
-ghost use Rattle.bx_cli_commands.specs.Refusal.{IsOwnRefusal, IsWholeRefusal, KeepsPair};
+ghost use Rattle.bx_cli_commands.specs.Refusal.{IsOwnRefusal, IsWholeRefusal, KeepsImageAndJournal};
 ghost use Rattle.bx_cli_commands.specs.Run.{is_failure, ReadStep, DdStep, CommandRun, Runs, Unfailed, UndoesStep, RedoesStep, DumpStep, PlainStep};
 ghost use Rattle.bx_cli_commands.specs.SessionRun.{AllObey, SessionStep};
 ghost use Rattle.bx_cli_commands.specs.Tells.{ChangeTells, RedoTells, Tells, UndoTells};
@@ -187,7 +187,7 @@ pub fn run_all<D: Device, T: TextStore, R: Read, A: Allocator + Clone>(
 
     // Whatever devices fail: up to the first failure after a write it is a run in which a device may refuse a command, and
     // then each reply is the command's own fault or says that the session is broken.
-    ensures run { IfOk result (λ p. Leads (HoldsAt D.Device T.TextStore) (λ s. CommandRun R.remaining s list.old p.items) session.old session.new) }
+    ensures run { IfOk result (λ p. LeadsOn (HoldsAt D.Device T.TextStore) (λ s. CommandRun R.remaining s list.old p.items) session.old session.new) }
 
     // Whatever moment the power was lost at, opening finds what a run with these replies ends in; where the session goes on, that
     // is where it stands. Where all commands are refused, what is found is what was to be found before them.
@@ -210,7 +210,7 @@ pub fn run_all<D: Device, T: TextStore, R: Read, A: Allocator + Clone>(
     // So a list whose commands are all refused for faults of their own leaves the session. One whose commands are all
     // refused, but by no interruption, leaves image and text, byte for byte, and the redo text with the count of what is undone.
     ensures own { IfOk result (λ replies. All IsOwnRefusal replies.items → session.new ≡ session.old) }
-    ensures same { IfOk result (λ p. All IsWholeRefusal p.items → KeepsPair D.Device T.TextStore session.old session.new) }
+    ensures same { IfOk result (λ p. All IsWholeRefusal p.items → KeepsImageAndJournal D.Device T.TextStore session.old session.new) }
     ensures redo_same { T.honest session.old.redo
         → IfOk result (λ replies. All IsWholeRefusal replies.items → IsRedoSame T.text session.old session.new) }
 

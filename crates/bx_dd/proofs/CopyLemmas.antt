@@ -15,9 +15,9 @@ use Rattle.bx_dd.specs.declared.convert.records.Tail.{Tail}
 use Rattle.bx_dd.specs.declared.counts.Counts.{Counts}
 use Rattle.bx_dd.specs.declared.operands.plan.Plan.{Plan}
 use Rattle.bx_dd.specs.Counting.{counts_of}
-use Rattle.bx_dd.specs.Plan.{form_of}
+use Rattle.bx_dd.specs.Plan.{plan_form}
 use Rattle.bx_dd.specs.Transfer.{output_of, selected_by}
-use Rattle.bx_dd.specs.private.Transfer.{IsReadOut, IsWithin, selected}
+use Rattle.bx_dd.specs.private.Transfer.{IsReadOut, ReadsNoMore, selected}
 use Rattle.bx_dd.specs.declared.form.Form.{Form}
 use Rattle.bx_dd.specs.declared.form.Shape.{Shape}
 use Rattle.bx_dd.specs.declared.form.Shape.TheVariants.{Flat, Block, Unblock}
@@ -25,7 +25,7 @@ use Rattle.bx_dd.specs.Output.{converted, cut_records, joined, shaped}
 use Rattle.bx_dd.specs.private.Output.{fitted, line_of}
 use Rattle.bx_dd.specs.private.Standing.{HasSizes, last_of}
 use Rattle.bx_dd.specs.Streaming.{IsCopy, IsCopyAhead, IsCopyFault, StopsCopy}
-use Rattle.bx_dd.specs.private.Streaming.{CopiesRest, Flows, Goes, Output, Stage, StopsFlow, StopsPass, StopsStage, most_of, unit_of, written_by}
+use Rattle.bx_dd.specs.private.Streaming.{CopiesRest, Flows, Goes, Output, Staged, StopsFlow, StopsPass, StopsStage, most_of, unit_of, written_by}
 use Rattle.bx_dd.proofs.ConvertLemmas.{joined_none}
 use Rattle.bx_dd.proofs.RecordsLemmas.{Stands_last, Stands_none, cut_nil, shaped_nil, take_nil}
 use Rattle.bx_dd.proofs.TransferLemmas.{asked_skip, drop_read}
@@ -89,7 +89,7 @@ read_ahead output input (WriteFailed m) wanted room n p = absurd p
 read_ahead output input SkipPastEnd wanted room n p = tt
 
 -- nothing was read
-pub stage_start : (form : Form) (out : Output) → HasSizes form → out.waits ≡ [] → out.kept ≡ [] → out.written ≡ 0 → Stage form out.now [] [] out (record { over = false; cut = 0 })
+pub stage_start : (form : Form) (out : Output) → HasSizes form → out.waits ≡ [] → out.kept ≡ [] → out.written ≡ 0 → Staged form out.now [] [] out (record { over = false; cut = 0 })
 stage_start form out sizes a b e = record {
   done = [];
   parts = refl;
@@ -97,9 +97,9 @@ stage_start form out sizes a b e = record {
   flows = record { text = []; stands = rw (joined_none form sizes.some_ibs, b) (Stands_none form.shape form.cbs sizes.some_cbs); goes = rw (a, e) (Goes-nil out.now) };
 }
 
-module _ {form : Form} {s : Option (List ℕ)} {input pending : List ℕ} {out : Output} {tail : Tail} (stage : Stage form s input pending out tail) where
+module _ {form : Form} {s : Option (List ℕ)} {input pending : List ℕ} {out : Output} {tail : Tail} (stage : Staged form s input pending out tail) where
   -- bytes were read
-  pub stage_read : (chunk next : List ℕ) → next ≡ pending ++ chunk → Stage form s (input ++ chunk) next out tail
+  pub stage_read : (chunk next : List ℕ) → next ≡ pending ++ chunk → Staged form s (input ++ chunk) next out tail
   stage_read chunk next is = record {
     done = stage.done;
     parts = ap (λ l. l ++ chunk) stage.parts ∙ append_assoc stage.done pending chunk ∙ ap (λ l. stage.done ++ l) (sym is);
@@ -117,7 +117,7 @@ module _ {form : Form} {s : Option (List ℕ)} {input pending : List ℕ} {out :
 
   -- what waited went out
   pub stage_sent : (m : Option (List ℕ)) (next : List ℕ) (j : ℕ) → Goes s m next j stage.flows.text →
-      Stage form s input pending (record { now = m; waits = next; written = j; kept = out.kept }) tail
+      Staged form s input pending (record { now = m; waits = next; written = j; kept = out.kept }) tail
   stage_sent m next j goes = record {
     done = stage.done;
     parts = stage.parts;
@@ -154,7 +154,7 @@ module _ {form : Form} {s : Option (List ℕ)} {input pending : List ℕ} {out :
 
     -- units were converted
     pub stage_pass : {next : Output} {after : Tail} (put : List ℕ) → put ≡ joined form units → Flows form.shape form.cbs s (joined form stage.done ++ put) next after →
-        Stage form s input rest next after
+        Staged form s input rest next after
     stage_pass {next} {after} put same flows = record {
       done = stage.done ++ units;
       parts = done_units;
@@ -187,7 +187,7 @@ read_sizes buf new input have want n fits is got =
 
 -- a read failed
 pub read_stops : (form : Form) (r0 r1 r2 s : Option (List ℕ)) (input pending : List ℕ) (put : Output) (tail : Tail) (most before wanted room : ℕ) (e : IoFault) → HasSizes form →
-    Stage form s input pending put tail → Consumes r0 r1 input → StopsAfter r1 r2 wanted room e → length input + wanted ≤ most → before + length input + room ≡ 2 ^ 40 →
+    Staged form s input pending put tail → Consumes r0 r1 input → StopsAfter r1 r2 wanted room e → length input + wanted ≤ most → before + length input + room ≡ 2 ^ 40 →
     StopsPass form most before r0 r2 s put.now e
 read_stops form r0 r1 r2 s input pending put tail most before wanted room e sizes stage reads stop few all =
     let front = stage_front stage stop.0 sizes in
@@ -225,7 +225,7 @@ write_stops form r0 r1 s n input most before InputTooLong reads within few ahead
 write_stops form r0 r1 s n input most before SkipPastEnd reads within few ahead stop = absurd stop
 
 -- the input ended
-module _ {form : Form} {s : Option (List ℕ)} {input pending : List ℕ} {out : Output} {tail : Tail} (stage : Stage form s input pending out tail) (sizes : HasSizes form) (put : List ℕ) (is : put ≡ joined form pending) where
+module _ {form : Form} {s : Option (List ℕ)} {input pending : List ℕ} {out : Output} {tail : Tail} (stage : Staged form s input pending out tail) (sizes : HasSizes form) (put : List ℕ) (is : put ≡ joined form pending) where
   joined_input : joined form stage.done ++ put ≡ joined form input
   joined_input = ap (λ l. joined form stage.done ++ l) is ∙ sym (ap (joined form) stage.parts ∙ joined_units form stage.done pending sizes.some_ibs stage.whole)
 
@@ -254,10 +254,10 @@ module _ {A : Type 0} (plan : Plan A) (skipped input : List ℕ) (len : length s
 
 -- behind what was skipped, reading is as far ahead
 rest_ahead : {A : Type 0} (plan : Plan A) (skipped input : List ℕ) → length skipped ≡ plan.skip * plan.ibs → length input ≤ most_of plan.count plan.ibs →
-    (e : IoFault) → IsCopyAhead (converted (form_of plan)) input e → IsCopyAhead (output_of plan) (skipped ++ input) e
+    (e : IoFault) → IsCopyAhead (converted (plan_form plan)) input e → IsCopyAhead (output_of plan) (skipped ++ input) e
 rest_ahead plan skipped input len few (WriteFailed n) (front, last, is, small, near) =
     let fits : length front ≤ most_of plan.count plan.ibs = omega (arith, few, ap length is, length-append front last) in
-    let same : converted (form_of plan) front ≡ output_of plan (skipped ++ front) = ap (converted (form_of plan)) (sym (chosen_by plan skipped front len fits)) in (
+    let same : converted (plan_form plan) front ≡ output_of plan (skipped ++ front) = ap (converted (plan_form plan)) (sym (chosen_by plan skipped front len fits)) in (
       skipped ++ front,
       last,
       ap (λ l. skipped ++ l) is ∙ sym (append_assoc skipped front last),
@@ -273,7 +273,7 @@ module _ {A : Type 0} (plan : Plan A) (skipped input : List ℕ) (len : length s
   selects : selected_by plan (skipped ++ input) ≡ input
   selects = chosen_by plan skipped input len few
 
-  asked : (count : Option ℕ) → length input ≤ most_of count plan.ibs → IsWithin plan.ibs plan.skip count (skipped ++ input)
+  asked : (count : Option ℕ) → length input ≤ most_of count plan.ibs → ReadsNoMore plan.ibs plan.skip count (skipped ++ input)
   asked None fits = tt
   asked (Some n) fits = omega (arith, length-append skipped input, len, fits)
 
@@ -284,29 +284,29 @@ module _ {A : Type 0} (plan : Plan A) (skipped input : List ℕ) (len : length s
   read_out r count fits (inr end) small = inl end
 
   pub copied : (r0 r1 r2 w0 w1 : Option (List ℕ)) (counts : Counts) → Consumes r0 r1 skipped → Consumes r1 r2 input → (length input ≡ most_of plan.count plan.ibs) ⊎ IsAtEnd r2 →
-      plan.skip * plan.ibs + length input ≤ 2 ^ 40 → Appends w0 w1 (converted (form_of plan) input) → counts ≡ counts_of (form_of plan) input → IsCopy plan r0 r2 w0 w1 counts
+      plan.skip * plan.ibs + length input ≤ 2 ^ 40 → Appends w0 w1 (converted (plan_form plan) input) → counts ≡ counts_of (plan_form plan) input → IsCopy plan r0 r2 w0 w1 counts
   copied r0 r1 r2 w0 w1 counts skips reads ends small put counted = (
-    converted (form_of plan) input,
+    converted (plan_form plan) input,
     put,
     record {
       read = (skipped ++ input, Consumes-trans r0 r1 r2 skipped input skips reads, asked plan.count few);
       ends = read_out r2 plan.count few ends (omega arith);
       few = omega (arith, length-append skipped input, len);
-      made = ap (converted (form_of plan)) (sym selects);
-      counted = counted ∙ ap (counts_of (form_of plan)) (sym selects);
+      made = ap (converted (plan_form plan)) (sym selects);
+      counted = counted ∙ ap (counts_of (plan_form plan)) (sym selects);
     },
   )
 
   pub stopped : (r0 r1 r2 w0 w1 : Option (List ℕ)) (e : IoFault) (before written : ℕ) → before ≡ plan.skip * plan.ibs → Consumes r0 r1 skipped → Consumes r1 r2 input →
-      Appends w0 w1 (take written (converted (form_of plan) input)) →
-      IsCopyFault e (before + length input) written (length (converted (form_of plan) input)) → IsCopyAhead (converted (form_of plan)) input e → StopsCopy plan r0 r2 w0 w1 e
+      Appends w0 w1 (take written (converted (plan_form plan) input)) →
+      IsCopyFault e (before + length input) written (length (converted (plan_form plan) input)) → IsCopyAhead (converted (plan_form plan)) input e → StopsCopy plan r0 r2 w0 w1 e
   stopped r0 r1 r2 w0 w1 e before written is skips reads put cause ahead =
       let total : before + length input ≡ length (skipped ++ input) = omega (arith, length-append skipped input, len, is) in record {
         read = (skipped ++ input, Consumes-trans r0 r1 r2 skipped input skips reads, asked plan.count few);
         written = written;
-        appended = subst (λ (l : List ℕ). Appends w0 w1 (take written (converted (form_of plan) l))) (sym selects) put;
-        cause = subst (λ (l : List ℕ). IsCopyFault e (length (skipped ++ input)) written (length (converted (form_of plan) l))) (sym selects)
-            (subst (λ (t : ℕ). IsCopyFault e t written (length (converted (form_of plan) input))) total cause);
+        appended = subst (λ (l : List ℕ). Appends w0 w1 (take written (converted (plan_form plan) l))) (sym selects) put;
+        cause = subst (λ (l : List ℕ). IsCopyFault e (length (skipped ++ input)) written (length (converted (plan_form plan) l))) (sym selects)
+            (subst (λ (t : ℕ). IsCopyFault e t written (length (converted (plan_form plan) input))) total cause);
         ahead = rest_ahead plan skipped input len few e ahead;
       }
 
@@ -322,7 +322,7 @@ module _ {A : Type 0} (plan : Plan A) (input : List ℕ) (few : length input ≤
   nothing None = drop_of_length-le input few
   nothing (Some n) = ap (take (n * plan.ibs)) (drop_of_length-le input few) ∙ take_nil (n * plan.ibs)
 
-  pub copied_none : (r0 r1 w : Option (List ℕ)) (counts : Counts) → HasSizes (form_of plan) → Consumes r0 r1 input → IsAtEnd r1 → length input ≤ 2 ^ 40 → counts ≡ counts_of (form_of plan) [] →
+  pub copied_none : (r0 r1 w : Option (List ℕ)) (counts : Counts) → HasSizes (plan_form plan) → Consumes r0 r1 input → IsAtEnd r1 → length input ≤ 2 ^ 40 → counts ≡ counts_of (plan_form plan) [] →
       IsCopy plan r0 r1 w w counts
   copied_none r0 r1 w counts sizes reads end small counted = (
     [],
@@ -331,8 +331,8 @@ module _ {A : Type 0} (plan : Plan A) (input : List ℕ) (few : length input ≤
       read = (input, reads, asked_skip plan.ibs plan.skip (length input) plan.count few);
       ends = inl end;
       few = small;
-      made = sym (ap (converted (form_of plan)) (nothing plan.count) ∙ converted_none (form_of plan) sizes);
-      counted = counted ∙ ap (counts_of (form_of plan)) (sym (nothing plan.count));
+      made = sym (ap (converted (plan_form plan)) (nothing plan.count) ∙ converted_none (plan_form plan) sizes);
+      counted = counted ∙ ap (counts_of (plan_form plan)) (sym (nothing plan.count));
     },
   )
 
@@ -357,7 +357,7 @@ stopped_skip plan r0 r1 w e stop = record {
 }
 
 -- the rest of an input, behind what was skipped
-module _ {A : Type 0} (plan : Plan A) (form : Form) (most before : ℕ) (r0 r1 r2 w0 w1 : Option (List ℕ)) (skipped : List ℕ) (is_form : form ≡ form_of plan) (is_most : most ≡ most_of plan.count plan.ibs) (is_before : before ≡ plan.skip * plan.ibs) (len : length skipped ≡ plan.skip * plan.ibs) (skips : Consumes r0 r1 skipped) where
+module _ {A : Type 0} (plan : Plan A) (form : Form) (most before : ℕ) (r0 r1 r2 w0 w1 : Option (List ℕ)) (skipped : List ℕ) (is_form : form ≡ plan_form plan) (is_most : most ≡ most_of plan.count plan.ibs) (is_before : before ≡ plan.skip * plan.ibs) (len : length skipped ≡ plan.skip * plan.ibs) (skips : Consumes r0 r1 skipped) where
   pub copied_rest : (counts : Counts) → CopiesRest form most before r1 r2 w0 w1 counts → IsCopy plan r0 r2 w0 w1 counts
   copied_rest counts rest =
       copied plan skipped rest.input len (subst (λ (m : ℕ). length rest.input ≤ m) is_most rest.within) r0 r1 r2 w0 w1 counts skips rest.consumed

@@ -14,7 +14,7 @@ use Rattle.bx_dd.specs.declared.form.Shape.TheVariants.{Flat, Block, Unblock}
 use Rattle.bx_dd.specs.Output.{records, shaped, unfinished}
 use Rattle.bx_dd.specs.private.Output.{fitted, line_of}
 use Rattle.bx_dd.specs.Standing.{Stands}
-use Rattle.bx_dd.specs.private.Standing.{finished, rest_of, last_of}
+use Rattle.bx_dd.specs.private.Standing.{finished, record_rest, last_of}
 use Rattle.bx_dd.specs.declared.convert.records.Tail.{Tail}
 use Rattle.bx_dd.specs.private.Streaming.{Flows, Output, StopsFlow}
 use Rattle.bx_dd.proofs.RecordsLemmas.{Stands_flat, finished-all, finished-ended, fitted_short, held_piece, parts, piece_taken, records-after}
@@ -32,7 +32,7 @@ stands_front Flat size z text kept was_cut count some stands more =
     (more, ap (λ l. l ++ more) (sym (stands.out ∙ finished-all Flat size z (flat_all size z))))
 stands_front Block size z text kept was_cut count some stands more =
     let d = finished Block size z in
-    let r = rest_of Block size z in
+    let r = record_rest Block size z in
     let whole : z ++ more ≡ d ++ (r ++ more) = ap (λ l. l ++ more) (sym (parts Block size z)) ∙ append_assoc d r more in
     let lines : records (z ++ more) ≡ records d ++ records (r ++ more) = ap records whole ∙ records-after d (r ++ more) (finished-ended size z) in (
       flat_map (fitted size) (records (r ++ more)),
@@ -41,7 +41,7 @@ stands_front Block size z text kept was_cut count some stands more =
 stands_front Unblock size z text kept was_cut count some stands more =
     let pos : 0 < size = some (λ e. cc) in
     let d = finished Unblock size z in
-    let r = rest_of Unblock size z in
+    let r = record_rest Unblock size z in
     let whole : z ++ more ≡ d ++ (r ++ more) = ap (λ l. l ++ more) (sym (parts Unblock size z)) ∙ append_assoc d r more in
     let d_len : length d ≡ size * (length z / size) = omega (arith, length-append d r, ap length (parts Unblock size z), held_piece size z pos, div-add-mod (length z) size) in (
       in_pieces line_of size (r ++ more),

@@ -18,10 +18,10 @@ use Rattle.bx_dd.specs.declared.fault.DdFault.{DdFault}
 use Rattle.bx_dd.specs.declared.fault.DdFault.TheVariants.{UnknownOperand, BadNumber, NumberTooLarge, ZeroSize, Repeated}
 use Rattle.bx_dd.specs.declared.operands.Kind.{Kind}
 use Rattle.bx_dd.specs.declared.operands.Kind.TheVariants.{File, Size, Number, Conversions}
-use Rattle.bx_dd.specs.private.Number.{number_of}
-use Rattle.bx_dd.specs.Operands.{is_operand, name_of, value_of, kind_of, is_conversion, value_fault, is_given, operand_fault, first_fault, given, number_given, converts}
+use Rattle.bx_dd.specs.private.Number.{product_number}
+use Rattle.bx_dd.specs.Operands.{is_operand, operand_name, operand_value, kind_of, is_conversion, value_fault, is_given, operand_fault, first_fault, given, number_given, converts}
 use Rattle.bx_dd.specs.private.Operands.{parts_of, is_equals, is_named, kind_fault, number_fault, size_fault}
-use Rattle.bx_dd.specs.OperandGrammar.{IsOperand, IsAmong, AreConversions, IsSoundValue, IsValueFault, IsSoundBehind, IsFaultBehind, OperandHasForm, AreSoundBehind, OperandsHaveForm, Says, WordsAreAskedFor}
+use Rattle.bx_dd.specs.OperandGrammar.{IsOperand, IsAmong, AreConversions, IsSoundValue, IsValueFault, IsSoundBehind, IsOperandFault, OperandHasForm, AreSoundBehind, OperandsHaveForm, Says, WordsAreAskedFor}
 
 and_true : (a b : Bool) → (a && b) ≡ true → (a ≡ true) × (b ≡ true)
 and_true true b h = (refl, h)
@@ -29,7 +29,7 @@ and_true false b h = cc
 
 -- ---- a word by its name and its value
 
-operand_of : (word : List ℕ) → is_operand word ≡ true → IsOperand word (name_of word) (value_of word)
+operand_of : (word : List ℕ) → is_operand word ≡ true → IsOperand word (operand_name word) (operand_value word)
 operand_of word is =
     let p = λ (b : ℕ). not (is_equals b) in
     let k = prefix_len p word in
@@ -51,7 +51,7 @@ operand_of word is =
     differs : (c : ℕ) → not (eqb c 61) ≡ true → c ≢ 61
     differs c e same = false≢true (ap not (sym (eq-eqb c 61 same)) ∙ e)
 
-operand_back : (word name value : List ℕ) → IsOperand word name value → (is_operand word ≡ true) × ((name_of word ≡ name) × (value_of word ≡ value))
+operand_back : (word name value : List ℕ) → IsOperand word name value → (is_operand word ≡ true) × ((operand_name word ≡ name) × (operand_value word ≡ value))
 operand_back word name value is =
     let p = λ (b : ℕ). not (is_equals b) in
     let whole = name ++ 61 ∷ value in
@@ -65,15 +65,15 @@ operand_back word name value is =
       (rw (is.0, count) (take_at name (61 ∷ value) n refl), rw (is.0, count) (drop-append-add name (61 ∷ value) 1)),
     )
 
-named_of : (name word : List ℕ) → is_named name word ≡ true → IsOperand word name (value_of word)
+named_of : (name word : List ℕ) → is_named name word ≡ true → IsOperand word name (operand_value word)
 named_of name word is =
-    let two = and_true (is_operand word) (bytes_eq (name_of word) name) is in
-    subst (λ n. IsOperand word n (value_of word)) ((bytes_eq-Decides (name_of word) name).0 two.1) (operand_of word two.0)
+    let two = and_true (is_operand word) (bytes_eq (operand_name word) name) is in
+    subst (λ n. IsOperand word n (operand_value word)) ((bytes_eq-Decides (operand_name word) name).0 two.1) (operand_of word two.0)
 
 named_back : (name word value : List ℕ) → IsOperand word name value → is_named name word ≡ true
 named_back name word value is =
     let back = operand_back word name value is in
-    let same : bytes_eq (name_of word) name ≡ true = (bytes_eq-Decides (name_of word) name).1 back.1.0 in
+    let same : bytes_eq (operand_name word) name ≡ true = (bytes_eq-Decides (operand_name word) name).1 back.1.0 in
     rw (back.0, same) refl
 
 -- ---- the first word of a name
@@ -146,7 +146,7 @@ none_named : (name : List ℕ) (words : List (List ℕ)) → (IsAmong name words
 none_named name words never front rest word e = go (is_named name word) refl
   where
     go : (b : Bool) → is_named name word ≡ b → b ≡ false
-    go true is = absurd (never (front, rest, word, value_of word, e, named_of name word is))
+    go true is = absurd (never (front, rest, word, operand_value word, e, named_of name word is))
     go false is = refl
 
 not_among : (name : List ℕ) (words : List (List ℕ)) → NonePasses (is_named name) words → IsAmong name words → ⊥
@@ -160,7 +160,7 @@ given_is name words = ⊎_elim (λ f. inl (found f)) (λ none. inr (missing none
         let place : position_or_len (is_named name) words ≡ length f.front = ap (position_or_len (is_named name)) f.stands ∙ first_place (is_named name) f.front f.rest f.word f.none f.passes in
         let long : length words ≡ length f.front + suc (length f.rest) = ap length f.stands ∙ length-append f.front (f.word ∷ f.rest) in (
           lt-ltb (position_or_len (is_named name) words) (length words) (omega (arith, place, long)),
-          (f.front, f.rest, f.word, value_of f.word, f.stands, named_of name f.word f.passes),
+          (f.front, f.rest, f.word, operand_value f.word, f.stands, named_of name f.word f.passes),
         )
 
     missing : NonePasses (is_named name) words → (is_given name words ≡ false) × (IsAmong name words → ⊥)
@@ -177,16 +177,16 @@ given_false name words never = ⊎_elim (λ yes_it. absurd (never yes_it.1)) (λ
 
 -- ---- numbers
 
-number_ok : (value : List ℕ) (n : ℕ) → IsProduct value n → n ≤ 2 ^ 40 - 1 → number_of value ≡ Ok n
+number_ok : (value : List ℕ) (n : ℕ) → IsProduct value n → n ≤ 2 ^ 40 - 1 → product_number value ≡ Ok n
 number_ok value n is few = ((size_has_form Product value).0 n).1 (is, few)
 
-number_large : (value : List ℕ) (n : ℕ) → IsProduct value n → 2 ^ 40 - 1 < n → number_of value ≡ Err TooLarge
+number_large : (value : List ℕ) (n : ℕ) → IsProduct value n → 2 ^ 40 - 1 < n → product_number value ≡ Err TooLarge
 number_large value n is many = (size_has_form Product value).1.1 (n, is, many)
 
-number_bad : (value : List ℕ) → ((n : ℕ) → IsProduct value n → ⊥) → number_of value ≡ Err Bad
+number_bad : (value : List ℕ) → ((n : ℕ) → IsProduct value n → ⊥) → product_number value ≡ Err Bad
 number_bad value never = (size_has_form Product value).2.1 never
 
-number_is : (value : List ℕ) (r : Result ℕ SizeFault) → number_of value ≡ r →
+number_is : (value : List ℕ) (r : Result ℕ SizeFault) → product_number value ≡ r →
     ((n : ℕ) × (r ≡ Ok n) × IsProduct value n × (n ≤ 2 ^ 40 - 1))
     ⊎ (((n : ℕ) × (r ≡ Err TooLarge) × IsProduct value n × (2 ^ 40 - 1 < n)) ⊎ ((r ≡ Err Bad) × ((n : ℕ) → IsProduct value n → ⊥)))
 number_is value (Ok n) e = let is = ((size_has_form Product value).0 n).0 e in inl (n, refl, is.0, is.1)
@@ -248,35 +248,35 @@ value_is at Conversions value = go (list_all is_conversion (parts_of value)) ref
         Settled (cond b None (Some (UnknownOperand at))) (AreConversions value) (λ fault. (fault ≡ UnknownOperand at) × (AreConversions value → ⊥))
     go true e = inl (refl, conversions_all (parts_of value) e)
     go false e = inr (UnknownOperand at, refl, (refl, λ are. false≢true (sym e ∙ all_conversions (parts_of value) are)))
-value_is at Number value = ⊎_elim fine (λ other. ⊎_elim large bad other) (number_is value (number_of value) refl)
+value_is at Number value = ⊎_elim fine (λ other. ⊎_elim large bad other) (number_is value (product_number value) refl)
   where
-    fine : ((n : ℕ) × (number_of value ≡ Ok n) × IsProduct value n × (n ≤ 2 ^ 40 - 1)) → Settled (number_fault at (number_of value)) (IsSoundValue Number value) (IsValueFault at Number value)
+    fine : ((n : ℕ) × (product_number value ≡ Ok n) × IsProduct value n × (n ≤ 2 ^ 40 - 1)) → Settled (number_fault at (product_number value)) (IsSoundValue Number value) (IsValueFault at Number value)
     fine is = inl (ap (number_fault at) is.1, (is.0, is.2, is.3))
 
-    large : ((n : ℕ) × (number_of value ≡ Err TooLarge) × IsProduct value n × (2 ^ 40 - 1 < n)) → Settled (number_fault at (number_of value)) (IsSoundValue Number value) (IsValueFault at Number value)
+    large : ((n : ℕ) × (product_number value ≡ Err TooLarge) × IsProduct value n × (2 ^ 40 - 1 < n)) → Settled (number_fault at (product_number value)) (IsSoundValue Number value) (IsValueFault at Number value)
     large is = inr (NumberTooLarge at, ap (number_fault at) is.1, inr (refl, (is.0, is.2, is.3)))
 
-    bad : ((number_of value ≡ Err Bad) × ((n : ℕ) → IsProduct value n → ⊥)) → Settled (number_fault at (number_of value)) (IsSoundValue Number value) (IsValueFault at Number value)
+    bad : ((product_number value ≡ Err Bad) × ((n : ℕ) → IsProduct value n → ⊥)) → Settled (number_fault at (product_number value)) (IsSoundValue Number value) (IsValueFault at Number value)
     bad is = inr (BadNumber at, ap (number_fault at) is.0, inl (refl, is.1))
-value_is at (Size most) value = ⊎_elim fine (λ other. ⊎_elim large bad other) (number_is value (number_of value) refl)
+value_is at (Size most) value = ⊎_elim fine (λ other. ⊎_elim large bad other) (number_is value (product_number value) refl)
   where
-    zero_or : (n : ℕ) → number_of value ≡ Ok n → IsProduct value n → n ≤ most → n ≤ 2 ^ 40 - 1 → (b : Bool) → eqb n 0 ≡ b → Settled (cond b (Some (ZeroSize at)) None) (IsSoundValue (Size most) value) (IsValueFault at (Size most) value)
+    zero_or : (n : ℕ) → product_number value ≡ Ok n → IsProduct value n → n ≤ most → n ≤ 2 ^ 40 - 1 → (b : Bool) → eqb n 0 ≡ b → Settled (cond b (Some (ZeroSize at)) None) (IsSoundValue (Size most) value) (IsValueFault at (Size most) value)
     zero_or n e is few small true z = inr (ZeroSize at, refl, inr (inr (refl, subst (IsProduct value) (eqb-true n 0 z) is)))
     zero_or n e is few small false z = inl (refl, (n, is, omega (arith, eqb-false n 0 z), few, small))
 
-    by_most : (n : ℕ) → number_of value ≡ Ok n → IsProduct value n → n ≤ 2 ^ 40 - 1 → (b : Bool) → ltb most n ≡ b →
+    by_most : (n : ℕ) → product_number value ≡ Ok n → IsProduct value n → n ≤ 2 ^ 40 - 1 → (b : Bool) → ltb most n ≡ b →
         Settled (cond b (Some (NumberTooLarge at)) (cond (eqb n 0) (Some (ZeroSize at)) None)) (IsSoundValue (Size most) value) (IsValueFault at (Size most) value)
     by_most n e is small true many = inr (NumberTooLarge at, refl, inr (inl (refl, (n, is, inl (ltb-true most n many)))))
     by_most n e is small false few = zero_or n e is (ltb-false most n few) small (eqb n 0) refl
 
-    fine : ((n : ℕ) × (number_of value ≡ Ok n) × IsProduct value n × (n ≤ 2 ^ 40 - 1)) → Settled (size_fault at most (number_of value)) (IsSoundValue (Size most) value) (IsValueFault at (Size most) value)
+    fine : ((n : ℕ) × (product_number value ≡ Ok n) × IsProduct value n × (n ≤ 2 ^ 40 - 1)) → Settled (size_fault at most (product_number value)) (IsSoundValue (Size most) value) (IsValueFault at (Size most) value)
     fine is = subst (λ r. Settled (size_fault at most r) (IsSoundValue (Size most) value) (IsValueFault at (Size most) value)) (sym is.1) (by_most is.0 is.1 is.2 is.3 (ltb most is.0) refl)
 
-    large : ((n : ℕ) × (number_of value ≡ Err TooLarge) × IsProduct value n × (2 ^ 40 - 1 < n)) →
-        Settled (size_fault at most (number_of value)) (IsSoundValue (Size most) value) (IsValueFault at (Size most) value)
+    large : ((n : ℕ) × (product_number value ≡ Err TooLarge) × IsProduct value n × (2 ^ 40 - 1 < n)) →
+        Settled (size_fault at most (product_number value)) (IsSoundValue (Size most) value) (IsValueFault at (Size most) value)
     large is = inr (NumberTooLarge at, ap (size_fault at most) is.1, inr (inl (refl, (is.0, is.2, inr is.3))))
 
-    bad : ((number_of value ≡ Err Bad) × ((n : ℕ) → IsProduct value n → ⊥)) → Settled (size_fault at most (number_of value)) (IsSoundValue (Size most) value) (IsValueFault at (Size most) value)
+    bad : ((product_number value ≡ Err Bad) × ((n : ℕ) → IsProduct value n → ⊥)) → Settled (size_fault at most (product_number value)) (IsSoundValue (Size most) value) (IsValueFault at (Size most) value)
     bad is = inr (BadNumber at, ap (size_fault at most) is.0, inl (refl, is.1))
 
 value_sound : (at : ℕ) (kind : Kind) (value : List ℕ) → IsSoundValue kind value → value_fault at kind value ≡ None
@@ -299,10 +299,10 @@ value_faulty at (Size most) value fault (inr (inr none)) =
 value_faulty at (Size most) value fault (inr (inl large)) =
     ⊎_elim beyond (λ few. ⊎_elim (λ over. at_most (omega arith) over) (λ over. absurd (omega (arith, few, over))) large.1.2) (cases_lt (2 ^ 40 - 1) large.1.0)
   where
-    beyond : 2 ^ 40 - 1 < large.1.0 → size_fault at most (number_of value) ≡ Some fault
+    beyond : 2 ^ 40 - 1 < large.1.0 → size_fault at most (product_number value) ≡ Some fault
     beyond many = ap (size_fault at most) (number_large value large.1.0 large.1.1 many) ∙ ap Some (sym large.0)
 
-    at_most : large.1.0 ≤ 2 ^ 40 - 1 → most < large.1.0 → size_fault at most (number_of value) ≡ Some fault
+    at_most : large.1.0 ≤ 2 ^ 40 - 1 → most < large.1.0 → size_fault at most (product_number value) ≡ Some fault
     at_most few over = ap (size_fault at most) (number_ok value large.1.0 large.1.1 few) ∙ rw (lt-ltb most large.1.0 over, large.0) refl
 
 -- ---- a word behind others
@@ -317,15 +317,15 @@ operand_unknown : (before : List (List ℕ)) (word : List ℕ) → ((name value 
     operand_fault before word ≡ Some (UnknownOperand (length before + 1))
 operand_unknown before word never = go (is_operand word) refl
   where
-    known : (o : Option Kind) → kind_of (name_of word) ≡ o → is_operand word ≡ true →
-        kind_fault (length before + 1) o (is_given (name_of word) before) (value_of word) ≡ Some (UnknownOperand (length before + 1))
+    known : (o : Option Kind) → kind_of (operand_name word) ≡ o → is_operand word ≡ true →
+        kind_fault (length before + 1) o (is_given (operand_name word) before) (operand_value word) ≡ Some (UnknownOperand (length before + 1))
     known None e is = refl
-    known (Some kind) e is = absurd (never (name_of word) (value_of word) kind (operand_of word is) e)
+    known (Some kind) e is = absurd (never (operand_name word) (operand_value word) kind (operand_of word is) e)
 
     go : (b : Bool) → is_operand word ≡ b →
-        kind_fault (length before + 1) (cond b (kind_of (name_of word)) None) (is_given (name_of word) before) (value_of word) ≡ Some (UnknownOperand (length before + 1))
+        kind_fault (length before + 1) (cond b (kind_of (operand_name word)) None) (is_given (operand_name word) before) (operand_value word) ≡ Some (UnknownOperand (length before + 1))
     go false e = refl
-    go true e = known (kind_of (name_of word)) refl e
+    go true e = known (kind_of (operand_name word)) refl e
 
 -- the word is an operand of a known name, or it isn't
 is_known : (word : List ℕ) → ((name value : List ℕ) × (kind : Kind) × IsOperand word name value × (kind_of name ≡ Some kind))
@@ -335,28 +335,28 @@ is_known word = go (is_operand word) refl
     no_kind : (kind : Kind) → ◌≡◌ {A = Option Kind} None (Some kind) → ⊥
     no_kind kind e = cc e
 
-    known : (o : Option Kind) → kind_of (name_of word) ≡ o → is_operand word ≡ true → ((name value : List ℕ) × (kind : Kind) × IsOperand word name value × (kind_of name ≡ Some kind))
+    known : (o : Option Kind) → kind_of (operand_name word) ≡ o → is_operand word ≡ true → ((name value : List ℕ) × (kind : Kind) × IsOperand word name value × (kind_of name ≡ Some kind))
         ⊎ ((name value : List ℕ) → (kind : Kind) → IsOperand word name value → kind_of name ≡ Some kind → ⊥)
-    known (Some kind) e is = inl (name_of word, value_of word, kind, operand_of word is, e)
+    known (Some kind) e is = inl (operand_name word, operand_value word, kind, operand_of word is, e)
     known None e is = inr (λ name value kind has knows. no_kind kind (sym e ∙ ap kind_of (operand_back word name value has).1.0 ∙ knows))
 
     go : (b : Bool) → is_operand word ≡ b → ((name value : List ℕ) × (kind : Kind) × IsOperand word name value × (kind_of name ≡ Some kind))
         ⊎ ((name value : List ℕ) → (kind : Kind) → IsOperand word name value → kind_of name ≡ Some kind → ⊥)
-    go true is = known (kind_of (name_of word)) refl is
+    go true is = known (kind_of (operand_name word)) refl is
     go false e = inr (λ name value kind has knows. false≢true (sym e ∙ (operand_back word name value has).0))
 
-operand_is : (before : List (List ℕ)) (word : List ℕ) → Settled (operand_fault before word) (IsSoundBehind before word) (IsFaultBehind before word)
+operand_is : (before : List (List ℕ)) (word : List ℕ) → Settled (operand_fault before word) (IsSoundBehind before word) (IsOperandFault before word)
 operand_is before word = ⊎_elim found (λ never. inr (UnknownOperand (length before + 1), operand_unknown before word never, inl (refl, never))) (is_known word)
   where
     found : ((name value : List ℕ) × (kind : Kind) × IsOperand word name value × (kind_of name ≡ Some kind)) →
-        Settled (operand_fault before word) (IsSoundBehind before word) (IsFaultBehind before word)
+        Settled (operand_fault before word) (IsSoundBehind before word) (IsOperandFault before word)
     found (name, value, kind, has, knows) = ⊎_elim repeated fresh (given_is name before)
       where
-        repeated : ((is_given name before ≡ true) × IsAmong name before) → Settled (operand_fault before word) (IsSoundBehind before word) (IsFaultBehind before word)
+        repeated : ((is_given name before ≡ true) × IsAmong name before) → Settled (operand_fault before word) (IsSoundBehind before word) (IsOperandFault before word)
         repeated is =
             inr (Repeated (length before + 1), operand_as before word name value kind has knows ∙ rw is.0 refl, inr (name, value, kind, has, knows, inl (refl, is.1)))
 
-        fresh : ((is_given name before ≡ false) × (IsAmong name before → ⊥)) → Settled (operand_fault before word) (IsSoundBehind before word) (IsFaultBehind before word)
+        fresh : ((is_given name before ≡ false) × (IsAmong name before → ⊥)) → Settled (operand_fault before word) (IsSoundBehind before word) (IsOperandFault before word)
         fresh is =
             let now : operand_fault before word ≡ value_fault (length before + 1) kind value = operand_as before word name value kind has knows ∙ rw is.0 refl in
             ⊎_elim (λ fine. inl (now ∙ fine.0, (name, value, kind, has, knows, is.1, fine.1)))
@@ -366,7 +366,7 @@ operand_sound : (before : List (List ℕ)) (word : List ℕ) → IsSoundBehind b
 operand_sound before word (name, value, kind, has, knows, never, is) =
     operand_as before word name value kind has knows ∙ rw (given_false name before never) (value_sound (length before + 1) kind value is)
 
-operand_faulty : (before : List (List ℕ)) (word : List ℕ) (fault : DdFault) → IsFaultBehind before word fault → operand_fault before word ≡ Some fault
+operand_faulty : (before : List (List ℕ)) (word : List ℕ) (fault : DdFault) → IsOperandFault before word fault → operand_fault before word ≡ Some fault
 operand_faulty before word fault (inl unknown) = operand_unknown before word unknown.1 ∙ ap Some (sym unknown.0)
 operand_faulty before word fault (inr (name, value, kind, has, knows, inl repeated)) =
     operand_as before word name value kind has knows ∙ rw (given_true name before repeated.1, repeated.0) refl
@@ -376,21 +376,21 @@ operand_faulty before word fault (inr (name, value, kind, has, knows, inr bad)) 
 pub operand_has_form : OperandHasForm
 operand_has_form before word =
     let is = operand_is before word in (
-      (to_sound (operand_fault before word) (IsSoundBehind before word) (IsFaultBehind before word) is, operand_sound before word),
-      λ fault. (to_fault (operand_fault before word) (IsSoundBehind before word) (IsFaultBehind before word) is fault, operand_faulty before word fault),
+      (to_sound (operand_fault before word) (IsSoundBehind before word) (IsOperandFault before word) is, operand_sound before word),
+      λ fault. (to_fault (operand_fault before word) (IsSoundBehind before word) (IsOperandFault before word) is fault, operand_faulty before word fault),
     )
 
 -- ---- several words
 
 abbrev IsFirstBehind : List (List ℕ) → List (List ℕ) → DdFault → Type 0
 IsFirstBehind before words fault =
-    (front rest : List (List ℕ)) × (word : List ℕ) × (words ≡ front ++ word ∷ rest) × AreSoundBehind before front × IsFaultBehind (before ++ front) word fault
+    (front rest : List (List ℕ)) × (word : List ℕ) × (words ≡ front ++ word ∷ rest) × AreSoundBehind before front × IsOperandFault (before ++ front) word fault
 
 first_is : (before words : List (List ℕ)) → Settled (first_fault before words) (AreSoundBehind before words) (IsFirstBehind before words)
 first_is before [] = inl (refl, tt)
 first_is before (word ∷ words) = go (operand_is before word) (first_is (before ++ word ∷ []) words)
   where
-    go : Settled (operand_fault before word) (IsSoundBehind before word) (IsFaultBehind before word) →
+    go : Settled (operand_fault before word) (IsSoundBehind before word) (IsOperandFault before word) →
         Settled (first_fault (before ++ word ∷ []) words) (AreSoundBehind (before ++ word ∷ []) words) (IsFirstBehind (before ++ word ∷ []) words) →
         Settled (first_fault before (word ∷ words)) (AreSoundBehind before (word ∷ words)) (IsFirstBehind before (word ∷ words))
     go (inr bad) later = inr (bad.0, rw bad.1 refl, ([], words, word, refl, tt, rw (append-nil before) bad.2))
@@ -403,14 +403,14 @@ all_sound : (before words : List (List ℕ)) → AreSoundBehind before words →
 all_sound before [] are = refl
 all_sound before (word ∷ words) are = rw (operand_sound before word are.0) (all_sound (before ++ word ∷ []) words are.1)
 
-first_read : (before front rest : List (List ℕ)) (word : List ℕ) (fault : DdFault) → AreSoundBehind before front → IsFaultBehind (before ++ front) word fault →
+first_read : (before front rest : List (List ℕ)) (word : List ℕ) (fault : DdFault) → AreSoundBehind before front → IsOperandFault (before ++ front) word fault →
     first_fault before (front ++ word ∷ rest) ≡ Some fault
 first_read before [] rest word fault are is =
-    let here : operand_fault before word ≡ Some fault = operand_faulty before word fault (subst (λ b. IsFaultBehind b word fault) (append-nil before) is) in
+    let here : operand_fault before word ≡ Some fault = operand_faulty before word fault (subst (λ b. IsOperandFault b word fault) (append-nil before) is) in
     rw here refl
 first_read before (next ∷ front) rest word fault are is =
     let place : before ++ next ∷ front ≡ (before ++ next ∷ []) ++ front = sym (append_assoc before (next ∷ []) front) in
-    rw (operand_sound before next are.0) (first_read (before ++ next ∷ []) front rest word fault are.1 (subst (λ b. IsFaultBehind b word fault) place is))
+    rw (operand_sound before next are.0) (first_read (before ++ next ∷ []) front rest word fault are.1 (subst (λ b. IsOperandFault b word fault) place is))
 
 pub operands_have_form : OperandsHaveForm
 operands_have_form words =
@@ -429,16 +429,16 @@ given_at words name value (front, rest, word, stands, has, never) =
     let place = first_place (is_named name) front rest word (none_named name front never) (named_back name word value has) in
     let whole = front ++ word ∷ rest in
     let got : slice_get whole (position_or_len (is_named name) whole) ≡ Some word = ap (slice_get whole) place ∙ got_at front rest word in
-    ap (given name) stands ∙ ap (option_map value_of) got ∙ ap Some (operand_back word name value has).1.1
+    ap (given name) stands ∙ ap (option_map operand_value) got ∙ ap Some (operand_back word name value has).1.1
 
 given_none : (words : List (List ℕ)) (name : List ℕ) → (IsAmong name words → ⊥) → given name words ≡ None
 given_none words name never =
-    ap (λ k. option_map value_of (slice_get words k)) (no_place (is_named name) words (none_named name words never)) ∙ ap (option_map value_of) (got_past words)
+    ap (λ k. option_map operand_value (slice_get words k)) (no_place (is_named name) words (none_named name words never)) ∙ ap (option_map operand_value) (got_past words)
 
 -- one is given, or none
 says_or : (words : List (List ℕ)) (name : List ℕ) → ((value : List ℕ) × Says words name value) ⊎ (IsAmong name words → ⊥)
 says_or words name =
-    ⊎_elim (λ f. inl (value_of f.word, (f.front, f.rest, f.word, f.stands, named_of name f.word f.passes, not_among name f.front f.none))) (λ none. inr (not_among name words none))
+    ⊎_elim (λ f. inl (operand_value f.word, (f.front, f.rest, f.word, f.stands, named_of name f.word f.passes, not_among name f.front f.none))) (λ none. inr (not_among name words none))
     (find (is_named name) words)
 
 text_same : (x y : List ℕ) → ◌≡◌ {A = Option (List ℕ)} (Some x) (Some y) → x ≡ y
@@ -454,7 +454,7 @@ given_says words name value e =
 
 number_said : (words : List (List ℕ)) (name : List ℕ) (n : ℕ) → number_given name words ≡ Some n →
     (value : List ℕ) × Says words name value × IsProduct value n × (n ≤ 2 ^ 40 - 1)
-number_said words name n e = ⊎_elim found (λ never. absurd (no_number (sym (ap (option_and_then (λ v. result_ok (number_of v))) (given_none words name never)) ∙ e))) (says_or words name)
+number_said words name n e = ⊎_elim found (λ never. absurd (no_number (sym (ap (option_and_then (λ v. result_ok (product_number v))) (given_none words name never)) ∙ e))) (says_or words name)
   where
     no_number : ◌≡◌ {A = Option ℕ} None (Some n) → ⊥
     no_number h = cc h
@@ -464,18 +464,18 @@ number_said words name n e = ⊎_elim found (λ never. absurd (no_number (sym (a
 
     found : ((value : List ℕ) × Says words name value) → (value : List ℕ) × Says words name value × IsProduct value n × (n ≤ 2 ^ 40 - 1)
     found (value, says) =
-        let now : result_ok (number_of value) ≡ Some n = sym (ap (option_and_then (λ v. result_ok (number_of v))) (given_at words name value says)) ∙ e in
+        let now : result_ok (product_number value) ≡ Some n = sym (ap (option_and_then (λ v. result_ok (product_number v))) (given_at words name value says)) ∙ e in
         ⊎_elim (λ is. fine is now)
         (λ other. ⊎_elim (λ large. absurd (no_number (sym (ap result_ok large.1) ∙ now))) (λ bad. absurd (no_number (sym (ap result_ok bad.0) ∙ now))) other)
-        (number_is value (number_of value) refl)
+        (number_is value (product_number value) refl)
       where
-        fine : ((m : ℕ) × (number_of value ≡ Ok m) × IsProduct value m × (m ≤ 2 ^ 40 - 1)) → result_ok (number_of value) ≡ Some n →
+        fine : ((m : ℕ) × (product_number value ≡ Ok m) × IsProduct value m × (m ≤ 2 ^ 40 - 1)) → result_ok (product_number value) ≡ Some n →
             (value : List ℕ) × Says words name value × IsProduct value n × (n ≤ 2 ^ 40 - 1)
         fine (m, e, is, few) now = let same = number_same m (sym (ap result_ok e) ∙ now) in (value, says, subst (IsProduct value) same is, omega (arith, few, same))
 
 number_read : (words : List (List ℕ)) (name : List ℕ) (n : ℕ) → (value : List ℕ) × Says words name value × IsProduct value n × (n ≤ 2 ^ 40 - 1) → number_given name words ≡ Some n
 number_read words name n (value, says, is, few) =
-    ap (option_and_then (λ v. result_ok (number_of v))) (given_at words name value says) ∙ ap result_ok (number_ok value n is few)
+    ap (option_and_then (λ v. result_ok (product_number v))) (given_at words name value says) ∙ ap result_ok (number_ok value n is few)
 
 part_found : (part : List ℕ) (parts : List (List ℕ)) → list_any (λ p. bytes_eq p part) parts ≡ true → (front rest : List (List ℕ)) × (parts ≡ front ++ part ∷ rest)
 part_found part [] e = cc

@@ -17,8 +17,8 @@ use Rattle.bx_dd.specs.declared.operands.Kind.TheVariants.{Size}
 use Rattle.bx_text.specs.declared.number.size.SizeStyle.TheVariants.{Product}
 use Rattle.bx_text.specs.Number.{size_value}
 use Rattle.bx_text.specs.private.Number.{within}
-use Rattle.bx_dd.specs.private.Number.{number_of}
-use Rattle.bx_dd.specs.Operands.{is_operand, name_of, value_of, kind_of, is_given, value_fault, operand_fault, first_fault, given, number_given, number_or, converts, fault_of}
+use Rattle.bx_dd.specs.private.Number.{product_number}
+use Rattle.bx_dd.specs.Operands.{is_operand, operand_name, operand_value, kind_of, is_given, value_fault, operand_fault, first_fault, given, number_given, number_or, converts, operands_fault}
 use Rattle.bx_dd.specs.private.Operands.{ibs_of, obs_of, shape_of, is_named, kind_fault, is_conflict, is_cbs_missing, later_fault, size_fault}
 
 -- ---- options and tests
@@ -55,16 +55,16 @@ kind_sound at (Some k) kind before value is e =
     let same : k ≡ kind = cc in
     subst (λ (j : Kind). value_fault at j value ≡ None) same (test_none before _ (value_fault at k value) e).1
 
-named : (name word : List ℕ) → is_named name word ≡ true → (is_operand word ≡ true) × (name_of word ≡ name)
+named : (name word : List ℕ) → is_named name word ≡ true → (is_operand word ≡ true) × (operand_name word ≡ name)
 named name word is =
-    let both = and_true (is_operand word) (bytes_eq (name_of word) name) is in
-    (both.0, (bytes_eq-Decides (name_of word) name).0 both.1)
+    let both = and_true (is_operand word) (bytes_eq (operand_name word) name) is in
+    (both.0, (bytes_eq-Decides (operand_name word) name).0 both.1)
 
 -- the operand of this name is sound
 value_sound : (name : List ℕ) (kind : Kind) (words : List (List ℕ)) (value : List ℕ) → first_fault [] words ≡ None → kind_of name ≡ Some kind → given name words ≡ Some value → (at : ℕ) × (value_fault at kind value ≡ None)
 value_sound name kind words value none is found =
     let k = position_or_len (is_named name) words in
-    let got = map_some value_of (slice_get words k) value found in
+    let got = map_some operand_value (slice_get words k) value found in
     let w = got.0 in
     let inside : k < length words = slice_get_within words k w got.1 in
     let read : get_or words k [] ≡ w = get_or_from_slice_get words k w [] got.1 in
@@ -73,8 +73,8 @@ value_sound name kind words value none is found =
     let is_name = named name w passes in
     let one = sound [] words none k w got.1 in
     let at = length one.0 + 1 in
-    let known : cond (is_operand w) (kind_of (name_of w)) None ≡ Some kind = rw (is_name.0, is_name.1) is in
-    (at, subst (λ (v : List ℕ). value_fault at kind v ≡ None) got.2 (kind_sound at (cond (is_operand w) (kind_of (name_of w)) None) kind _ (value_of w) known one.1))
+    let known : cond (is_operand w) (kind_of (operand_name w)) None ≡ Some kind = rw (is_name.0, is_name.1) is in
+    (at, subst (λ (v : List ℕ). value_fault at kind v ≡ None) got.2 (kind_sound at (cond (is_operand w) (kind_of (operand_name w)) None) kind _ (operand_value w) known one.1))
 
 some : (n : ℕ) → (n ≡ 0 → ⊥) → 0 < n
 some n other = omega arith
@@ -92,8 +92,8 @@ module _ (name : List ℕ) (most : ℕ) (words : List (List ℕ)) (none : first_
   pub size_given : (value : List ℕ) → given name words ≡ Some value → (n : ℕ) × (number_given name words ≡ Some n) × (0 < n) × (n ≤ most)
   size_given value found =
       let fine = value_sound name (Size most) words value none kind found in
-      let size = size_sound fine.0 most (number_of value) fine.1 in
-      (size.0, ap (option_and_then (λ v. result_ok (number_of v))) found ∙ ap result_ok size.1, size.2, size.3)
+      let size = size_sound fine.0 most (product_number value) fine.1 in
+      (size.0, ap (option_and_then (λ v. result_ok (product_number v))) found ∙ ap result_ok size.1, size.2, size.3)
 
 -- a number that is given
 abbrev chosen : Bool → ℕ → Result ℕ SizeFault
@@ -107,14 +107,14 @@ within_limit : (n : ℕ) (o : Option ℕ) → within 1099511627775 o ≡ Ok n �
 within_limit n None is = absurd (cc)
 within_limit n (Some m) is = low_limit m n (leb m 1099511627775) refl is
 
-number_limit : (value : List ℕ) (n : ℕ) → number_of value ≡ Ok n → n ≤ 1099511627775
+number_limit : (value : List ℕ) (n : ℕ) → product_number value ≡ Ok n → n ≤ 1099511627775
 number_limit value n is = within_limit n (size_value Product value) is
 
 pub number_few : (name : List ℕ) (words : List (List ℕ)) (n : ℕ) → number_given name words ≡ Some n → n ≤ 1099511627775
 number_few name words n is = number_in (given name words) is where
-  number_in : (value : Option (List ℕ)) → option_and_then (λ v. result_ok (number_of v)) value ≡ Some n → n ≤ 1099511627775
+  number_in : (value : Option (List ℕ)) → option_and_then (λ v. result_ok (product_number v)) value ≡ Some n → n ≤ 1099511627775
   number_in None is = absurd (let wrong : None ≡ Some n = is in cc)
-  number_in (Some v) is = number_at (number_of v) (number_limit v) is where
+  number_in (Some v) is = number_at (product_number v) (number_limit v) is where
     number_at : (r : Result ℕ SizeFault) → ((m : ℕ) → r ≡ Ok m → m ≤ 1099511627775) → result_ok r ≡ Some n → n ≤ 1099511627775
     number_at (Ok m) limit is = let same : m ≡ n = cc in subst (λ (k : ℕ). k ≤ 1099511627775) same (limit m refl)
     number_at (Err e) limit is = absurd (let wrong : None ≡ Some n = is in cc)
@@ -128,15 +128,15 @@ cases_given (Some v) = inr (v, refl)
 pub given_some : (name : List ℕ) (words : List (List ℕ)) → is_given name words ≡ true → (v : List ℕ) × (given name words ≡ Some v)
 given_some name words is =
     let k = position_or_len (is_named name) words in
-    (value_of (get_or words k []), ap (option_map value_of) (slice_get-get_or words k [] (ltb-true k (length words) is)))
+    (operand_value (get_or words k []), ap (option_map operand_value) (slice_get-get_or words k [] (ltb-true k (length words) is)))
 
 pub given_none : (name : List ℕ) (words : List (List ℕ)) → is_given name words ≡ false → given name words ≡ None
 given_none name words is =
     let k = position_or_len (is_named name) words in
-    ap (option_map value_of) (slice_get_past words k (ltb-false k (length words) is))
+    ap (option_map operand_value) (slice_get_past words k (ltb-false k (length words) is))
 
 pub number_none : (name : List ℕ) (words : List (List ℕ)) → given name words ≡ None → number_given name words ≡ None
-number_none name words is = ap (option_and_then (λ v. result_ok (number_of v))) is
+number_none name words is = ap (option_and_then (λ v. result_ok (product_number v))) is
 
 -- an operand that isn't given says 0, which is not too far
 pub far_given : (name : List ℕ) (words : List (List ℕ)) (size : ℕ) → ltb (2 ^ 48) (number_or 0 name words * size) ≡ true → is_given name words ≡ true
@@ -197,7 +197,7 @@ pub record KeepsBounds (words : List (List ℕ)) : Type 0 where
   pub skip_fits : number_or 0 (codes "skip") words * ibs_of words ≤ 2 ^ 48
   pub seek_fits : number_or 0 (codes "seek") words * obs_of words ≤ 2 ^ 48
 
-pub bounds : (words : List (List ℕ)) → fault_of words ≡ None → KeepsBounds words
+pub bounds : (words : List (List ℕ)) → operands_fault words ≡ None → KeepsBounds words
 bounds words accepted =
     let both = or_none (first_fault [] words) (later_fault words) accepted in
     let none = both.0 in

@@ -13,9 +13,9 @@ use Rattle.bx_text.proofs.PiecesLemmas.{in_pieces-none, in_pieces-append, in_pie
 use Rattle.bx_dd.specs.declared.form.Shape.{Shape}
 use Rattle.bx_dd.specs.declared.form.Shape.TheVariants.{Flat, Block, Unblock}
 use Rattle.bx_dd.specs.Output.{records, shaped, cut_records, unfinished}
-use Rattle.bx_dd.specs.private.Output.{fitted, line_of, goes_on, is_space}
+use Rattle.bx_dd.specs.private.Output.{fitted, line_of, goes_on, is_fill}
 use Rattle.bx_dd.specs.Standing.{Stands}
-use Rattle.bx_dd.specs.private.Standing.{finished, rest_of, last_of}
+use Rattle.bx_dd.specs.private.Standing.{finished, record_rest, last_of}
 
 -- a record that fits
 pub fitted_short : (n : ℕ) (line : List ℕ) → length line ≤ n → fitted n line ≡ line ++ replicate (n - length line) 32
@@ -52,7 +52,7 @@ module _ (shape : Shape) (size : ℕ) (z t : List ℕ) where
       let n : length (z ++ t) - unfinished shape size (z ++ t) ≡ length z - unfinished shape size z = omega (arith, length-append z t, more, fits) in
       ap (λ k. take k (z ++ t)) n ∙ take-append-le (length z - unfinished shape size z) z t (omega arith)
 
-  pub rest-kept : unfinished shape size z ≤ length z → unfinished shape size (z ++ t) ≡ unfinished shape size z + length t → rest_of shape size (z ++ t) ≡ rest_of shape size z ++ t
+  pub rest-kept : unfinished shape size z ≤ length z → unfinished shape size (z ++ t) ≡ unfinished shape size z + length t → record_rest shape size (z ++ t) ≡ record_rest shape size z ++ t
   rest-kept fits more =
       let n : length (z ++ t) - unfinished shape size (z ++ t) ≡ length z - unfinished shape size z = omega (arith, length-append z t, more, fits) in
       ap (λ k. drop k (z ++ t)) n ∙ drop-append-le (length z - unfinished shape size z) z t (omega arith)
@@ -62,13 +62,13 @@ module _ (shape : Shape) (size : ℕ) (z : List ℕ) where
   pub finished-all : unfinished shape size z ≡ 0 → finished shape size z ≡ z
   finished-all none = take_all (length z - unfinished shape size z) z (omega (arith, none))
 
-  pub rest-none : unfinished shape size z ≡ 0 → rest_of shape size z ≡ []
+  pub rest-none : unfinished shape size z ≡ 0 → record_rest shape size z ≡ []
   rest-none none = drop_of_length-le z (omega (arith, none))
 
-  pub parts : finished shape size z ++ rest_of shape size z ≡ z
+  pub parts : finished shape size z ++ record_rest shape size z ≡ z
   parts = take-append-drop (length z - unfinished shape size z) z
 
-  pub length-rest : unfinished shape size z ≤ length z → length (rest_of shape size z) ≡ unfinished shape size z
+  pub length-rest : unfinished shape size z ≤ length z → length (record_rest shape size z) ≡ unfinished shape size z
   length-rest fits = omega (arith, length-drop (length z - unfinished shape size z) z, fits)
 
 -- a text without newlines
@@ -96,7 +96,7 @@ unfolding unfinished
 unfinished-fits size z = suffix_len-le-length goes_on z
 
 -- what a conversion holds back is a text
-pub rest-text : (size : ℕ) (z : List ℕ) → IsText (rest_of Block size z)
+pub rest-text : (size : ℕ) (z : List ℕ) → IsText (record_rest Block size z)
 unfolding unfinished
 rest-text size z k inside newline =
     let s = prefix_len goes_on (reverse z) in
@@ -192,14 +192,14 @@ module _ (size : ℕ) (z written kept : List ℕ) (was_cut : Bool) (count : ℕ)
       let more = unfinished-text size z t text in
       let done = finished-kept Block size z t fits more in
       let rest = rest-kept Block size z t fits more in
-      let r = rest_of Block size z in
+      let r = record_rest Block size z in
       let kept_len : length kept ≡ min size (length r) = ap length (stands.held) ∙ length-take size r in
       let room : take (size - length kept) t ≡ take (size - length r) t = ap (λ k. take k t) (omega arith) in
       record {
         out = stands.out ∙ ap (shaped Block size) (sym done);
         held = is ∙ ap (λ l. l ++ take (size - length kept) t) stands.held ∙ ap (λ l. take size r ++ l) room ∙ sym (take-more size r t) ∙ ap (take size) (sym rest);
         over =
-            let both : length (rest_of Block size (z ++ t)) ≡ length r + length t = ap length rest ∙ length-append r t in
+            let both : length (record_rest Block size (z ++ t)) ≡ length r + length t = ap length rest ∙ length-append r t in
             rw both (
             elim how [
               | inl (short, same) ↦
@@ -220,7 +220,7 @@ module _ (size : ℕ) (z written kept : List ℕ) (was_cut : Bool) (count : ℕ)
       let none = unfinished-newline size z in
       let done = finished-all Block size (z ++ 10 ∷ []) none in
       let rest = rest-none Block size (z ++ 10 ∷ []) none in
-      let r = rest_of Block size z in
+      let r = record_rest Block size z in
       let d = finished Block size z in
       let lines : records (finished Block size (z ++ 10 ∷ [])) ≡ records d ++ r ∷ [] =
       ap records (done ∙ ap (λ l. l ++ 10 ∷ []) (sym (parts Block size z)) ∙ append_assoc d r (10 ∷ [])) ∙ records-after d (r ++ 10 ∷ []) (finished-ended size z)
@@ -237,7 +237,7 @@ module _ (size : ℕ) (z written kept : List ℕ) (was_cut : Bool) (count : ℕ)
 finished_nil : (shape : Shape) (size : ℕ) → finished shape size [] ≡ []
 finished_nil shape size = take_nil (0 - unfinished shape size [])
 
-rest_nil : (shape : Shape) (size : ℕ) → rest_of shape size [] ≡ []
+rest_nil : (shape : Shape) (size : ℕ) → record_rest shape size [] ≡ []
 rest_nil shape size = drop_of_length-le {A = ℕ} [] (omega arith)
 
 pub shaped_nil : (shape : Shape) (size : ℕ) → (shape ≢ Flat → 0 < size) → shaped shape size [] ≡ []
@@ -281,15 +281,15 @@ Stands_flat size z written kept bytes was_cut count stands =
     }
 
 -- the spaces at the end, counted from there
-pub line_end : (held : List ℕ) (e : ℕ) → e ≤ length held → suffix_len is_space held ≡ length held - e + suffix_len is_space (take e held) →
-    suffix_len is_space (take e held) ≡ 0 → take e held ++ 10 ∷ [] ≡ line_of held
+pub line_end : (held : List ℕ) (e : ℕ) → e ≤ length held → suffix_len is_fill held ≡ length held - e + suffix_len is_fill (take e held) →
+    suffix_len is_fill (take e held) ≡ 0 → take e held ++ 10 ∷ [] ≡ line_of held
 unfolding line_of
 line_end held e within spaces none =
-    let n : length held - suffix_len is_space held ≡ e = omega arith in
+    let n : length held - suffix_len is_fill held ≡ e = omega arith in
     ap (λ k. take k held ++ 10 ∷ []) (sym n)
 
 -- the sizes of what is held back of pieces
-pub held_piece : (size : ℕ) (z : List ℕ) → 0 < size → length (rest_of Unblock size z) ≡ length z % size
+pub held_piece : (size : ℕ) (z : List ℕ) → 0 < size → length (record_rest Unblock size z) ≡ length z % size
 unfolding unfinished
 held_piece size z pos = omega (arith, length-drop (length z - length z % size) z, mod-le (length z) size)
 
@@ -304,8 +304,8 @@ mod_full a b n pos full =
     ap (λ k. k % n) e ∙ mul-add-mod_self_left n (a / n + 1) 0 ∙ omega arith
 
 module _ (size : ℕ) (z written kept : List ℕ) (was_cut : Bool) (count : ℕ) (pos : 0 < size) (stands : Stands Unblock size z written kept was_cut count) where
-  kept_is : kept ≡ rest_of Unblock size z
-  kept_is = stands.held ∙ take_all size (rest_of Unblock size z) (omega (arith, held_piece size z pos))
+  kept_is : kept ≡ record_rest Unblock size z
+  kept_is = stands.held ∙ take_all size (record_rest Unblock size z) (omega (arith, held_piece size z pos))
 
   pub kept_len : length kept ≡ length z % size
   kept_len = ap length kept_is ∙ held_piece size z pos
@@ -320,13 +320,13 @@ module _ (size : ℕ) (z written kept : List ℕ) (was_cut : Bool) (count : ℕ)
       ap (λ n. n % size) (length-append z t) ∙ mod_more (length z) (length t) size pos (omega (arith, kept_len)) in
       let done = finished-kept Unblock size z t fits more in
       let rest = rest-kept Unblock size z t fits more in
-      let whole : held ≡ rest_of Unblock size (z ++ t) = is ∙ ap (λ l. l ++ t) kept_is ∙ sym rest in
-      let below : length (rest_of Unblock size z) < size = omega (arith, held_piece size z pos) in
-      let below_now : length (rest_of Unblock size (z ++ t)) < size = omega (arith, ap length whole) in
+      let whole : held ≡ record_rest Unblock size (z ++ t) = is ∙ ap (λ l. l ++ t) kept_is ∙ sym rest in
+      let below : length (record_rest Unblock size z) < size = omega (arith, held_piece size z pos) in
+      let below_now : length (record_rest Unblock size (z ++ t)) < size = omega (arith, ap length whole) in
       record {
         out = stands.out ∙ ap (shaped Unblock size) (sym done);
-        held = whole ∙ sym (take_all size (rest_of Unblock size (z ++ t)) (omega arith));
-        over = stands.over ∙ le-ltb size (length (rest_of Unblock size z)) (omega arith) ∙ sym (le-ltb size (length (rest_of Unblock size (z ++ t))) (omega arith));
+        held = whole ∙ sym (take_all size (record_rest Unblock size (z ++ t)) (omega arith));
+        over = stands.over ∙ le-ltb size (length (record_rest Unblock size z)) (omega arith) ∙ sym (le-ltb size (length (record_rest Unblock size (z ++ t))) (omega arith));
         cut = stands.cut;
       }
 
@@ -336,7 +336,7 @@ module _ (size : ℕ) (z written kept : List ℕ) (was_cut : Bool) (count : ℕ)
   Stands_whole t held full is =
       let none : unfinished Unblock size (z ++ t) ≡ 0 = ap (λ n. n % size) (length-append z t) ∙ mod_full (length z) (length t) size pos (omega (arith, kept_len)) in
       let d = finished Unblock size z in
-      let r = rest_of Unblock size z in
+      let r = record_rest Unblock size z in
       let all : finished Unblock size (z ++ t) ≡ d ++ (r ++ t) = finished-all Unblock size (z ++ t) none ∙ ap (λ l. l ++ t) (sym (parts Unblock size z)) ∙ append_assoc d r t in
       let rest = rest-none Unblock size (z ++ t) none in
       let d_len : length d ≡ size * (length z / size) = omega (arith, length-append d r, ap length (parts Unblock size z), held_piece size z pos, div-add-mod (length z) size) in
@@ -362,7 +362,7 @@ unfinished_fits Unblock size z = mod-le (length z) size
 pub held_is : (shape : Shape) (size : ℕ) (z written kept : List ℕ) (was_cut : Bool) (count : ℕ) → Stands shape size z written kept was_cut count →
     length kept ≡ min size (unfinished shape size z)
 held_is shape size z written kept was_cut count stands =
-    ap length stands.held ∙ length-take size (rest_of shape size z) ∙ ap (min size) (length-rest shape size z (unfinished_fits shape size z))
+    ap length stands.held ∙ length-take size (record_rest shape size z) ∙ ap (min size) (length-rest shape size z (unfinished_fits shape size z))
 
 empty_list : (xs : List ℕ) → length xs ≡ 0 → xs ≡ []
 empty_list [] e = refl
@@ -380,7 +380,7 @@ Stands_last Flat size z written kept was_cut count some stands =
 Stands_last Block size z written kept was_cut count some stands =
     let pos : 0 < size = some (λ e. cc) in
     let d = finished Block size z in
-    let r = rest_of Block size z in
+    let r = record_rest Block size z in
     let kept_len : length kept ≡ min size (length r) = ap length stands.held ∙ length-take size r in
     let whole : z ≡ d ++ r = sym (parts Block size z) in
     let p = λ (line : List ℕ). ltb size (length line) in
@@ -404,7 +404,7 @@ Stands_last Block size z written kept was_cut count some stands =
 Stands_last Unblock size z written kept was_cut count some stands =
     let pos : 0 < size = some (λ e. cc) in
     let d = finished Unblock size z in
-    let r = rest_of Unblock size z in
+    let r = record_rest Unblock size z in
     let whole : z ≡ d ++ r = sym (parts Unblock size z) in
     let r_len = held_piece size z pos in
     let same_kept : kept ≡ r = stands.held ∙ take_all size r (omega arith) in

@@ -8,7 +8,7 @@ use Rattle.bx_dd.specs.Output.{converted, cut_records, joined, swapped, records,
 use Rattle.bx_dd.specs.private.Output.{block_of, fitted, line_of}
 use Rattle.bx_dd.specs.private.Transfer.{selected}
 use Rattle.bx_dd.specs.private.Counting.{parts_in}
-use Rattle.bx_dd.specs.private.Standing.{rest_of}
+use Rattle.bx_dd.specs.private.Standing.{record_rest}
 
 swab_odd_block : converted (record { ibs = 3; obs = 512; cbs = 0; swab = true; sync = false; letters = Keep; shape = Flat }) (codes "ABCDEF") ≡ codes "BACEDF"
 unfolding joined in_pieces block_of swapped shaped fitted line_of
@@ -54,7 +54,7 @@ abbrev upper_records : Form
 upper_records = record { ibs = 3; obs = 512; cbs = 4; swab = false; sync = false; letters = Upper; shape = Block }
 
 abbrev held_after : List ℕ → ℕ
-held_after input = length (take 4 (rest_of Block 4 (joined upper_records input)))
+held_after input = length (take 4 (record_rest Block 4 (joined upper_records input)))
 
 held_first : held_after (codes "ab\n") ≡ 0
 unfolding joined in_pieces block_of swapped unfinished

@@ -9,7 +9,7 @@ use Rattle.bx_text.specs.declared.stream.State.TheVariants.{Open, Ended}
 use Rattle.bx_dd.specs.declared.fault.DdFault.{DdFault}
 use Rattle.bx_dd.specs.declared.fault.DdFault.TheVariants.{NoMemory}
 use Rattle.bx_dd.specs.Transfer.{HasStopped}
-use Rattle.bx_dd.specs.private.Transfer.{IsReadOut, IsStopCause, IsWithin, HasRead, StopsWithin, selected}
+use Rattle.bx_dd.specs.private.Transfer.{IsReadOut, IsStopCause, ReadsNoMore, HasReadBlocks, StopsWithin, selected}
 
 cause_more : (e : DdFault) (room n m : ℕ) → n ≤ room → IsStopCause e (room - n) m → IsStopCause e room (n + m)
 cause_more e room n m few (inl long) = inl (long.0, omega (arith, long.1))
@@ -56,7 +56,7 @@ module _ (a b c : Option (List ℕ)) (input buf : List ℕ) (k n count size : �
   length_more = omega (arith, length-append input (take n buf), length-take-le n buf fits)
 
   -- a short block is the last
-  pub read_last : (state : State) → n < size → Consumes a b input → Consumes b c (take n buf) → state ≡ Ended → IsAtEnd c → HasRead a c count size state (input ++ take n buf)
+  pub read_last : (state : State) → n < size → Consumes a b input → Consumes b c (take n buf) → state ≡ Ended → IsAtEnd c → HasReadBlocks a c count size state (input ++ take n buf)
   read_last state short p q ended end =
       let more : (k + 1) * size ≤ count * size = mul-le-mul_right size (omega arith) in
       record { consumed = read_more p q; within = omega (arith, length_more, more, before); extent = inr (ended, end) }
@@ -81,7 +81,7 @@ drop_read n skipped input (inr (few, none)) =
     drop_of_length-le (skipped ++ input) (omega (arith, length-append skipped input)) ∙ sym nil
 
 -- blocks that were skipped, and blocks that were taken
-module _ (old mid new : Option (List ℕ)) (ibs skip turns : ℕ) (first second : State) (skipped input : List ℕ) (skips : HasRead old mid skip ibs first skipped) (takes : HasRead mid new turns ibs second input) (none : first ≡ Ended → (length input ≡ 0) × (second ≡ Ended)) where
+module _ (old mid new : Option (List ℕ)) (ibs skip turns : ℕ) (first second : State) (skipped input : List ℕ) (skips : HasReadBlocks old mid skip ibs first skipped) (takes : HasReadBlocks mid new turns ibs second input) (none : first ≡ Ended → (length input ≡ 0) × (second ≡ Ended)) where
   pub consumed_both : Consumes old new (skipped ++ input)
   consumed_both = Consumes-trans old mid new skipped input skips.consumed takes.consumed
 
@@ -92,7 +92,7 @@ module _ (old mid new : Option (List ℕ)) (ibs skip turns : ℕ) (first second 
   selected_both None is = after_skip
   selected_both (Some n) is = ap (take (n * ibs)) after_skip ∙ take_all (n * ibs) input (subst (λ (k : ℕ). length input ≤ k * ibs) is takes.within)
 
-  pub within_both : (count : Option ℕ) → turns ≡ unwrap_or count (2 ^ 64 - 1) → IsWithin ibs skip count (skipped ++ input)
+  pub within_both : (count : Option ℕ) → turns ≡ unwrap_or count (2 ^ 64 - 1) → ReadsNoMore ibs skip count (skipped ++ input)
   within_both None is = tt
   within_both (Some n) is = omega (arith, length-append skipped input, skips.within, subst (λ (k : ℕ). length input ≤ k * ibs) is takes.within)
 

@@ -49,8 +49,8 @@ IsSoundBehind before word =
     × (IsAmong name before → ⊥) × IsSoundValue kind value
 
 -- The fault of a word behind others: it is no operand of a known name; or its name was given before; or its value is at fault.
-abbrev pub IsFaultBehind : List (List ℕ) → List ℕ → DdFault → Type 0
-IsFaultBehind before word fault = let at = length before + 1 in
+abbrev pub IsOperandFault : List (List ℕ) → List ℕ → DdFault → Type 0
+IsOperandFault before word fault = let at = length before + 1 in
     ((fault ≡ UnknownOperand at) × ((name value : List ℕ) → (kind : Kind) → IsOperand word name value → kind_of name ≡ Some kind → ⊥))
     ⊎ ((name value : List ℕ) × (kind : Kind) × IsOperand word name value × (kind_of name ≡ Some kind)
     × (((fault ≡ Repeated at) × IsAmong name before) ⊎ ((IsAmong name before → ⊥) × IsValueFault at kind value fault)))
@@ -59,7 +59,7 @@ IsFaultBehind before word fault = let at = length before + 1 in
 abbrev pub OperandHasForm : Type 0
 OperandHasForm = (before : List (List ℕ)) (word : List ℕ) →
     (operand_fault before word ≡ None ↔ IsSoundBehind before word)
-    × ((fault : DdFault) → operand_fault before word ≡ Some fault ↔ IsFaultBehind before word fault)
+    × ((fault : DdFault) → operand_fault before word ≡ Some fault ↔ IsOperandFault before word fault)
 
 -- Each of the words is sound behind those before it.
 abbrev pub AreSoundBehind : List (List ℕ) → List (List ℕ) → Type 0
@@ -72,7 +72,7 @@ OperandsHaveForm = (words : List (List ℕ)) →
     (first_fault [] words ≡ None ↔ AreSoundBehind [] words)
     × ((fault : DdFault) → first_fault [] words ≡ Some fault
     ↔ ((front rest : List (List ℕ)) × (word : List ℕ) × (words ≡ front ++ word ∷ rest)
-    × AreSoundBehind [] front × IsFaultBehind front word fault))
+    × AreSoundBehind [] front × IsOperandFault front word fault))
 
 -- The first operand of this name has this value.
 abbrev pub Says : List (List ℕ) → List ℕ → List ℕ → Type 0

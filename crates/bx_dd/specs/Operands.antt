@@ -20,12 +20,12 @@ abbrev pub is_operand : List ℕ → Bool
 is_operand word = nat_lt (position_or_len (λ b. b == 61) word) (length word)
 
 -- what stands before the first `=`
-abbrev pub name_of : List ℕ → List ℕ
-name_of word = before_first (λ b. b == 61) word
+abbrev pub operand_name : List ℕ → List ℕ
+operand_name word = before_first (λ b. b == 61) word
 
 -- what stands behind it
-abbrev pub value_of : List ℕ → List ℕ
-value_of word = after_first (λ b. b == 61) word
+abbrev pub operand_value : List ℕ → List ℕ
+operand_value word = after_first (λ b. b == 61) word
 
 -- what the value of an operand of this name is
 abbrev pub kind_of : List ℕ → Option Kind
@@ -57,18 +57,18 @@ value_fault at Number value = checked at (λ n. None) (read_size Product value)
 value_fault at Conversions value = if list_all is_conversion (slice_split (λ b. b == 44) value) then None else Some (UnknownOperand at)
 
 -- the place of the first word that is an operand of this name, counted from 0, or how many words there are
-abbrev pub place_of : List ℕ → List (List ℕ) → ℕ
-place_of name words = position_or_len (λ word. is_operand word && bytes_eq (name_of word) name) words
+abbrev pub operand_place : List ℕ → List (List ℕ) → ℕ
+operand_place name words = position_or_len (λ word. is_operand word && bytes_eq (operand_name word) name) words
 
 -- whether one of the words is
 abbrev pub is_given : List ℕ → List (List ℕ) → Bool
-is_given name words = nat_lt (place_of name words) (length words)
+is_given name words = nat_lt (operand_place name words) (length words)
 
 -- the fault of a word behind others: its name isn't known, or was given before, or its value is at fault
 abbrev pub operand_fault : List (List ℕ) → List ℕ → Option DdFault
 operand_fault before word = let at = length before + 1 in option_map_or
-    (λ kind. if is_given (name_of word) before then Some (Repeated at) else value_fault at kind (value_of word))
-    (if is_operand word then kind_of (name_of word) else None) (Some (UnknownOperand at))
+    (λ kind. if is_given (operand_name word) before then Some (Repeated at) else value_fault at kind (operand_value word))
+    (if is_operand word then kind_of (operand_name word) else None) (Some (UnknownOperand at))
 
 -- the fault of the first faulty word
 abbrev pub first_fault : List (List ℕ) → List (List ℕ) → Option DdFault
@@ -79,7 +79,7 @@ first_fault before (word ∷ words) = option_or (operand_fault before word) (fir
 
 -- the value of the operand of this name
 abbrev pub given : List ℕ → List (List ℕ) → Option (List ℕ)
-given name words = option_map value_of (slice_get words (place_of name words))
+given name words = option_map operand_value (slice_get words (operand_place name words))
 
 -- the number of an operand that is given and has one
 abbrev pub number_given : List ℕ → List (List ℕ) → Option ℕ
@@ -99,11 +99,11 @@ converts part words = list_any (λ p. bytes_eq p part) (slice_split (λ b. b == 
 
 -- The fault of dd's operands: the first that one has by itself, and then one of them together: conversions that exclude each other,
 -- records that are asked for without a size of them, and skip or seek past 2^48 bytes, in this order.
-abbrev pub fault_of : List (List ℕ) → Option DdFault
-fault_of words = option_or (first_fault [] words) (
+abbrev pub operands_fault : List (List ℕ) → Option DdFault
+operands_fault words = option_or (first_fault [] words) (
     if (converts (codes "lcase") words && converts (codes "ucase") words) || (converts (codes "block") words && converts (codes "unblock") words)
     then Some Conflict else
     if (converts (codes "block") words || converts (codes "unblock") words) && not (is_given (codes "cbs") words) then Some MissingCbs else
-    if nat_lt (2 ^ 48) (number_or 0 (codes "skip") words * block_size (codes "ibs") words) then Some (NumberTooLarge (place_of (codes "skip") words + 1)) else
-    if nat_lt (2 ^ 48) (number_or 0 (codes "seek") words * block_size (codes "obs") words) then Some (NumberTooLarge (place_of (codes "seek") words + 1))
+    if nat_lt (2 ^ 48) (number_or 0 (codes "skip") words * block_size (codes "ibs") words) then Some (NumberTooLarge (operand_place (codes "skip") words + 1)) else
+    if nat_lt (2 ^ 48) (number_or 0 (codes "seek") words * block_size (codes "obs") words) then Some (NumberTooLarge (operand_place (codes "seek") words + 1))
     else None)

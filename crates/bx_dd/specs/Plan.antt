@@ -5,8 +5,8 @@ use Rattle.bx_dd.specs.declared.form.Form.{Form}
 use Rattle.bx_dd.specs.declared.operands.plan.Plan.{Plan}
 
 -- its sizes and conversions
-abbrev pub form_of : {A : Type 0} → Plan A → Form
-form_of plan = record { ibs = plan.ibs; obs = plan.obs; cbs = plan.cbs; swab = plan.swab; sync = plan.sync; letters = plan.letters; shape = plan.shape }
+abbrev pub plan_form : {A : Type 0} → Plan A → Form
+plan_form plan = record { ibs = plan.ibs; obs = plan.obs; cbs = plan.cbs; swab = plan.swab; sync = plan.sync; letters = plan.letters; shape = plan.shape }
 
 -- the change that puts these bytes in their place: the image ends there first, unless it is to keep its tail
 abbrev pub change_of : {A P : Type 0} → Plan P → List ℕ → Change A

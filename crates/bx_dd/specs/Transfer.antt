@@ -8,7 +8,7 @@ use Rattle.bx_dd.specs.declared.fault.DdFault.TheVariants.{NoMemory, ReadFailed,
 use Rattle.bx_dd.specs.declared.operands.plan.Plan.{Plan}
 use Rattle.bx_dd.specs.Counting.{counts_of}
 use Rattle.bx_dd.specs.Output.{converted}
-use Rattle.bx_dd.specs.Plan.{form_of}
+use Rattle.bx_dd.specs.Plan.{plan_form}
 
 -- of an input, what a plan copies: what follows `skip` blocks, at most `count` blocks of it
 abbrev pub selected_by : {A : Type 0} → Plan A → List ℕ → List ℕ
@@ -16,7 +16,7 @@ selected_by plan input = option_map_or (λ n. take (n * plan.ibs) (drop (plan.sk
 
 -- of an input, what a plan writes
 abbrev pub output_of : {A : Type 0} → Plan A → List ℕ → List ℕ
-output_of plan input = converted (form_of plan) (selected_by plan input)
+output_of plan input = converted (plan_form plan) (selected_by plan input)
 
 -- an input was read, the first part of this, and no more of it than skip and count ask for
 abbrev pub ReadsWithin : {A : Type 0} → Plan A → Option (List ℕ) → Option (List ℕ) → Type 0
@@ -28,7 +28,7 @@ pub record Copies {A : Type 0} (plan : Plan A) (r0 r1 : Option (List ℕ)) (byte
   pub ends : IsAtEnd r1 ⊎ IsSomeAnd plan.count (λ n. length read.0 ≡ (plan.skip + n) * plan.ibs)
   pub few : length read.0 ≤ 2 ^ 40
   pub made : bytes ≡ output_of plan read.0
-  pub counted : counts ≡ counts_of (form_of plan) (selected_by plan read.0)
+  pub counted : counts ≡ counts_of (plan_form plan) (selected_by plan read.0)
 
 -- some bytes were read before the fault, where there was room for `room` of them: too long is one byte more
 abbrev pub HasStopped : Option (List ℕ) → Option (List ℕ) → ℕ → DdFault → Type 0

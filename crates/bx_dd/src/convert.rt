@@ -3,7 +3,7 @@ ghost use Rattle.std.specs.Prelude.{◌≡◌, ◌≢◌, ℕ, ◌+◌, ◌-◌,
 ghost use Rattle.bx_dd.specs.Counting.{counts_of};
 ghost use Rattle.bx_dd.specs.Output.{converted, joined, unfinished};
 ghost use Rattle.bx_dd.specs.private.Output.{block_of};
-ghost use Rattle.bx_dd.specs.Plan.{form_of};
+ghost use Rattle.bx_dd.specs.Plan.{plan_form};
 ghost use Rattle.bx_dd.specs.Standing.{IsAfter};
 ghost use Rattle.bx_dd.specs.private.Paged.{Takes, TakesWithin};
 ghost use Rattle.bx_dd.specs.private.Standing.{last_of, HasSizes};
@@ -59,7 +59,7 @@ impl<A: Allocator> Model for Convert<A> {
 impl<A: Allocator + Clone> Convert<A> {
     /// Nothing converted yet. The one fault is want of memory.
     pub fn new<P: Allocator>(alloc: A, plan: &Plan<P>) -> Result<Convert<A>, DdFault>
-        ensures form { IfOk result (λ c. c.form ≡ form_of plan.now) }
+        ensures form { IfOk result (λ c. c.form ≡ plan_form plan.now) }
         ensures after { IfOk result (λ c. IsAfter [] c) }
         ensures fault { IsOkUnless result DdFault.NoMemory }
     {

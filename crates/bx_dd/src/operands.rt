@@ -3,8 +3,8 @@ ghost use Rattle.std.specs.Prelude.{◌≡◌, ℕ, ◌+◌, ◌-◌, ◌*◌, �
 ghost use Rattle.std.specs.Option.{option_copied};
 ghost use Rattle.std.specs.List.{list_all, list_any, position_or_len};
 ghost use Rattle.std.specs.Str.{bytes_eq};
-ghost use Rattle.bx_dd.specs.private.Number.{number_of};
-ghost use Rattle.bx_dd.specs.Operands.{is_operand, name_of, value_of, kind_of, is_conversion, value_fault, operand_fault, first_fault, given, number_given, converts, block_size, number_or, is_given, place_of, fault_of};
+ghost use Rattle.bx_dd.specs.private.Number.{product_number};
+ghost use Rattle.bx_dd.specs.Operands.{is_operand, operand_name, operand_value, kind_of, is_conversion, value_fault, operand_fault, first_fault, given, number_given, converts, block_size, number_or, is_given, operand_place, operands_fault};
 ghost use Rattle.bx_dd.specs.private.Operands.{parts_of, is_named, is_conflict, is_cbs_missing, later_fault, letters_of, shape_of, number_fault, size_fault};
 
 mod number;
@@ -68,14 +68,14 @@ fn has_part(value: &str, part: &str) -> bool
 /// The name and the value.
 fn name_and_value(word: &str) -> Option<(&str, &str)>
     ensures { MatchOption result (is_operand word.now ≡ false) (λ x.
-        (is_operand word.now ≡ true) × (x.0.now ≡ name_of word.now) × (x.1.now ≡ value_of word.now)) }
+        (is_operand word.now ≡ true) × (x.0.now ≡ operand_name word.now) × (x.1.now ≡ operand_value word.now)) }
 {
     word.split_once('=')
 }
 
 /// The value, or nothing where there is no `=`.
 fn value_of(word: &str) -> &str
-    ensures { result.now ≡ value_of word.now }
+    ensures { result.now ≡ operand_value word.now }
 {
     match word.split_once('=') {
         Some((_, value)) => value,
@@ -95,7 +95,7 @@ fn is_named(word: &str, name: &str) -> bool
 
 /// The fault of a number.
 fn number_fault(at: u64, value: &str) -> Option<DdFault>
-    ensures { result ≡ number_fault at (number_of value.now) }
+    ensures { result ≡ number_fault at (product_number value.now) }
 {
     match read_number(value.as_bytes()) {
         Ok(_) => None,
@@ -106,7 +106,7 @@ fn number_fault(at: u64, value: &str) -> Option<DdFault>
 
 /// The fault of a size.
 fn size_fault(at: u64, most: u64, value: &str) -> Option<DdFault>
-    ensures { result ≡ size_fault at most (number_of value.now) }
+    ensures { result ≡ size_fault at most (product_number value.now) }
 {
     match read_number(value.as_bytes()) {
         Ok(n) => {
@@ -289,14 +289,14 @@ fn later_fault<W: Allocator>(words: &Words<W>) -> Option<DdFault>
 /// The fault of an operand that goes too far.
 fn too_large<W: Allocator>(words: &Words<W>, name: &str) -> DdFault
     requires { is_given name.now words.now ≡ true }
-    ensures { result ≡ DdFault.NumberTooLarge (place_of name.now words.now + 1) }
+    ensures { result ≡ DdFault.NumberTooLarge (operand_place name.now words.now + 1) }
 {
     DdFault::NumberTooLarge(place_of(words, words.len(), name) as u64 + 1)
 }
 
 /// The fault of dd's operands.
 pub fn fault_of<W: Allocator>(words: &Words<W>) -> Option<DdFault>
-    ensures { result ≡ fault_of words.now }
+    ensures { result ≡ operands_fault words.now }
 {
     match first_fault(words) {
         Some(fault) => Some(fault),

@@ -9,7 +9,7 @@ use Rattle.bx_dump.specs.Styles.{group_of, include_items, styled, xxd_of}
 use Rattle.bx_dump.specs.Xxd.{bits_line}
 use Rattle.bx_dump_columns.specs.Lines.{in_lines}
 use Rattle.bx_text.specs.Dump.{dump_line}
-use Rattle.bx_dump.specs.private.Pages.{capped}
+use Rattle.bx_dump.specs.private.Pages.{limited_to}
 use Rattle.bx_dump.specs.private.Rows.{plain_line}
 use Rattle.bx_dump.specs.private.Styles.{named_text}
 use Rattle.bx_dump.specs.declared.hexdump.options.HexdumpOptions.{HexdumpOptions}
@@ -27,7 +27,7 @@ past front input skip le =
     ∙ ap (λ n. drop n (front ++ input)) rest
 
 pub dumps_behind : DumpsBehind
-dumps_behind d front input le = ap (λ xs. d.text (capped d.limit xs)) (past front input d.skip le)
+dumps_behind d front input le = ap (λ xs. d.text (limited_to d.limit xs)) (past front input d.skip le)
 
 pub od_rest : (n : ℕ) (whole rest : OdOptions) → IsOdRest n whole rest → od_of rest ≡ behind n (od_of whole)
 od_rest n whole rest is =

@@ -8,7 +8,7 @@ use Rattle.std.proofs.Math.Seq.{take-add}
 use Rattle.bx_dump_columns.specs.declared.od.options.Address.{Address}
 use Rattle.bx_text.specs.Ascii.{is_printable}
 use Rattle.bx_dump_columns.specs.Places.{place_text}
-use Rattle.bx_dump.specs.private.Scan.{scan_text, scan_run, end_text, AllPrint, NonePrints, IsQuiet}
+use Rattle.bx_dump.specs.private.Scan.{scan_text, scan_run, end_of_run, AllPrint, NonePrints, IsQuiet}
 use Rattle.bx_dump.proofs.ScanLemmas.{both, front_prints, scan_text-append, scan_run-append, scan_run-print, scan_run-none, scan_end, scan_short, scan_crossing}
 
 -- the byte behind those that print in front
@@ -50,7 +50,7 @@ module _ (least : ℕ) (o : Address) (at quiet run : ℕ) (bytes : List ℕ) (so
   long : length first ≡ run
   long = length-take-le run rest (omega (arith, inside, length-drop quiet bytes))
 
-  goes : scan_text least o at [] (take (quiet + run + 1) bytes) ≡ scan_text least o (at + quiet) [] first ++ end_text least first
+  goes : scan_text least o at [] (take (quiet + run + 1) bytes) ≡ scan_text least o (at + quiet) [] first ++ end_of_run least first
   goes =
       ap (scan_text least o at []) join ∙ scan_text-append least o at [] (take quiet bytes) (first ++ last)
       ∙ rw (before.text o at, size, before.run) (scan_text-append least o (at + quiet) [] first last

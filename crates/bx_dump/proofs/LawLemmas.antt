@@ -7,7 +7,7 @@ use Rattle.std.proofs.lemmas.Bool.Decides.{nat_tests}
 use Rattle.std.proofs.lemmas.List.Sums.{sum_by-cons}
 use Rattle.std.proofs.Math.Nat.{pow-suc, pow-zero, mul-le-mul_left, div-eq_of_lt, le-div_iff_mul-le}
 use Rattle.bx_dump_columns.specs.Values.{value_of}
-use Rattle.bx_dump.specs.Laws.{item, items, ValueIsSum, ItemsAreBytes, ItemsAreLines, item_at, line_count}
+use Rattle.bx_dump.specs.Laws.{item, items, ValueIsSum, ItemsAreBytes, ItemsAreLines, item_at, item_lines}
 use Rattle.bx_dump.specs.private.Rows.{include_line, next_item}
 
 sums : (x y s t : ℕ) → x ≡ 256 * y → s ≡ 256 * t → x + s ≡ 256 * (y + t)
@@ -123,7 +123,7 @@ items_are_lines cols [] pos =
     let none : (0 + cols - 1) / cols ≡ 0 = div-eq_of_lt (omega arith) in
     rw none refl
 items_are_lines cols (b ∷ bs) pos =
-    let n = line_count cols (length (b ∷ bs)) in
+    let n = item_lines cols (length (b ∷ bs)) in
     let some : 1 ≤ n = (le-div_iff_mul-le {k = cols} {x = 1} {y = length (b ∷ bs) + cols - 1} pos).1 (omega arith) in
     let m = n - 1 in
     let is : suc m ≡ n = omega arith in

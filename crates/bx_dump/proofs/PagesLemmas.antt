@@ -11,14 +11,14 @@ use Rattle.bx_text.specs.private.Stream.{StopsAfter}
 use Rattle.bx_text.specs.Writing.{WritesFront}
 use Rattle.bx_text.proofs.KnownLemmas.{Appends-trans, Consumes-trans, Appends-nil, Consumes-nil}
 use Rattle.bx_text.proofs.StreamLemmas.{cause_more, read_within}
-use Rattle.bx_dump.specs.private.Dumped.{IsDumpFault, KeepsUp}
+use Rattle.bx_dump.specs.private.Dumped.{StopsDump, KeepsUp}
 use Rattle.bx_dump.proofs.DumpLemmas.{cause_longer, keeps_read, keeps_along, keeps_whole}
 use Rattle.bx_dump.specs.Dumped.{IsDumpStop}
-use Rattle.bx_dump.specs.Pages.{Dump, WritesAll, WritesFrontOf, part_of}
-use Rattle.bx_dump.specs.private.Pages.{WritesPart, WritesFrontBut, capped, IsEndOf, WritesRest, IsLast, streams}
+use Rattle.bx_dump.specs.Pages.{Dump, WritesAll, WritesFrontOf, bytes_dumped}
+use Rattle.bx_dump.specs.private.Pages.{WritesPart, WritesFrontBut, limited_to, IsEndOf, WritesRest, IsLast, streams}
 
 -- why a read stopped is why a dump did
-dump_cause : (fault : IoFault) (wanted n written size : ℕ) → IsReadCause fault wanted (2 ^ 40) n → IsDumpFault fault n written size
+dump_cause : (fault : IoFault) (wanted n written size : ℕ) → IsReadCause fault wanted (2 ^ 40) n → StopsDump fault n written size
 dump_cause ReadFailed wanted n written size p = p.1
 dump_cause InputTooLong wanted n written size p = p.1
 dump_cause NoMemory wanted n written size p = absurd p
@@ -48,25 +48,25 @@ asked_at_end None skip n r p = tt
 asked_at_end (Some most) skip n r p = p.0
 
 -- the bytes so far, and more of what follows
-capped_more : (limit : Option ℕ) (xs more : List ℕ) → IfSome limit (λ most. length xs ≤ most) → (rest : List ℕ) × (capped limit (xs ++ more) ≡ xs ++ rest)
+capped_more : (limit : Option ℕ) (xs more : List ℕ) → IfSome limit (λ most. length xs ≤ most) → (rest : List ℕ) × (limited_to limit (xs ++ more) ≡ xs ++ rest)
 capped_more None xs more within = (more, refl)
 capped_more (Some most) xs more within =
     let e : length xs + (most - length xs) ≡ most = omega arith in
     (take (most - length xs) more, ap (λ n. take n (xs ++ more)) (sym e) ∙ take-append-add xs more (most - length xs))
 
-pub capped_all : (limit : Option ℕ) (xs : List ℕ) → IfSome limit (λ most. length xs ≤ most) → capped limit xs ≡ xs
+pub capped_all : (limit : Option ℕ) (xs : List ℕ) → IfSome limit (λ most. length xs ≤ most) → limited_to limit xs ≡ xs
 capped_all None xs within = refl
 capped_all (Some most) xs within = take_all most xs within
 
 -- the reader stopped
 pub rest_read_stop : (text : List ℕ → List ℕ) (limit : Option ℕ) (before : ℕ) (r0 r1 r2 w0 w1 : Option (List ℕ)) (input : List ℕ) (from taken less : ℕ) (fault : IoFault) →
     from + length input ≡ taken → taken ≤ 2 ^ 40 → IfSome limit (λ most. length input + less ≤ most) → ((more : List ℕ) → (rest : List ℕ) × (text (input ++ more) ≡ text input ++ rest)) →
-    Consumes r0 r1 input → Appends w0 w1 (text input) → StopsAfter r1 r2 less (2 ^ 40 - taken) fault → WritesFrontBut 0 (λ xs. text (capped limit xs)) 0 limit from before (streams r0 r2 w0 w1) fault
+    Consumes r0 r1 input → Appends w0 w1 (text input) → StopsAfter r1 r2 less (2 ^ 40 - taken) fault → WritesFrontBut 0 (λ xs. text (limited_to limit xs)) 0 limit from before (streams r0 r2 w0 w1) fault
 rest_read_stop text limit before r0 r1 r2 w0 w1 input from taken less fault len few within goes reads writes stop =
     let cut = capped_more limit input stop.0 (within_along limit (length input + less) (length input) (omega arith) within) in
     let more = goes cut.0 in
-    let is : text (capped limit (input ++ stop.0)) ≡ text input ++ more.0 = ap text cut.1 ∙ more.1 in
-    let front : take (length (text input)) (text (capped limit (input ++ stop.0))) ≡ text input =
+    let is : text (limited_to limit (input ++ stop.0)) ≡ text input ++ more.0 = ap text cut.1 ∙ more.1 in
+    let front : take (length (text input)) (text (limited_to limit (input ++ stop.0))) ≡ text input =
     ap (take (length (text input))) is ∙ take_at (text input) more.0 (length (text input)) refl in
     let all : from + length (input ++ stop.0) ≡ taken + length stop.0 = omega (arith, length-append input stop.0) in record {
       input = input ++ stop.0;
@@ -77,21 +77,21 @@ rest_read_stop text limit before r0 r1 r2 w0 w1 input from taken less fault len 
       within = omega (arith, ap length is, length-append (text input) more.0);
       appended = rw front writes;
       cause = rw all (dump_cause fault (taken + less) (taken + length stop.0) (before + length (text input)) _ (cause_more fault less (taken + less) (2 ^ 40 - taken) (2 ^ 40) (length stop.0) (taken + length stop.0) taken stop.2 refl (omega arith) (omega arith)));
-      ahead = keeps_read fault less (2 ^ 40 - taken) (length stop.0) 0 (length (text input)) (λ xs. text (capped limit xs)) (input ++ stop.0) stop.2;
+      ahead = keeps_read fault less (2 ^ 40 - taken) (length stop.0) 0 (length (text input)) (λ xs. text (limited_to limit xs)) (input ++ stop.0) stop.2;
     }
 
 -- the writer stopped
 pub rest_write_stop : (text : List ℕ → List ℕ) (limit : Option ℕ) (from before : ℕ) (r0 r1 w0 w1 w2 : Option (List ℕ)) (front last page : List ℕ) (written : ℕ) (fault : IoFault) →
     Consumes r0 r1 (front ++ last) → from + length (front ++ last) ≤ 2 ^ 40 → length last ≤ 2 ^ 14 → IfSome limit (λ most. length (front ++ last) ≤ most) → Appends w0 w1 (text front) →
     length (text front) ≡ written → text (front ++ last) ≡ text front ++ page → WritesFront (before + written) w1 w2 page fault →
-    WritesFrontBut 0 (λ xs. text (capped limit xs)) 0 limit from before (streams r0 r1 w0 w2) fault
+    WritesFrontBut 0 (λ xs. text (limited_to limit xs)) 0 limit from before (streams r0 r1 w0 w2) fault
 rest_write_stop text limit from before r0 r1 w0 w1 w2 front last page written (WriteFailed n) reads few block within writes len is stop =
     let input = front ++ last in
     let old = text front in
-    let same : text (capped limit input) ≡ old ++ page = ap text (capped_all limit input within) ∙ is in
-    let begun : take (written + stop.0) (text (capped limit input)) ≡ old ++ take stop.0 page =
+    let same : text (limited_to limit input) ≡ old ++ page = ap text (capped_all limit input within) ∙ is in
+    let begun : take (written + stop.0) (text (limited_to limit input)) ≡ old ++ take stop.0 page =
     rw (same, ← len) (take-append-add old page stop.0) in
-    let known : text (capped limit front) ≡ old = ap text (capped_all limit front (within_along limit (length input) (length front) (omega (arith, length-append front last)) within)) in record {
+    let known : text (limited_to limit front) ≡ old = ap text (capped_all limit front (within_along limit (length input) (length front) (omega (arith, length-append front last)) within)) in record {
       input = input;
       written = written + stop.0;
       consumed = reads;
@@ -123,19 +123,19 @@ last_read limit done n want size r le less within last end =
     (λ other. last_at_end limit (done + n) r (within_along limit (done + want) (done + n) (omega arith) within) (end (omega arith))) (cases_order n want)
 
 -- behind the bytes that were skipped
-part_behind : (skip : ℕ) (limit : Option ℕ) (front xs : List ℕ) → length front ≡ skip → part_of skip limit (front ++ xs) ≡ capped limit xs
+part_behind : (skip : ℕ) (limit : Option ℕ) (front xs : List ℕ) → length front ≡ skip → bytes_dumped skip limit (front ++ xs) ≡ limited_to limit xs
 part_behind skip limit front xs len =
     let e : skip ≡ length front + 0 = omega arith in
-    ap (capped limit) (ap (λ n. drop n (front ++ xs)) e ∙ drop-append-add front xs 0)
+    ap (limited_to limit) (ap (λ n. drop n (front ++ xs)) e ∙ drop-append-add front xs 0)
 
-part_none : (skip : ℕ) (limit : Option ℕ) (xs : List ℕ) → length xs ≤ skip → part_of skip limit xs ≡ []
+part_none : (skip : ℕ) (limit : Option ℕ) (xs : List ℕ) → length xs ≤ skip → bytes_dumped skip limit xs ≡ []
 part_none skip None xs short = drop_all skip xs short
 part_none skip (Some most) xs short = ap (take most) (drop_all skip xs short) ∙ none most
   where
     none : (n : ℕ) → take {A = ℕ} n [] ≡ []
     none n = take_all {A = ℕ} n [] (omega arith)
 
-pub part_empty : (skip : ℕ) (limit : Option ℕ) → part_of skip limit [] ≡ []
+pub part_empty : (skip : ℕ) (limit : Option ℕ) → bytes_dumped skip limit [] ≡ []
 part_empty skip limit = part_none skip limit [] (omega arith)
 
 last_within : (limit : Option ℕ) (n : ℕ) (r : Option (List ℕ)) → IsLast limit n r → IfSome limit (λ most. n ≤ most)
@@ -152,12 +152,12 @@ end_short skip n (Some most) r less p = (omega arith, inl p)
 
 -- all was skipped, and the rest dumped
 pub part_whole : (text : List ℕ → List ℕ) (skip : ℕ) (limit : Option ℕ) (r0 r1 r2 w0 w1 : Option (List ℕ)) (read written : ℕ) → Skips true skip (2 ^ 40) r0 r1 →
-    WritesRest text skip limit (streams r1 r2 w0 w1) read written → WritesPart (λ xs. text (part_of skip limit xs)) skip limit (streams r0 r2 w0 w1) read written
+    WritesRest text skip limit (streams r1 r2 w0 w1) read written → WritesPart (λ xs. text (bytes_dumped skip limit xs)) skip limit (streams r0 r2 w0 w1) read written
 part_whole text skip limit r0 r1 r2 w0 w1 read written front rest =
     let len = front.whole refl in
     let within : IfSome limit (λ most. read ≤ most) = last_within limit read r2 rest.ends in
     let within_all : IfSome limit (λ most. length rest.input ≤ most) = rw rest.dumped within in
-    let same : part_of skip limit (front.input ++ rest.input) ≡ rest.input = part_behind skip limit front.input rest.input len ∙ capped_all limit rest.input within_all in
+    let same : bytes_dumped skip limit (front.input ++ rest.input) ≡ rest.input = part_behind skip limit front.input rest.input len ∙ capped_all limit rest.input within_all in
     let count : length (front.input ++ rest.input) ≡ skip + read = omega (arith, length-append front.input rest.input, rest.dumped) in record {
       input = front.input ++ rest.input;
       consumed = Consumes-trans r0 r1 r2 front.input rest.input front.consumed rest.consumed;
@@ -170,10 +170,10 @@ part_whole text skip limit r0 r1 r2 w0 w1 read written front rest =
 
 -- the input ended among the bytes to skip
 pub part_short : (text : List ℕ → List ℕ) (skip : ℕ) (limit : Option ℕ) (r0 r1 w : Option (List ℕ)) → text [] ≡ [] → Skips false skip (2 ^ 40) r0 r1 →
-    WritesPart (λ xs. text (part_of skip limit xs)) skip limit (streams r0 r1 w w) 0 0
+    WritesPart (λ xs. text (bytes_dumped skip limit xs)) skip limit (streams r0 r1 w w) 0 0
 part_short text skip limit r0 r1 w empty front =
     let short = front.short refl in
-    let none : part_of skip limit front.input ≡ [] = part_none skip limit front.input (omega (arith, short.0)) in record {
+    let none : bytes_dumped skip limit front.input ≡ [] = part_none skip limit front.input (omega (arith, short.0)) in record {
       input = front.input;
       consumed = front.consumed;
       ends = end_short skip (length front.input) limit r1 short.0 short.1;
@@ -201,11 +201,11 @@ front_skip slack text skip limit before r0 r1 w fault stop =
 
 -- a block ahead, behind them
 keeps_behind : (slack : ℕ) (text : List ℕ → List ℕ) (skip : ℕ) (limit : Option ℕ) (skipped input : List ℕ) (written : ℕ) (fault : IoFault) → length skipped ≡ skip →
-    KeepsUp slack (λ xs. text (capped limit xs)) input written fault → KeepsUp slack (λ xs. text (part_of skip limit xs)) (skipped ++ input) written fault
+    KeepsUp slack (λ xs. text (limited_to limit xs)) input written fault → KeepsUp slack (λ xs. text (bytes_dumped skip limit xs)) (skipped ++ input) written fault
 keeps_behind slack text skip limit skipped input written (WriteFailed n) len p =
-    let same : text (part_of skip limit (skipped ++ p.0)) ≡ text (capped limit p.0) = ap text (part_behind skip limit skipped p.0 len) in
-    let none : capped limit [] ≡ part_of skip limit [] = part_none 0 limit [] (omega arith) ∙ sym (part_none skip limit [] (omega arith)) in
-    let empty : text (capped limit []) ≡ text (part_of skip limit []) = ap text none in (
+    let same : text (bytes_dumped skip limit (skipped ++ p.0)) ≡ text (limited_to limit p.0) = ap text (part_behind skip limit skipped p.0 len) in
+    let none : limited_to limit [] ≡ bytes_dumped skip limit [] = part_none 0 limit [] (omega arith) ∙ sym (part_none skip limit [] (omega arith)) in
+    let empty : text (limited_to limit []) ≡ text (bytes_dumped skip limit []) = ap text none in (
       skipped ++ p.0,
       p.1,
       ap (λ xs. skipped ++ xs) p.2 ∙ sym (append_assoc skipped p.0 p.1),
@@ -219,11 +219,11 @@ keeps_behind slack text skip limit skipped input written SkipPastEnd len p = tt
 
 -- a fault after them
 pub front_behind : (slack : ℕ) (text : List ℕ → List ℕ) (skip : ℕ) (limit : Option ℕ) (before : ℕ) (r0 r1 r2 w0 w1 : Option (List ℕ)) (fault : IoFault) → Skips true skip (2 ^ 40) r0 r1 →
-    WritesFrontBut slack (λ xs. text (capped limit xs)) 0 limit skip before (streams r1 r2 w0 w1) fault →
-    WritesFrontBut slack (λ xs. text (part_of skip limit xs)) skip limit 0 before (streams r0 r2 w0 w1) fault
+    WritesFrontBut slack (λ xs. text (limited_to limit xs)) 0 limit skip before (streams r1 r2 w0 w1) fault →
+    WritesFrontBut slack (λ xs. text (bytes_dumped skip limit xs)) skip limit 0 before (streams r0 r2 w0 w1) fault
 front_behind slack text skip limit before r0 r1 r2 w0 w1 fault front rest =
     let len = front.whole refl in
-    let same : text (part_of skip limit (front.input ++ rest.input)) ≡ text (capped limit rest.input) = ap text (part_behind skip limit front.input rest.input len) in
+    let same : text (bytes_dumped skip limit (front.input ++ rest.input)) ≡ text (limited_to limit rest.input) = ap text (part_behind skip limit front.input rest.input len) in
     let count : 0 + length (front.input ++ rest.input) ≡ skip + length rest.input = omega (arith, length-append front.input rest.input) in record {
       input = front.input ++ rest.input;
       written = rest.written;
@@ -265,7 +265,7 @@ front_along slack wide text other skip limit from before r0 r1 w0 w1 fault same 
 
 -- A text behind the dump: `last` where this many bytes were dumped.
 module _ (text other : List ℕ → List ℕ) (skip : ℕ) (limit : Option ℕ) (r0 r1 w0 w1 w2 : Option (List ℕ)) (read written : ℕ) (last : List ℕ)
-    (is : (xs : List ℕ) → length (part_of skip limit xs) ≡ read → other xs ≡ text xs ++ last) (d : WritesPart text skip limit (streams r0 r1 w0 w1) read written) where
+    (is : (xs : List ℕ) → length (bytes_dumped skip limit xs) ≡ read → other xs ≡ text xs ++ last) (d : WritesPart text skip limit (streams r0 r1 w0 w1) read written) where
   pub part_then : Appends w1 w2 last → WritesPart other skip limit (streams r0 r1 w0 w2) read (written + length last)
   part_then writes =
       let e = is d.input d.dumped in record {
@@ -367,7 +367,7 @@ front_head slack text skip limit r w0 w1 before head SkipPastEnd stop = absurd s
 
 -- a whole text was written
 pub all_of : (d : Dump) (r0 r1 w0 w1 : Option (List ℕ)) (read written : ℕ) →
-    WritesPart (λ xs. d.text (part_of d.skip d.limit xs)) d.skip d.limit (streams r0 r1 w0 w1) read written → WritesAll d r0 r1 w0 w1 read
+    WritesPart (λ xs. d.text (bytes_dumped d.skip d.limit xs)) d.skip d.limit (streams r0 r1 w0 w1) read written → WritesAll d r0 r1 w0 w1 read
 all_of d r0 r1 w0 w1 read written p = record {
   input = p.input;
   consumed = p.consumed;
@@ -377,7 +377,7 @@ all_of d r0 r1 w0 w1 read written p = record {
   appended = p.appended;
 }
 
-stop_of : (text : List ℕ → List ℕ) (input : List ℕ) (written : ℕ) (fault : IoFault) → IsDumpFault fault (0 + length input) (0 + written) (0 + length (text input)) →
+stop_of : (text : List ℕ → List ℕ) (input : List ℕ) (written : ℕ) (fault : IoFault) → StopsDump fault (0 + length input) (0 + written) (0 + length (text input)) →
     KeepsUp (2 ^ 7) text input written fault → IsDumpStop text input written fault
 stop_of text input written ReadFailed cause ahead = omega (arith, cause)
 stop_of text input written InputTooLong cause ahead = omega (arith, cause)
@@ -387,7 +387,7 @@ stop_of text input written SkipPastEnd cause ahead = absurd cause
 
 -- a front of one was
 pub front_of : (d : Dump) (r0 r1 w0 w1 : Option (List ℕ)) (fault : IoFault) →
-    WritesFrontBut (2 ^ 7) (λ xs. d.text (part_of d.skip d.limit xs)) d.skip d.limit 0 0 (streams r0 r1 w0 w1) fault → WritesFrontOf d r0 r1 w0 w1 fault
+    WritesFrontBut (2 ^ 7) (λ xs. d.text (bytes_dumped d.skip d.limit xs)) d.skip d.limit 0 0 (streams r0 r1 w0 w1) fault → WritesFrontOf d r0 r1 w0 w1 fault
 front_of d r0 r1 w0 w1 fault p = record {
   input = p.input;
   written = p.written;
@@ -395,5 +395,5 @@ front_of d r0 r1 w0 w1 fault p = record {
   asked = p.asked;
   within = p.within;
   appended = p.appended;
-  cause = stop_of (λ xs. d.text (part_of d.skip d.limit xs)) p.input p.written fault p.cause p.ahead;
+  cause = stop_of (λ xs. d.text (bytes_dumped d.skip d.limit xs)) p.input p.written fault p.cause p.ahead;
 }

@@ -9,7 +9,7 @@ use Rattle.bx_dump_columns.specs.declared.od.options.Address.{Address}
 use Rattle.bx_text.specs.Ascii.{is_printable}
 use Rattle.bx_dump_columns.specs.Places.{place_text, cost_of}
 use Rattle.bx_dump_columns.specs.declared.od.options.Address.TheVariants.{Octal, Decimal, Hexadecimal, Without}
-use Rattle.bx_dump.specs.private.Scan.{scan_text, scan_run, grown_text, end_text, AllPrint, NonePrints, pending, IsKept, EndsQuiet, IsQuiet}
+use Rattle.bx_dump.specs.private.Scan.{scan_text, scan_run, grown_text, end_of_run, AllPrint, NonePrints, pending, IsKept, EndsQuiet, IsQuiet}
 
 pub both : (b : Bool) → (b ≡ true) ⊎ (b ≡ false)
 both true = inl refl
@@ -27,7 +27,7 @@ scan_text-append least o at run (b ∷ bs) ys =
           rw holds (ap (λ t. grown_text least o at run b ++ t) later ∙ sym (append_assoc (grown_text least o at run b) (scan_text least o (at + 1) (run ++ b ∷ []) bs) _))
       | inr fails ↦
           let later = rw place at (scan_text-append least o (at + 1) [] bs ys) in
-          rw fails (ap (λ t. end_text least run ++ t) later ∙ sym (append_assoc (end_text least run) (scan_text least o (at + 1) [] bs) _))
+          rw fails (ap (λ t. end_of_run least run ++ t) later ∙ sym (append_assoc (end_of_run least run) (scan_text least o (at + 1) [] bs) _))
     ]
 
 pub scan_run-append : (run xs ys : List ℕ) → scan_run run (xs ++ ys) ≡ scan_run (scan_run run xs) ys
@@ -88,11 +88,11 @@ none_scanned least o at (b ∷ bs) none some =
     rw (none.0, fails) (none_scanned least o (at + 1) bs none.1 some)
 
 -- a run that ends
-pub scan_end : (least : ℕ) (o : Address) (at : ℕ) (run more : List ℕ) → NonePrints more → 0 < length more → 0 < least → scan_text least o at run more ≡ end_text least run
+pub scan_end : (least : ℕ) (o : Address) (at : ℕ) (run more : List ℕ) → NonePrints more → 0 < length more → 0 < least → scan_text least o at run more ≡ end_of_run least run
 unfolding scan_text
 scan_end least o at run [] none some least_some = absurd (omega arith)
 scan_end least o at run (b ∷ bs) none some least_some =
-    rw (none.0, none_scanned least o (at + 1) bs none.1 least_some) (append-nil (end_text least run))
+    rw (none.0, none_scanned least o (at + 1) bs none.1 least_some) (append-nil (end_of_run least run))
 
 pub scan_run-none : (run more : List ℕ) → NonePrints more → 0 < length more → scan_run run more ≡ []
 unfolding scan_run

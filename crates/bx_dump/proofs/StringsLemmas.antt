@@ -15,8 +15,8 @@ use Rattle.bx_dump_columns.specs.declared.od.options.Address.{Address}
 use Rattle.bx_text.specs.Ascii.{is_printable}
 use Rattle.bx_dump_columns.specs.Places.{place_text}
 use Rattle.bx_dump.specs.Strings.{is_run_start, line_at, strings_text}
-use Rattle.bx_dump.specs.private.Strings.{runs_text}
-use Rattle.bx_dump.specs.private.Scan.{scan_text, scan_run, grown_text, end_text}
+use Rattle.bx_dump.specs.private.Strings.{runs_lines}
+use Rattle.bx_dump.specs.private.Scan.{scan_text, scan_run, grown_text, end_of_run}
 
 -- what a run that stands right before x leaves to be written
 abbrev front_of : List ℕ → List ℕ
@@ -34,7 +34,7 @@ same_start c before cs (suc k) = refl
 
 -- the first byte's run, and those of the others
 first_line : (least : ℕ) (o : Address) (before : Bool) (first c : ℕ) (cs : List ℕ) →
-    runs_text least o before first (c ∷ cs) ≡ line_at least o before first (c ∷ cs) 0 ++ runs_text least o (is_printable c) (first + 1) cs
+    runs_lines least o before first (c ∷ cs) ≡ line_at least o before first (c ∷ cs) 0 ++ runs_lines least o (is_printable c) (first + 1) cs
 first_line least o before first c cs =
     let along = flat_map_along (line_at least o before first (c ∷ cs)) (line_at least o (is_printable c) (first + 1) cs) 1 0 (length cs) (λ k inside.
     let e : 1 + k ≡ suc k = omega arith in
@@ -100,7 +100,7 @@ one_more least o at run c cs holds =
           ]
     ]
 
-ends_run : (least : ℕ) (o : Address) (at : ℕ) (run x : List ℕ) → front_of x ≡ [] → bracket least o at run x ≡ end_text least run
+ends_run : (least : ℕ) (o : Address) (at : ℕ) (run x : List ℕ) → front_of x ≡ [] → bracket least o at run x ≡ end_of_run least run
 ends_run least o at run x none =
     let zero_more : length run + 0 ≡ length run = omega arith in
     elim (both (nat_le least (length run))) [
@@ -110,21 +110,21 @@ ends_run least o at run x none =
 
 -- The scan of x, behind a byte that doesn't print, and behind a run.
 abbrev IsFresh : ℕ → Address → ℕ → List ℕ → Type 0
-IsFresh least o at x = scan_text least o at [] x ++ end_text least (scan_run [] x) ≡ runs_text least o false at x
+IsFresh least o at x = scan_text least o at [] x ++ end_of_run least (scan_run [] x) ≡ runs_lines least o false at x
 
 abbrev IsBehind : ℕ → Address → ℕ → List ℕ → List ℕ → Type 0
-IsBehind least o at run x = scan_text least o at run x ++ end_text least (scan_run run x) ≡ bracket least o at run x ++ runs_text least o true at x
+IsBehind least o at run x = scan_text least o at run x ++ end_of_run least (scan_run run x) ≡ bracket least o at run x ++ runs_lines least o true at x
 
 joined : (least : ℕ) (o : Address) (at c : ℕ) (cs run : List ℕ) → is_printable c ≡ true → IsBehind least o (at + 1) (run ++ c ∷ []) cs →
     {line : List ℕ} → grown_text least o at run c ++ bracket least o (at + 1) (run ++ c ∷ []) cs ≡ line →
-    scan_text least o at run (c ∷ cs) ++ end_text least (scan_run run (c ∷ cs)) ≡ line ++ runs_text least o true (at + 1) cs
+    scan_text least o at run (c ∷ cs) ++ end_of_run least (scan_run run (c ∷ cs)) ≡ line ++ runs_lines least o true (at + 1) cs
 unfolding scan_text scan_run
 joined least o at c cs run holds is {line} e =
     let grown = grown_text least o at run c in
-    rw holds (append_assoc grown (scan_text least o (at + 1) (run ++ c ∷ []) cs) (end_text least (scan_run (run ++ c ∷ []) cs))
+    rw holds (append_assoc grown (scan_text least o (at + 1) (run ++ c ∷ []) cs) (end_of_run least (scan_run (run ++ c ∷ []) cs))
     ∙ ap (λ t. grown ++ t) is
-    ∙ sym (append_assoc grown (bracket least o (at + 1) (run ++ c ∷ []) cs) (runs_text least o true (at + 1) cs))
-    ∙ ap (λ t. t ++ runs_text least o true (at + 1) cs) e)
+    ∙ sym (append_assoc grown (bracket least o (at + 1) (run ++ c ∷ []) cs) (runs_lines least o true (at + 1) cs))
+    ∙ ap (λ t. t ++ runs_lines least o true (at + 1) cs) e)
 
 scans : (least : ℕ) (o : Address) (x : List ℕ) → 0 < least → ((at : ℕ) → IsFresh least o at x) × ((at : ℕ) (run : List ℕ) → IsBehind least o at run x)
 unfolding scan_text scan_run
@@ -138,36 +138,36 @@ scans least o (c ∷ cs) some =
     elim (both (is_printable c)) [
       | inr fails ↦ (
         (λ at.
-            let is : scan_text least o (at + 1) [] cs ++ end_text least (scan_run [] cs) ≡ runs_text least o false (at + 1) cs = later.0 (at + 1) in
-            let same : runs_text least o false at (c ∷ cs) ≡ runs_text least o false (at + 1) cs = first_line least o false at c cs ∙ rw (none_first least o false at c cs fails, fails) refl in
+            let is : scan_text least o (at + 1) [] cs ++ end_of_run least (scan_run [] cs) ≡ runs_lines least o false (at + 1) cs = later.0 (at + 1) in
+            let same : runs_lines least o false at (c ∷ cs) ≡ runs_lines least o false (at + 1) cs = first_line least o false at c cs ∙ rw (none_first least o false at c cs fails, fails) refl in
             rw (fails, short) is ∙ sym same),
         (λ at run.
-            let is : scan_text least o (at + 1) [] cs ++ end_text least (scan_run [] cs) ≡ runs_text least o false (at + 1) cs = later.0 (at + 1) in
-            let same : runs_text least o true at (c ∷ cs) ≡ runs_text least o false (at + 1) cs = first_line least o true at c cs ∙ rw (none_first least o true at c cs fails, fails) refl in
-            let ends : bracket least o at run (c ∷ cs) ≡ end_text least run = ends_run least o at run (c ∷ cs) (front_none c cs fails) in
-            rw (same, ends, fails) (append_assoc (end_text least run) (scan_text least o (at + 1) [] cs) (end_text least (scan_run [] cs)) ∙ ap (λ t. end_text least run ++ t) is)),
+            let is : scan_text least o (at + 1) [] cs ++ end_of_run least (scan_run [] cs) ≡ runs_lines least o false (at + 1) cs = later.0 (at + 1) in
+            let same : runs_lines least o true at (c ∷ cs) ≡ runs_lines least o false (at + 1) cs = first_line least o true at c cs ∙ rw (none_first least o true at c cs fails, fails) refl in
+            let ends : bracket least o at run (c ∷ cs) ≡ end_of_run least run = ends_run least o at run (c ∷ cs) (front_none c cs fails) in
+            rw (same, ends, fails) (append_assoc (end_of_run least run) (scan_text least o (at + 1) [] cs) (end_of_run least (scan_run [] cs)) ∙ ap (λ t. end_of_run least run ++ t) is)),
       )
       | inl holds ↦ (
         (λ at.
             let grown = grown_text least o at [] c in
             let is = later.1 (at + 1) (c ∷ []) in
             let line : grown ++ bracket least o (at + 1) (c ∷ []) cs ≡ line_at least o false at (c ∷ cs) 0 = one_more least o at [] c cs holds ∙ sym (starts_first least o at c cs some holds) in
-            let same : runs_text least o false at (c ∷ cs) ≡ line_at least o false at (c ∷ cs) 0 ++ runs_text least o true (at + 1) cs = first_line least o false at c cs ∙ ap (λ b. line_at least o false at (c ∷ cs) 0 ++ runs_text least o b (at + 1) cs) holds in
+            let same : runs_lines least o false at (c ∷ cs) ≡ line_at least o false at (c ∷ cs) 0 ++ runs_lines least o true (at + 1) cs = first_line least o false at c cs ∙ ap (λ b. line_at least o false at (c ∷ cs) 0 ++ runs_lines least o b (at + 1) cs) holds in
             joined least o at c cs [] holds is line ∙ sym same),
         (λ at run.
             let is = later.1 (at + 1) (run ++ c ∷ []) in
-            let same : runs_text least o true at (c ∷ cs) ≡ runs_text least o true (at + 1) cs = first_line least o true at c cs ∙ ap (λ t. t ++ runs_text least o (is_printable c) (at + 1) cs) (inside_first least o at c cs holds) ∙ ap (λ b. runs_text least o b (at + 1) cs) holds in
+            let same : runs_lines least o true at (c ∷ cs) ≡ runs_lines least o true (at + 1) cs = first_line least o true at c cs ∙ ap (λ t. t ++ runs_lines least o (is_printable c) (at + 1) cs) (inside_first least o at c cs holds) ∙ ap (λ b. runs_lines least o b (at + 1) cs) holds in
             joined least o at c cs run holds is (one_more least o at run c cs holds) ∙ sym (ap (λ t. bracket least o at run (c ∷ cs) ++ t) same)),
       )
     ]
 
-pub strings_is : (least : ℕ) (o : Address) (x : List ℕ) → 0 < least → strings_text least o x ≡ scan_text least o 0 [] x ++ end_text least (scan_run [] x)
+pub strings_is : (least : ℕ) (o : Address) (x : List ℕ) → 0 < least → strings_text least o x ≡ scan_text least o 0 [] x ++ end_of_run least (scan_run [] x)
 strings_is least o x some = sym ((scans least o x some).0 0)
 
-end_few : (least : ℕ) (run : List ℕ) → length (end_text least run) ≤ 1
+end_few : (least : ℕ) (run : List ℕ) → length (end_of_run least run) ≤ 1
 end_few least run = go (nat_le least (length run)) refl
   where
-    go : (b : Bool) → nat_le least (length run) ≡ b → length (end_text least run) ≤ 1
+    go : (b : Bool) → nat_le least (length run) ≡ b → length (end_of_run least run) ≤ 1
     go true e = rw e (omega arith)
     go false e = rw e (omega arith)
 
@@ -176,7 +176,7 @@ pub front_known : (least : ℕ) (o : Address) (r0 r1 w0 w1 : Option (List ℕ)) 
     DumpsFrontBut 0 (scan_text least o 0 []) r0 r1 w0 w1 fault → WritesFrontBut (2 ^ 7) (strings_text least o) 0 None 0 0 (streams r0 r1 w0 w1) fault
 front_known least o r0 r1 w0 w1 fault some d =
     let text = scan_text least o 0 [] d.0 in
-    let tail = end_text least (scan_run [] d.0) in
+    let tail = end_of_run least (scan_run [] d.0) in
     let is = strings_is least o d.0 some in
     let e : take d.1 (strings_text least o d.0) ≡ take d.1 text = ap (take d.1) is ∙ take-append-le d.1 text tail d.3 in
     let more : length text ≤ length (strings_text least o d.0) = omega (arith, ap length is, length-append text tail) in
@@ -192,9 +192,9 @@ front_known least o r0 r1 w0 w1 fault some d =
             arith,
             few,
             ap length (strings_is least o xs some),
-            length-append (scan_text least o 0 [] xs) (end_text least (scan_run [] xs)),
+            length-append (scan_text least o 0 [] xs) (end_of_run least (scan_run [] xs)),
             end_few least (scan_run [] xs),
             ap length (strings_is least o [] some),
-            length-append (scan_text least o 0 [] []) (end_text least (scan_run [] [])),
+            length-append (scan_text least o 0 [] []) (end_of_run least (scan_run [] [])),
           )) d.6,
     )

@@ -2,7 +2,7 @@
 use Rattle.std.specs.Prelude.{◌≡◌, ℕ, ◌+◌, ◌-◌, ◌≤◌, List, ◌++◌, length}
 use Rattle.bx_dump.specs.Hexdump.{hexdump_of}
 use Rattle.bx_dump.specs.OdDump.{od_of}
-use Rattle.bx_dump.specs.Pages.{Dump, part_of}
+use Rattle.bx_dump.specs.Pages.{Dump, bytes_dumped}
 use Rattle.bx_dump.specs.Styles.{xxd_of}
 use Rattle.bx_dump.specs.declared.hexdump.options.HexdumpOptions.{HexdumpOptions}
 use Rattle.bx_dump.specs.declared.od.options.OdOptions.{OdOptions}
@@ -11,7 +11,7 @@ use Rattle.bx_dump.specs.declared.xxd.options.XxdStyle.{XxdStyle}
 
 -- the text that a dump makes of an input
 abbrev pub text_of : Dump → List ℕ → List ℕ
-text_of d input = d.text (part_of d.skip d.limit input)
+text_of d input = d.text (bytes_dumped d.skip d.limit input)
 
 -- the dump of what stands behind n of the bytes to skip: its text is the same, and n fewer are skipped
 abbrev pub behind : ℕ → Dump → Dump

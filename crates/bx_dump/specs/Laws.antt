@@ -4,7 +4,7 @@ use Rattle.std.specs.List.{flat_map, join_by, range_with_len}
 use Rattle.bx_text.specs.Dump.{pair_of}
 use Rattle.bx_dump_columns.specs.Values.{value_of}
 use Rattle.bx_dump.specs.Styles.{include_items, styled}
-use Rattle.bx_dump.specs.Pages.{part_of}
+use Rattle.bx_dump.specs.Pages.{bytes_dumped}
 use Rattle.bx_dump.specs.declared.xxd.options.XxdStyle.{XxdStyle}
 use Rattle.bx_dump.specs.declared.xxd.options.XxdOptions.{XxdOptions}
 
@@ -29,19 +29,19 @@ abbrev pub ItemsAreBytes : Type 0
 ItemsAreBytes = (bytes : List ℕ) → items bytes ≡ flat_map (item_at bytes) (range_with_len 0 (length bytes))
 
 -- how many lines the items of n bytes have
-abbrev pub line_count : ℕ → ℕ → ℕ
-line_count cols n = (n + cols - 1) / cols
+abbrev pub item_lines : ℕ → ℕ → ℕ
+item_lines cols n = (n + cols - 1) / cols
 
 -- line k of the items: each but the last ends in a comma
 abbrev pub array_line : ℕ → List ℕ → ℕ → List ℕ
 array_line cols bytes k =
-    codes "  " ++ (items (take cols (drop (cols * k) bytes)) ++ (if nat_lt (k + 1) (line_count cols (length bytes)) then codes ",\n" else codes "\n"))
+    codes "  " ++ (items (take cols (drop (cols * k) bytes)) ++ (if nat_lt (k + 1) (item_lines cols (length bytes)) then codes ",\n" else codes "\n"))
 
 -- The items of a C array are its lines, one for each `cols` bytes, and each but the last ends in a comma.
 abbrev pub ItemsAreLines : Type 0
 ItemsAreLines = (cols : ℕ) (bytes : List ℕ) → 0 < cols →
-    include_items cols bytes ≡ flat_map (array_line cols bytes) (range_with_len 0 (line_count cols (length bytes)))
+    include_items cols bytes ≡ flat_map (array_line cols bytes) (range_with_len 0 (item_lines cols (length bytes)))
 
 -- xxd's text of an input
 abbrev pub xxd_text : XxdStyle → XxdOptions → List ℕ → List ℕ
-xxd_text style o input = styled style o (part_of o.seek o.limit input)
+xxd_text style o input = styled style o (bytes_dumped o.seek o.limit input)

@@ -12,8 +12,8 @@ pub record Dump : Type 0 where
   pub limit : Option ℕ
 
 -- the bytes from place `skip` on, at most `limit` of them
-abbrev pub part_of : ℕ → Option ℕ → List ℕ → List ℕ
-part_of skip limit bytes = option_map_or (λ most. take most (drop skip bytes)) limit (drop skip bytes)
+abbrev pub bytes_dumped : ℕ → Option ℕ → List ℕ → List ℕ
+bytes_dumped skip limit bytes = option_map_or (λ most. take most (drop skip bytes)) limit (drop skip bytes)
 
 -- The whole text of the part was written, which has n bytes, and the input was read up to its end, or as far as the part needs.
 pub record WritesAll (d : Dump) (r0 r1 w0 w1 : Option (List ℕ)) (n : ℕ) : Type 0 where
@@ -21,8 +21,8 @@ pub record WritesAll (d : Dump) (r0 r1 w0 w1 : Option (List ℕ)) (n : ℕ) : Ty
   pub consumed : Consumes r0 r1 input
   pub ends : MatchOption d.limit (IsAtEnd r1) (λ most. (length input ≤ d.skip + most) × (IsAtEnd r1 ⊎ (length input ≡ d.skip + most)))
   pub few : length input ≤ 2 ^ 40
-  pub dumped : length (part_of d.skip d.limit input) ≡ n
-  pub appended : Appends w0 w1 (d.text (part_of d.skip d.limit input))
+  pub dumped : length (bytes_dumped d.skip d.limit input) ≡ n
+  pub appended : Appends w0 w1 (d.text (bytes_dumped d.skip d.limit input))
 
 -- Some input was read, no more of it than skip and limit ask for, and a front of the text of its part was written.
 pub record WritesFrontOf (d : Dump) (r0 r1 w0 w1 : Option (List ℕ)) (fault : IoFault) : Type 0 where
@@ -30,6 +30,6 @@ pub record WritesFrontOf (d : Dump) (r0 r1 w0 w1 : Option (List ℕ)) (fault : I
   pub written : ℕ
   pub consumed : Consumes r0 r1 input
   pub asked : IfSome d.limit (λ most. length input ≤ d.skip + most)
-  pub within : written ≤ length (d.text (part_of d.skip d.limit input))
-  pub appended : Appends w0 w1 (take written (d.text (part_of d.skip d.limit input)))
-  pub cause : IsDumpStop (λ input. d.text (part_of d.skip d.limit input)) input written fault
+  pub within : written ≤ length (d.text (bytes_dumped d.skip d.limit input))
+  pub appended : Appends w0 w1 (take written (d.text (bytes_dumped d.skip d.limit input)))
+  pub cause : IsDumpStop (λ input. d.text (bytes_dumped d.skip d.limit input)) input written fault

@@ -7,7 +7,7 @@ use Rattle.std.proofs.lemmas.Bool.{cases_Bool, cases_lt, lt-ltb, le-ltb, agree_b
 use Rattle.std.proofs.lemmas.Slice.Eq.{bytes_eq-Decides}
 use Rattle.bx_text.specs.Field.{left_filled}
 use Rattle.bx_dump_columns.specs.Lines.{in_lines}
-use Rattle.bx_dump_columns.specs.Decimal.{words, char_at, last_char, cells, form_of}
+use Rattle.bx_dump_columns.specs.Decimal.{words, decimal_char, last_char, cells, form_of}
 use Rattle.bx_dump_columns.specs.Values.{value_text}
 use Rattle.bx_dump_columns.specs.declared.od.options.Size.TheVariants.{Two}
 use Rattle.bx_dump_columns.specs.declared.od.options.NumForm.TheVariants as form
@@ -150,14 +150,14 @@ level_five m n small some =
 
 -- what stands for two bytes
 signed_one : (v : ℕ) → v < 65536 → left_filled 32 6 (cond (ltb v 32768) (digits 10 false v) (45 ∷ digits 10 false (65536 - v))) ≡
-    char_at true 100000 v ∷ char_at true 10000 v ∷ char_at true 1000 v ∷ char_at true 100 v ∷ char_at true 10 v ∷ last_char true v ∷ []
+    decimal_char true 100000 v ∷ decimal_char true 10000 v ∷ decimal_char true 1000 v ∷ decimal_char true 100 v ∷ decimal_char true 10 v ∷ last_char true v ∷ []
 signed_one v fits = elim (cases_Bool (ltb v 32768)) [
   | inl e ↦ rw e (level_five false v (omega arith) (λ f. absurd (Rattle.std.proofs.Common.true≢false (sym f))))
   | inr e ↦ let large = ltb-false v 32768 e in rw e (level_five true (65536 - v) (omega arith) (λ f. (omega arith, omega arith)))
 ]
 
 unsigned_one : (v : ℕ) → v < 65536 → left_filled 32 5 (digits 10 false v) ≡
-    char_at false 10000 v ∷ char_at false 1000 v ∷ char_at false 100 v ∷ char_at false 10 v ∷ last_char false v ∷ []
+    decimal_char false 10000 v ∷ decimal_char false 1000 v ∷ decimal_char false 100 v ∷ decimal_char false 10 v ∷ last_char false v ∷ []
 unsigned_one v fits = level_four false v (omega arith) (λ f. absurd (Rattle.std.proofs.Common.true≢false (sym f)))
 
 value_is : (a b : ℕ) → a + 256 * (b + 256 * 0) ≡ a + 256 * b

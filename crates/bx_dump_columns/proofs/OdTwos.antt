@@ -5,7 +5,7 @@ use Rattle.std.proofs.lemmas.Bool.{cases_Bool}
 use Rattle.std.proofs.lemmas.Simd.{Each2-splat, Each1-all, pick_l_whole}
 use Rattle.std.specs.List.{flat_map}
 use lib.Lanes.{zip2, pick_l, sel_l, top, number_l, digits_l, Each1, Each2}
-use Rattle.bx_dump_columns.specs.Decimal.{words, amount, front, char_at, last_char, cells, cells_len}
+use Rattle.bx_dump_columns.specs.Decimal.{words, amount, front, decimal_char, last_char, cells, cells_len}
 
 -- what is done to the lanes
 abbrev pub below : ℕ → ℕ → ℕ
@@ -79,7 +79,7 @@ amount_fits true v fits = elim (cases_Bool (ltb v 32768)) [ inl e ↦ rw e fits 
 
 -- a character
 char_one : (power : ℕ) (signed : Bool) (v : ℕ) → v < 65536 →
-    let a = amount signed v in cond (top 15 (below a power)) (cond (top 15 (below a (power / 10))) 32 (front signed v)) (digit16 (div16 a power)) ≡ char_at signed power v
+    let a = amount signed v in cond (top 15 (below a power)) (cond (top 15 (below a (power / 10))) 32 (front signed v)) (digit16 (div16 a power)) ≡ decimal_char signed power v
 char_one power signed v fits =
     let a = amount signed v in
     elim (cases_Bool (ltb a power)) [
@@ -92,13 +92,13 @@ lanes n power ns fs =
     sel_l (map (top 15) (zip2 below ns (replicate n power))) (sel_l (map (top 15) (zip2 below ns (replicate n (power / 10)))) (replicate n 32) fs)
     (zip2 add16 (zip2 sub16 (zip2 div16 ns (replicate n power)) (zip2 mul16 (zip2 div16 (zip2 div16 ns (replicate n power)) (replicate n 10)) (replicate n 10))) (replicate n 48))
 
-pub chars_are : (n power : ℕ) (signed : Bool) (vs : List ℕ) → length vs ≡ n → Each1 (Fits w16) vs → lanes n power (map (amount signed) vs) (map (front signed) vs) ≡ map (char_at signed power) vs
+pub chars_are : (n power : ℕ) (signed : Bool) (vs : List ℕ) → length vs ≡ n → Each1 (Fits w16) vs → lanes n power (map (amount signed) vs) (map (front signed) vs) ≡ map (decimal_char signed power) vs
 chars_are n power signed [] long fits = refl
 chars_are zero power signed (v ∷ vs) long fits = absurd (omega arith)
 chars_are (suc n) power signed (v ∷ vs) long fits = let one = char_one power signed v fits.0.fits in let more = chars_are n power signed vs (omega arith) fits.1 in λ i. one i ∷ more i
 
 -- the character in front of the fifth digit
-first_one : (signed : Bool) (v : ℕ) → v < 65536 → cond (top 15 (below (amount signed v) 10000)) 32 (front signed v) ≡ char_at signed 100000 v
+first_one : (signed : Bool) (v : ℕ) → v < 65536 → cond (top 15 (below (amount signed v) 10000)) 32 (front signed v) ≡ decimal_char signed 100000 v
 first_one signed v fits =
     let a = amount signed v in
     let small = amount_fits signed v fits in
@@ -106,7 +106,7 @@ first_one signed v fits =
     elim (cases_Bool (ltb a 10000)) [ inl f ↦ rw (less, f) refl | inr f ↦ rw (less, f) refl ]
 
 pub first_are : (n : ℕ) (signed : Bool) (vs : List ℕ) → length vs ≡ n → Each1 (Fits w16) vs →
-    sel_l (map (top 15) (zip2 below (map (amount signed) vs) (replicate n 10000))) (replicate n 32) (map (front signed) vs) ≡ map (char_at signed 100000) vs
+    sel_l (map (top 15) (zip2 below (map (amount signed) vs) (replicate n 10000))) (replicate n 32) (map (front signed) vs) ≡ map (decimal_char signed 100000) vs
 first_are n signed [] long fits = refl
 first_are zero signed (v ∷ vs) long fits = absurd (omega arith)
 first_are (suc n) signed (v ∷ vs) long fits = let one = first_one signed v fits.0.fits in let more = first_are n signed vs (omega arith) fits.1 in λ i. one i ∷ more i
@@ -124,7 +124,7 @@ front_small : (signed : Bool) (v : ℕ) → front signed v < 256
 front_small false v = omega arith
 front_small true v = elim (cases_Bool (ltb v 32768)) [ inl e ↦ rw e (let is : 32 < 256 = omega arith in is) | inr e ↦ rw e (let is : 45 < 256 = omega arith in is) ]
 
-char_small : (power : ℕ) (signed : Bool) (v : ℕ) → char_at signed power v < 256
+char_small : (power : ℕ) (signed : Bool) (v : ℕ) → decimal_char signed power v < 256
 char_small power signed v =
     let a = amount signed v in
     elim (cases_Bool (ltb a power)) [
@@ -132,7 +132,7 @@ char_small power signed v =
       | inr e ↦ rw e (let is : 48 + a / power % 10 < 256 = omega arith in is)
     ]
 
-pub chars_fit : (power : ℕ) (signed : Bool) (vs : List ℕ) → Each1 (Fits w8) (map (char_at signed power) vs)
+pub chars_fit : (power : ℕ) (signed : Bool) (vs : List ℕ) → Each1 (Fits w8) (map (decimal_char signed power) vs)
 chars_fit power signed [] = tt
 chars_fit power signed (v ∷ vs) = (record { fits = char_small power signed v }, chars_fit power signed vs)
 
@@ -151,8 +151,8 @@ divides xs n y some = Each2-splat (λ (a b : ℕ). 0 < b) xs n y (Each1-all (λ 
 -- the characters of each value, one value behind the other
 abbrev pub columns : Bool → List ℕ → List ℕ
 columns signed v =
-    ((map (char_at signed 10) v ++ map (last_char signed) v) ++ (map (char_at signed 1000) v ++ map (char_at signed 100) v))
-    ++ ((map (char_at signed 100000) v ++ map (char_at signed 10000) v) ++ replicate 16 32)
+    ((map (decimal_char signed 10) v ++ map (last_char signed) v) ++ (map (decimal_char signed 1000) v ++ map (decimal_char signed 100) v))
+    ++ ((map (decimal_char signed 100000) v ++ map (decimal_char signed 10000) v) ++ replicate 16 32)
 
 abbrev pub signed_places : List ℕ
 signed_places = 48 ∷ 32 ∷ 40 ∷ 16 ∷ 24 ∷ 0 ∷ 8 ∷ 48 ∷ 33 ∷ 41 ∷ 17 ∷ 25 ∷ 1 ∷ 9 ∷ 48 ∷ 34 ∷ 42 ∷ 18 ∷ 26 ∷ 2 ∷ 10 ∷ 48 ∷ 35 ∷ 43 ∷ 19 ∷ 27 ∷ 3 ∷ 11 ∷ 48 ∷ 36 ∷ 44 ∷ 20 ∷ 28 ∷ 4 ∷ 12 ∷ 48 ∷ 37 ∷ 45 ∷ 21 ∷ 29 ∷ 5 ∷ 13 ∷ 48 ∷ 38 ∷ 46 ∷ 22 ∷ 30 ∷ 6 ∷ 14 ∷ 48 ∷ 39 ∷ 47 ∷ 23 ∷ 31 ∷ 7 ∷ 15 ∷ 48 ∷ 48 ∷ 48 ∷ 48 ∷ 48 ∷ 48 ∷ 48 ∷ 48 ∷ []

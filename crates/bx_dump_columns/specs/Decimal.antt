@@ -21,8 +21,8 @@ front false v = 32
 front true v = if nat_lt v 32768 then 32 else 45
 
 -- its character at the place of a power of ten: a digit, what stands in front of the first digit, or a space
-abbrev pub char_at : Bool → ℕ → ℕ → ℕ
-char_at signed power v =
+abbrev pub decimal_char : Bool → ℕ → ℕ → ℕ
+decimal_char signed power v =
     if nat_lt (amount signed v) power then (if nat_lt (amount signed v) (power / 10) then 32 else front signed v) else 48 + amount signed v / power % 10
 
 -- its last digit
@@ -31,8 +31,8 @@ last_char signed v = 48 + amount signed v % 10
 
 -- a space and its characters
 abbrev pub cells : Bool → ℕ → List ℕ
-cells true v = 32 ∷ char_at true 100000 v ∷ char_at true 10000 v ∷ char_at true 1000 v ∷ char_at true 100 v ∷ char_at true 10 v ∷ last_char true v ∷ []
-cells false v = 32 ∷ char_at false 10000 v ∷ char_at false 1000 v ∷ char_at false 100 v ∷ char_at false 10 v ∷ last_char false v ∷ []
+cells true v = 32 ∷ decimal_char true 100000 v ∷ decimal_char true 10000 v ∷ decimal_char true 1000 v ∷ decimal_char true 100 v ∷ decimal_char true 10 v ∷ last_char true v ∷ []
+cells false v = 32 ∷ decimal_char false 10000 v ∷ decimal_char false 1000 v ∷ decimal_char false 100 v ∷ decimal_char false 10 v ∷ last_char false v ∷ []
 
 -- how long those of eight numbers are
 abbrev pub cells_len : Bool → ℕ

@@ -22,7 +22,7 @@ use Rattle.bx_journal_format.specs.Finished.{AllTell, IsFinished}
 use Rattle.bx_journal_read.specs.model.Redo.{IsRedoOf, DamagedLine, Tail, FirstForm, IsRefusedAt, NoRedo, TooMany, Off}
 use Rattle.bx_journal_read.specs.model.Stack.{stack_of}
 use Rattle.bx_journal_format.specs.count.Tally.{IsCounted, IsCountedAll}
-use Rattle.bx_journal_format.specs.Text.{Entry, Between, Reading, Reads, Split, split, with_front, start, after_lines}
+use Rattle.bx_journal_format.specs.Text.{Entry, Between, Reading, Reads, Split, split, with_first_byte, start, after_lines}
 use Rattle.bx_journal_read.proofs.Phases.{length-stack_of}
 use Rattle.bx_journal_format.proofs.ReadLemmas.{length-entries_of}
 use Rattle.bx_journal_protocol.proofs.RedoText.{one_reading}
@@ -264,10 +264,10 @@ newlines_of : List ℕ → ℕ
 newlines_of [] = 0
 newlines_of (b ∷ text) = one_newline b + newlines_of text
 
-front_lines : (b : ℕ) (s : Split) → length (with_front b s).lines ≡ length s.lines
+front_lines : (b : ℕ) (s : Split) → length (with_first_byte b s).lines ≡ length s.lines
 front_lines b s = by_lines s.lines
   where
-    by_lines : (lines : List (List ℕ)) → length (with_front b (record { lines = lines; rest = s.rest })).lines ≡ length lines
+    by_lines : (lines : List (List ℕ)) → length (with_first_byte b (record { lines = lines; rest = s.rest })).lines ≡ length lines
     by_lines [] = refl
     by_lines (l ∷ ls) = refl
 
@@ -277,7 +277,7 @@ lines_counted [] = refl
 lines_counted (b ∷ text) = by_test (eqb b 10) (lines_counted text)
   where
     by_test : (is : Bool) → length (split text).lines ≡ newlines_of text
-        → length (cond is (record { lines = [] ∷ (split text).lines; rest = (split text).rest }) (with_front b (split text))).lines ≡ cond is 1 0 + newlines_of text
+        → length (cond is (record { lines = [] ∷ (split text).lines; rest = (split text).rest }) (with_first_byte b (split text))).lines ≡ cond is 1 0 + newlines_of text
     by_test true ih = omega (arith, ih)
     by_test false ih = omega (arith, ih, front_lines b (split text))
 

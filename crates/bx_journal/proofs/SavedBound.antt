@@ -8,7 +8,7 @@ use Rattle.bx_journal_format.proofs.Gathered.{with_run-sum}
 use Rattle.bx_journal_format.specs.declared.read.types.EntryRead.{EntryRead}
 use Rattle.bx_journal_format.specs.DumpLine.{piece_of}
 use Rattle.bx_journal_format.specs.Line.{save_line, saved_in}
-use Rattle.bx_journal_format.specs.Text.{Entry, Stage, Between, Saving, Ending, Reading, Reads, next_at, start, after_lines, split, joined, ended, next}
+use Rattle.bx_journal_format.specs.Text.{Entry, Stage, Between, Saving, Ending, Reading, Reads, next_at, start, after_lines, split, text_of_lines, ended, next}
 use Rattle.bx_journal_format.specs.count.Rows.{saved_length}
 use Rattle.bx_journal_format.specs.Parsed.{entry_of, entries_onto, entries_of}
 use Rattle.bx_journal_format.proofs.Inverse.{bind_some, map_some, test_some, next_between, next_ending}
@@ -63,12 +63,12 @@ step : (r : Reading) (l : List ℕ) (p : Reading) → next r l ≡ Some p → he
 unfolding held_in
 step r l p is = next_held r.entries r.stage l p is
 
-lines_held : (ls : List (List ℕ)) (r q : Reading) → after_lines r ls ≡ Some q → held_in q ≤ held_in r + length (joined ls)
+lines_held : (ls : List (List ℕ)) (r q : Reading) → after_lines r ls ≡ Some q → held_in q ≤ held_in r + length (text_of_lines ls)
 unfolding after_lines
 lines_held [] r q e = let same : r ≡ q = cc in omega (arith, ap held_in same)
 lines_held (l ∷ ls) r q e =
     let b = bind_some (λ p. after_lines p ls) (next r l) q e in
-    let long : length (joined (l ∷ ls)) ≡ length l + 1 + length (joined ls) = length-append (ended l) (joined ls) ∙ ap (λ n. n + length (joined ls)) (length-append l (10 ∷ [])) in
+    let long : length (text_of_lines (l ∷ ls)) ≡ length l + 1 + length (text_of_lines ls) = length-append (ended l) (text_of_lines ls) ∙ ap (λ n. n + length (text_of_lines ls)) (length-append l (10 ∷ [])) in
     omega (arith, lines_held ls b.0 q b.2, step r l b.0 b.1, long)
 
 held_onto : {A : Type 0} → (limit : ℕ) (done : List Entry) (es : List (EntryRead A)) → held (entries_onto done es) ≤ limit → held done ≤ limit
@@ -85,8 +85,8 @@ each_held {A = A} limit done (e ∷ es) below =
 pub saved_within : {A : Type 0} → (text : List ℕ) (es : List (EntryRead A)) → Reads text (record { entries = entries_of es; stage = Between }) → All (λ (e : EntryRead A). saved_length (kept_of e.kept) ≤ length text) es
 unfolding held_in
 saved_within text es reads =
-    let most : held (entries_of es) + 0 ≤ 0 + 0 + length (joined (split text).lines) = lines_held (split text).lines start (record { entries = entries_of es; stage = Between }) reads.lines in
-    let long : length (joined (split text).lines) + length (split text).rest ≡ length text = sym (length-append (joined (split text).lines) (split text).rest) ∙ ap length (joined_rest text) in
+    let most : held (entries_of es) + 0 ≤ 0 + 0 + length (text_of_lines (split text).lines) = lines_held (split text).lines start (record { entries = entries_of es; stage = Between }) reads.lines in
+    let long : length (text_of_lines (split text).lines) + length (split text).rest ≡ length text = sym (length-append (text_of_lines (split text).lines) (split text).rest) ∙ ap length (joined_rest text) in
     each_held (length text) [] es (omega (arith, most, long))
 
 pub saved_countable : {A : Type 0} → (text : List ℕ) (es here : List (EntryRead A)) → Reads text (record { entries = entries_of es; stage = Between }) → length text < 18446744073709551616 → here ≡ es

@@ -11,7 +11,7 @@ use Rattle.bx_image.proofs.Records.{KeepsUntouched-effect, len-saved, restore-sa
 use Rattle.bx_journal_format.specs.Kept.{Kept, kept_of, with_run}
 use Rattle.bx_journal_format.specs.Entry.{entry_text}
 use Rattle.bx_journal_format.specs.Finished.{IsFinished}
-use Rattle.bx_journal_format.specs.Text.{Entry, Stage, Between, Saving, Ending, Reading, Reads, Split, split, joined, start, after_lines, next}
+use Rattle.bx_journal_format.specs.Text.{Entry, Stage, Between, Saving, Ending, Reading, Reads, Split, split, text_of_lines, start, after_lines, next}
 use Rattle.bx_journal_format.proofs.CalmLemmas.{lines_count}
 use Rattle.bx_journal_format.proofs.Foreign.{joined_lines}
 use Rattle.bx_journal_format.proofs.KeptLemmas.{is_of_in, same_byte, same_restore}
@@ -76,7 +76,7 @@ nothing_behind a d es short long =
     let on : after_lines (between es) (split d).lines ≡ Some (between es) =
     sym (after_lines-append start (between es) (split a).lines (split d).lines short.reads.lines) ∙ ap (λ (s : Split). after_lines start s.lines) (sym parts) ∙ long.reads.lines in
     let whole : (split d).rest ≡ [] = sym (ap (λ (s : Split). s.rest) parts) ∙ long.whole in
-    sym (joined_lines d whole) ∙ ap joined (no_lines (split d).lines es on)
+    sym (joined_lines d whole) ∙ ap text_of_lines (no_lines (split d).lines es on)
 
 -- two fronts of one text that are the same entries are one
 take_front : (a z : List ℕ) (n : ℕ) → n ≤ length a → take n (a ++ z) ≡ take n a

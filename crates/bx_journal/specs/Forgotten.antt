@@ -2,7 +2,7 @@
 use Rattle.std.specs.Prelude.{◌≡◌, ◌⊎◌, ℕ, List, [], ◌∷◌, Result, Ok, Err, IfOk, IfErr, MatchResult}
 use Rattle.bx_image.specs.Power.{AllFade, Only}
 use Rattle.bx_image.specs.declared.device.Device.{Ghosts as DeviceViews}
-use Rattle.bx_journal_store.specs.Store.{IsPartlyCut}
+use Rattle.bx_journal_store.specs.Store.{IsCutInPart}
 use Rattle.bx_journal_store.specs.declared.store.TextStore.{Ghosts as StoreViews}
 use Rattle.bx_journal_protocol.specs.declared.devices.Devices.{Devices}
 use Rattle.bx_journal_protocol.specs.model.Performing.{FindsBehind}
@@ -64,8 +64,8 @@ BehindInterruption result holds = IfErr result (λ e. AfterFault e holds (Unit {
 
 -- What a call that was stopped leaves of both texts: fronts, and of the journal all, unless the redo text is empty
 pub record LeavesTexts (journal redo journal_new redo_new : List ℕ) : Type 0 where
-  pub journal_part : IsPartlyCut 0 journal journal_new
-  pub redo_part : IsPartlyCut 0 redo redo_new
+  pub journal_part : IsCutInPart 0 journal journal_new
+  pub redo_part : IsCutInPart 0 redo redo_new
   pub redo_first : (journal_new ≡ journal) ⊎ (redo_new ≡ [])
 
 -- And what is found of them after a loss of power

@@ -14,7 +14,7 @@ use Rattle.bx_journal_read.specs.model.Fault.{DeviceFault}
 use Rattle.bx_journal_read.specs.model.Images.{Images}
 use Rattle.bx_journal_read.specs.model.Judging.{RefusesRedo}
 use Rattle.bx_journal_read.specs.model.Machine.{changes_of}
-use Rattle.bx_journal_read.specs.model.Opening.{IsOpened, RefusesLength as RefusesTold, RefusesText}
+use Rattle.bx_journal_read.specs.model.Opening.{IsOpened, IsLengthRefused as RefusesTold, RefusesText}
 use Rattle.bx_journal_read.specs.model.Phase.{IsAtRest}
 use Rattle.bx_journal_read.specs.model.Redo.{IsClean, IsRedoOf, RefusesRedoAt, found_undone}
 use Rattle.bx_journal_read.specs.model.Stack.{Recovers, image_at, recovered}
@@ -82,8 +82,8 @@ module _ {D T : Type 0} (d : DeviceViews D) (t : StoreViews T) (old : Devices D 
   FaultsAsRead result = OfPair ((r : Reading) → Reads (shown (t.text old.journal)) r → IfErr result (OpenFault r (d.image old.image)))
 
   -- where a length differs, that is the fault, unless another came before
-  abbrev pub RefusesLength : {V : Type 0} → Result V SessionFault → Type 0
-  RefusesLength result = OfPair ((r : Reading) (n : ℕ) → Reads (shown (t.text old.journal)) r → Differs r.entries (image_at r.stage (d.image old.image)) n
+  abbrev pub IsLengthRefused : {V : Type 0} → Result V SessionFault → Type 0
+  IsLengthRefused result = OfPair ((r : Reading) (n : ℕ) → Reads (shown (t.text old.journal)) r → Differs r.entries (image_at r.stage (d.image old.image)) n
       → MatchResult result (λ _. ⊥) (RefusesTold n))
 
   -- each fault but an interruption leaves image and journal
@@ -161,7 +161,7 @@ module _ {D T : Type 0} (d : DeviceViews D) (t : StoreViews T) (old : Devices D 
   -- stands, an interruption comes only where something was unfinished, and no fault of another call comes at all
   pub record AnswersFault (result : Opening D T) : Type 0 where
     pub faults : Leaves (λ new. FaultsAsRead) result
-    pub differs : Leaves (λ new. RefusesLength) result
+    pub differs : Leaves (λ new. IsLengthRefused) result
     pub lengths_kept : OfPair (AsFound (t.text old.journal) (d.image old.image) (λ stack. IfErr result (λ e. (n : ℕ) → e.1 ≡ LengthDiffers n → ⊥)))
     pub unfinished : t.honest old.journal → IfErr result (λ e. e.1 ≡ Interrupted → IsClean (t.text old.journal) → ⊥)
     pub kind : IfErr result (λ e. OpenKind e.1)

@@ -6,7 +6,7 @@ ghost use Rattle.bx_journal_protocol.specs.Devices.{AreBelow, AreCounted, AreUnf
 ghost use Rattle.bx_journal_protocol.specs.model.Power.{FoundBefore};
 ghost use Rattle.bx_journal_protocol.specs.protocol.Written.{AreSettled};
 ghost use Rattle.bx_journal_read.specs.model.Calls.{AfterFault};
-ghost use Rattle.bx_journal_store.specs.Store.{IsPartlyCut};
+ghost use Rattle.bx_journal_store.specs.Store.{IsCutInPart};
 ghost use Rattle.bx_journal.specs.Forgotten.{AreAlone, BehindInterruption, FadesInOrder, ForgetDevicesFault, ForgetsInPart, HaveLost, KeepImage, LeavesTexts};
 ghost use Rattle.bx_journal.specs.Opened.{OfAll};
 
@@ -19,7 +19,7 @@ use bx_journal_store::TextStore;
 fn empty_text<T: TextStore>(store: &mut T) -> Result<(), DeviceFailed>
     requires countable { T.failures store.old < u64.MAX }
     ensures emptied { T.honest store.old → OnOk result (T.text store.new ≡ []) }
-    ensures part { T.honest store.old → IsPartlyCut 0 (T.text store.old) (T.text store.new) }
+    ensures part { T.honest store.old → IsCutInPart 0 (T.text store.old) (T.text store.new) }
     ensures settled { T.honest store.old → OnOk result (Only [] (T.survives store.new)) }
     ensures survives { T.honest store.old → Only (T.text store.old) (T.survives store.old) → AllFade 0 (T.text store.old) (T.survives store.new) }
     ensures goes_on { GoesOn T.honest T.room T.failures (is_err result) store.old store.new }

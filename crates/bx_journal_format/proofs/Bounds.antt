@@ -8,7 +8,7 @@ use Rattle.std.specs.Str.{bytes_eq}
 use Rattle.std.proofs.lemmas.Grind.{common_steps}
 use Rattle.bx_journal_format.specs.declared.format.version.Version.TheVariants.{First, Second}
 use Rattle.bx_journal_format.specs.Hex.{number_of}
-use Rattle.bx_journal_format.specs.Line.{after_in, at_most, behind, end_head, end_line}
+use Rattle.bx_journal_format.specs.Line.{after_in, at_most, after_prefix, end_head, end_line}
 use Rattle.bx_journal_format.proofs.Inverse.{bind_some, map_some, test_some, next_between, next_saving, next_ending}
 
 abbrev pub AreBounded : List Entry → Type 0
@@ -58,8 +58,8 @@ told_most First n line told e =
     let test = test_some (bytes_eq line (end_line First n 0)) None told e in
     subst (λ o. IfSome o (λ a. a ≤ MAX_LEN)) test.1 tt
 told_most Second n line told e =
-    let some = map_some Some (at_most MAX_LEN (option_and_then (number_of 16) (behind (end_head Second n) line))) told e in
-    subst (λ o. IfSome o (λ a. a ≤ MAX_LEN)) some.2 (most_of MAX_LEN (option_and_then (number_of 16) (behind (end_head Second n) line)) some.0 some.1)
+    let some = map_some Some (at_most MAX_LEN (option_and_then (number_of 16) (after_prefix (end_head Second n) line))) told e in
+    subst (λ o. IfSome o (λ a. a ≤ MAX_LEN)) some.2 (most_of MAX_LEN (option_and_then (number_of 16) (after_prefix (end_head Second n) line)) some.0 some.1)
 
 -- each recorded length is one that a line can record
 abbrev pub AreTold : List Entry → Type 0

@@ -12,7 +12,7 @@ use Rattle.bx_journal_format.specs.Kept.{Run, Kept, with_run}
 use Rattle.bx_journal_format.specs.DumpLine.{dump_line, piece_of}
 use Rattle.bx_journal_format.specs.Entry.{rows, head_lines, head_text, end_text}
 use Rattle.bx_journal_format.specs.Line.{start_line, start_head, save_line, end_line, saved_in}
-use Rattle.bx_journal_format.specs.Text.{ended, joined, split, Split, is_short, Entry, Stage, Between, Saving, Ending, Reading, start, after_lines, next_at, next}
+use Rattle.bx_journal_format.specs.Text.{ended, text_of_lines, split, Split, is_short, Entry, Stage, Between, Saving, Ending, Reading, start, after_lines, next_at, next}
 use Rattle.bx_journal_format.specs.Shown.{begins_with, ends_line, has_end, is_text_byte}
 use Rattle.bx_journal_format.specs.declared.format.version.Version.TheVariants.{First, Second}
 use Rattle.bx_journal_format.specs.declared.format.version.Version.{Version}
@@ -50,15 +50,15 @@ abbrev pub AllUnended : List (List ℕ) → Type 0
 AllUnended [] = Unit {0}
 AllUnended (l ∷ ls) = (begins_with word l ≡ false) × AllUnended ls
 
-pub lines_calm : (ls : List (List ℕ)) → AllPlain ls → AllUnended ls → has_end (10 ∷ joined ls) ≡ false
+pub lines_calm : (ls : List (List ℕ)) → AllPlain ls → AllUnended ls → has_end (10 ∷ text_of_lines ls) ≡ false
 unfolding has_end begins_with
 lines_calm [] plain none = refl
 lines_calm (l ∷ ls) plain none =
-    let whole : joined (l ∷ ls) ≡ l ++ 10 ∷ joined ls = append_assoc l (10 ∷ []) (joined ls) in
-    let first : begins_with word (joined (l ∷ ls)) ≡ false =
-    false_from_ne_true _ (λ is. both_ways (begins_with word l) none.0 (begins_line word l (joined ls) (refl, (refl, (refl, (refl, tt)))) (subst (λ t. begins_with word t ≡ true) whole is))) in
-    let later : has_end (joined (l ∷ ls)) ≡ false = ap has_end whole ∙ calm_line l (joined ls) plain.0 ∙ lines_calm ls plain.1 none.1 in
-    or_from (begins_with word (joined (l ∷ ls)) && ends_line (joined (l ∷ ls))) (has_end (joined (l ∷ ls))) (and_left (begins_with word (joined (l ∷ ls))) (ends_line (joined (l ∷ ls))) first) later
+    let whole : text_of_lines (l ∷ ls) ≡ l ++ 10 ∷ text_of_lines ls = append_assoc l (10 ∷ []) (text_of_lines ls) in
+    let first : begins_with word (text_of_lines (l ∷ ls)) ≡ false =
+    false_from_ne_true _ (λ is. both_ways (begins_with word l) none.0 (begins_line word l (text_of_lines ls) (refl, (refl, (refl, (refl, tt)))) (subst (λ t. begins_with word t ≡ true) whole is))) in
+    let later : has_end (text_of_lines (l ∷ ls)) ≡ false = ap has_end whole ∙ calm_line l (text_of_lines ls) plain.0 ∙ lines_calm ls plain.1 none.1 in
+    or_from (begins_with word (text_of_lines (l ∷ ls)) && ends_line (text_of_lines (l ∷ ls))) (has_end (text_of_lines (l ∷ ls))) (and_left (begins_with word (text_of_lines (l ∷ ls))) (ends_line (text_of_lines (l ∷ ls))) first) later
 
 -- a line that gives a piece doesn't begin with the word
 piece_unended : (line : List ℕ) (p : Run) → piece_of line ≡ Some p → begins_with word line ≡ false
@@ -89,8 +89,8 @@ unfolding head_lines
 head_calm n s most are =
     let ls : List (List ℕ) = map (λ p. dump_line p.at p.bytes) (flat_map rows s.runs) ++ save_line n ∷ [] in
     let calm = rows_calm n s.len most (flat_map rows s.runs) are in
-    let whole : joined (start_line Second n s.len ∷ ls) ≡ start_line Second n s.len ++ 10 ∷ joined ls = append_assoc (start_line Second n s.len) (10 ∷ []) (joined ls) in
-    ap has_end whole ∙ calm_line (start_line Second n s.len) (joined ls) (plain_start n s.len) ∙ lines_calm ls calm.0 calm.1
+    let whole : text_of_lines (start_line Second n s.len ∷ ls) ≡ start_line Second n s.len ++ 10 ∷ text_of_lines ls = append_assoc (start_line Second n s.len) (10 ∷ []) (text_of_lines ls) in
+    ap has_end whole ∙ calm_line (start_line Second n s.len) (text_of_lines ls) (plain_start n s.len) ∙ lines_calm ls calm.0 calm.1
 
 -- short lines have bytes of a text alone
 pub line_plain : (l : List ℕ) → list_all is_printable l ≡ true → list_all is_text_byte l ≡ true
@@ -99,13 +99,13 @@ line_plain (b ∷ l) prints =
     let parts = and_parts (is_printable b) (list_all is_printable l) prints in
     and_from (is_text_byte b) (list_all is_text_byte l) (or_right (eqb b 10) (is_printable b) parts.0) (line_plain l parts.1)
 
-pub lines_plain : (ls : List (List ℕ)) → list_all is_short ls ≡ true → list_all is_text_byte (joined ls) ≡ true
+pub lines_plain : (ls : List (List ℕ)) → list_all is_short ls ≡ true → list_all is_text_byte (text_of_lines ls) ≡ true
 lines_plain [] short = refl
 lines_plain (l ∷ ls) short =
     let parts = and_parts (is_short l) (list_all is_short ls) short in
     let prints = (and_parts (nat_le (length l) 75) (list_all is_printable l) parts.0).1 in
     let first : list_all is_text_byte (ended l) ≡ true = list_all-append is_text_byte l (10 ∷ []) ∙ and_from (list_all is_text_byte l) true (line_plain l prints) refl in
-    list_all-append is_text_byte (ended l) (joined ls) ∙ and_from (list_all is_text_byte (ended l)) (list_all is_text_byte (joined ls)) first (lines_plain ls parts.1)
+    list_all-append is_text_byte (ended l) (text_of_lines ls) ∙ and_from (list_all is_text_byte (ended l)) (list_all is_text_byte (text_of_lines ls)) first (lines_plain ls parts.1)
 
 pub short_plain : (text : List ℕ) → list_all is_short (split text).lines ≡ true → (split text).rest ≡ [] → list_all is_text_byte text ≡ true
 short_plain text short whole = subst (λ t. list_all is_text_byte t ≡ true) (joined_lines text whole) (lines_plain (split text).lines short)
@@ -173,12 +173,12 @@ lines_unended (l ∷ ls) r q is same =
     let count : length b.0.entries ≡ length r.entries = omega (arith, next_counts r.entries r.stage l b.0 b.1, lines_count ls b.0 q b.2, same) in
     (line_unended r.entries r.stage l b.0 b.1 count, lines_unended ls b.0 q b.2 (same ∙ sym count))
 
-behind_calm : (ls : List (List ℕ)) → AllPlain ls → AllUnended (drop 1 ls) → has_end (joined ls) ≡ false
+behind_calm : (ls : List (List ℕ)) → AllPlain ls → AllUnended (drop 1 ls) → has_end (text_of_lines ls) ≡ false
 unfolding has_end
 behind_calm [] plain none = refl
 behind_calm (l ∷ ls) plain none =
-    let whole : joined (l ∷ ls) ≡ l ++ 10 ∷ joined ls = append_assoc l (10 ∷ []) (joined ls) in
-    ap has_end whole ∙ calm_line l (joined ls) plain.0 ∙ lines_calm ls plain.1 none
+    let whole : text_of_lines (l ∷ ls) ≡ l ++ 10 ∷ text_of_lines ls = append_assoc l (10 ∷ []) (text_of_lines ls) in
+    ap has_end whole ∙ calm_line l (text_of_lines ls) plain.0 ∙ lines_calm ls plain.1 none
 
 -- behind a save line the first line may end the entry
 after_ending : (es : List Entry) (v : Version) (s : Kept) (ls : List (List ℕ)) (q : Reading) → after_lines (record { entries = es; stage = Ending v s }) ls ≡ Some q
@@ -196,7 +196,7 @@ on_behind text n r q mark reads =
     sym (after_lines-append start r (split (take n text)).lines (split (drop n text)).lines mark.lines)
     ∙ ap (λ (s : Split). after_lines start s.lines) (sym (split_at_mark text n r mark)) ∙ reads
 
-behind_is : (text : List ℕ) (n : ℕ) (r : Reading) → IsMark text n r → (split text).rest ≡ [] → joined (split (drop n text)).lines ≡ drop n text
+behind_is : (text : List ℕ) (n : ℕ) (r : Reading) → IsMark text n r → (split text).rest ≡ [] → text_of_lines (split (drop n text)).lines ≡ drop n text
 behind_is text n r mark whole = joined_lines (drop n text) (sym (ap (λ (s : Split). s.rest) (split_at_mark text n r mark)) ∙ whole)
 
 -- what stands behind a save line, up to the end of its entry

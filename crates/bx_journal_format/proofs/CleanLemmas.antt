@@ -7,7 +7,7 @@ use Rattle.std.proofs.lemmas.Bool.{and_parts, or_right, both_ways, eqb-true, and
 use Rattle.bx_text.specs.Ascii.{is_printable}
 use Rattle.bx_journal_format.specs.Hex.{hex_digits}
 use Rattle.bx_journal_format.specs.Line.{end_line, end_head}
-use Rattle.bx_journal_format.specs.Text.{Entry, Stage, Between, Saving, Ending, Reading, joined, split, start, after_lines, next}
+use Rattle.bx_journal_format.specs.Text.{Entry, Stage, Between, Saving, Ending, Reading, text_of_lines, split, start, after_lines, next}
 use Rattle.bx_journal_format.specs.Finished.{IsFinished}
 use Rattle.bx_journal_format.specs.Shown.{before_zero, from_zero, begins_with, ends_line, has_end, is_begun, is_lost, is_text_byte, is_left, shown}
 use Rattle.bx_journal_format.specs.declared.format.version.Version.{Version}
@@ -69,7 +69,7 @@ last_line r l q is same = by r.stage refl
         let n = next_ending r.entries v s l q (subst (λ t. next (record { entries = r.entries; stage = t }) l ≡ Some q) e is) in
         (v, suc (length r.entries), n.2.0, n.2.2)
 
-ends_done : (l : List ℕ) (ls : List (List ℕ)) (r q : Reading) → after_lines r (l ∷ ls) ≡ Some q → q.stage ≡ Between → EndsDone (10 ∷ joined (l ∷ ls))
+ends_done : (l : List ℕ) (ls : List (List ℕ)) (r q : Reading) → after_lines r (l ∷ ls) ≡ Some q → q.stage ≡ Between → EndsDone (10 ∷ text_of_lines (l ∷ ls))
 unfolding after_lines
 ends_done l [] r q is same =
     let b = bind_some (λ p. after_lines p []) (next r l) q is in
@@ -88,7 +88,7 @@ ends_done l (m ∷ ls) r q is same =
     record {
       pre = 10 ∷ (l ++ later.pre);
       line = later.line;
-      is = ap (λ t. 10 ∷ t) (append_assoc l (10 ∷ []) (joined (m ∷ ls)) ∙ ap (λ t. l ++ t) later.is ∙ sym (append_assoc l later.pre (10 ∷ (later.line ++ 10 ∷ []))));
+      is = ap (λ t. 10 ∷ t) (append_assoc l (10 ∷ []) (text_of_lines (m ∷ ls)) ∙ ap (λ t. l ++ t) later.is ∙ sym (append_assoc l later.pre (10 ∷ (later.line ++ 10 ∷ []))));
       plain = later.plain;
       begins = later.begins;
     }
@@ -134,11 +134,11 @@ shown_at text line (c ∷ pre) plain begins is =
     let e : text ≡ pre ++ 10 ∷ (line ++ 10 ∷ []) = cc in
     subst (λ t. shown t ≡ t) (sym e) (shown_by (pre ++ 10 ∷ (line ++ 10 ∷ [])) (zero_or_end pre (10 ∷ (line ++ 10 ∷ [])) suffix.0 suffix.1))
 
-shown_lines : (text : List ℕ) (ls : List (List ℕ)) (q : Reading) → joined ls ≡ text → after_lines start ls ≡ Some q → q.stage ≡ Between → shown text ≡ text
+shown_lines : (text : List ℕ) (ls : List (List ℕ)) (q : Reading) → text_of_lines ls ≡ text → after_lines start ls ≡ Some q → q.stage ≡ Between → shown text ≡ text
 shown_lines text [] q whole reads same = subst (λ t. shown t ≡ t) whole (plain_shown [] refl)
 shown_lines text (l ∷ ls) q whole reads same =
     let d = ends_done l ls start q reads same in
-    subst (λ t. shown t ≡ t) whole (shown_at (joined (l ∷ ls)) d.line d.pre d.plain d.begins d.is)
+    subst (λ t. shown t ≡ t) whole (shown_at (text_of_lines (l ∷ ls)) d.line d.pre d.plain d.begins d.is)
 
 pub clean_shown : (text : List ℕ) (es : List Entry) → IsFinished text es → shown text ≡ text
 clean_shown text es fin = shown_lines text (split text).lines (record { entries = es; stage = Between }) (joined_lines text fin.whole) fin.reads.lines refl

@@ -5,7 +5,7 @@ use Rattle.std.proofs.lemmas.Grind.{common_steps}
 use Rattle.std.proofs.lemmas.List.{take-append-drop}
 use Rattle.std.proofs.Math.Seq.{take-add}
 use Rattle.bx_journal_format.specs.read.Plain.{HasNoNewline}
-use Rattle.bx_journal_format.specs.Text.{Reading, Split, split, joined, start, after_lines, IsRest, Reads, IsAccepted, first_lines, IsDamagedAt, next}
+use Rattle.bx_journal_format.specs.Text.{Reading, Split, split, text_of_lines, start, after_lines, IsRest, Reads, IsAccepted, first_lines, IsDamagedAt, next}
 use Rattle.bx_journal_format.specs.count.Mark.{IsMark}
 use Rattle.bx_journal_format.proofs.Splits.{AllPlain, split-ended, split-append, split-plain}
 use Rattle.bx_journal_format.proofs.Runs.{after_lines-append, empty_rest}
@@ -13,11 +13,11 @@ use Rattle.bx_journal_format.proofs.Inverse.{bind_some}
 use Rattle.bx_journal_format.proofs.Foreign.{lines_plain}
 use Rattle.bx_journal_format.proofs.LineLoop.{IsLine}
 
-pub split_joined : (ls : List (List ℕ)) → AllPlain ls → split (joined ls) ≡ record { lines = ls; rest = [] }
+pub split_joined : (ls : List (List ℕ)) → AllPlain ls → split (text_of_lines ls) ≡ record { lines = ls; rest = [] }
 unfolding split
 split_joined [] plain = refl
 split_joined (l ∷ ls) plain =
-    ap split (append_assoc l (10 ∷ []) (joined ls)) ∙ split-ended l (joined ls) plain.0
+    ap split (append_assoc l (10 ∷ []) (text_of_lines ls)) ∙ split-ended l (text_of_lines ls) plain.0
     ∙ ap (λ (s : Split). record { lines = l ∷ s.lines; rest = s.rest }) (split_joined ls plain.1)
 
 pub take_plain : (k : ℕ) (ls : List (List ℕ)) → AllPlain ls → AllPlain (take k ls)
@@ -38,7 +38,7 @@ front_read (suc k) (l ∷ ls) r q e =
     on_step : (o : Option Reading) (s : Reading) (ls : List (List ℕ)) (p : Reading) → o ≡ Some s → after_lines s ls ≡ Some p → option_and_then (λ q. after_lines q ls) o ≡ Some p
     on_step o s ls p is e = rw is e
 
-pub first_few : (k : ℕ) (text : List ℕ) → k ≤ length (split text).lines → first_lines k text ≡ joined (take k (split text).lines)
+pub first_few : (k : ℕ) (text : List ℕ) → k ≤ length (split text).lines → first_lines k text ≡ text_of_lines (take k (split text).lines)
 first_few k text h = grind (arith, common_steps)
 
 pub first_all : (k : ℕ) (text : List ℕ) → length (split text).lines < k → first_lines k text ≡ text
@@ -47,8 +47,8 @@ first_all k text h = grind (arith, common_steps)
 pub accepts : (k : ℕ) (text : List ℕ) (r : Reading) → k ≤ length (split text).lines → after_lines start (take k (split text).lines) ≡ Some r → IsAccepted (first_lines k text)
 accepts k text r h e =
     let ls : List (List ℕ) = take k (split text).lines in
-    let parts : split (joined ls) ≡ record { lines = ls; rest = [] } = split_joined ls (take_plain k (split text).lines (lines_plain text)) in
-    let reads : Reads (joined ls) r = record {
+    let parts : split (text_of_lines ls) ≡ record { lines = ls; rest = [] } = split_joined ls (take_plain k (split text).lines (lines_plain text)) in
+    let reads : Reads (text_of_lines ls) r = record {
       lines = ap (λ (s : Split). after_lines start s.lines) parts ∙ e;
       rest = subst (λ (s : Split). IsRest r.entries r.stage s.rest) (sym parts) (empty_rest r.entries r.stage);
     } in
@@ -63,8 +63,8 @@ damaged_line text a b l r is e none =
     let stops : after_lines start (take (suc (length a)) (split text).lines) ≡ None = ap (after_lines start) upto ∙ after_lines-append start r a (l ∷ []) e ∙ rw none refl in
     record {
       damaged = λ acc.
-          let parts : split (joined (take (suc (length a)) (split text).lines)) ≡ record { lines = take (suc (length a)) (split text).lines; rest = [] } = split_joined (take (suc (length a)) (split text).lines) (take_plain (suc (length a)) (split text).lines (lines_plain text)) in
-          let moved : IsAccepted (joined (take (suc (length a)) (split text).lines)) = subst IsAccepted (first_few (suc (length a)) text (omega (arith, total))) acc in
+          let parts : split (text_of_lines (take (suc (length a)) (split text).lines)) ≡ record { lines = take (suc (length a)) (split text).lines; rest = [] } = split_joined (take (suc (length a)) (split text).lines) (take_plain (suc (length a)) (split text).lines (lines_plain text)) in
+          let moved : IsAccepted (text_of_lines (take (suc (length a)) (split text).lines)) = subst IsAccepted (first_few (suc (length a)) text (omega (arith, total))) acc in
           let read : after_lines start (take (suc (length a)) (split text).lines) ≡ Some moved.0 = ap (λ (s : Split). after_lines start s.lines) (sym parts) ∙ moved.1.lines in
           let clash : None ≡ Some moved.0 = sym stops ∙ read in
           cc;

@@ -7,11 +7,11 @@ use Rattle.std.proofs.lemmas.Bool.{agree_below_at, eqb-true}
 use Rattle.std.proofs.lemmas.List.{length-map, get_or-map}
 use Rattle.std.proofs.lemmas.Simd.{pick_l_whole}
 use lib.Lanes.{zip2, Each1, sel_l, top}
-use Rattle.bx_journal_format.specs.Hex.{hex_value, number_after}
+use Rattle.bx_journal_format.specs.Hex.{hex_nibble, number_after}
 use Rattle.bx_read.proofs.LaneLemmas.{digit_lanes, joined, joined_all, less, plus, under}
 
 abbrev pub value : ℕ → ℕ
-value c = unwrap_or (hex_value c) 255
+value c = unwrap_or (hex_nibble c) 255
 
 -- what the operations on lanes make of n bytes
 abbrev letter_lanes : List ℕ → ℕ → List ℕ
@@ -37,8 +37,8 @@ abbrev bytes_after : ℕ → List ℕ → ℕ
 bytes_after a [] = a
 bytes_after a (b ∷ bs) = bytes_after (256 * a + b) bs
 
-digit_is : (c : ℕ) → value c ≤ 15 → hex_value c ≡ Some (value c)
-digit_is c small = some (hex_value c) small
+digit_is : (c : ℕ) → value c ≤ 15 → hex_nibble c ≡ Some (value c)
+digit_is c small = some (hex_nibble c) small
   where
     some : (o : Option ℕ) → unwrap_or o 255 ≤ 15 → o ≡ Some (unwrap_or o 255)
     some None h = absurd (omega (arith, h))
@@ -54,7 +54,7 @@ all_pairs (suc n) (high ∷ low ∷ text) a long all =
     let h : value high ≤ 15 = all 0 (omega arith) in
     let l : value low ≤ 15 = all 1 (omega arith) in
     let sum : 16 * (16 * a + value high) + value low ≡ 256 * a + joined (value high) (value low) = two a (value high) (value low) h l in
-    ap (option_and_then (λ d. option_and_then (λ e. number_after (16 * (16 * a + d) + e) text) (hex_value low))) (digit_is high h)
+    ap (option_and_then (λ d. option_and_then (λ e. number_after (16 * (16 * a + d) + e) text) (hex_nibble low))) (digit_is high h)
     ∙ ap (option_and_then (λ e. number_after (16 * (16 * a + value high) + e) text)) (digit_is low l)
     ∙ ap (λ k. number_after k text) sum
     ∙ all_pairs n text (256 * a + joined (value high) (value low)) (omega (arith, long)) (λ k lt. all (suc (suc k)) (omega (arith, lt)))

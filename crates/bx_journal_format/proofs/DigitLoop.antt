@@ -3,14 +3,14 @@ use Rattle.std.proofs.Common.{◌≡◌, ℕ, suc, ◌+◌, ◌*◌, ◌^◌, �
 use Rattle.std.proofs.Math.Seq.{drop-cons}
 use Rattle.std.proofs.Math.ListN.{drop_of_length-le}
 use Rattle.std.proofs.Math.Nat.{pow-suc, pow-le-pow_right}
-use Rattle.bx_journal_format.specs.Hex.{hex_value, number_after}
+use Rattle.bx_journal_format.specs.Hex.{hex_nibble, number_after}
 
 -- one digit on
-pub digit_on : (text : List ℕ) (i n d : ℕ) → i < length text → hex_value (get_or text i 0) ≡ Some d → number_after n (drop i text) ≡ number_after (n * 16 + d) (drop (i + 1) text)
+pub digit_on : (text : List ℕ) (i n d : ℕ) → i < length text → hex_nibble (get_or text i 0) ≡ Some d → number_after n (drop i text) ≡ number_after (n * 16 + d) (drop (i + 1) text)
 unfolding number_after
 digit_on text i n d h is = rw (drop-cons text i 0 h, is, add-one) (ap (λ k. number_after k (drop (suc i) text)) (omega arith))
 
-pub digit_stops : (text : List ℕ) (i n : ℕ) → i < length text → hex_value (get_or text i 0) ≡ None → number_after n (drop i text) ≡ None
+pub digit_stops : (text : List ℕ) (i n : ℕ) → i < length text → hex_nibble (get_or text i 0) ≡ None → number_after n (drop i text) ≡ None
 unfolding number_after
 digit_stops text i n h is = rw (drop-cons text i 0 h, is) refl
 

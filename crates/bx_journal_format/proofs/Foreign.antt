@@ -5,15 +5,15 @@ use Rattle.std.specs.List.{list_all}
 use Rattle.std.proofs.lemmas.Grind.{common_steps}
 use Rattle.bx_journal_format.specs.Kept.{Kept}
 use Rattle.bx_journal_format.specs.declared.format.version.Version.{Version}
-use Rattle.bx_journal_format.specs.Text.{Split, split, with_front, joined, Reading, Entry, Stage, Between, Saving, Ending, next_at, after_lines, is_short, next}
+use Rattle.bx_journal_format.specs.Text.{Split, split, with_first_byte, text_of_lines, Reading, Entry, Stage, Between, Saving, Ending, next_at, after_lines, is_short, next}
 use Rattle.bx_journal_format.proofs.Splits.{AllPlain}
 use Rattle.bx_journal_format.proofs.Runs.{SafeRun}
 use Rattle.bx_journal_format.proofs.Inverse.{bind_some, next_between, next_saving, next_ending, rest_of_next}
 
-front_plain : (b : ℕ) (s : Split) → eqb b 10 ≡ false → AllPlain s.lines → AllPlain (with_front b s).lines
+front_plain : (b : ℕ) (s : Split) → eqb b 10 ≡ false → AllPlain s.lines → AllPlain (with_first_byte b s).lines
 front_plain b s apart plain = by_lines s.lines plain
   where
-    by_lines : (lines : List (List ℕ)) → AllPlain lines → AllPlain (with_front b (record { lines = lines; rest = s.rest })).lines
+    by_lines : (lines : List (List ℕ)) → AllPlain lines → AllPlain (with_first_byte b (record { lines = lines; rest = s.rest })).lines
     by_lines [] plain = tt
     by_lines (l ∷ ls) plain = ((apart, plain.0), plain.1)
 
@@ -22,7 +22,7 @@ unfolding split
 lines_plain [] = tt
 lines_plain (b ∷ text) = by_test (eqb b 10) refl (lines_plain text)
   where
-    by_test : (is : Bool) → eqb b 10 ≡ is → AllPlain (split text).lines → AllPlain (cond is (record { lines = [] ∷ (split text).lines; rest = (split text).rest }) (with_front b (split text))).lines
+    by_test : (is : Bool) → eqb b 10 ≡ is → AllPlain (split text).lines → AllPlain (cond is (record { lines = [] ∷ (split text).lines; rest = (split text).rest }) (with_first_byte b (split text))).lines
     by_test true is plain = (tt, plain)
     by_test false is plain = front_plain b (split text) is plain
 
@@ -30,27 +30,27 @@ newline : (b : ℕ) → eqb b 10 ≡ true → 10 ≡ b
 newline b is = grind (arith, common_steps)
 
 -- the lines of a whole text are all of it
-front_joined : (b : ℕ) (s : Split) → (with_front b s).rest ≡ [] → joined (with_front b s).lines ≡ b ∷ joined s.lines
+front_joined : (b : ℕ) (s : Split) → (with_first_byte b s).rest ≡ [] → text_of_lines (with_first_byte b s).lines ≡ b ∷ text_of_lines s.lines
 front_joined b s e = by_lines s.lines e
   where
-    by_lines : (lines : List (List ℕ)) → (with_front b (record { lines = lines; rest = s.rest })).rest ≡ [] → joined (with_front b (record { lines = lines; rest = s.rest })).lines ≡ b ∷ joined lines
+    by_lines : (lines : List (List ℕ)) → (with_first_byte b (record { lines = lines; rest = s.rest })).rest ≡ [] → text_of_lines (with_first_byte b (record { lines = lines; rest = s.rest })).lines ≡ b ∷ text_of_lines lines
     by_lines [] e = absurd (let h : b ∷ s.rest ≡ [] = e in cc)
     by_lines (l ∷ ls) e = refl
 
-front_whole : (b : ℕ) (s : Split) → (with_front b s).rest ≡ [] → s.rest ≡ []
+front_whole : (b : ℕ) (s : Split) → (with_first_byte b s).rest ≡ [] → s.rest ≡ []
 front_whole b s e = by_lines s.lines e
   where
-    by_lines : (lines : List (List ℕ)) → (with_front b (record { lines = lines; rest = s.rest })).rest ≡ [] → s.rest ≡ []
+    by_lines : (lines : List (List ℕ)) → (with_first_byte b (record { lines = lines; rest = s.rest })).rest ≡ [] → s.rest ≡ []
     by_lines [] e = absurd (let h : b ∷ s.rest ≡ [] = e in cc)
     by_lines (l ∷ ls) e = e
 
-pub joined_lines : (text : List ℕ) → (split text).rest ≡ [] → joined (split text).lines ≡ text
+pub joined_lines : (text : List ℕ) → (split text).rest ≡ [] → text_of_lines (split text).lines ≡ text
 unfolding split
 joined_lines [] e = refl
 joined_lines (b ∷ text) e = by_test (eqb b 10) refl (joined_lines text) e
   where
-    by_test : (is : Bool) → eqb b 10 ≡ is → ((split text).rest ≡ [] → joined (split text).lines ≡ text) → (cond is (record { lines = [] ∷ (split text).lines; rest = (split text).rest }) (with_front b (split text))).rest ≡ []
-        → joined (cond is (record { lines = [] ∷ (split text).lines; rest = (split text).rest }) (with_front b (split text))).lines ≡ b ∷ text
+    by_test : (is : Bool) → eqb b 10 ≡ is → ((split text).rest ≡ [] → text_of_lines (split text).lines ≡ text) → (cond is (record { lines = [] ∷ (split text).lines; rest = (split text).rest }) (with_first_byte b (split text))).rest ≡ []
+        → text_of_lines (cond is (record { lines = [] ∷ (split text).lines; rest = (split text).rest }) (with_first_byte b (split text))).lines ≡ b ∷ text
     by_test true is ih e =
         let same : 10 ≡ b = newline b is in
         rw same (ap (λ s. b ∷ s) (ih e))

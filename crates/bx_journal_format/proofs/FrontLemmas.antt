@@ -9,7 +9,7 @@ use Rattle.std.specs.List.{list_all}
 use Rattle.bx_text.specs.Ascii.{is_printable}
 use Rattle.std.proofs.Math.Nat.{pow-suc, le-div_iff_mul-le}
 use Rattle.bx_image.specs.declared.change.TheConstants.{MAX_LEN}
-use Rattle.bx_journal_format.specs.Hex.{hex_digits, hex_value, number_after}
+use Rattle.bx_journal_format.specs.Hex.{hex_digits, hex_nibble, number_after}
 use Rattle.bx_journal_format.specs.Text.{IsPrefix, Entry, may_begin}
 use Rattle.bx_journal_format.specs.count.Front.{IsNumberFront}
 use Rattle.bx_journal_format.specs.Parsed.{told_by}
@@ -27,9 +27,9 @@ front_number : (t more : List ℕ) (a n : ℕ) → number_after a (t ++ more) �
 unfolding number_after
 front_number [] more a n e = (a, refl, e)
 front_number (c ∷ t) more a n e =
-    let d = bind_some (λ d. number_after (16 * a + d) (t ++ more)) (hex_value c) n e in
+    let d = bind_some (λ d. number_after (16 * a + d) (t ++ more)) (hex_nibble c) n e in
     let f = front_number t more (16 * a + d.0) n d.2 in
-    (f.0, step_is (hex_value c) d.0 d.1 f.0 f.1, f.2)
+    (f.0, step_is (hex_nibble c) d.0 d.1 f.0 f.1, f.2)
   where
     step_is : (o : Option ℕ) (d : ℕ) → o ≡ Some d → (p : ℕ) → number_after (16 * a + d) t ≡ Some p → option_and_then (λ d. number_after (16 * a + d) t) o ≡ Some p
     step_is o d is p q = rw is q
@@ -38,7 +38,7 @@ least_after : (more : List ℕ) (p n : ℕ) → number_after p more ≡ Some n �
 unfolding number_after
 least_after [] p n e = let same : p ≡ n = cc in omega arith
 least_after (c ∷ more) p n e =
-    let d = bind_some (λ d. number_after (16 * p + d) more) (hex_value c) n e in
+    let d = bind_some (λ d. number_after (16 * p + d) more) (hex_nibble c) n e in
     let least : (16 * p + d.0) * 16 ^ length more ≤ n = least_after more (16 * p + d.0) n d.2 in
     rw (pow-suc 16 (length more)) (times p d.0 (16 ^ length more) n least)
   where

@@ -16,8 +16,8 @@ use Rattle.bx_journal_format.specs.declared.format.version.Version.{Version}
 use Rattle.bx_journal_format.specs.declared.format.version.Version.TheVariants.{First, Second}
 use Rattle.bx_journal_format.specs.DumpLine.{piece_of}
 use Rattle.bx_journal_format.specs.Grammar.{IsSaved, AddRuns, IsEnd, IsHead, IsEntry, AreEntries, IsTail, AreLines, IsJournal, StopsBehind}
-use Rattle.bx_journal_format.specs.Line.{digits_of, start_line, save_line, end_line, after_in, saved_in}
-use Rattle.bx_journal_format.specs.Text.{Entry, Stage, Between, Saving, Ending, Reading, Reads, Split, IsAccepted, IsDamagedAt, IsRest, after_lines, begins, begins_with_s, first_lines, joined, may_begin, next_at, split, start, next}
+use Rattle.bx_journal_format.specs.Line.{address_width, start_line, save_line, end_line, after_in, saved_in}
+use Rattle.bx_journal_format.specs.Text.{Entry, Stage, Between, Saving, Ending, Reading, Reads, Split, IsAccepted, IsDamagedAt, IsRest, after_lines, begins, begins_with_s, first_lines, text_of_lines, may_begin, next_at, split, start, next}
 use Rattle.bx_journal_format.proofs.Damage.{accepts, first_all, first_few, front_read, split_joined, take_plain}
 use Rattle.bx_journal_format.proofs.Foreign.{lines_plain}
 use Rattle.bx_journal_format.proofs.Inverse.{bind_some, map_some, test_some, same_bytes, piece_apart, next_between, end_back}
@@ -235,11 +235,11 @@ found lines q e = all_found lines [] start q (record { finished = []; tail = [];
 
 -- and what is in the grammar is read
 
-begins_by : (es : List Entry) (v : Version) (len : ℕ) → len ≤ MAX_LEN → len < 16 ^ digits_of v → may_begin es len ≡ true
+begins_by : (es : List Entry) (v : Version) (len : ℕ) → len ≤ MAX_LEN → len < 16 ^ address_width v → may_begin es len ≡ true
     → begins es v (start_line v (suc (length es)) len) ≡ Some (Saving v (record { len = len; runs = [] }))
 begins_by es v len small fits may = rw (start_reads v (suc (length es)) len small fits, may) refl
 
-first_read : (es : List Entry) (v : Version) (len : ℕ) → length es < 65535 → len ≤ MAX_LEN → len < 16 ^ digits_of v → may_begin es len ≡ true
+first_read : (es : List Entry) (v : Version) (len : ℕ) → length es < 65535 → len ≤ MAX_LEN → len < 16 ^ address_width v → may_begin es len ≡ true
     → next_at es Between (start_line v (suc (length es)) len) ≡ Some (record { entries = es; stage = Saving v (record { len = len; runs = [] }) })
 first_read es First len room small fits may =
     start_first es (suc (length es)) (start_line First (suc (length es)) len) (Saving First (record { len = len; runs = [] })) refl (omega (arith, room)) (begins_by es First len small fits may)
@@ -310,8 +310,8 @@ journal_has_form text r = (
 front_accepted : (k : ℕ) (text : List ℕ) → k ≤ length (split text).lines → IsAccepted (first_lines k text) → (r : Reading) × (after_lines start (take k (split text).lines) ≡ Some r)
 front_accepted k text within accepted =
     let lines : List (List ℕ) = take k (split text).lines in
-    let moved : IsAccepted (joined lines) = subst IsAccepted (first_few k text within) accepted in
-    let parts : split (joined lines) ≡ record { lines = lines; rest = [] } = split_joined lines (take_plain k (split text).lines (lines_plain text)) in
+    let moved : IsAccepted (text_of_lines lines) = subst IsAccepted (first_few k text within) accepted in
+    let parts : split (text_of_lines lines) ≡ record { lines = lines; rest = [] } = split_joined lines (take_plain k (split text).lines (lines_plain text)) in
     (moved.0, ap (λ (s : Split). after_lines start s.lines) (sym parts) ∙ moved.1.lines)
 
 take_less : {A : Type 0} (j k : ℕ) (xs : List A) → j ≤ k → take j (take k xs) ≡ take j xs

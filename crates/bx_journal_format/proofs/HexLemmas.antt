@@ -6,7 +6,7 @@ use Rattle.std.specs.List.{list_all}
 use Rattle.std.proofs.lemmas.Grind.{common_steps}
 use Rattle.std.proofs.lemmas.List.Folds.{list_all-append}
 use Rattle.std.proofs.Math.Nat.{pow-suc, div-add-mod, mod-lt}
-use Rattle.bx_journal_format.specs.Hex.{hex_digits, hex_value, number_after, number_of}
+use Rattle.bx_journal_format.specs.Hex.{hex_digits, hex_nibble, number_after, number_of}
 use Rattle.bx_text.specs.Ascii.{is_printable}
 use Rattle.bx_journal_format.specs.read.Plain.{HasNoNewline}
 use Rattle.bx_journal_format.proofs.Splits.{plain-append}
@@ -19,14 +19,14 @@ length-hex_digits (suc w) n = length-append (hex_digits w (n / 16)) (digit_glyph
 pub number_after-append : (a : ℕ) (xs ys : List ℕ) (b : ℕ) → number_after a xs ≡ Some b → number_after a (xs ++ ys) ≡ number_after b ys
 unfolding number_after
 number_after-append a [] ys b e = let same : a ≡ b = cc in ap (λ k. number_after k ys) same
-number_after-append a (c ∷ xs) ys b e = step (hex_value c) (λ k. number_after-append k xs ys b) e
+number_after-append a (c ∷ xs) ys b e = step (hex_nibble c) (λ k. number_after-append k xs ys b) e
   where
     step : (o : Option ℕ) → ((k : ℕ) → number_after k xs ≡ Some b → number_after k (xs ++ ys) ≡ number_after b ys)
         → option_and_then (λ d. number_after (16 * a + d) xs) o ≡ Some b → option_and_then (λ d. number_after (16 * a + d) (xs ++ ys)) o ≡ number_after b ys
     step None ih e = cc
     step (Some d) ih e = ih (16 * a + d) e
 
-pub hex_value-hex_digit : (d : ℕ) → d < 16 → hex_value (digit_glyph false d) ≡ Some d
+pub hex_value-hex_digit : (d : ℕ) → d < 16 → hex_nibble (digit_glyph false d) ≡ Some d
 hex_value-hex_digit d h = grind (arith, common_steps)
 
 pub number_after-hex_digits : (w n a : ℕ) → n < 16 ^ w → number_after a (hex_digits w n) ≡ Some (16 ^ w * a + n)

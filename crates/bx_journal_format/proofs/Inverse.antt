@@ -12,9 +12,9 @@ use Rattle.bx_image.specs.declared.change.TheConstants.{MAX_LEN}
 use Rattle.bx_journal_format.specs.Kept.{Run, Kept, with_run}
 use Rattle.bx_journal_format.specs.declared.format.version.Version.{Version}
 use Rattle.bx_journal_format.specs.declared.format.version.Version.TheVariants.{First, Second}
-use Rattle.bx_journal_format.specs.Hex.{hex_digits, hex_value, number_after, number_of}
+use Rattle.bx_journal_format.specs.Hex.{hex_digits, hex_nibble, number_after, number_of}
 use Rattle.bx_journal_format.specs.DumpLine.{piece_of}
-use Rattle.bx_journal_format.specs.Line.{digits_of, start_head, start_line, save_line, end_head, end_line, behind, at_most, length_in, after_in, saved_in}
+use Rattle.bx_journal_format.specs.Line.{address_width, start_head, start_line, save_line, end_head, end_line, after_prefix, at_most, length_in, after_in, saved_in}
 use Rattle.bx_journal_format.specs.Text.{IsPrefix, Reading, Entry, Stage, Between, Saving, Ending, IsRest, next_at, begins, may_begin, is_short, begins_with_s}
 use Rattle.bx_journal_format.proofs.EntryRun.{save_rest, short_front}
 
@@ -30,13 +30,13 @@ pub test_some : {A : Type 0} (b : Bool) (x y : A) → (if b then Some x else Non
 test_some true x y e = (refl, cc)
 test_some false x y e = absurd (cc)
 
-pub digit_of : (c d : ℕ) → hex_value c ≡ Some d → (d < 16) × (digit_glyph false d ≡ c)
+pub digit_of : (c d : ℕ) → hex_nibble c ≡ Some d → (d < 16) × (digit_glyph false d ≡ c)
 digit_of c d e = (small c d e, shown c d e)
   where
-    small : (c d : ℕ) → hex_value c ≡ Some d → d < 16
+    small : (c d : ℕ) → hex_nibble c ≡ Some d → d < 16
     small c d e = grind (arith, common_steps)
 
-    shown : (c d : ℕ) → hex_value c ≡ Some d → digit_glyph false d ≡ c
+    shown : (c d : ℕ) → hex_nibble c ≡ Some d → digit_glyph false d ≡ c
     shown c d e = grind (arith, common_steps)
 
 pub digits_after : (t : List ℕ) (w a m : ℕ) → number_after a t ≡ Some m → hex_digits (length t + w) m ≡ hex_digits w a ++ t
@@ -46,7 +46,7 @@ digits_after [] w a m e =
     let none : 0 + w ≡ w = omega arith in
     ap (λ k. hex_digits k m) none ∙ ap (hex_digits w) (sym same) ∙ sym (append-nil (hex_digits w a))
 digits_after (c ∷ t) w a m e =
-    let d = bind_some (λ d. number_after (16 * a + d) t) (hex_value c) m e in
+    let d = bind_some (λ d. number_after (16 * a + d) t) (hex_nibble c) m e in
     let is : (d.0 < 16) × (digit_glyph false d.0 ≡ c) = digit_of c d.0 d.1 in
     let quotient : (16 * a + d.0) / 16 ≡ a = omega (arith, is.0) in
     let remainder : (16 * a + d.0) % 16 ≡ d.0 = omega (arith, is.0) in
@@ -59,7 +59,7 @@ pub below_after : (t : List ℕ) (a m : ℕ) → number_after a t ≡ Some m →
 unfolding number_after
 below_after [] a m e = let same : a ≡ m = cc in omega arith
 below_after (c ∷ t) a m e =
-    let d = bind_some (λ d. number_after (16 * a + d) t) (hex_value c) m e in
+    let d = bind_some (λ d. number_after (16 * a + d) t) (hex_nibble c) m e in
     let is : (d.0 < 16) × (digit_glyph false d.0 ≡ c) = digit_of c d.0 d.1 in
     let below : m < (16 * a + d.0 + 1) * 16 ^ length t = below_after t (16 * a + d.0) m d.2 in
     let more : 16 * a + d.0 + 1 ≤ 16 * (a + 1) = omega (arith, is.0) in
@@ -89,7 +89,7 @@ pub same_bytes : (a b : List ℕ) → bytes_eq a b ≡ true → a ≡ b
 same_bytes a b e = grind (arith, common_steps, bytes_eq-Decides a b)
 
 -- a line that begins with a front is that front and what follows
-behind_back : (front line rest : List ℕ) → behind front line ≡ Some rest → line ≡ front ++ rest
+behind_back : (front line rest : List ℕ) → after_prefix front line ≡ Some rest → line ≡ front ++ rest
 behind_back front line rest e =
     let test = test_some (bytes_eq (take (length front) line) front) (drop (length front) line) rest e in
     let same : take (length front) line ≡ front = same_bytes (take (length front) line) front test.0 in
@@ -104,21 +104,21 @@ most_back limit o m e =
     le_of : (a b : ℕ) → nat_le a b ≡ true → a ≤ b
     le_of a b e = grind (arith, common_steps)
 
-pub start_back : (v : Version) (n : ℕ) (line : List ℕ) (len : ℕ) → length_in v n line ≡ Some len → (line ≡ start_line v n len) × (len ≤ MAX_LEN) × (len < 16 ^ digits_of v)
+pub start_back : (v : Version) (n : ℕ) (line : List ℕ) (len : ℕ) → length_in v n line ≡ Some len → (line ≡ start_line v n len) × (len ≤ MAX_LEN) × (len < 16 ^ address_width v)
 unfolding length_in start_line
 start_back v n line len e =
-    let most : (option_and_then (number_of (digits_of v)) (behind (start_head v n) line) ≡ Some len) × (len ≤ MAX_LEN) = most_back MAX_LEN (option_and_then (number_of (digits_of v)) (behind (start_head v n) line)) len e in
-    let found = bind_some (number_of (digits_of v)) (behind (start_head v n) line) len most.0 in
-    let digits = digits_back (digits_of v) found.0 len found.2 in
+    let most : (option_and_then (number_of (address_width v)) (after_prefix (start_head v n) line) ≡ Some len) × (len ≤ MAX_LEN) = most_back MAX_LEN (option_and_then (number_of (address_width v)) (after_prefix (start_head v n) line)) len e in
+    let found = bind_some (number_of (address_width v)) (after_prefix (start_head v n) line) len most.0 in
+    let digits = digits_back (address_width v) found.0 len found.2 in
     (behind_back (start_head v n) line found.0 found.1 ∙ ap (λ s. start_head v n ++ s) digits.0, most.1, digits.1)
 
-second_back : (n : ℕ) (line : List ℕ) (told : Option ℕ) → option_map Some (at_most MAX_LEN (option_and_then (number_of 16) (behind (end_head Second n) line))) ≡ Some told
+second_back : (n : ℕ) (line : List ℕ) (told : Option ℕ) → option_map Some (at_most MAX_LEN (option_and_then (number_of 16) (after_prefix (end_head Second n) line))) ≡ Some told
     → (after : ℕ) × (after ≤ MAX_LEN) × (line ≡ end_line Second n after)
 unfolding end_line
 second_back n line told e =
-    let some = map_some Some (at_most MAX_LEN (option_and_then (number_of 16) (behind (end_head Second n) line))) told e in
-    let most = most_back MAX_LEN (option_and_then (number_of 16) (behind (end_head Second n) line)) some.0 some.1 in
-    let found = bind_some (number_of 16) (behind (end_head Second n) line) some.0 most.0 in
+    let some = map_some Some (at_most MAX_LEN (option_and_then (number_of 16) (after_prefix (end_head Second n) line))) told e in
+    let most = most_back MAX_LEN (option_and_then (number_of 16) (after_prefix (end_head Second n) line)) some.0 some.1 in
+    let found = bind_some (number_of 16) (after_prefix (end_head Second n) line) some.0 most.0 in
     let digits = digits_back 16 found.0 some.0 found.2 in
     (some.0, most.1, behind_back (end_head Second n) line found.0 found.1 ∙ ap (λ s. end_head Second n ++ s) digits.0)
 
@@ -141,7 +141,7 @@ piece_apart (b ∷ bytes) p e = apart (eqb b 115) refl
 
 -- the stage that a line that begins an entry leads to
 abbrev Begun : List Entry → List ℕ → Stage → Type 0
-Begun es line stage = (v : Version) × (len : ℕ) × (length es < 65535) × (len ≤ MAX_LEN) × (len < 16 ^ digits_of v) × (may_begin es len ≡ true)
+Begun es line stage = (v : Version) × (len : ℕ) × (length es < 65535) × (len ≤ MAX_LEN) × (len < 16 ^ address_width v) × (may_begin es len ≡ true)
     × (line ≡ start_line v (suc (length es)) len) × (stage ≡ Saving v (record { len = len; runs = [] }))
 
 begins_back : (es : List Entry) (v : Version) (line : List ℕ) (stage : Stage) → length es < 65535 → begins es v line ≡ Some stage → Begun es line stage

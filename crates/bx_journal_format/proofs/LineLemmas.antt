@@ -11,7 +11,7 @@ use Rattle.bx_image.specs.declared.change.TheConstants.{MAX_LEN}
 use Rattle.bx_journal_format.specs.declared.format.version.Version.{Version}
 use Rattle.bx_journal_format.specs.declared.format.version.Version.TheVariants.{First, Second}
 use Rattle.bx_journal_format.specs.Hex.{hex_digits, number_after, number_of}
-use Rattle.bx_journal_format.specs.Line.{digits_of, start_head, start_line, save_line, end_head, end_line, behind, at_most, length_in, after_in, start_size}
+use Rattle.bx_journal_format.specs.Line.{address_width, start_head, start_line, save_line, end_head, end_line, after_prefix, at_most, length_in, after_in, start_size}
 use Rattle.bx_text.specs.Ascii.{is_printable}
 use Rattle.bx_journal_format.specs.Text.{is_short}
 use Rattle.bx_journal_format.specs.read.Plain.{HasNoNewline}
@@ -21,16 +21,16 @@ use Rattle.bx_journal_format.proofs.HexLemmas.{length-hex_digits, number_of-hex_
 pub bytes_eq-same : (a : List ℕ) → bytes_eq a a ≡ true
 bytes_eq-same a = grind (arith, common_steps, bytes_eq-Decides a a)
 
-pub behind_front : (front line : List ℕ) → behind front (front ++ line) ≡ Some line
+pub behind_front : (front line : List ℕ) → after_prefix front (front ++ line) ≡ Some line
 behind_front front line = rw (take-append_seam front line, bytes_eq-same front, drop-append_seam front line) refl
 
 pub at_most-Some : (n limit : ℕ) → n ≤ limit → at_most limit (Some n) ≡ Some n
 at_most-Some n limit h = grind (arith, common_steps)
 
-pub start_reads : (v : Version) (n len : ℕ) → len ≤ MAX_LEN → len < 16 ^ digits_of v → length_in v n (start_line v n len) ≡ Some len
+pub start_reads : (v : Version) (n len : ℕ) → len ≤ MAX_LEN → len < 16 ^ address_width v → length_in v n (start_line v n len) ≡ Some len
 unfolding length_in start_line
 start_reads v n len most fits =
-    rw (behind_front (start_head v n) (hex_digits (digits_of v) len), number_of-hex_digits (digits_of v) len fits) (at_most-Some len MAX_LEN most)
+    rw (behind_front (start_head v n) (hex_digits (address_width v) len), number_of-hex_digits (address_width v) len fits) (at_most-Some len MAX_LEN most)
 
 pub first_not_second : (n m len : ℕ) → length_in First m (start_line Second n len) ≡ None
 unfolding length_in start_line start_head hex_digits
@@ -87,7 +87,7 @@ short_save n = short_of (codes "save " ++ hex_digits 8 n)
     (omega (arith, length-append (codes "save ") (hex_digits 8 n), length-hex_digits 8 n))
     (rw (list_all-append is_printable (codes "save ") (hex_digits 8 n), printable-hex_digits 8 n) refl)
 
-pub head_size : (v : Version) (n : ℕ) → length (start_head v n) + digits_of v ≡ start_size v
+pub head_size : (v : Version) (n : ℕ) → length (start_head v n) + address_width v ≡ start_size v
 unfolding start_head
 head_size First n = omega (arith, length-append (codes "change ") (hex_digits 8 n ++ codes " "), length-append (hex_digits 8 n) (codes " "), length-hex_digits 8 n)
 head_size Second n = omega (arith, length-append (codes "change2 ") (hex_digits 8 n ++ codes " "), length-append (hex_digits 8 n) (codes " "), length-hex_digits 8 n)
@@ -102,7 +102,7 @@ other_width width text apart = by (length text == width) refl
         same : (m n : ℕ) → m == n ≡ true → m ≡ n
         same m n e = grind (arith, common_steps)
 
-some_digits : (v : Version) → 0 < digits_of v
+some_digits : (v : Version) → 0 < address_width v
 some_digits First = omega arith
 some_digits Second = omega arith
 
@@ -111,7 +111,7 @@ pub other_size : (v : Version) (n : ℕ) (line : List ℕ) → (length line ≡ 
 unfolding length_in
 other_size v n line apart = by (bytes_eq (take (length (start_head v n)) line) (start_head v n))
   where
-    by : (b : Bool) → at_most MAX_LEN (option_and_then (number_of (digits_of v)) (if b then Some (drop (length (start_head v n)) line) else None)) ≡ None
+    by : (b : Bool) → at_most MAX_LEN (option_and_then (number_of (address_width v)) (if b then Some (drop (length (start_head v n)) line) else None)) ≡ None
     by false = refl
     by true =
-        rw (other_width (digits_of v) (drop (length (start_head v n)) line) (λ h. apart (omega (arith, h, length-drop (length (start_head v n)) line, head_size v n, some_digits v)))) refl
+        rw (other_width (address_width v) (drop (length (start_head v n)) line) (λ h. apart (omega (arith, h, length-drop (length (start_head v n)) line, head_size v n, some_digits v)))) refl

@@ -10,10 +10,10 @@ use Rattle.bx_journal_format.specs.declared.read.rows.Summed.{Summed}
 use Rattle.bx_journal_format.specs.Kept.{Run, Kept, with_run}
 use Rattle.bx_journal_format.specs.Line.{save_line, saved_in}
 use Rattle.bx_journal_format.specs.Spelled.{EntryLines, GiveRuns, entry_in, lines_of, runs_behind}
-use Rattle.bx_journal_format.specs.Text.{Entry, Stage, Between, Saving, Ending, Reading, Split, ended, joined, split, start, after_lines}
+use Rattle.bx_journal_format.specs.Text.{Entry, Stage, Between, Saving, Ending, Reading, Split, ended, text_of_lines, split, start, after_lines}
 use Rattle.bx_journal_format.specs.read.Event.{kept_with}
 use Rattle.bx_journal_format.specs.read.Followed.{AreFullSaved, BeginsFull}
-use Rattle.bx_journal_format.specs.count.Marks.{GoOnWith, IsBegun, IsMarked, IsMarkedOn, ended_mark, mark_of, marks_of, size_of}
+use Rattle.bx_journal_format.specs.count.Marks.{GoOnWith, IsBegun, IsMarked, IsMarkedOn, ended_mark, mark_of, marks_of, lines_size}
 use Rattle.bx_journal_format.specs.read.Plain.{HasNoNewline}
 use Rattle.bx_journal_format.specs.count.Rows.{SumsTo, summed_of, with_more}
 use Rattle.bx_journal_format.specs.count.Tally.{AreFullAt, place_of}
@@ -57,9 +57,9 @@ module _ (text line : List ℕ) (marks : List Mark) (now : Marking) (sums : Summ
   whole_is = ap (λ (s : Split). s.rest) parts
 
   -- how many bytes all lines have
-  size_is : (ls : List (List ℕ)) (after : ℕ) → (split text).lines ++ line ∷ [] ≡ ls → after ≡ length text + length line + 1 → after ≡ size_of ls
+  size_is : (ls : List (List ℕ)) (after : ℕ) → (split text).lines ++ line ∷ [] ≡ ls → after ≡ length text + length line + 1 → after ≡ lines_size ls
   size_is ls after is long =
-      let all : joined ls ≡ text ++ ended line = ap joined (sym (lines_are ∙ is)) ∙ joined_lines (text ++ ended line) whole_is in
+      let all : text_of_lines ls ≡ text ++ ended line = ap text_of_lines (sym (lines_are ∙ is)) ∙ joined_lines (text ++ ended line) whole_is in
       omega (arith, long, ap length all, length-append text (ended line), length-append line (10 ∷ []))
 
   marked : (from to : ℕ) (es : List EntryLines) (behind : List (List ℕ)) (new : List Mark) → map entry_in es ≡ q.entries → (split text).lines ++ line ∷ [] ≡ lines_of es ++ behind
@@ -171,7 +171,7 @@ module _ (text line : List ℕ) (marks : List Mark) (now : Marking) (sums : Summ
       let behind : h.behind ++ line ∷ [] ≡ b.first ∷ (b.saved ++ save_line (suc (length h.entries)) ∷ line ∷ []) =
       ap (λ ls. ls ++ line ∷ []) b.is ∙ ap (λ ls. b.first ∷ ls) (append_assoc b.saved (save_line (suc (length h.entries)) ∷ []) (line ∷ [])) in
       let mark : mark_of h.entries c ≡ record { from = now.from; to = now.to; len = sums.len; after = sums.tally.told; saved = sums.saved } =
-      ap (λ n. record { from = n; to = size_of (lines_of h.entries ++ b.first ∷ b.saved); len = s.len; after = told; saved = (summed_of (record { entries = entry ∷ h.reading.entries; stage = Between })).saved }) (sym b.begins)
+      ap (λ n. record { from = n; to = lines_size (lines_of h.entries ++ b.first ∷ b.saved); len = s.len; after = told; saved = (summed_of (record { entries = entry ∷ h.reading.entries; stage = Between })).saved }) (sym b.begins)
       ∙ ap (λ n. record { from = now.from; to = n; len = s.len; after = told; saved = (summed_of (record { entries = entry ∷ h.reading.entries; stage = Between })).saved }) (sym b.ends)
       ∙ ap (λ (z : Summed). record { from = now.from; to = now.to; len = z.len; after = z.tally.told; saved = z.saved }) sums_are in
       let pushed : marks ++ ended_mark sums.tally.place (record { sums = sums; from = now.from; to = now.to }) ≡ marks_of h.entries ++ mark_of h.entries c ∷ [] =
@@ -205,7 +205,7 @@ to_is text marks m v n at h =
     let s : Kept = was.0 in
     let b : IsBegun h.entries s.len s.runs [] h.behind m.from m.to = subst (λ z. GoOnWith h.entries z h.behind m.from m.to) was.1 h.goes_on in
     let lines : (split text).lines ≡ lines_of h.entries ++ b.first ∷ b.saved = h.lines ∙ ap (λ ls. lines_of h.entries ++ ls) (b.is ∙ ap (λ ls. b.first ∷ ls) (append-nil b.saved)) in
-    b.ends ∙ ap length (ap joined (sym lines) ∙ joined_lines text h.whole)
+    b.ends ∙ ap length (ap text_of_lines (sym lines) ∙ joined_lines text h.whole)
 
 -- this many full lines more
 marked_by : (front text : List ℕ) (m : Marking) (marks : List Mark) (v : Version) (len count k : ℕ) → m.sums.tally.place ≡ SavingPlace v len → AreFullSaved len text count → k ≤ count

@@ -3,7 +3,7 @@ use Rattle.std.proofs.Common.{◌≡◌, ℕ, zero, suc, ◌<◌, Bool, true, fa
 use Rattle.std.specs.Prelude.{if◌then◌else◌}
 use Rattle.std.specs.Str.{bytes_eq}
 use Rattle.std.proofs.lemmas.List.{ext_get_or, length-append, take-append-drop}
-use Rattle.bx_journal_format.specs.Line.{behind}
+use Rattle.bx_journal_format.specs.Line.{after_prefix}
 use Rattle.bx_journal_format.proofs.Inverse.{same_bytes}
 use Rattle.bx_journal_format.proofs.LineLemmas.{bytes_eq-same, behind_front}
 
@@ -36,7 +36,7 @@ fronts (x ∷ a) (y ∷ w) r s long e =
     let more = fronts a w r s (omega (arith, long)) tail in
     ((λ i. head i ∷ more.0 i), more.1)
 
-behind_not : (front line : List ℕ) → ((rest : List ℕ) → line ≡ front ++ rest → ⊥) → behind front line ≡ None
+behind_not : (front line : List ℕ) → ((rest : List ℕ) → line ≡ front ++ rest → ⊥) → after_prefix front line ≡ None
 behind_not front line apart = by (bytes_eq (take (length front) line) front) refl
   where
     by : (t : Bool) → bytes_eq (take (length front) line) front ≡ t → (if t then Some (drop (length front) line) else None) ≡ None
@@ -56,25 +56,25 @@ module _ (word number line a r b s c rest : List ℕ) (first : line ≡ a ++ r) 
       let two = fronts b number (c ++ rest) (32 ∷ more) lb one.1 in
       (one.0, two.0, two.1)
 
-  pub no_word : bytes_eq a word ≡ false → behind (word ++ number ++ 32 ∷ []) line ≡ None
+  pub no_word : bytes_eq a word ≡ false → after_prefix (word ++ number ++ 32 ∷ []) line ≡ None
   no_word other = behind_not (word ++ number ++ 32 ∷ []) line (λ more e. differ a word other (parts_of more e).0)
 
-  pub no_number : bytes_eq b number ≡ false → behind (word ++ number ++ 32 ∷ []) line ≡ None
+  pub no_number : bytes_eq b number ≡ false → after_prefix (word ++ number ++ 32 ∷ []) line ≡ None
   no_number other = behind_not (word ++ number ++ 32 ∷ []) line (λ more e. differ b number other (parts_of more e).1)
 
-  pub no_space : length c ≡ 1 → (get_or c 0 0 ≡ 32 → ⊥) → behind (word ++ number ++ 32 ∷ []) line ≡ None
+  pub no_space : length c ≡ 1 → (get_or c 0 0 ≡ 32 → ⊥) → after_prefix (word ++ number ++ 32 ∷ []) line ≡ None
   no_space lc other = behind_not (word ++ number ++ 32 ∷ []) line (λ more e. other (at_head c lc more (parts_of more e).2))
     where
       at_head : (c : List ℕ) → length c ≡ 1 → (more : List ℕ) → c ++ rest ≡ 32 ∷ more → get_or c 0 0 ≡ 32
       at_head [] lc more e = absurd (omega (arith, lc))
       at_head (x ∷ c) lc more e = cc
 
-  pub all_there : bytes_eq a word ≡ true → bytes_eq b number ≡ true → length c ≡ 1 → get_or c 0 0 ≡ 32 → behind (word ++ number ++ 32 ∷ []) line ≡ Some rest
+  pub all_there : bytes_eq a word ≡ true → bytes_eq b number ≡ true → length c ≡ 1 → get_or c 0 0 ≡ 32 → after_prefix (word ++ number ++ 32 ∷ []) line ≡ Some rest
   all_there yes_a yes_b lc space =
       let one : c ≡ 32 ∷ [] = ext_get_or 0 c (32 ∷ []) lc (λ k inside. at_first k (omega (arith, inside, lc))) in
       let spelled : line ≡ word ++ number ++ 32 ∷ [] ++ rest =
       is ∙ (λ i. same_bytes a word yes_a i ++ (same_bytes b number yes_b i ++ (one i ++ rest))) ∙ sym (append_assoc word number (32 ∷ rest)) ∙ sym (append_assoc (word ++ number) (32 ∷ []) rest) in
-      ap (behind (word ++ number ++ 32 ∷ [])) spelled ∙ behind_front (word ++ number ++ 32 ∷ []) rest
+      ap (after_prefix (word ++ number ++ 32 ∷ [])) spelled ∙ behind_front (word ++ number ++ 32 ∷ []) rest
     where
       at_first : (k : ℕ) → k < 1 → get_or c k 0 ≡ get_or (32 ∷ []) k 0
       at_first zero h = space
@@ -95,5 +95,5 @@ module _ (word number line a b : List ℕ) (is : line ≡ a ++ b) (la : length a
 pub other_length : (line front : List ℕ) → (length line ≡ length front → ⊥) → bytes_eq line front ≡ false
 other_length line front apart = bytes_apart line front (λ e. apart (ap length e))
 
-pub too_short : (front line : List ℕ) → length line < length front → behind front line ≡ None
+pub too_short : (front line : List ℕ) → length line < length front → after_prefix front line ≡ None
 too_short front line short = behind_not front line (λ rest e. absurd (omega (arith, short, ap length e, length-append front rest)))

@@ -7,7 +7,7 @@ use Rattle.std.proofs.lemmas.Bool.{and_parts, and_from, and_left, and_right, or_
 use Rattle.bx_text.specs.Ascii.{is_printable}
 use Rattle.bx_journal_format.specs.Hex.{hex_digits}
 use Rattle.bx_journal_format.specs.Line.{start_line, start_head, save_line, end_line}
-use Rattle.bx_journal_format.specs.Text.{ended, joined, split, is_short, Entry, Stage, Between, Saving, Ending, Reading, Reads, IsRest, IsPrefix, start, after_lines}
+use Rattle.bx_journal_format.specs.Text.{ended, text_of_lines, split, is_short, Entry, Stage, Between, Saving, Ending, Reading, Reads, IsRest, IsPrefix, start, after_lines}
 use Rattle.bx_journal_format.specs.Shown.{begins_with, ends_line, has_end, is_text_byte}
 use Rattle.bx_journal_format.specs.declared.format.version.Version.{Version}
 use Rattle.bx_journal_format.specs.declared.format.version.Version.TheVariants.{First, Second}
@@ -42,10 +42,10 @@ rest_prints es (Saving v s) rest (inr is) = short_prints rest is.1
 rest_prints es (Ending v s) rest is = front_prints rest (end_line v (suc (length es)) is.0) is.2 (end_prints v (suc (length es)) is.0)
 
 -- a text of short lines and such an end has bytes of a text alone
-pub sound_plain : (text : List ℕ) (r : Reading) → joined (split text).lines ++ (split text).rest ≡ text → list_all is_short (split text).lines ≡ true → Reads text r → list_all is_text_byte text ≡ true
+pub sound_plain : (text : List ℕ) (r : Reading) → text_of_lines (split text).lines ++ (split text).rest ≡ text → list_all is_short (split text).lines ≡ true → Reads text r → list_all is_text_byte text ≡ true
 sound_plain text r whole short reads =
-    ap (list_all is_text_byte) (sym whole) ∙ list_all-append is_text_byte (joined (split text).lines) (split text).rest
-    ∙ and_from (list_all is_text_byte (joined (split text).lines)) (list_all is_text_byte (split text).rest) (lines_plain (split text).lines short)
+    ap (list_all is_text_byte) (sym whole) ∙ list_all-append is_text_byte (text_of_lines (split text).lines) (split text).rest
+    ∙ and_from (list_all is_text_byte (text_of_lines (split text).lines)) (list_all is_text_byte (split text).rest) (lines_plain (split text).lines short)
     (line_plain (split text).rest (rest_prints r.entries r.stage (split text).rest reads.rest))
 
 plain_ends : (rest : List ℕ) → HasNoNewline rest → ends_line rest ≡ false
@@ -62,18 +62,18 @@ unfolding has_end
 plain_calm [] plain = refl
 plain_calm (b ∷ rest) plain = rw (plain.0) (plain_calm rest plain.1)
 
-rest_lines_calm : (ls : List (List ℕ)) (rest : List ℕ) → AllPlain ls → AllUnended ls → HasNoNewline rest → has_end (10 ∷ (joined ls ++ rest)) ≡ false
+rest_lines_calm : (ls : List (List ℕ)) (rest : List ℕ) → AllPlain ls → AllUnended ls → HasNoNewline rest → has_end (10 ∷ (text_of_lines ls ++ rest)) ≡ false
 unfolding has_end begins_with
 rest_lines_calm [] rest plain none end =
     or_from (begins_with word rest && ends_line rest) (has_end rest) (ap (λ e. begins_with word rest && e) (plain_ends rest end) ∙ and_right (begins_with word rest) false refl) (plain_calm rest end)
 rest_lines_calm (l ∷ ls) rest plain none end =
-    let more : List ℕ = joined ls ++ rest in
-    let whole : joined (l ∷ ls) ++ rest ≡ l ++ 10 ∷ (joined ls ++ rest) = append_assoc (ended l) (joined ls) rest ∙ append_assoc l (10 ∷ []) (joined ls ++ rest) in
-    let first : begins_with word (joined (l ∷ ls) ++ rest) ≡ false =
-    false_from_ne_true _ (λ is. both_ways (begins_with word l) none.0 (begins_line word l (joined ls ++ rest) (refl, (refl, (refl, (refl, tt)))) (subst (λ t. begins_with word t ≡ true) whole is))) in
-    let later : has_end (joined (l ∷ ls) ++ rest) ≡ false = ap has_end whole ∙ calm_line l (joined ls ++ rest) plain.0 ∙ rest_lines_calm ls rest plain.1 none.1 end in
-    or_from (begins_with word (joined (l ∷ ls) ++ rest) && ends_line (joined (l ∷ ls) ++ rest)) (has_end (joined (l ∷ ls) ++ rest))
-    (and_left (begins_with word (joined (l ∷ ls) ++ rest)) (ends_line (joined (l ∷ ls) ++ rest)) first) later
+    let more : List ℕ = text_of_lines ls ++ rest in
+    let whole : text_of_lines (l ∷ ls) ++ rest ≡ l ++ 10 ∷ (text_of_lines ls ++ rest) = append_assoc (ended l) (text_of_lines ls) rest ∙ append_assoc l (10 ∷ []) (text_of_lines ls ++ rest) in
+    let first : begins_with word (text_of_lines (l ∷ ls) ++ rest) ≡ false =
+    false_from_ne_true _ (λ is. both_ways (begins_with word l) none.0 (begins_line word l (text_of_lines ls ++ rest) (refl, (refl, (refl, (refl, tt)))) (subst (λ t. begins_with word t ≡ true) whole is))) in
+    let later : has_end (text_of_lines (l ∷ ls) ++ rest) ≡ false = ap has_end whole ∙ calm_line l (text_of_lines ls ++ rest) plain.0 ∙ rest_lines_calm ls rest plain.1 none.1 end in
+    or_from (begins_with word (text_of_lines (l ∷ ls) ++ rest) && ends_line (text_of_lines (l ∷ ls) ++ rest)) (has_end (text_of_lines (l ∷ ls) ++ rest))
+    (and_left (begins_with word (text_of_lines (l ∷ ls) ++ rest)) (ends_line (text_of_lines (l ∷ ls) ++ rest)) first) later
 
 or_second : (a b : Bool) → (a || b) ≡ false → b ≡ false
 or_second true b e = absurd (both_ways true e refl)
@@ -81,11 +81,11 @@ or_second false b e = e
 
 -- what stands behind a mark, with what is unfinished at its end
 pub unfinished_calm : (text : List ℕ) (n : ℕ) (r q : Reading) → IsMark text n r → after_lines start (split text).lines ≡ Some q → length q.entries ≡ length r.entries
-    → joined (split (drop n text)).lines ++ (split (drop n text)).rest ≡ drop n text → HasNoNewline (split (drop n text)).rest → has_end (drop n text) ≡ false
+    → text_of_lines (split (drop n text)).lines ++ (split (drop n text)).rest ≡ drop n text → HasNoNewline (split (drop n text)).rest → has_end (drop n text) ≡ false
 unfolding has_end
 unfinished_calm text n r q mark reads same whole plain =
     let ls : List (List ℕ) = (split (drop n text)).lines in
     let rest : List ℕ = (split (drop n text)).rest in
-    let calm : has_end (10 ∷ (joined (split (drop n text)).lines ++ (split (drop n text)).rest)) ≡ false =
+    let calm : has_end (10 ∷ (text_of_lines (split (drop n text)).lines ++ (split (drop n text)).rest)) ≡ false =
     rest_lines_calm (split (drop n text)).lines (split (drop n text)).rest (split_plain (drop n text)) (lines_unended (split (drop n text)).lines r q (on_behind text n r q mark reads) same) plain in
-    ap has_end (sym whole) ∙ or_second (begins_with word (joined (split (drop n text)).lines ++ (split (drop n text)).rest) && ends_line (joined (split (drop n text)).lines ++ (split (drop n text)).rest)) (has_end (joined (split (drop n text)).lines ++ (split (drop n text)).rest)) calm
+    ap has_end (sym whole) ∙ or_second (begins_with word (text_of_lines (split (drop n text)).lines ++ (split (drop n text)).rest) && ends_line (text_of_lines (split (drop n text)).lines ++ (split (drop n text)).rest)) (has_end (text_of_lines (split (drop n text)).lines ++ (split (drop n text)).rest)) calm

@@ -2,7 +2,7 @@
 use Rattle.std.proofs.Common.{◌≡◌, ℕ, true, List, [], ◌∷◌, ◌++◌, refl, ap, subst, inl, inr, arith, append_assoc, Option, Some, None}
 use Rattle.std.specs.Prelude.{option_and_then}
 use Rattle.std.specs.List.{list_all}
-use Rattle.bx_journal_format.specs.Text.{split, Split, joined, IsPrefix, Reading, Entry, Stage, Between, Saving, Ending, IsRest, after_lines, is_short, next}
+use Rattle.bx_journal_format.specs.Text.{split, Split, text_of_lines, IsPrefix, Reading, Entry, Stage, Between, Saving, Ending, IsRest, after_lines, is_short, next}
 use Rattle.bx_journal_format.specs.read.Plain.{HasNoNewline}
 use Rattle.bx_journal_format.proofs.Splits.{plain_front, split-ended, split-plain, front_cases}
 
@@ -66,25 +66,25 @@ pub record GoesAllBy (Q E : Reading → Type 0) (r : Reading) (s : Split) : Type
   pub ends : E reading
   pub short : list_all is_short s.lines ≡ true
 
-all_on : (Q E : Reading → Type 0) (r q : Reading) (l : List ℕ) (ls : List (List ℕ)) → HasNoNewline l → is_short l ≡ true → next r l ≡ Some q → GoesAllBy Q E q (split (joined ls)) → GoesAllBy Q E r (split (joined (l ∷ ls)))
+all_on : (Q E : Reading → Type 0) (r q : Reading) (l : List ℕ) (ls : List (List ℕ)) → HasNoNewline l → is_short l ≡ true → next r l ≡ Some q → GoesAllBy Q E q (split (text_of_lines ls)) → GoesAllBy Q E r (split (text_of_lines (l ∷ ls)))
 unfolding after_lines
 all_on Q E r q l ls plain short is g =
-    rw (append_assoc l (10 ∷ []) (joined ls), split-ended l (joined ls) plain) (record { reading = g.reading; lines = rw is g.lines; whole = g.whole; has = g.has; ends = g.ends; short = rw short g.short })
+    rw (append_assoc l (10 ∷ []) (text_of_lines ls), split-ended l (text_of_lines ls) plain) (record { reading = g.reading; lines = rw is g.lines; whole = g.whole; has = g.has; ends = g.ends; short = rw short g.short })
 
-pub safe_prefix : (Q E : Reading → Type 0) (r : Reading) (ls : List (List ℕ)) → SafeRun Q E r ls → (p : List ℕ) → IsPrefix p (joined ls) → Goes Q r p
+pub safe_prefix : (Q E : Reading → Type 0) (r : Reading) (ls : List (List ℕ)) → SafeRun Q E r ls → (p : List ℕ) → IsPrefix p (text_of_lines ls) → Goes Q r p
 unfolding after_lines split
 safe_prefix Q E r [] run [] front = record { reading = r; lines = refl; rest = empty_rest r.entries r.stage; has = run.0; short = refl }
 safe_prefix Q E r [] run (b ∷ p) front = absurd (let e : [] ≡ b ∷ (p ++ front.0) = front.1 in cc)
 safe_prefix Q E r (l ∷ ls) run p front =
-    let whole : l ++ 10 ∷ joined ls ≡ p ++ front.0 = rw append_assoc at front.1 in
-    elim (front_cases l (joined ls) p front.0 whole) [
+    let whole : l ++ 10 ∷ text_of_lines ls ≡ p ++ front.0 = rw append_assoc at front.1 in
+    elim (front_cases l (text_of_lines ls) p front.0 whole) [
       | inl h ↦ safe_front Q r l p run.0 run.1 run.2 h
       | inr h ↦ rw (h.1) (goes_on Q r run.4.0 l h.0 run.2 run.3 run.4.1 (safe_prefix Q E run.4.0 ls run.4.2 h.0 (front.0, h.2)))
     ]
 
-pub safe_all : (Q E : Reading → Type 0) (r : Reading) (ls : List (List ℕ)) → SafeRun Q E r ls → GoesAllBy Q E r (split (joined ls))
+pub safe_all : (Q E : Reading → Type 0) (r : Reading) (ls : List (List ℕ)) → SafeRun Q E r ls → GoesAllBy Q E r (split (text_of_lines ls))
 unfolding after_lines split
 safe_all Q E r [] run = record { reading = r; lines = refl; whole = refl; has = run.0; ends = run.1; short = refl }
 safe_all Q E r (l ∷ ls) run =
-    let g : GoesAllBy Q E run.4.0 (split (joined ls)) = safe_all Q E run.4.0 ls run.4.2 in
+    let g : GoesAllBy Q E run.4.0 (split (text_of_lines ls)) = safe_all Q E run.4.0 ls run.4.2 in
     all_on Q E r run.4.0 l ls run.2 run.3 run.4.1 g

@@ -1,7 +1,7 @@
 -- How a text splits into lines.
 use Rattle.std.proofs.Common.{◌≡◌, ℕ, Bool, true, false, cond, eqb, List, [], ◌∷◌, ◌++◌, refl, ap, ◌∙◌, inl, inr, ◌⊎◌}
 use Rattle.bx_journal_format.specs.read.Plain.{HasNoNewline}
-use Rattle.bx_journal_format.specs.Text.{split, Split, with_front, IsPrefix}
+use Rattle.bx_journal_format.specs.Text.{split, Split, with_first_byte, IsPrefix}
 
 abbrev pub AllPlain : List (List ℕ) → Type 0
 AllPlain [] = Unit {0}
@@ -18,12 +18,12 @@ plain_front (x ∷ a) b p = (p.0, plain_front a b p.1)
 pub split-ended : (l rest : List ℕ) → HasNoNewline l → split (l ++ 10 ∷ rest) ≡ record { lines = l ∷ (split rest).lines; rest = (split rest).rest }
 unfolding split
 split-ended [] rest p = refl
-split-ended (b ∷ l) rest p = rw (p.0) (ap (with_front b) (split-ended l rest p.1))
+split-ended (b ∷ l) rest p = rw (p.0) (ap (with_first_byte b) (split-ended l rest p.1))
 
 pub split-plain : (l : List ℕ) → HasNoNewline l → split l ≡ record { lines = []; rest = l }
 unfolding split
 split-plain [] p = refl
-split-plain (b ∷ l) p = rw (p.0) (ap (with_front b) (split-plain l p.1))
+split-plain (b ∷ l) p = rw (p.0) (ap (with_first_byte b) (split-plain l p.1))
 
 -- a front of a line with its newline and what follows: a front of the line, or the line and a front of the rest
 pub front_cases : (l rest p more : List ℕ) → l ++ 10 ∷ rest ≡ p ++ more → (IsPrefix p l) ⊎ ((q : List ℕ) × (p ≡ l ++ 10 ∷ q) × (rest ≡ q ++ more))
@@ -37,12 +37,12 @@ front_cases (b ∷ l) rest (c ∷ p) more e =
       | inr h ↦ inr (h.0, cc, h.2)
     ]
 
-split_front : (b : ℕ) (lines : List (List ℕ)) (rest : List ℕ) (t : Split) → (with_front b (record { lines = lines; rest = rest })).rest ≡ []
-    → with_front b (record { lines = lines ++ t.lines; rest = t.rest }) ≡ record { lines = (with_front b (record { lines = lines; rest = rest })).lines ++ t.lines; rest = t.rest }
+split_front : (b : ℕ) (lines : List (List ℕ)) (rest : List ℕ) (t : Split) → (with_first_byte b (record { lines = lines; rest = rest })).rest ≡ []
+    → with_first_byte b (record { lines = lines ++ t.lines; rest = t.rest }) ≡ record { lines = (with_first_byte b (record { lines = lines; rest = rest })).lines ++ t.lines; rest = t.rest }
 split_front b [] rest t e = cc
 split_front b (l ∷ lines) rest t e = refl
 
-front_rest_empty : (b : ℕ) (lines : List (List ℕ)) (rest : List ℕ) → (with_front b (record { lines = lines; rest = rest })).rest ≡ [] → rest ≡ []
+front_rest_empty : (b : ℕ) (lines : List (List ℕ)) (rest : List ℕ) → (with_first_byte b (record { lines = lines; rest = rest })).rest ≡ [] → rest ≡ []
 front_rest_empty b [] rest e = cc
 front_rest_empty b (l ∷ lines) rest e = e
 
@@ -53,8 +53,8 @@ split-append [] b e = refl
 split-append (x ∷ a) b e = append_cons x a b (eqb x 10) (split-append a b) e
   where
     append_cons : (x : ℕ) (a b : List ℕ) (is : Bool) → ((split a).rest ≡ [] → split (a ++ b) ≡ record { lines = (split a).lines ++ (split b).lines; rest = (split b).rest })
-        → (cond is (record { lines = [] ∷ (split a).lines; rest = (split a).rest }) (with_front x (split a))).rest ≡ []
-        → cond is (record { lines = [] ∷ (split (a ++ b)).lines; rest = (split (a ++ b)).rest }) (with_front x (split (a ++ b)))
-        ≡ record { lines = (cond is (record { lines = [] ∷ (split a).lines; rest = (split a).rest }) (with_front x (split a))).lines ++ (split b).lines; rest = (split b).rest }
+        → (cond is (record { lines = [] ∷ (split a).lines; rest = (split a).rest }) (with_first_byte x (split a))).rest ≡ []
+        → cond is (record { lines = [] ∷ (split (a ++ b)).lines; rest = (split (a ++ b)).rest }) (with_first_byte x (split (a ++ b)))
+        ≡ record { lines = (cond is (record { lines = [] ∷ (split a).lines; rest = (split a).rest }) (with_first_byte x (split a))).lines ++ (split b).lines; rest = (split b).rest }
     append_cons x a b true ih e = ap (λ (s : Split). record { lines = [] ∷ s.lines; rest = s.rest }) (ih e)
-    append_cons x a b false ih e = ap (with_front x) (ih (front_rest_empty x (split a).lines (split a).rest e)) ∙ split_front x (split a).lines (split a).rest (split b) e
+    append_cons x a b false ih e = ap (with_first_byte x) (ih (front_rest_empty x (split a).lines (split a).rest e)) ∙ split_front x (split a).lines (split a).rest (split b) e

@@ -18,7 +18,7 @@ use Rattle.bx_journal_format.specs.Line.{start_head, start_line, save_line}
 use Rattle.bx_journal_format.specs.Hex.{hex_digits}
 use Rattle.bx_journal_format.specs.DumpLine.{dump_line}
 use Rattle.bx_journal_format.specs.Entry.{rows, head_lines, head_text, rows_text, row}
-use Rattle.bx_journal_format.specs.Text.{ended, joined}
+use Rattle.bx_journal_format.specs.Text.{ended, text_of_lines}
 use Rattle.bx_journal_format.proofs.HexLemmas.{length-hex_digits}
 
 range_more : (a n : ℕ) → range_with_len a (n + 1) ≡ range_with_len a n ++ (a + n) ∷ []
@@ -31,8 +31,8 @@ range_more a (suc n) =
 abbrev pub lines_of : List Run → List (List ℕ)
 lines_of rows = map (λ (p : Run). dump_line p.at p.bytes) rows
 
-pub lines_more : (rows more : List Run) → joined (lines_of (rows ++ more)) ≡ joined (lines_of rows) ++ joined (lines_of more)
-lines_more rows more = ap joined (map-append (λ (p : Run). dump_line p.at p.bytes) rows more) ∙ flat_map-append ended (lines_of rows) (lines_of more)
+pub lines_more : (rows more : List Run) → text_of_lines (lines_of (rows ++ more)) ≡ text_of_lines (lines_of rows) ++ text_of_lines (lines_of more)
+lines_more rows more = ap text_of_lines (map-append (λ (p : Run). dump_line p.at p.bytes) rows more) ∙ flat_map-append ended (lines_of rows) (lines_of more)
 
 range_split : (a m n : ℕ) → range_with_len a (m + n) ≡ range_with_len a m ++ range_with_len (a + m) n
 range_split a zero n =
@@ -47,16 +47,16 @@ range_split a (suc m) n =
 -- rows of a run from a place on, and one more
 pub row_more_at : (run : Run) (a k : ℕ) → rows_text (map (row run) (range_with_len a (k + 1))) ≡ rows_text (map (row run) (range_with_len a k)) ++ ended (dump_line (row run (a + k)).at (row run (a + k)).bytes)
 row_more_at run a k =
-    ap (λ ks. joined (lines_of (map (row run) ks))) (range_more a k)
-    ∙ ap (λ ps. joined (lines_of ps)) (map-append (row run) (range_with_len a k) ((a + k) ∷ []))
+    ap (λ ks. text_of_lines (lines_of (map (row run) ks))) (range_more a k)
+    ∙ ap (λ ps. text_of_lines (lines_of ps)) (map-append (row run) (range_with_len a k) ((a + k) ∷ []))
     ∙ lines_more (map (row run) (range_with_len a k)) (map (row run) ((a + k) ∷ []))
-    ∙ ap (λ t. joined (lines_of (map (row run) (range_with_len a k))) ++ t) (append-nil (ended (dump_line (row run (a + k)).at (row run (a + k)).bytes)))
+    ∙ ap (λ t. text_of_lines (lines_of (map (row run) (range_with_len a k))) ++ t) (append-nil (ended (dump_line (row run (a + k)).at (row run (a + k)).bytes)))
 
 -- the rows of a run before a place, and one more
-pub row_more : (run : Run) (k : ℕ) → joined (lines_of (map (row run) (range_with_len 0 (k + 1)))) ≡ joined (lines_of (map (row run) (range_with_len 0 k))) ++ ended (dump_line (row run k).at (row run k).bytes)
+pub row_more : (run : Run) (k : ℕ) → text_of_lines (lines_of (map (row run) (range_with_len 0 (k + 1)))) ≡ text_of_lines (lines_of (map (row run) (range_with_len 0 k))) ++ ended (dump_line (row run k).at (row run k).bytes)
 row_more run k =
     row_more_at run 0 k
-    ∙ ap (λ j. joined (lines_of (map (row run) (range_with_len 0 k))) ++ ended (dump_line (row run j).at (row run j).bytes)) (let none : 0 + k ≡ k = omega arith in none)
+    ∙ ap (λ j. text_of_lines (lines_of (map (row run) (range_with_len 0 k))) ++ ended (dump_line (row run j).at (row run j).bytes)) (let none : 0 + k ≡ k = omega arith in none)
 
 -- the rows before a place, and those from there on
 pub rows_split : (run : Run) (k n : ℕ) → rows_text (map (row run) (range_with_len 0 (k + n))) ≡ rows_text (map (row run) (range_with_len 0 k)) ++ rows_text (map (row run) (range_with_len k n))
@@ -77,12 +77,12 @@ row_slice bytes k to is =
     ]
 
 pub row_written : (text old new bytes : List ℕ) (run : Run) (k to : ℕ) → bytes ≡ run.bytes → to ≡ min (16 * k + 16) (length bytes)
-    → new ≡ old ++ ended (dump_line (run.at + 16 * k) (take (to - 16 * k) (drop (16 * k) bytes))) → old ≡ text ++ joined (lines_of (map (row run) (range_with_len 0 k)))
-    → new ≡ text ++ joined (lines_of (map (row run) (range_with_len 0 (k + 1))))
+    → new ≡ old ++ ended (dump_line (run.at + 16 * k) (take (to - 16 * k) (drop (16 * k) bytes))) → old ≡ text ++ text_of_lines (lines_of (map (row run) (range_with_len 0 k)))
+    → new ≡ text ++ text_of_lines (lines_of (map (row run) (range_with_len 0 (k + 1))))
 row_written text old new bytes run k to same is added before =
     let slice : take (to - 16 * k) (drop (16 * k) bytes) ≡ (row run k).bytes = row_slice bytes k to is ∙ ap (λ b. take 16 (drop (16 * k) b)) same in
     added ∙ ap (λ b. old ++ ended (dump_line (run.at + 16 * k) b)) slice ∙ ap (λ t. t ++ ended (dump_line (run.at + 16 * k) (row run k).bytes)) before
-    ∙ append_assoc text (joined (lines_of (map (row run) (range_with_len 0 k)))) (ended (dump_line (row run k).at (row run k).bytes))
+    ∙ append_assoc text (text_of_lines (lines_of (map (row run) (range_with_len 0 k)))) (ended (dump_line (row run k).at (row run k).bytes))
     ∙ ap (λ t. text ++ t) (sym (row_more run k))
 
 pub within_at : {A : Type 0} → (len : ℕ) (runs : List (Piece A)) (run : Piece A) (k : ℕ) → AllWithin len runs → k < length runs → run ≡ get_or runs k run → end_of run.at run.bytes ≤ len
@@ -92,15 +92,15 @@ within_at len (r ∷ runs) run (suc k) all inside is = within_at len runs run k 
 
 -- the lines of the first runs, and of one more
 pub runs_more : {A : Type 0} → (text old new : List ℕ) (runs : List (Piece A)) (run : Piece A) (k : ℕ) → k < length runs → run ≡ get_or runs k run
-    → new ≡ old ++ joined (lines_of (rows (run_of run))) → old ≡ text ++ joined (lines_of (flat_map rows (map run_of (take k runs))))
-    → new ≡ text ++ joined (lines_of (flat_map rows (map run_of (take (k + 1) runs))))
+    → new ≡ old ++ text_of_lines (lines_of (rows (run_of run))) → old ≡ text ++ text_of_lines (lines_of (flat_map rows (map run_of (take k runs))))
+    → new ≡ text ++ text_of_lines (lines_of (flat_map rows (map run_of (take (k + 1) runs))))
 runs_more text old new runs run k inside is added before =
     let one : take (k + 1) runs ≡ take k runs ++ run ∷ [] = take_one runs run k inside is in
     let all : flat_map rows (map run_of (take (k + 1) runs)) ≡ flat_map rows (map run_of (take k runs)) ++ rows (run_of run) =
     ap (λ rs. flat_map rows (map run_of rs)) one ∙ ap (flat_map rows) (map-append run_of (take k runs) (run ∷ []))
     ∙ flat_map-append rows (map run_of (take k runs)) (run_of run ∷ []) ∙ ap (λ ps. flat_map rows (map run_of (take k runs)) ++ ps) (append-nil (rows (run_of run))) in
-    added ∙ ap (λ t. t ++ joined (lines_of (rows (run_of run)))) before ∙ append_assoc text (joined (lines_of (flat_map rows (map run_of (take k runs))))) (joined (lines_of (rows (run_of run))))
-    ∙ ap (λ t. text ++ t) (sym (lines_more (flat_map rows (map run_of (take k runs))) (rows (run_of run))) ∙ ap (λ ps. joined (lines_of ps)) (sym all))
+    added ∙ ap (λ t. t ++ text_of_lines (lines_of (rows (run_of run)))) before ∙ append_assoc text (text_of_lines (lines_of (flat_map rows (map run_of (take k runs))))) (text_of_lines (lines_of (rows (run_of run))))
+    ∙ ap (λ t. text ++ t) (sym (lines_more (flat_map rows (map run_of (take k runs))) (rows (run_of run))) ∙ ap (λ ps. text_of_lines (lines_of ps)) (sym all))
   where
     take_one : {A : Type 0} → (runs : List (Piece A)) (run : Piece A) (k : ℕ) → k < length runs → run ≡ get_or runs k run → take (k + 1) runs ≡ take k runs ++ run ∷ []
     take_one [] run k inside is = absurd (omega arith)
@@ -109,11 +109,11 @@ runs_more text old new runs run k inside is added before =
         let count : suc k + 1 ≡ suc (k + 1) = omega arith in
         ap (λ n. take n (r ∷ runs)) count ∙ ap (λ rs. r ∷ rs) (take_one runs run k (omega (arith, inside)) is)
 
-pub head_written : (text : List ℕ) (n : ℕ) (s : Kept) → text ≡ ([] ++ ended (start_line Second n s.len)) ++ joined (lines_of (flat_map rows s.runs)) → head_text n s ≡ text ++ ended (save_line n)
+pub head_written : (text : List ℕ) (n : ℕ) (s : Kept) → text ≡ ([] ++ ended (start_line Second n s.len)) ++ text_of_lines (lines_of (flat_map rows s.runs)) → head_text n s ≡ text ++ ended (save_line n)
 unfolding head_lines
 head_written text n s is =
-    ap (λ t. ended (start_line Second n s.len) ++ t) (flat_map-append ended (lines_of (flat_map rows s.runs)) (save_line n ∷ []) ∙ ap (λ t. joined (lines_of (flat_map rows s.runs)) ++ t) (append-nil (ended (save_line n))))
-    ∙ sym (append_assoc (ended (start_line Second n s.len)) (joined (lines_of (flat_map rows s.runs))) (ended (save_line n)))
+    ap (λ t. ended (start_line Second n s.len) ++ t) (flat_map-append ended (lines_of (flat_map rows s.runs)) (save_line n ∷ []) ∙ ap (λ t. text_of_lines (lines_of (flat_map rows s.runs)) ++ t) (append-nil (ended (save_line n))))
+    ∙ sym (append_assoc (ended (start_line Second n s.len)) (text_of_lines (lines_of (flat_map rows s.runs))) (ended (save_line n)))
     ∙ ap (λ t. t ++ ended (save_line n)) (sym is)
 
 pub take_whole : {A : Type 0} → (runs : List A) (k : ℕ) → length runs ≤ k → take k runs ≡ runs

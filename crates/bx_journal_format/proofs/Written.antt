@@ -6,7 +6,7 @@ use Rattle.std.specs.List.{All, list_all}
 use Rattle.std.proofs.lemmas.Grind.{common_steps}
 use Rattle.bx_image.specs.declared.change.TheConstants.{MAX_LEN}
 use Rattle.bx_image.specs.Change.{AreBytes}
-use Rattle.bx_read.specs.Laws.{line_text, IsWritten}
+use Rattle.bx_read.specs.Laws.{dump_line_text, IsWritten}
 use Rattle.bx_journal_format.specs.Kept.{Run}
 use Rattle.bx_journal_format.specs.read.Plain.{HasNoNewline}
 use Rattle.bx_journal_format.specs.DumpLine.{dump_line, piece_of}
@@ -54,10 +54,10 @@ front_of line (b ∷ t) h front = apart b 115 (h (b ∷ t) front.0 front.1)
 pub saved_line : (p : Run) → AreBytes p.bytes → 0 < length p.bytes → length p.bytes ≤ 16 → p.at + length p.bytes ≤ MAX_LEN → IsSavedLine (dump_line p.at p.bytes) p
 unfolding dump_line piece_of
 saved_line p are some few within =
-    let w : IsWritten (line_text p.at p.bytes) p.at p.bytes = (written p.at p.bytes some few (bytes_all p.bytes are) within).1 in
+    let w : IsWritten (dump_line_text p.at p.bytes) p.at p.bytes = (written p.at p.bytes some few (bytes_all p.bytes are) within).1 in
     record {
       reads = rw w.reads refl;
-      plain = plain_of (line_text p.at p.bytes) w.no_newline;
-      short = short_of (line_text p.at p.bytes) w.short (print_of (line_text p.at p.bytes) w.printing);
-      front = λ t front. front_of (line_text p.at p.bytes) t w.front front;
+      plain = plain_of (dump_line_text p.at p.bytes) w.no_newline;
+      short = short_of (dump_line_text p.at p.bytes) w.short (print_of (dump_line_text p.at p.bytes) w.printing);
+      front = λ t front. front_of (dump_line_text p.at p.bytes) t w.front front;
     }

@@ -2,12 +2,12 @@
 use Rattle.std.specs.Prelude.{ℕ, List, Option}
 use Rattle.std.specs.Option.{option_map}
 use Rattle.bx_read.specs.Line.{line_piece}
-use Rattle.bx_read.specs.Laws.{line_text}
+use Rattle.bx_read.specs.Laws.{dump_line_text}
 use Rattle.bx_journal_format.specs.Kept.{Run}
 
 -- xxd's default line for at most 16 bytes
 unfoldable pub dump_line : ℕ → List ℕ → List ℕ
-dump_line at bytes = line_text at bytes
+dump_line at bytes = dump_line_text at bytes
 
 -- what a line gives, if it is a line of a dump
 unfoldable pub piece_of : List ℕ → Option Run

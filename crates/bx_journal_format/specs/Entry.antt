@@ -5,7 +5,7 @@ use Rattle.bx_journal_format.specs.Kept.{Run, Kept}
 use Rattle.bx_journal_format.specs.declared.format.version.Version.TheVariants.{Second}
 use Rattle.bx_journal_format.specs.DumpLine.{dump_line}
 use Rattle.bx_journal_format.specs.Line.{start_line, save_line, end_line}
-use Rattle.bx_journal_format.specs.Text.{joined}
+use Rattle.bx_journal_format.specs.Text.{text_of_lines}
 
 -- a run, cut into rows of 16 from its start
 unfoldable pub rows : Run → List Run
@@ -17,11 +17,11 @@ head_lines n s = start_line Second n s.len ∷ (map (λ p. dump_line p.at p.byte
 
 -- the lines of an entry up to `save`
 abbrev pub head_text : ℕ → Kept → List ℕ
-head_text n s = joined (head_lines n s)
+head_text n s = text_of_lines (head_lines n s)
 
 -- the line that ends an entry of the second form, with the length behind the change
 abbrev pub end_text : ℕ → ℕ → List ℕ
-end_text n after = joined (end_line Second n after ∷ [])
+end_text n after = text_of_lines (end_line Second n after ∷ [])
 
 -- entry n, of a change that saved s and left an image of length `after`
 abbrev pub entry_text : ℕ → Kept → ℕ → List ℕ
@@ -33,4 +33,4 @@ row run j = record { at = run.at + 16 * j; bytes = take 16 (drop (16 * j) run.by
 
 -- the saved lines of these rows
 abbrev pub rows_text : List Run → List ℕ
-rows_text ps = joined (map (λ p. dump_line p.at p.bytes) ps)
+rows_text ps = text_of_lines (map (λ p. dump_line p.at p.bytes) ps)

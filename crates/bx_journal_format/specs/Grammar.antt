@@ -5,7 +5,7 @@ use Rattle.bx_read.specs.Grammar.{IsLine}
 use Rattle.bx_journal_format.specs.Kept.{Run, Kept, with_run}
 use Rattle.bx_journal_format.specs.declared.format.version.Version.{Version}
 use Rattle.bx_journal_format.specs.declared.format.version.Version.TheVariants.{First, Second}
-use Rattle.bx_journal_format.specs.Line.{digits_of, start_line, save_line, end_line}
+use Rattle.bx_journal_format.specs.Line.{address_width, start_line, save_line, end_line}
 use Rattle.bx_journal_format.specs.Text.{Entry, Stage, Between, Saving, Ending, Reading, Reads, IsDamagedAt, IsRest, may_begin, split}
 
 -- A saved line: a line of a dump, of at most 16 bytes, which end within the length.
@@ -33,7 +33,7 @@ pub record IsHead (older : List Entry) (v : Version) (lines : List (List ℕ)) (
   pub room : length older < 65535
   pub start : first ≡ start_line v (suc (length older)) s.len
   pub small : s.len ≤ MAX_LEN
-  pub fits : s.len < 16 ^ digits_of v
+  pub fits : s.len < 16 ^ address_width v
   pub follows : IsTrue (may_begin older s.len)
   pub saves : AddRuns s.len [] saved s.runs
 

@@ -10,9 +10,9 @@ use Rattle.bx_journal_format.specs.Hex.{hex_digits, number_of}
 use Rattle.bx_journal_format.specs.DumpLine.{piece_of}
 
 -- how many digits a length has
-abbrev pub digits_of : Version → ℕ
-digits_of First = 8
-digits_of Second = 16
+abbrev pub address_width : Version → ℕ
+address_width First = 8
+address_width Second = 16
 
 -- what stands before the length in the line that begins entry n
 unfoldable pub start_head : Version → ℕ → List ℕ
@@ -21,9 +21,9 @@ start_head Second n = codes "change2 " ++ hex_digits 8 n ++ codes " "
 
 -- the line that begins an entry: its number, and the image's length before the change
 unfoldable pub start_line : Version → ℕ → ℕ → List ℕ
-start_line v n len = start_head v n ++ hex_digits (digits_of v) len
+start_line v n len = start_head v n ++ hex_digits (address_width v) len
 
--- the line behind the last saved bytes
+-- the line after_prefix the last saved bytes
 unfoldable pub save_line : ℕ → List ℕ
 save_line n = codes "save " ++ hex_digits 8 n
 
@@ -32,14 +32,14 @@ unfoldable pub end_head : Version → ℕ → List ℕ
 end_head First n = codes "done " ++ hex_digits 8 n
 end_head Second n = codes "done2 " ++ hex_digits 8 n ++ codes " "
 
--- the line that ends an entry; the second form tells the image's length behind the change
+-- the line that ends an entry; the second form tells the image's length after_prefix the change
 unfoldable pub end_line : Version → ℕ → ℕ → List ℕ
 end_line First n after = end_head First n
 end_line Second n after = end_head Second n ++ hex_digits 16 after
 
 -- what follows these bytes in a line that begins with them
-abbrev pub behind : List ℕ → List ℕ → Option (List ℕ)
-behind front line = if bytes_eq (take (length front) line) front then Some (drop (length front) line) else None
+abbrev pub after_prefix : List ℕ → List ℕ → Option (List ℕ)
+after_prefix front line = if bytes_eq (take (length front) line) front then Some (drop (length front) line) else None
 
 -- a number that is no more than the limit
 abbrev pub at_most : ℕ → Option ℕ → Option ℕ
@@ -47,12 +47,12 @@ at_most limit n = option_and_then (λ m. if nat_le m limit then Some m else None
 
 -- the length in the line that begins entry n
 unfoldable pub length_in : Version → ℕ → List ℕ → Option ℕ
-length_in v n line = at_most MAX_LEN (option_and_then (number_of (digits_of v)) (behind (start_head v n) line))
+length_in v n line = at_most MAX_LEN (option_and_then (number_of (address_width v)) (after_prefix (start_head v n) line))
 
 -- the length after the change, where the line ends entry n; the first version has none
 unfoldable pub after_in : Version → ℕ → List ℕ → Option (Option ℕ)
 after_in First n line = if bytes_eq line (end_line First n 0) then Some None else None
-after_in Second n line = option_map Some (at_most MAX_LEN (option_and_then (number_of 16) (behind (end_head Second n) line)))
+after_in Second n line = option_map Some (at_most MAX_LEN (option_and_then (number_of 16) (after_prefix (end_head Second n) line)))
 
 -- what a saved line gives in an entry of an image of this length
 unfoldable pub saved_in : ℕ → List ℕ → Option Run

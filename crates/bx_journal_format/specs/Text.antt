@@ -8,15 +8,15 @@ use Rattle.bx_image.specs.declared.change.TheConstants.{MAX_LEN}
 use Rattle.bx_journal_format.specs.Kept.{Kept, with_run}
 use Rattle.bx_journal_format.specs.declared.format.version.Version.{Version}
 use Rattle.bx_journal_format.specs.declared.format.version.Version.TheVariants.{First, Second}
-use Rattle.bx_journal_format.specs.Line.{digits_of, start_line, save_line, end_line, length_in, after_in, saved_in}
+use Rattle.bx_journal_format.specs.Line.{address_width, start_line, save_line, end_line, length_in, after_in, saved_in}
 
 -- a line with its newline
 abbrev pub ended : List ℕ → List ℕ
 ended line = line ++ 10 ∷ []
 
 -- lines with their newlines, one after another
-abbrev pub joined : List (List ℕ) → List ℕ
-joined lines = flat_map ended lines
+abbrev pub text_of_lines : List (List ℕ) → List ℕ
+text_of_lines lines = flat_map ended lines
 
 -- the lines of a text that have a newline, and what follows the last newline
 pub record Split : Type 0 where
@@ -24,13 +24,13 @@ pub record Split : Type 0 where
   pub rest : List ℕ
 
 -- a byte in front of a text that is split
-abbrev pub with_front : ℕ → Split → Split
-with_front b s = elim s.lines [ [] ↦ record { lines = []; rest = b ∷ s.rest } | line ∷ more ↦ record { lines = (b ∷ line) ∷ more; rest = s.rest } ]
+abbrev pub with_first_byte : ℕ → Split → Split
+with_first_byte b s = elim s.lines [ [] ↦ record { lines = []; rest = b ∷ s.rest } | line ∷ more ↦ record { lines = (b ∷ line) ∷ more; rest = s.rest } ]
 
 -- a text in lines, and what stands behind the last newline
 unfoldable pub split : List ℕ → Split
 split [] = record { lines = []; rest = [] }
-split (b ∷ bytes) = if b == 10 then record { lines = [] ∷ (split bytes).lines; rest = (split bytes).rest } else with_front b (split bytes)
+split (b ∷ bytes) = if b == 10 then record { lines = [] ∷ (split bytes).lines; rest = (split bytes).rest } else with_first_byte b (split bytes)
 
 -- a finished entry: what was saved before its change, and in the second version the length after it
 pub record Entry : Type 0 where
@@ -92,7 +92,7 @@ begins_with_s line = slice_index line 0 == 115
 
 -- what may stand behind the last newline: nothing, or a front of a line that may come there
 abbrev pub IsRest : List Entry → Stage → List ℕ → Type 0
-IsRest entries Between rest = (rest ≡ []) ⊎ ((v : Version) × (len : ℕ) × (length entries < 65535) × (len ≤ MAX_LEN) × (len < 16 ^ digits_of v)
+IsRest entries Between rest = (rest ≡ []) ⊎ ((v : Version) × (len : ℕ) × (length entries < 65535) × (len ≤ MAX_LEN) × (len < 16 ^ address_width v)
     × IsTrue (may_begin entries len) × IsPrefix rest (start_line v (suc (length entries)) len))
 IsRest entries (Saving v s) rest =
     (IsTrue (begins_with_s rest) × IsPrefix rest (save_line (suc (length entries)))) ⊎ ((begins_with_s rest ≡ false) × IsTrue (is_short rest))
@@ -109,7 +109,7 @@ IsAccepted text = (r : Reading) × Reads text r
 
 -- the first m lines of a text; the last one may have no newline
 abbrev pub first_lines : ℕ → List ℕ → List ℕ
-first_lines m text = if nat_le m (length (split text).lines) then joined (take m (split text).lines) else text
+first_lines m text = if nat_le m (length (split text).lines) then text_of_lines (take m (split text).lines) else text
 
 -- the least m such that the first m lines aren't an accepted text
 pub record IsDamagedAt (text : List ℕ) (m : ℕ) : Type 0 where

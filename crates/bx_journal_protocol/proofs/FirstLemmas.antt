@@ -3,7 +3,7 @@ use Rattle.std.proofs.Common.{◌≡◌, ℕ, zero, suc, ◌+◌, ◌<◌, ◌�
 use Rattle.std.proofs.lemmas.List.{take-take}
 use Rattle.bx_image.specs.Power.{AllFade, FadesBehind, FadesFrom, IsFaded, NoMore, Only}
 use Rattle.bx_image.specs.declared.record.spans.Span.{Span}
-use Rattle.bx_journal_store.specs.Store.{IsPartlyAppended, IsPartlyCut}
+use Rattle.bx_journal_store.specs.Store.{IsPartlyAppended, IsCutInPart}
 use Rattle.bx_journal_format.specs.read.Faded.{HasFirst}
 use Rattle.bx_journal_format.specs.Line.{save_line}
 use Rattle.bx_journal_format.specs.Text.{ended}
@@ -35,7 +35,7 @@ index_take (suc k) (b ∷ t) zero h = refl
 index_take (suc k) (b ∷ t) (suc i) h = index_take k t i (omega (arith, h))
 
 -- what is left of a front of a text
-pub front_faded : (n : ℕ) (text mid c : List ℕ) → IsPartlyCut n text mid → IsFaded n mid c → IsFaded n text c
+pub front_faded : (n : ℕ) (text mid c : List ℕ) → IsCutInPart n text mid → IsFaded n mid c → IsFaded n text c
 front_faded n text mid c part fades =
     let short : length mid ≤ length text = omega (arith, ap length part.front ∙ length-take (length mid) text) in
     let same : (i : ℕ) → i < length mid → slice_index mid i ≡ slice_index text i = λ i h. ap (λ t. slice_index t i) part.front ∙ index_take (length mid) text i h in
@@ -50,12 +50,12 @@ front_faded n text mid c part fades =
     either is (inl same) = inl (same ∙ is)
     either is (inr none) = inr none
 
-pub first_behind : (n : ℕ) (text mid c : List ℕ) → IsPartlyCut n text mid → (n ≡ 0 → length mid ≤ 1) → IsFaded n mid c → HasFirst text c
+pub first_behind : (n : ℕ) (text mid c : List ℕ) → IsCutInPart n text mid → (n ≡ 0 → length mid ≤ 1) → IsFaded n mid c → HasFirst text c
 first_behind zero text mid c part short fades = inr (omega (arith, short refl, fades.no_longer))
 first_behind (suc n) text mid c part short fades = inl (faded_less (suc n) 1 text c (omega arith) (front_faded (suc n) text mid c part fades))
 
 -- a text that is cut twice
-pub cut_twice : (n : ℕ) (text mid new : List ℕ) → IsPartlyCut n text mid → IsPartlyCut n mid new → IsPartlyCut n text new
+pub cut_twice : (n : ℕ) (text mid new : List ℕ) → IsCutInPart n text mid → IsCutInPart n mid new → IsCutInPart n text new
 cut_twice n text mid new first next =
     let less : length new ≤ length mid = omega (arith, ap length next.front ∙ length-take (length new) mid) in
     record {
@@ -63,7 +63,7 @@ cut_twice n text mid new first next =
       front = next.front ∙ ap (take (length new)) first.front ∙ take-take (length new) (length mid) text less;
     }
 
-pub take_part : (n : ℕ) (text mid : List ℕ) → IsPartlyCut n text mid → take n mid ≡ take n text
+pub take_part : (n : ℕ) (text mid : List ℕ) → IsCutInPart n text mid → take n mid ≡ take n text
 take_part n text mid part = ap (take n) part.front ∙ take-take n (length mid) text part.no_shorter
 
 -- a text that is to be empty, and is cut to its first byte

@@ -5,7 +5,7 @@ use Rattle.bx_journal_format.specs.declared.format.version.Version.TheVariants.{
 use Rattle.bx_journal_protocol.specs.model.Laws.{WrittenIsRead, StandsForOne, DamagedAtOne, EmptyIsSound}
 use Rattle.bx_journal_format.specs.Line.{end_line}
 use Rattle.bx_journal_format.specs.Entry.{head_lines, entry_text}
-use Rattle.bx_journal_format.specs.Text.{Entry, Between, Reading, Reads, IsRest, split, joined, start, after_lines}
+use Rattle.bx_journal_format.specs.Text.{Entry, Between, Reading, Reads, IsRest, split, text_of_lines, start, after_lines}
 use Rattle.bx_journal_read.specs.model.Stack.{stack_of}
 use Rattle.bx_journal_read.specs.model.Phase.{as_read}
 use Rattle.bx_journal_format.proofs.Splits.{split-append}
@@ -15,9 +15,9 @@ use Rattle.bx_journal_format.proofs.RowLemmas.{all_rows_are}
 use Rattle.bx_journal_format.proofs.EntryRun.{head_run, end_run, between}
 use Rattle.bx_journal_read.proofs.Judged.{undamaged}
 
-pub joined-append : (a b : List (List ℕ)) → joined (a ++ b) ≡ joined a ++ joined b
+pub joined-append : (a b : List (List ℕ)) → text_of_lines (a ++ b) ≡ text_of_lines a ++ text_of_lines b
 joined-append [] b = refl
-joined-append (l ∷ a) b = ap (λ t. (l ++ 10 ∷ []) ++ t) (joined-append a b) ∙ sym (append_assoc (l ++ 10 ∷ []) (joined a) (joined b))
+joined-append (l ∷ a) b = ap (λ t. (l ++ 10 ∷ []) ++ t) (joined-append a b) ∙ sym (append_assoc (l ++ 10 ∷ []) (text_of_lines a) (text_of_lines b))
 
 pub written_is_read : WrittenIsRead
 written_is_read text es s after reads whole room most after_most within bytes may =
@@ -28,11 +28,11 @@ written_is_read text es s after reads whole room most after_most within bytes ma
     let lines : List (List ℕ) = head_lines n s ++ end_line Second n after ∷ [] in
     let run : SafeRun Any E (between es) lines = head_run Any E es s room most may (all_rows_are s.len s.runs within bytes) tt (λ runs. tt) (end_line Second n after ∷ [])
     (end_run Any E es (as_read s) after after_most tt tt refl) in
-    let g : GoesAllBy Any E (between es) (split (joined lines)) = safe_all Any E (between es) lines run in
-    let is : joined lines ≡ entry_text n s after = joined-append (head_lines n s) (end_line Second n after ∷ []) in
-    let all : Reads (text ++ joined lines) (between (e ∷ es)) = record {
-      lines = rw (split-append text (joined lines) whole) (after_lines-append start (between es) (split text).lines (split (joined lines)).lines reads.lines ∙ g.lines ∙ ap Some g.ends);
-      rest = rw (split-append text (joined lines) whole) (subst (IsRest (e ∷ es) Between) (sym g.whole) (inl refl));
+    let g : GoesAllBy Any E (between es) (split (text_of_lines lines)) = safe_all Any E (between es) lines run in
+    let is : text_of_lines lines ≡ entry_text n s after = joined-append (head_lines n s) (end_line Second n after ∷ []) in
+    let all : Reads (text ++ text_of_lines lines) (between (e ∷ es)) = record {
+      lines = rw (split-append text (text_of_lines lines) whole) (after_lines-append start (between es) (split text).lines (split (text_of_lines lines)).lines reads.lines ∙ g.lines ∙ ap Some g.ends);
+      rest = rw (split-append text (text_of_lines lines) whole) (subst (IsRest (e ∷ es) Between) (sym g.whole) (inl refl));
     } in
     (e, record { len = refl; bytes = as_read_byte s.runs; told = refl }, subst (λ t. Reads (text ++ t) (between (e ∷ es))) is all)
 

@@ -9,7 +9,7 @@ use Rattle.bx_journal_format.specs.declared.format.version.Version.TheVariants.{
 use Rattle.bx_journal_protocol.specs.model.Laws.{HasBytes}
 use Rattle.bx_journal_format.specs.Line.{end_line}
 use Rattle.bx_journal_format.specs.Entry.{head_text, end_text, entry_text}
-use Rattle.bx_journal_format.specs.Text.{Entry, Between, Reads, Split, split, with_front}
+use Rattle.bx_journal_format.specs.Text.{Entry, Between, Reads, Split, split, with_first_byte}
 use Rattle.bx_journal_read.specs.model.Stack.{StandsFor, HaveLengths, stack_of}
 use Rattle.bx_journal_read.specs.model.Machine.{top}
 use Rattle.bx_journal_read.proofs.Phases.{may_begin_of, length-stack_of, whole_behind}
@@ -22,10 +22,10 @@ record EndsWhole (s : Split) : Type 0 where
   rest : s.rest ≡ []
   some : (s.lines ≡ [] → ⊥)
 
-front_ends : (b : ℕ) (s : Split) → EndsWhole s → EndsWhole (with_front b s)
+front_ends : (b : ℕ) (s : Split) → EndsWhole s → EndsWhole (with_first_byte b s)
 front_ends b s ends = by_lines s.lines refl
   where
-    by_lines : (lines : List (List ℕ)) → s.lines ≡ lines → EndsWhole (with_front b s)
+    by_lines : (lines : List (List ℕ)) → s.lines ≡ lines → EndsWhole (with_first_byte b s)
     by_lines [] is = absurd (ends.some is)
     by_lines (l ∷ ls) is = rw is (record { rest = ends.rest; some = λ e. cc })
 
@@ -35,7 +35,7 @@ ends_whole [] = record { rest = refl; some = λ e. cc }
 ends_whole (b ∷ a) = by_test (eqb b 10) (ends_whole a)
   where
     by_test : (is : Bool) → EndsWhole (split (a ++ 10 ∷ []))
-        → EndsWhole (cond is (record { lines = [] ∷ (split (a ++ 10 ∷ [])).lines; rest = (split (a ++ 10 ∷ [])).rest }) (with_front b (split (a ++ 10 ∷ []))))
+        → EndsWhole (cond is (record { lines = [] ∷ (split (a ++ 10 ∷ [])).lines; rest = (split (a ++ 10 ∷ [])).rest }) (with_first_byte b (split (a ++ 10 ∷ []))))
     by_test true ends = record { rest = ends.rest; some = λ e. cc }
     by_test false ends = front_ends b (split (a ++ 10 ∷ [])) ends
 

@@ -14,7 +14,7 @@ use Rattle.std.proofs.lemmas.Bool.{cases_lt}
 use Rattle.bx_journal_format.proofs.WriterLemmas.{rows_split, rows_all, row_long, head_is}
 use Rattle.bx_image.specs.declared.record.spans.Span.{Span}
 use Rattle.bx_journal_protocol.specs.declared.write.ranges.Place.{Place}
-use Rattle.bx_journal_protocol.specs.write.Ranges.{range_text, range_len, left_text, left_len, rest_text, rest_len, AreRanges, IsLeft, IsPlace, IsBehind, head_from, kept_over}
+use Rattle.bx_journal_protocol.specs.write.Ranges.{saved_lines_text, range_len, left_text, left_len, rest_text, rest_len, AreRanges, IsLeft, IsPlace, IsPlaceBehind, head_from, kept_over}
 use Rattle.std.specs.Prelude.{flat_map, IfOk}
 use Rattle.bx_image.specs.declared.record.Saved.{Saved}
 use Rattle.bx_image.specs.Change.{HaveBytes, IsOf}
@@ -85,7 +85,7 @@ unfolding rows
 rows_none at = refl
 
 -- how long the lines are depends on no byte
-pub long_as : (x : List ℕ) (at end : ℕ) → at ≤ end → end ≤ length x → length (range_text x at end) ≡ range_len at end
+pub long_as : (x : List ℕ) (at end : ℕ) → at ≤ end → end ≤ length x → length (saved_lines_text x at end) ≡ range_len at end
 long_as x at end order within =
     run_same (run_at at (take (end - at) (drop at x))) (run_at at (zeros (end - at))) refl
     (omega (arith, length-take (end - at) (drop at x), length-drop at x, length-zeros (end - at), order, within))
@@ -104,7 +104,7 @@ range_bytes x at mid end order more =
 
 -- the lines of a range are those up to a place and those behind it, where whole lines are before it or it is the end
 pub range_step : (x : List ℕ) (at mid end n : ℕ) → at ≤ mid → mid ≤ end → end ≤ length x → (mid ≡ at + 16 * n) ⊎ (mid ≡ end)
-    → range_text x at end ≡ range_text x at mid ++ range_text x mid end
+    → saved_lines_text x at end ≡ saved_lines_text x at mid ++ saved_lines_text x mid end
 range_step x at mid end n order more within (inl lines) =
     let b : List ℕ = take (mid - at) (drop at x) in
     let c : List ℕ = take (end - mid) (drop mid x) in
@@ -113,8 +113,8 @@ range_step x at mid end n order more within (inl lines) =
     ∙ ap (λ p. rows_text (rows (run_at at b)) ++ rows_text (rows (run_at p c))) (sym lines)
 range_step x at mid end n order more within (inr is) =
     let none : end - mid ≡ 0 = omega (arith, is) in
-    sym (ap (λ m. range_text x at m) is) ∙ sym (append-nil (range_text x at mid))
-    ∙ ap (λ t. range_text x at mid ++ t) (sym (ap (λ m. rows_text (rows (run_at mid (take m (drop mid x))))) none ∙ rows_none mid))
+    sym (ap (λ m. saved_lines_text x at m) is) ∙ sym (append-nil (saved_lines_text x at mid))
+    ∙ ap (λ t. saved_lines_text x at mid ++ t) (sym (ap (λ m. rows_text (rows (run_at mid (take m (drop mid x))))) none ∙ rows_none mid))
 
 -- the same of their lengths
 pub len_step : (at mid end n : ℕ) → at ≤ mid → mid ≤ end → (mid ≡ at + 16 * n) ⊎ (mid ≡ end) → range_len at end ≡ range_len at mid + range_len mid end
@@ -124,7 +124,7 @@ len_step at mid end n order more lines =
     let all : end ≤ length x = omega (arith, long) in
     let part : mid ≤ length x = omega (arith, long, more) in
     let both : at ≤ end = omega (arith, order, more) in
-    sym (long_as x at end both all) ∙ ap length (range_step x at mid end n order more all lines) ∙ length-append (range_text x at mid) (range_text x mid end)
+    sym (long_as x at end both all) ∙ ap length (range_step x at mid end n order more all lines) ∙ length-append (saved_lines_text x at mid) (saved_lines_text x mid end)
     ∙ omega (arith, long_as x at mid order part, long_as x mid end more all)
 
 -- the less of what is left and of some whole lines
@@ -136,9 +136,9 @@ least_of at end lines n order is = elim (cases_lt (16 * lines) (end - at)) [
 
 -- when a part of a range was put, the rest is left
 pub filled : (x old new : List ℕ) (at n end lines : ℕ) → at ≤ at + n → at + n ≤ end → end ≤ length x → (at + n ≡ at + 16 * lines) ⊎ (at + n ≡ end)
-    → new ≡ old ++ range_text x at (at + n) → new ++ range_text x (at + n) end ≡ old ++ range_text x at end
+    → new ≡ old ++ saved_lines_text x at (at + n) → new ++ saved_lines_text x (at + n) end ≡ old ++ saved_lines_text x at end
 filled x old new at n end lines order more within lines_or is =
-    ap (λ t. t ++ range_text x (at + n) end) is ∙ append_assoc old (range_text x at (at + n)) (range_text x (at + n) end)
+    ap (λ t. t ++ saved_lines_text x (at + n) end) is ∙ append_assoc old (saved_lines_text x at (at + n)) (saved_lines_text x (at + n) end)
     ∙ ap (λ t. old ++ t) (sym (range_step x at (at + n) end lines order more within lines_or))
 
 pub filled_len : (old new at n end lines : ℕ) → at ≤ at + n → at + n ≤ end → (at + n ≡ at + 16 * lines) ⊎ (at + n ≡ end)
@@ -160,7 +160,7 @@ len_some at n some =
       row_long (row r 0).at (row r 0).bytes,
     )
 
-range_none : (x : List ℕ) (end : ℕ) → range_text x end end ≡ []
+range_none : (x : List ℕ) (end : ℕ) → saved_lines_text x end end ≡ []
 range_none x end =
     let none : end - end ≡ 0 = omega arith in
     ap (λ m. rows_text (rows (run_at end (take m (drop end x))))) none ∙ rows_none end
@@ -176,17 +176,17 @@ beside_none a b none = omega (arith, none)
 
 -- what is left behind a part of a range
 pub left_at : (x : List ℕ) (ranges : List Span) (r : Span) (p q : Place) (next : ℕ) → drop p.range ranges ≡ r ∷ drop (p.range + 1) ranges
-    → r.at ≤ next → IsBehind r p next q → rest_text x ranges q ≡ range_text x next r.end ++ left_text x (drop (p.range + 1) ranges) 0
+    → r.at ≤ next → IsPlaceBehind r p next q → rest_text x ranges q ≡ saved_lines_text x next r.end ++ left_text x (drop (p.range + 1) ranges) 0
 left_at x ranges r p q next here order (inl (is, to)) =
     let rest : List Span = drop (p.range + 1) ranges in
-    ap (rest_text x ranges) to ∙ sym (ap (λ t. t ++ left_text x rest 0) (ap (λ n. range_text x n r.end) is ∙ range_none x r.end))
+    ap (rest_text x ranges) to ∙ sym (ap (λ t. t ++ left_text x rest 0) (ap (λ n. saved_lines_text x n r.end) is ∙ range_none x r.end))
 left_at x ranges r p q next here order (inr (less, to)) =
     let rest : List Span = drop (p.range + 1) ranges in
     let at : r.at + (next - r.at) ≡ next = omega (arith, order) in
-    ap (rest_text x ranges) to ∙ ap (λ rs. left_text x rs (next - r.at)) here ∙ ap (λ n. range_text x n r.end ++ left_text x rest 0) at
+    ap (rest_text x ranges) to ∙ ap (λ rs. left_text x rs (next - r.at)) here ∙ ap (λ n. saved_lines_text x n r.end ++ left_text x rest 0) at
 
 pub left_len_at : (ranges : List Span) (r : Span) (p q : Place) (next : ℕ) → drop p.range ranges ≡ r ∷ drop (p.range + 1) ranges
-    → r.at ≤ next → IsBehind r p next q → rest_len ranges q ≡ range_len next r.end + left_len (drop (p.range + 1) ranges) 0
+    → r.at ≤ next → IsPlaceBehind r p next q → rest_len ranges q ≡ range_len next r.end + left_len (drop (p.range + 1) ranges) 0
 left_len_at ranges r p q next here order (inl (is, to)) =
     let rest : List Span = drop (p.range + 1) ranges in
     ap (rest_len ranges) to ∙ beside_none (range_len next r.end) (left_len rest 0) (ap (λ n. range_len n r.end) is ∙ len_none r.end)
@@ -197,16 +197,16 @@ left_len_at ranges r p q next here order (inr (less, to)) =
 
 -- one more part of the lines was put
 pub page_step : (x old mid new : List ℕ) (ranges : List Span) (r : Span) (p q : Place) (next : ℕ) → drop p.range ranges ≡ r ∷ drop (p.range + 1) ranges
-    → r.at + p.done ≤ next → IsBehind r p next q → new ++ range_text x next r.end ≡ mid ++ range_text x (r.at + p.done) r.end
+    → r.at + p.done ≤ next → IsPlaceBehind r p next q → new ++ saved_lines_text x next r.end ≡ mid ++ saved_lines_text x (r.at + p.done) r.end
     → mid ++ rest_text x ranges p ≡ old → new ++ rest_text x ranges q ≡ old
 page_step x old mid new ranges r p q next here order behind put before =
     let rest : List ℕ = left_text x (drop (p.range + 1) ranges) 0 in
     ap (λ t. new ++ t) (left_at x ranges r p q next here (omega (arith, order)) behind)
-    ∙ sym (append_assoc new (range_text x next r.end) rest) ∙ ap (λ t. t ++ rest) put ∙ append_assoc mid (range_text x (r.at + p.done) r.end) rest
+    ∙ sym (append_assoc new (saved_lines_text x next r.end) rest) ∙ ap (λ t. t ++ rest) put ∙ append_assoc mid (saved_lines_text x (r.at + p.done) r.end) rest
     ∙ ap (λ rs. mid ++ left_text x rs p.done) (sym here) ∙ before
 
 pub page_len_step : (old mid new : ℕ) (ranges : List Span) (r : Span) (p q : Place) (next : ℕ) → drop p.range ranges ≡ r ∷ drop (p.range + 1) ranges
-    → r.at + p.done ≤ next → IsBehind r p next q → new + range_len next r.end ≡ mid + range_len (r.at + p.done) r.end
+    → r.at + p.done ≤ next → IsPlaceBehind r p next q → new + range_len next r.end ≡ mid + range_len (r.at + p.done) r.end
     → mid + rest_len ranges p ≡ old → new + rest_len ranges q ≡ old
 page_len_step old mid new ranges r p q next here order behind put before =
     omega (arith, left_len_at ranges r p q next here (omega (arith, order)) behind, put, before, ap (λ rs. left_len rs p.done) here)
@@ -221,7 +221,7 @@ ranges_at len (r ∷ ranges) (suc i) all = ranges_at len ranges i all.2
 
 -- the place behind a part is one
 pub place_behind : (len : ℕ) (ranges : List Span) (r : Span) (p q : Place) (next : ℕ) → AreRanges len ranges → p.range < length ranges
-    → drop p.range ranges ≡ r ∷ drop (p.range + 1) ranges → r.at ≤ next → IsBehind r p next q → IsPlace ranges q
+    → drop p.range ranges ≡ r ∷ drop (p.range + 1) ranges → r.at ≤ next → IsPlaceBehind r p next q → IsPlace ranges q
 place_behind len ranges r p q next all inside here order (inl (is, to)) =
     subst (IsPlace ranges) (sym to) (record { within = omega (arith, inside); left = first_left (drop (p.range + 1) ranges) (ranges_at len ranges (p.range + 1) all) })
   where
@@ -246,8 +246,8 @@ left_runs x [] = refl
 left_runs x (s ∷ spans) =
     let from : s.at + 0 ≡ s.at = omega arith in
     let rest : List Run = flat_map rows (map (run_over {A = Unit {0}} x) spans) in
-    ap (λ a. range_text x a s.end ++ left_text x spans 0) from
-    ∙ ap (λ t. range_text x s.at s.end ++ t) (left_runs x spans)
+    ap (λ a. saved_lines_text x a s.end ++ left_text x spans 0) from
+    ∙ ap (λ t. saved_lines_text x s.at s.end ++ t) (left_runs x spans)
     ∙ sym (text-append (rows (run_over {A = Unit {0}} x s)) rest)
 
 -- the first line of an entry and the lines of all ranges are its head, but for the save line

@@ -10,7 +10,7 @@ use Rattle.bx_journal_format.specs.DumpLine.{dump_line}
 use Rattle.bx_journal_format.specs.Line.{end_head, end_line}
 use Rattle.bx_journal_format.specs.Hex.{hex_digits}
 use Rattle.bx_journal_format.specs.Entry.{rows, head_text, end_text, entry_text, rows_text, row}
-use Rattle.bx_journal_format.specs.Text.{ended, joined}
+use Rattle.bx_journal_format.specs.Text.{ended, text_of_lines}
 use Rattle.bx_journal_format.proofs.HexLemmas.{length-hex_digits}
 use Rattle.bx_journal_format.proofs.WriterLemmas.{head_long, row_long}
 use Rattle.bx_journal_protocol.proofs.LawProofs.{joined-append}
@@ -51,7 +51,7 @@ run_same r s at len = rows_same r s (range_with_len 0 ((length r.bytes + 15) / 1
 
 pub text-append : (ps qs : List Run) → rows_text (ps ++ qs) ≡ rows_text ps ++ rows_text qs
 text-append ps qs =
-    ap joined (map-append (λ (p : Run). dump_line p.at p.bytes) ps qs) ∙ joined-append (map (λ (p : Run). dump_line p.at p.bytes) ps) (map (λ (p : Run). dump_line p.at p.bytes) qs)
+    ap text_of_lines (map-append (λ (p : Run). dump_line p.at p.bytes) ps qs) ∙ joined-append (map (λ (p : Run). dump_line p.at p.bytes) ps) (map (λ (p : Run). dump_line p.at p.bytes) qs)
 
 pub runs_same : {A : Type 0} (olds news : List (Piece A)) → HaveShape olds news → length (rows_text (flat_map rows (map run_of news))) ≡ length (rows_text (flat_map rows (map run_of olds)))
 runs_same [] [] shape = refl

@@ -29,7 +29,7 @@ use Rattle.bx_journal_protocol.proofs.TurnLemmas.{rest_is_found}
 use Rattle.bx_journal_protocol.proofs.ChangeSteps.{head_ok, head_fault, end_ok}
 use Rattle.bx_journal_protocol.proofs.EndLineLemmas.{end_is_sharp, cut_is_sharp}
 use Rattle.bx_journal_read.proofs.Tails.{joined_rest, rest_plain, tail_fault}
-use Rattle.bx_journal_store.specs.Store.{IsPartlyCut}
+use Rattle.bx_journal_store.specs.Store.{IsCutInPart}
 use Rattle.bx_journal_format.specs.Text.{Entry, Stage, Between, Ending, Reading, after_lines, split, start}
 
 -- a text that is on the disk, with bytes that may come behind it
@@ -131,7 +131,7 @@ left_of x n P Q fits only fades c there =
     }
 
 -- a front of a text is what a cut leaves of it that stopped
-pub partly_cut : (text new : List ℕ) (n k : ℕ) → n ≤ k → k ≤ length text → new ≡ take k text → IsPartlyCut n text new
+pub partly_cut : (text new : List ℕ) (n k : ℕ) → n ≤ k → k ≤ length text → new ≡ take k text → IsCutInPart n text new
 partly_cut text new n k least most is =
     let long : length new ≡ k = ap length is ∙ length-take k text ∙ (let e : min k (length text) ≡ k = omega (arith, most) in e) in
     record { no_shorter = omega (arith, long); front = is ∙ ap (λ m. take m text) (sym long) }
@@ -172,7 +172,7 @@ tail_left text x c stack es stage n t same fades first =
     (partly_cut (shown text) (shown c) n shows.count shows.least (omega (arith, shows.most, ap length is.is)) (shows.is ∙ ap (take shows.count) (sym is.is)))
 
 -- what a cut leaves that stopped
-pub partly_faded : (n : ℕ) (text new : List ℕ) → IsPartlyCut n text new → IsFaded n text new
+pub partly_faded : (n : ℕ) (text new : List ℕ) → IsCutInPart n text new → IsFaded n text new
 partly_faded n text new part =
     let short : length new ≤ length text = omega (arith, ap length part.front ∙ length-take (length new) text) in
     let same : (i : ℕ) → i < length new → slice_index new i ≡ slice_index text i = λ i h. ap (λ t. slice_index t i) part.front ∙ index_take (length new) text i h in

@@ -13,7 +13,7 @@ use Rattle.bx_journal_format.specs.declared.read.types.EntryRead.{EntryRead}
 use Rattle.bx_journal_protocol.specs.declared.write.ranges.Place.{Place}
 use Rattle.bx_journal_protocol.specs.write.Ranges.{head_from, kept_over, left_len, rest_len, AreRanges, IsPlace}
 use Rattle.bx_journal_protocol.specs.protocol.Takens.{length_at}
-use Rattle.bx_journal_protocol.specs.write.Touched.{AreTouched, AreToldRanges, IsBegun, IsFirstBegun, IsFirstWithin, IsTouched, entries_over}
+use Rattle.bx_journal_protocol.specs.write.Touched.{AreTouched, AreToldRanges, IsHeadBegun, IsFirstBegun, IsFirstWithin, IsTouched, entries_over}
 use Rattle.bx_journal_protocol.proofs.RangeLemmas.{are_ranges, kept_as, kept_of_image, ranges_more}
 use Rattle.bx_journal_protocol.proofs.TakenLemmas.{last_is, reverse_last}
 use Rattle.bx_journal_protocol.proofs.TakingLemmas.{length_here}
@@ -40,7 +40,7 @@ touched_pop len es e rs r touched =
     subst (λ us. AreTouched len (e ∷ reverse es) us) (reverse_last rs r) (subst (λ fs. AreTouched len fs (reverse (rs ++ r ∷ []))) (reverse_last es e) touched)
 
 pub begun_pop : {B honest : Type 0} (x : List ℕ) (n : ℕ) (rs : List (Vec Span B)) (r : Vec Span B) (page : List ℕ) (place : Place) → IsFirstBegun honest x n (reverse (rs ++ r ∷ [])) page place
-    → IsBegun honest x n r.items page place
+    → IsHeadBegun honest x n r.items page place
 begun_pop {honest = honest} x n rs r page place begun = subst (λ us. IsFirstBegun honest x n us page place) (reverse_last rs r) begun
 
 pub over_pop : {B : Type 0} (rs : List (Vec Span B)) (r : Vec Span B) → entries_over (rs ++ r ∷ []) ≡ entries_over rs + (80 + left_len r.items 0)
@@ -101,7 +101,7 @@ begun_same {B = B} {honest = honest} {here = here} {x = x} {y = y} n {rs = rs} p
 
 -- what begins the head of an entry with ranges
 pub begun_of : {E honest : Type 0} (x : List ℕ) (n : ℕ) (rs : List Span) (page : List ℕ) (r : Result Place E) → (honest → IfOk r (λ p. head_from x rs p page n ≡ head_text n (kept_over x rs)))
-    → (honest → OnOk r (HaveBytes (kept_over x rs).runs)) → IfOk r (λ p. length page + rest_len rs p ≡ 34 + left_len rs 0) → OnOk r (0 < length page) → IfOk r (IsPlace rs) → IfOk r (IsBegun honest x n rs page)
+    → (honest → OnOk r (HaveBytes (kept_over x rs).runs)) → IfOk r (λ p. length page + rest_len rs p ≡ 34 + left_len rs 0) → OnOk r (0 < length page) → IfOk r (IsPlace rs) → IfOk r (IsHeadBegun honest x n rs page)
 begun_of x n rs page (Ok p) text bytes long some place = record { is_place = place; text = text; bytes = bytes; long = long; some = some }
 begun_of x n rs page (Err e) text bytes long some place = tt
 
@@ -113,7 +113,7 @@ pub last_within : {B : Type 0} (len : ℕ) (ts : List (Vec Span B)) (n : ℕ) (d
 last_within len ts n d long within = subst (IsFirstWithin len) (first_is ts n d long) within
 
 pub last_begun : {B E : Type 0} (honest : Type 0) (x : List ℕ) (number : ℕ) (ts : List (Vec Span B)) (n : ℕ) (d : Vec Span B) (page : List ℕ) (r : Result Place E) → length ts ≡ suc n
-    → IfOk r (IsBegun honest x number (slice_index_or ts n d).items page) → IfOk r (IsFirstBegun honest x number (reverse ts) page)
+    → IfOk r (IsHeadBegun honest x number (slice_index_or ts n d).items page) → IfOk r (IsFirstBegun honest x number (reverse ts) page)
 last_begun honest x number ts n d page (Ok p) long begun = subst (λ us. IsFirstBegun honest x number us page p) (sym (first_is ts n d long)) begun
 last_begun honest x number ts n d page (Err e) long begun = tt
 

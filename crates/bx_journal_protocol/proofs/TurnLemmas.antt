@@ -16,14 +16,14 @@ use Rattle.bx_journal_read.proofs.Phases.{rest_recovers}
 use Rattle.bx_journal_read.specs.model.Images.{Images, with_undone, undo_of, redo_of}
 use Rattle.bx_journal_read.specs.model.Redo.{IsRedoOf, Finds}
 use Rattle.bx_journal_protocol.specs.model.RedoLaws.{RestoresKept}
-use Rattle.bx_journal_protocol.specs.protocol.Turns.{kept_text, IsTaken, UndoesOne, RedoesOne, UndoStops, RedoStops, ChangeStops, RestIsFound}
+use Rattle.bx_journal_protocol.specs.protocol.Turns.{kept_text, IsTakenByUndo, UndoesOne, RedoesOne, UndoStops, RedoStops, ChangeStops, RestIsFound}
 use Rattle.bx_journal_protocol.proofs.RedoText.{empty_is_redo, popped_is_redo}
 use Rattle.bx_journal_protocol.proofs.UndoAppends.{pushed_by_undo}
 use Rattle.bx_journal_protocol.proofs.StepFound.{step_is_found}
 
 -- the redo text behind an undone entry, whatever the image's length
 kept_is_redo : {A : Type 0} (c : Change A) (entry : Saved A) (redo new x y : List ℕ) (n : ℕ) (u : List (List ℕ)) (e : Entry) (taken : Kept) → IsRedoOf redo x (suc n) u
-    → RestoresKept c entry e.saved → e.saved.len ≤ MAX_LEN → IsTaken c x taken → y ≡ restore e.saved x → new ≡ kept_text redo taken (suc (length u)) e.saved.len → IsRedoOf new y n (with_undone x u)
+    → RestoresKept c entry e.saved → e.saved.len ≤ MAX_LEN → IsTakenByUndo c x taken → y ≡ restore e.saved x → new ≡ kept_text redo taken (suc (length u)) e.saved.len → IsRedoOf new y n (with_undone x u)
 kept_is_redo c entry redo new x y n u e taken r restores fits t restored is =
     by_test (nat_le (length x) MAX_LEN) refl (is ∙ ap (λ b. if b then redo ++ entry_text (suc (length u)) taken e.saved.len else []) (ap (λ k. nat_le k MAX_LEN) t.len))
   where

@@ -6,7 +6,7 @@ use Rattle.bx_journal_format.specs.Text.{Entry, Between, Ending, Reading}
 use Rattle.bx_journal_read.specs.model.Phase.{RecoversEither, IsOpen}
 use Rattle.bx_journal_format.specs.count.Mark.{IsMark}
 use Rattle.bx_journal_read.specs.scan.Step.{HasTail, TakesBack}
-use Rattle.bx_journal_store.specs.Store.{IsPartlyCut}
+use Rattle.bx_journal_store.specs.Store.{IsCutInPart}
 use Rattle.bx_journal_read.proofs.Cuts.{Newest, newest_of, cut_end_fault, cut_end_ok}
 
 pub mark_in : (text : List ℕ) (m n : ℕ) (r : Reading) → IsMark text m r → m ≤ n → n ≤ length text → IsMark (take n text) m r
@@ -22,7 +22,7 @@ module _ (text x : List ℕ) (below : List (List ℕ)) (v : Version) (e : Entry)
   newest : Newest text x below t.entries e
   newest = newest_of text x below t.entries e t.rest t.newest
 
-  pub first_fault : (new : List ℕ) → IsPartlyCut saved text new → RecoversEither new x (x ∷ below) below
+  pub first_fault : (new : List ℕ) → IsCutInPart saved text new → RecoversEither new x (x ∷ below) below
   first_fault new part = cut_end_fault text new x below t.entries e v saved newest t.marks.saving part
 
   pub first_ok : (new : List ℕ) → new ≡ take saved text → IsOpen v e.saved new x below

@@ -5,7 +5,7 @@ use Rattle.std.proofs.lemmas.List.{drop-take, take_all}
 use Rattle.std.specs.Prelude.{◌↔◌, IfErr, OnOk, codes}
 use Rattle.bx_journal_format.proofs.ReadLoop.{drop_twice}
 use Rattle.bx_journal_format.proofs.TallyLemmas.{take_less}
-use Rattle.bx_journal_read.specs.show.Differences.{signed_line, HasBytes, IsCache}
+use Rattle.bx_journal_read.specs.show.Differences.{signed_line, HasCached, IsCache}
 use Rattle.bx_journal_read.specs.declared.show.cache.Cached.{Cached}
 use Rattle.bx_journal_read.specs.declared.show.fault.ShowFault.{ShowFault}
 use Rattle.bx_journal_read.specs.show.Showing.{LookCounts, Stays}
@@ -41,7 +41,7 @@ take_least n m xs less short = elim (eq-or-lt_of_le less) [
 ]
 
 -- the line of the bytes at an address that a page gives, as far as the image has these
-pub now_added : (image page old new : List ℕ) (k : Cached) (at most there : ℕ) → take k.count page ≡ take k.count (drop k.at image) → HasBytes k at there → there ≤ most → (there < most → length image ≤ at + there)
+pub now_added : (image page old new : List ℕ) (k : Cached) (at most there : ℕ) → take k.count page ≡ take k.count (drop k.at image) → HasCached k at there → there ≤ most → (there < most → length image ≤ at + there)
     → new ≡ old ++ signed_line (codes "-") at (take ((at - k.at) + there - (at - k.at)) (drop (at - k.at) page)) → new ≡ old ++ signed_line (codes "-") at (take most (drop at image))
 now_added image page old new k at most there are has less short more =
     let cut : (at - k.at) + there - (at - k.at) ≡ there = omega arith in

@@ -6,11 +6,11 @@ use Rattle.std.proofs.lemmas.List.Folds.{list_all-append}
 use Rattle.std.proofs.Math.Seq.{take-add}
 use Rattle.bx_image.specs.Change.{restore, Covers}
 use Rattle.bx_journal_format.specs.declared.format.version.Version.{Version}
-use Rattle.bx_journal_format.specs.Text.{IsPrefix, Reading, Entry, Between, Ending, IsRest, Split, split, start, joined, after_lines, is_short}
+use Rattle.bx_journal_format.specs.Text.{IsPrefix, Reading, Entry, Between, Ending, IsRest, Split, split, start, text_of_lines, after_lines, is_short}
 use Rattle.bx_journal_read.specs.model.Stack.{stack_of, HaveLengths, AllCover, Recovers}
 use Rattle.bx_journal_read.specs.model.Phase.{IsAtRest, RecoversEither, IsOpen}
 use Rattle.bx_journal_format.specs.count.Mark.{IsMark}
-use Rattle.bx_journal_store.specs.Store.{IsPartlyCut}
+use Rattle.bx_journal_store.specs.Store.{IsCutInPart}
 use Rattle.bx_journal_format.proofs.Splits.{split-append}
 use Rattle.bx_journal_format.proofs.Runs.{SafeRun, Goes, safe_prefix, after_lines-append, empty_rest}
 use Rattle.bx_journal_format.proofs.Foreign.{lines_plain, joined_lines, and_true, OnTheWay, foreign_run, way_in_end}
@@ -47,13 +47,13 @@ cut_front text new n long is =
     let total : length new ≡ n + (length new - n) = omega arith in
     is ∙ ap (λ k. take k text) total ∙ take-add n (length new - n) text
 
-pub cut_leaves : (Q : Reading → Type 0) (text new : List ℕ) (n : ℕ) (r q : Reading) → IsMark text n r → IsRead text q → OnTheWay Q r q → IsPartlyCut n text new → Leaves Q new
+pub cut_leaves : (Q : Reading → Type 0) (text new : List ℕ) (n : ℕ) (r q : Reading) → IsMark text n r → IsRead text q → OnTheWay Q r q → IsCutInPart n text new → Leaves Q new
 cut_leaves Q text new n r q mark read each part =
     let h = halves text n r q mark read in
     let ls : List (List ℕ) = (split (drop n text)).lines in
     let p : List ℕ = take (length new - n) (drop n text) in
     let run : SafeRun Q (λ s. s ≡ q) r ls = foreign_run Q q ls r h.2 (lines_plain (drop n text)) h.3 each in
-    let front : IsPrefix p (joined ls) = (drop (length new - n) (drop n text), joined_lines (drop n text) h.1 ∙ sym (take-append-drop (length new - n) (drop n text))) in
+    let front : IsPrefix p (text_of_lines ls) = (drop (length new - n) (drop n text), joined_lines (drop n text) h.1 ∙ sym (take-append-drop (length new - n) (drop n text))) in
     let g : Goes Q r p = safe_prefix Q (λ s. s ≡ q) r ls run p front in
     let is : take n text ++ p ≡ new = sym (cut_front text new n part.no_shorter part.front) in
     record { reading = g.reading; reads = subst (λ t. ReadsShort t g.reading) is (extends Q (take n text) p r h.0 g); has = g.has }
@@ -81,7 +81,7 @@ unfolding stack_of
 fine_before text x below es e n = record { covers = tt; finished = (n.covers, n.finished); lengths = n.lengths; stack_is = ap (λ s. x ∷ s) n.stack_is }
 
 pub cut_end_fault : (text new x : List ℕ) (below : List (List ℕ)) (es : List Entry) (e : Entry) (v : Version) (n : ℕ)
-    → Newest text x below es e → IsMark text n (record { entries = es; stage = Ending v e.saved }) → IsPartlyCut n text new → RecoversEither new x (x ∷ below) below
+    → Newest text x below es e → IsMark text n (record { entries = es; stage = Ending v e.saved }) → IsCutInPart n text new → RecoversEither new x (x ∷ below) below
 cut_end_fault text new x below es e v n newest mark part =
     let l = cut_leaves (FineUndo x below) text new n (record { entries = es; stage = Ending v e.saved }) (record { entries = e ∷ es; stage = Between }) mark newest.read
     (way_in_end (FineUndo x below) es e v e.saved (inr (fine_ending text x below es e v newest)) (inl (fine_before text x below es e newest))) part in

@@ -13,7 +13,7 @@ use Rattle.bx_image.proofs.Lengths.{length-placed, placed_len}
 use Rattle.bx_image.proofs.Records.{placed-cut, placed_len_within}
 use Rattle.bx_journal_format.specs.Kept.{Kept, Run, with_run, with_runs}
 use Rattle.bx_journal_format.specs.Line.{save_line, saved_in}
-use Rattle.bx_journal_format.specs.Text.{Entry, Stage, Saving, Ending, Between, Reading, joined, split, start, next_at, after_lines}
+use Rattle.bx_journal_format.specs.Text.{Entry, Stage, Saving, Ending, Between, Reading, text_of_lines, split, start, next_at, after_lines}
 use Rattle.bx_journal_format.specs.declared.format.version.Version.{Version}
 use Rattle.bx_journal_format.specs.declared.read.parts.Part.{Part}
 use Rattle.bx_journal_format.specs.count.Mark.{IsMark}
@@ -181,7 +181,7 @@ window_begins l r w less =
 
 given_lines : (es : List Entry) (v : Version) (k s : Kept) (ls : List (List ℕ)) (text : List ℕ) (n most size room : ℕ)
     → after_lines (record { entries = es; stage = Saving v k }) ls ≡ Some (record { entries = es; stage = Ending v s })
-    → AllShorter most ls → AllPlain ls → joined ls ≡ take n text → 0 < room → most ≤ size → TakesSome k.len (take (min size n) text) room 0 → s.runs ≡ k.runs
+    → AllShorter most ls → AllPlain ls → text_of_lines ls ≡ take n text → 0 < room → most ≤ size → TakesSome k.len (take (min size n) text) room 0 → s.runs ≡ k.runs
 unfolding after_lines
 given_lines es v k s [] text n most size room e short plain is some longest takes = absurd (saving_not_ending es v k s (record { entries = es; stage = Saving v k }) (record { entries = es; stage = Ending v s }) refl refl e)
 given_lines es v k s (l ∷ ls) text n most size room e short plain is some longest takes =
@@ -191,10 +191,10 @@ given_lines es v k s (l ∷ ls) text n most size room e short plain is some long
           let same = ending_stays es v k s ls (subst (λ q. after_lines q ls ≡ Some (record { entries = es; stage = Ending v s })) ended b.2) in
           ap (λ (t : Kept). t.runs) same
       | inr gives ↦
-          let r : List ℕ = joined ls ++ drop n text in
+          let r : List ℕ = text_of_lines ls ++ drop n text in
           let all : text ≡ l ++ 10 ∷ r =
-          sym (take-append-drop n text) ∙ ap (λ t. t ++ drop n text) (sym is) ∙ append_assoc (l ++ 10 ∷ []) (joined ls) (drop n text) ∙ append_assoc l (10 ∷ []) r in
-          let long : length l + 1 ≤ n = omega (arith, ap length is, length-take n text, length-append (l ++ 10 ∷ []) (joined ls), length-append l (10 ∷ [])) in
+          sym (take-append-drop n text) ∙ ap (λ t. t ++ drop n text) (sym is) ∙ append_assoc (l ++ 10 ∷ []) (text_of_lines ls) (drop n text) ∙ append_assoc l (10 ∷ []) r in
+          let long : length l + 1 ≤ n = omega (arith, ap length is, length-take n text, length-append (l ++ 10 ∷ []) (text_of_lines ls), length-append l (10 ∷ [])) in
           let begins = ap (take (min size n)) all ∙ window_begins l r (min size n) (omega (arith, long, short.0, longest)) in
           let none = takes l (take (min size n - (length l + 1)) r) gives.0 some plain.0 begins gives.1 in
           absurd (omega (arith, none))

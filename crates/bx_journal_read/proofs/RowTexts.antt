@@ -11,8 +11,8 @@ use Rattle.bx_journal_format.specs.declared.read.marks.Mark.{Mark}
 use Rattle.bx_journal_format.specs.Line.{save_line}
 use Rattle.bx_journal_format.specs.Ranges.{ranges_text}
 use Rattle.bx_journal_format.specs.Spelled.{EntryLines, GiveRuns, IsSpelled, entry_in, lines_of, runs_behind}
-use Rattle.bx_journal_format.specs.Text.{Between, Entry, Reading, Split, ended, joined, split}
-use Rattle.bx_journal_format.specs.count.Marks.{mark_of, marks_of, size_of}
+use Rattle.bx_journal_format.specs.Text.{Between, Entry, Reading, Split, ended, text_of_lines, split}
+use Rattle.bx_journal_format.specs.count.Marks.{mark_of, marks_of, lines_size}
 use Rattle.bx_journal_format.specs.Finished.{IsFinished}
 use Rattle.bx_journal_format.proofs.Damage.{split_joined}
 use Rattle.bx_journal_format.proofs.Foreign.{joined_lines, lines_plain}
@@ -20,7 +20,7 @@ use Rattle.bx_journal_read.proofs.OpenLemmas.{some_same}
 use Rattle.bx_journal_format.proofs.Splits.{AllPlain}
 use Rattle.bx_journal_read.specs.show.Showing.{RangesOf, after_text, ranges_row, ranges_rows, AreAllMarks, LiesWithin, lines_at, mark_row, mark_rows, places_at, ranges_at, row_front}
 
-pub joined-append : (a b : List (List ℕ)) → joined (a ++ b) ≡ joined a ++ joined b
+pub joined-append : (a b : List (List ℕ)) → text_of_lines (a ++ b) ≡ text_of_lines a ++ text_of_lines b
 joined-append a b = flat_map-append ended a b
 
 -- what stands behind the saved lines of an entry
@@ -28,41 +28,41 @@ abbrev pub tail_of : List EntryLines → EntryLines → List (List ℕ)
 tail_of older c = save_line (suc (length older)) ∷ c.last ∷ []
 
 abbrev begin_of : List EntryLines → EntryLines → List ℕ
-begin_of older c = joined (lines_of older ++ c.first ∷ [])
+begin_of older c = text_of_lines (lines_of older ++ c.first ∷ [])
 
-lines_parts : (older : List EntryLines) (c : EntryLines) → joined (lines_of (c ∷ older)) ≡ begin_of older c ++ (joined c.saved ++ joined (tail_of older c))
+lines_parts : (older : List EntryLines) (c : EntryLines) → text_of_lines (lines_of (c ∷ older)) ≡ begin_of older c ++ (text_of_lines c.saved ++ text_of_lines (tail_of older c))
 unfolding lines_of
 lines_parts older c =
-    ap joined (sym (append_assoc (lines_of older) (c.first ∷ []) (c.saved ++ tail_of older c)))
+    ap text_of_lines (sym (append_assoc (lines_of older) (c.first ∷ []) (c.saved ++ tail_of older c)))
     ∙ joined-append (lines_of older ++ c.first ∷ []) (c.saved ++ tail_of older c)
     ∙ ap (λ t. begin_of older c ++ t) (joined-append c.saved (tail_of older c))
 
-mark_end : (older : List EntryLines) (c : EntryLines) → (mark_of older c).to ≡ (mark_of older c).from + length (joined c.saved)
+mark_end : (older : List EntryLines) (c : EntryLines) → (mark_of older c).to ≡ (mark_of older c).from + length (text_of_lines c.saved)
 mark_end older c =
-    ap size_of (sym (append_assoc (lines_of older) (c.first ∷ []) c.saved)) ∙ ap length (joined-append (lines_of older ++ c.first ∷ []) c.saved)
-    ∙ length-append (begin_of older c) (joined c.saved)
+    ap lines_size (sym (append_assoc (lines_of older) (c.first ∷ []) c.saved)) ∙ ap length (joined-append (lines_of older ++ c.first ∷ []) c.saved)
+    ∙ length-append (begin_of older c) (text_of_lines c.saved)
 
 -- the text between the places of a mark is that of the saved lines
-pub lines_there : (older : List EntryLines) (c : EntryLines) (rest text : List ℕ) → text ≡ joined (lines_of (c ∷ older)) ++ rest → lines_at text (mark_of older c) ≡ joined c.saved
+pub lines_there : (older : List EntryLines) (c : EntryLines) (rest text : List ℕ) → text ≡ text_of_lines (lines_of (c ∷ older)) ++ rest → lines_at text (mark_of older c) ≡ text_of_lines c.saved
 lines_there older c rest text is =
     let mark = mark_of older c in
-    let size : mark.to - mark.from ≡ length (joined c.saved) = omega (arith, mark_end older c) in
-    let parts : text ≡ begin_of older c ++ (joined c.saved ++ (joined (tail_of older c) ++ rest)) =
-    is ∙ ap (λ t. t ++ rest) (lines_parts older c) ∙ append_assoc (begin_of older c) (joined c.saved ++ joined (tail_of older c)) rest
-    ∙ ap (λ t. begin_of older c ++ t) (append_assoc (joined c.saved) (joined (tail_of older c)) rest) in
-    ap (λ n. take n (drop mark.from text)) size ∙ ap (λ t. take (length (joined c.saved)) (drop mark.from t)) parts
-    ∙ ap (take (length (joined c.saved))) (drop-append_seam (begin_of older c) (joined c.saved ++ (joined (tail_of older c) ++ rest)))
-    ∙ take-append_seam (joined c.saved) (joined (tail_of older c) ++ rest)
+    let size : mark.to - mark.from ≡ length (text_of_lines c.saved) = omega (arith, mark_end older c) in
+    let parts : text ≡ begin_of older c ++ (text_of_lines c.saved ++ (text_of_lines (tail_of older c) ++ rest)) =
+    is ∙ ap (λ t. t ++ rest) (lines_parts older c) ∙ append_assoc (begin_of older c) (text_of_lines c.saved ++ text_of_lines (tail_of older c)) rest
+    ∙ ap (λ t. begin_of older c ++ t) (append_assoc (text_of_lines c.saved) (text_of_lines (tail_of older c)) rest) in
+    ap (λ n. take n (drop mark.from text)) size ∙ ap (λ t. take (length (text_of_lines c.saved)) (drop mark.from t)) parts
+    ∙ ap (take (length (text_of_lines c.saved))) (drop-append_seam (begin_of older c) (text_of_lines c.saved ++ (text_of_lines (tail_of older c) ++ rest)))
+    ∙ take-append_seam (text_of_lines c.saved) (text_of_lines (tail_of older c) ++ rest)
 
 -- its ranges are those of the entry's runs
-pub ranges_there : (older : List EntryLines) (c : EntryLines) (rest text : List ℕ) → text ≡ joined (lines_of (c ∷ older)) ++ rest → AllPlain c.saved → c.entry.saved.runs ≡ runs_behind c.entry.saved.len [] c.saved
+pub ranges_there : (older : List EntryLines) (c : EntryLines) (rest text : List ℕ) → text ≡ text_of_lines (lines_of (c ∷ older)) ++ rest → AllPlain c.saved → c.entry.saved.runs ≡ runs_behind c.entry.saved.len [] c.saved
     → ranges_at text (mark_of older c) ≡ ranges_text c.entry.saved.runs
 ranges_there older c rest text is plain runs =
     ap (λ t. ranges_text (runs_behind c.entry.saved.len [] (split t).lines)) (lines_there older c rest text is)
     ∙ ap (λ (s : Split). ranges_text (runs_behind c.entry.saved.len [] s.lines)) (split_joined c.saved plain)
     ∙ ap ranges_text (sym runs)
 
-row_there : (older : List EntryLines) (c : EntryLines) (rest text : List ℕ) → text ≡ joined (lines_of (c ∷ older)) ++ rest → AllPlain c.saved → c.entry.saved.runs ≡ runs_behind c.entry.saved.len [] c.saved
+row_there : (older : List EntryLines) (c : EntryLines) (rest text : List ℕ) → text ≡ text_of_lines (lines_of (c ∷ older)) ++ rest → AllPlain c.saved → c.entry.saved.runs ≡ runs_behind c.entry.saved.len [] c.saved
     → mark_row text (suc (length older)) (mark_of older c) ≡ ranges_row (suc (length older)) c.entry
 row_there older c rest text is plain runs =
     ap (λ t. decimal (suc (length older)) ++ codes " " ++ decimal c.entry.saved.len ++ codes " " ++ after_text c.entry.after ++ codes " " ++ decimal (mark_of older c).saved ++ codes " "
@@ -96,32 +96,32 @@ plain_front [] b plain = (tt, plain)
 plain_front (l ∷ a) b plain = let more = plain_front a b plain.1 in ((plain.0, more.0), more.1)
 
 -- the rows of all marks are those of the entries
-pub rows_there : (cs : List EntryLines) (rest text : List ℕ) → text ≡ joined (lines_of cs) ++ rest → AllPlain (lines_of cs) → GiveRuns cs → mark_rows text 1 (marks_of cs) ≡ ranges_rows (map entry_in cs)
+pub rows_there : (cs : List EntryLines) (rest text : List ℕ) → text ≡ text_of_lines (lines_of cs) ++ rest → AllPlain (lines_of cs) → GiveRuns cs → mark_rows text 1 (marks_of cs) ≡ ranges_rows (map entry_in cs)
 unfolding lines_of marks_of mark_rows ranges_rows
 rows_there [] rest text is plain runs = refl
 rows_there (c ∷ older) rest text is plain runs =
     let own : List (List ℕ) = c.first ∷ (c.saved ++ tail_of older c) in
     let parts = plain_front (lines_of older) own plain in
     let saved = plain_front c.saved (tail_of older c) parts.1.1 in
-    let before : text ≡ joined (lines_of older) ++ (joined own ++ rest) = is ∙ ap (λ t. t ++ rest) (joined-append (lines_of older) own) ∙ append_assoc (joined (lines_of older)) (joined own) rest in
+    let before : text ≡ text_of_lines (lines_of older) ++ (text_of_lines own ++ rest) = is ∙ ap (λ t. t ++ rest) (joined-append (lines_of older) own) ∙ append_assoc (text_of_lines (lines_of older)) (text_of_lines own) rest in
     let number : length (marks_of older) + 1 ≡ suc (length older) = omega (arith, marks_many older) in
     let entries : suc (length older) ≡ suc (length (map entry_in older)) = omega (arith, length-map older entry_in) in
     rows_pushed text (marks_of older) (mark_of older c)
-    ∙ ap (λ t. t ++ mark_row text (length (marks_of older) + 1) (mark_of older c)) (rows_there older (joined own ++ rest) text before parts.0 runs.1)
+    ∙ ap (λ t. t ++ mark_row text (length (marks_of older) + 1) (mark_of older c)) (rows_there older (text_of_lines own ++ rest) text before parts.0 runs.1)
     ∙ ap (λ n. ranges_rows (map entry_in older) ++ mark_row text n (mark_of older c)) number
     ∙ ap (λ t. ranges_rows (map entry_in older) ++ t) (row_there older c rest text is saved.0 runs.0)
     ∙ ap (λ n. ranges_rows (map entry_in older) ++ ranges_row n c.entry) entries
 
 -- the places of all marks lie within the lines
-pub marks_lie : (cs : List EntryLines) (len : ℕ) → size_of (lines_of cs) ≤ len → All (LiesWithin len) (marks_of cs)
+pub marks_lie : (cs : List EntryLines) (len : ℕ) → lines_size (lines_of cs) ≤ len → All (LiesWithin len) (marks_of cs)
 unfolding lines_of marks_of
 marks_lie [] len within = All-nil (LiesWithin len)
 marks_lie (c ∷ older) len within =
     let mark = mark_of older c in
-    let all : size_of (lines_of (c ∷ older)) ≡ mark.from + (length (joined c.saved) + length (joined (tail_of older c))) =
-    ap length (lines_parts older c) ∙ length-append (begin_of older c) (joined c.saved ++ joined (tail_of older c))
-    ∙ ap (λ n. mark.from + n) (length-append (joined c.saved) (joined (tail_of older c))) in
-    let first : mark.from ≡ size_of (lines_of older) + length (joined (c.first ∷ [])) = ap length (joined-append (lines_of older) (c.first ∷ [])) ∙ length-append (joined (lines_of older)) (joined (c.first ∷ [])) in
+    let all : lines_size (lines_of (c ∷ older)) ≡ mark.from + (length (text_of_lines c.saved) + length (text_of_lines (tail_of older c))) =
+    ap length (lines_parts older c) ∙ length-append (begin_of older c) (text_of_lines c.saved ++ text_of_lines (tail_of older c))
+    ∙ ap (λ n. mark.from + n) (length-append (text_of_lines c.saved) (text_of_lines (tail_of older c))) in
+    let first : mark.from ≡ lines_size (lines_of older) + length (text_of_lines (c.first ∷ [])) = ap length (joined-append (lines_of older) (c.first ∷ [])) ∙ length-append (text_of_lines (lines_of older)) (text_of_lines (c.first ∷ [])) in
     let end = mark_end older c in
     All-append (LiesWithin len) (marks_of older) (mark ∷ []) (marks_lie older len (omega (arith, within, all, first)))
     (All-cons (LiesWithin len) mark [] (omega (arith, end), omega (arith, end, all, within)) (All-nil (LiesWithin len)))
@@ -134,7 +134,7 @@ row_written w0 w1 w2 w3 text n mark front places end =
 -- what is written for a text of finished entries alone
 pub log_rows : (text : List ℕ) (cs : List EntryLines) (es : List Entry) → IsSpelled text cs → IsFinished text es → mark_rows text 1 (marks_of cs) ≡ ranges_rows es
 log_rows text cs es s f =
-    let whole : text ≡ joined (lines_of cs) ++ [] = sym (joined_lines text f.whole) ∙ ap joined s.lines ∙ sym (append-nil (joined (lines_of cs))) in
+    let whole : text ≡ text_of_lines (lines_of cs) ++ [] = sym (joined_lines text f.whole) ∙ ap text_of_lines s.lines ∙ sym (append-nil (text_of_lines (lines_of cs))) in
     let plain : AllPlain (lines_of cs) = subst AllPlain s.lines (lines_plain text) in
     let same : record { entries = map entry_in cs; stage = Between } ≡ record { entries = es; stage = Between } =
     some_same (record { entries = map entry_in cs; stage = Between }) (record { entries = es; stage = Between }) (sym s.finished.reads.lines ∙ f.reads.lines) in
@@ -143,7 +143,7 @@ log_rows text cs es s f =
 -- the places of all marks lie within the text
 pub all_lie : (text : List ℕ) (cs : List EntryLines) (marks : List Mark) → IsSpelled text cs → marks ≡ marks_of cs → All (LiesWithin (length text)) marks
 all_lie text cs marks s is =
-    let size : size_of (lines_of cs) ≡ length text = ap size_of (sym s.lines) ∙ ap length (joined_lines text s.finished.whole) in
+    let size : lines_size (lines_of cs) ≡ length text = ap lines_size (sym s.lines) ∙ ap length (joined_lines text s.finished.whole) in
     subst (All (LiesWithin (length text))) (sym is) (marks_lie cs (length text) (omega (arith, size)))
 
 pub rows_none : (text : List ℕ) (n : ℕ) → mark_rows text n [] ≡ []

@@ -7,7 +7,7 @@ use Rattle.bx_journal_format.specs.Line.{end_head, end_line, save_line, start_he
 use Rattle.bx_journal_format.specs.declared.format.version.Version.{Version}
 use Rattle.bx_journal_format.specs.declared.format.version.Version.TheVariants.{First, Second}
 use Rattle.bx_journal_format.specs.Spelled.{EntryLines, IsSpelled, entry_in, lines_of}
-use Rattle.bx_journal_format.specs.Text.{Entry, Stage, Between, Saving, Ending, Reading, Split, IsPrefix, after_lines, begins_with_s, joined, next_at, split, start, next}
+use Rattle.bx_journal_format.specs.Text.{Entry, Stage, Between, Saving, Ending, Reading, Split, IsPrefix, after_lines, begins_with_s, text_of_lines, next_at, split, start, next}
 use Rattle.bx_journal_format.proofs.CalmLemmas.{lines_count}
 use Rattle.bx_journal_format.proofs.Foreign.{joined_lines}
 use Rattle.bx_journal_format.proofs.Inverse.{bind_some, next_between, next_ending, next_saving}
@@ -215,7 +215,7 @@ longer_front front other z cs ds is c d same =
     let on : after_lines (finished_of cs) (split z).lines ≡ Some (finished_of ds) =
     sym (after_lines-append start (finished_of cs) (split front).lines (split z).lines c.finished.reads.lines) ∙ ap (after_lines start) (sym (ap (λ (s : Split). s.lines) parts)) ∙ d.finished.reads.lines in
     let none : (split z).lines ≡ [] = no_way (split z).lines (finished_of cs) (finished_of ds) refl refl (ap length same) on in
-    let empty : z ≡ [] = sym (joined_lines z rest) ∙ ap joined none in
+    let empty : z ≡ [] = sym (joined_lines z rest) ∙ ap text_of_lines none in
     sym (is ∙ ap (λ t. front ++ t) empty ∙ append-nil front)
 
 -- and one front has its entries

@@ -7,8 +7,8 @@ use Rattle.bx_journal_format.specs.Kept.{Kept, kept_of, with_run}
 use Rattle.bx_journal_format.specs.declared.read.types.EntryRead.{EntryRead}
 use Rattle.bx_journal_format.specs.declared.read.types.StageRead.TheVariants.{Ending as EndingRead}
 use Rattle.bx_journal_format.specs.Parsed.{IsMarked, entries_of}
-use Rattle.bx_journal_format.specs.Line.{digits_of, start_head, start_line, start_size}
-use Rattle.bx_journal_format.specs.Text.{Entry, Between, Saving, Ending, Reading, ended, joined, split, start, next_at, after_lines}
+use Rattle.bx_journal_format.specs.Line.{address_width, start_head, start_line, start_size}
+use Rattle.bx_journal_format.specs.Text.{Entry, Between, Saving, Ending, Reading, ended, text_of_lines, split, start, next_at, after_lines}
 use Rattle.bx_journal_format.specs.declared.format.version.Version.{Version}
 use Rattle.bx_journal_format.specs.declared.format.version.Version.TheVariants.{First, Second}
 use Rattle.bx_journal_format.specs.count.Mark.{IsMark}
@@ -23,10 +23,10 @@ use Rattle.bx_journal_read.specs.scan.Restoring.{AllShorter, StandsAt}
 use Rattle.bx_journal_read.proofs.RestoreLemmas.{line_gives, lines_more, same_reading}
 
 -- lines that are a text are shorter than it
-pub joined_shorter : (most : ℕ) (ls : List (List ℕ)) → length (joined ls) ≤ most → AllShorter most ls
+pub joined_shorter : (most : ℕ) (ls : List (List ℕ)) → length (text_of_lines ls) ≤ most → AllShorter most ls
 joined_shorter most [] le = tt
 joined_shorter most (l ∷ ls) le =
-    let long = length-append (ended l) (joined ls) in
+    let long = length-append (ended l) (text_of_lines ls) in
     let own = length-append l (10 ∷ []) in
     (omega (arith, le, long, own), joined_shorter most ls (omega (arith, le, long, own)))
 
@@ -73,14 +73,14 @@ saving_of es v w k s (l ∷ ls) e =
           record { version = more.version; len = more.len }
     ]
 
-head_size : (v : Version) (n : ℕ) → length (start_head v n) + digits_of v ≡ start_size v
+head_size : (v : Version) (n : ℕ) → length (start_head v n) + address_width v ≡ start_size v
 unfolding start_head
 head_size First n = omega (arith, length-append (codes "change ") (hex_digits 8 n ++ codes " "), length-append (hex_digits 8 n) (codes " "), length-hex_digits 8 n)
 head_size Second n = omega (arith, length-append (codes "change2 ") (hex_digits 8 n ++ codes " "), length-append (hex_digits 8 n) (codes " "), length-hex_digits 8 n)
 
 start_long : (v : Version) (n len : ℕ) → length (start_line v n len) ≡ start_size v
 unfolding start_line
-start_long v n len = length-append (start_head v n) (hex_digits (digits_of v) len) ∙ ap (λ k. length (start_head v n) + k) (length-hex_digits (digits_of v) len) ∙ head_size v n
+start_long v n len = length-append (start_head v n) (hex_digits (address_width v) len) ∙ ap (λ k. length (start_head v n) + k) (length-hex_digits (address_width v) len) ∙ head_size v n
 
 -- the first line of the entry, and what it leads to
 record FirstLine (es : List Entry) (v : Version) (len : ℕ) (bytes : List ℕ) : Type 0 where
@@ -92,7 +92,7 @@ record FirstLine (es : List Entry) (v : Version) (len : ℕ) (bytes : List ℕ) 
   leads : next_at es Between line ≡ Some (record { entries = es; stage = Saving v (record { len = len; runs = [] }) })
 
 first_of : (es : List Entry) (w : Version) (s : Kept) (ls : List (List ℕ)) (bytes : List ℕ) → after_lines (record { entries = es; stage = Between }) ls ≡ Some (record { entries = es; stage = Ending w s })
-    → AllPlain ls → joined ls ≡ bytes → FirstLine es w s.len bytes
+    → AllPlain ls → text_of_lines ls ≡ bytes → FirstLine es w s.len bytes
 unfolding after_lines
 first_of es w s [] bytes e plain is =
     absurd (between_apart w s (ap (λ (r : Reading). r.stage) (same_reading (record { entries = es; stage = Between }) (record { entries = es; stage = Ending w s }) e)))
@@ -105,13 +105,13 @@ first_of es w s (l ∷ ls) bytes e plain is =
     let stays = saving_of es v w k s ls (subst (λ q. after_lines q ls ≡ Some (record { entries = es; stage = Ending w s })) q_is b.2) in
     let long : length l ≡ start_size v = ap length n.1.6 ∙ start_long v (suc (length es)) n.1.1 in
     let own : length (ended l) ≡ length l + 1 = length-append l (10 ∷ []) in
-    let front : take (length l + 1) (ended l ++ joined ls) ≡ ended l = ap (λ m. take m (ended l ++ joined ls)) (sym own) ∙ take_front (ended l) (joined ls) in
+    let front : take (length l + 1) (ended l ++ text_of_lines ls) ≡ ended l = ap (λ m. take m (ended l ++ text_of_lines ls)) (sym own) ∙ take_front (ended l) (text_of_lines ls) in
     record {
       line = l;
       long = long ∙ ap start_size stays.version;
       plain = plain.0;
       is = ap (take (length l + 1)) (sym is) ∙ front;
-      most = omega (arith, ap length is, length-append (ended l) (joined ls), own);
+      most = omega (arith, ap length is, length-append (ended l) (text_of_lines ls), own);
       leads = b.1 ∙ ap Some q_is ∙ ap (λ u. Some (record { entries = es; stage = Saving u k })) stays.version ∙ ap (λ m. Some (record { entries = es; stage = Saving w (record { len = m; runs = [] }) })) stays.len;
     }
   where

@@ -7,7 +7,7 @@ use Rattle.std.specs.Io.KnownBytes.{Appends}
 use Rattle.bx_journal_format.specs.declared.read.marks.Mark.{Mark}
 use Rattle.bx_journal_format.specs.Ranges.{ranges_text}
 use Rattle.bx_journal_format.specs.Spelled.{EntryLines, GiveRuns, lines_of, runs_behind}
-use Rattle.bx_journal_format.specs.Text.{Split, joined, split}
+use Rattle.bx_journal_format.specs.Text.{Split, text_of_lines, split}
 use Rattle.bx_journal_format.specs.count.Marks.{mark_of, marks_of}
 use Rattle.bx_journal_format.proofs.Damage.{split_joined}
 use Rattle.bx_journal_format.proofs.ReadLoop.{drop_twice}
@@ -16,7 +16,7 @@ use Rattle.bx_journal_format.proofs.TallyLemmas.{take_sum}
 use Rattle.bx_journal_read.proofs.AddedLemmas.{shown_there}
 use Rattle.bx_journal_read.proofs.RowTexts.{joined-append, lines_there, marks_many, plain_front, ranges_there, tail_of}
 use Rattle.bx_journal_read.specs.show.Differences.{diff_line, made_line}
-use Rattle.bx_journal_read.specs.show.Steps.{bytes_text, heading, length_text, lines_text, next_number, step_text, steps_text, amount_text, heading_at, heading_end, heading_front, heading_start, mark_step, newest_first, number_at, saved_at, where_at}
+use Rattle.bx_journal_read.specs.show.Steps.{bytes_text, heading, length_words, lines_text, next_number, step_text, steps_text, amount_text, heading_at, heading_end, heading_front, heading_start, mark_step, newest_first, number_at, saved_lines_at, where_at}
 use Rattle.bx_journal_read.specs.declared.show.way.Steps.{Steps}
 use Rattle.bx_journal_read.specs.declared.show.way.Way.{Way}
 use Rattle.bx_journal_read.specs.declared.show.way.Way.TheVariants.{Undo, Redo}
@@ -30,15 +30,15 @@ heading_written w0 w1 w2 w3 text way n mark front places end =
     (Appends-trans w0 w1 w2 (heading_start way n mark.saved) (where_at text mark) front places) end
 
 -- a step too
-pub step_written : (w0 w1 w2 w3 : Option (List ℕ)) (s : Steps) (image text : List ℕ) (n : ℕ) (mark : Mark) → Appends w0 w1 (heading_at text s.way n mark) → Appends w1 w2 (saved_at s.compares image text mark)
+pub step_written : (w0 w1 w2 w3 : Option (List ℕ)) (s : Steps) (image text : List ℕ) (n : ℕ) (mark : Mark) → Appends w0 w1 (heading_at text s.way n mark) → Appends w1 w2 (saved_lines_at s.compares image text mark)
     → Appends w2 w3 (codes "\n") → Appends w0 w3 (mark_step s image text n mark)
 step_written w0 w1 w2 w3 s image text n mark front lines end =
-    Appends-trans w0 w2 w3 (heading_at text s.way n mark ++ saved_at s.compares image text mark) (codes "\n")
-    (Appends-trans w0 w1 w2 (heading_at text s.way n mark) (saved_at s.compares image text mark) front lines) end
+    Appends-trans w0 w2 w3 (heading_at text s.way n mark ++ saved_lines_at s.compares image text mark) (codes "\n")
+    (Appends-trans w0 w1 w2 (heading_at text s.way n mark) (saved_lines_at s.compares image text mark) front lines) end
 
 -- the image counts only where it is compared
-same_saved : (compares : Bool) (image now text : List ℕ) (mark : Mark) → (IsTrue compares → now ≡ image) → saved_at compares now text mark ≡ saved_at compares image text mark
-same_saved true image now text mark same = ap (λ x. saved_at true x text mark) (same refl)
+same_saved : (compares : Bool) (image now text : List ℕ) (mark : Mark) → (IsTrue compares → now ≡ image) → saved_lines_at compares now text mark ≡ saved_lines_at compares image text mark
+same_saved true image now text mark same = ap (λ x. saved_lines_at true x text mark) (same refl)
 same_saved false image now text mark same = refl
 
 same_step : (s : Steps) (image now text : List ℕ) (n : ℕ) (mark : Mark) → (IsTrue s.compares → now ≡ image) → mark_step s now text n mark ≡ mark_step s image text n mark
@@ -85,23 +85,23 @@ heading_parts front amount places writes end is =
     ∙ ap (λ t. t ++ codes "\n") (sym (append_assoc (front ++ writes) (codes ", ") end))
 
 -- what there is of an entry at the place of its mark
-module _ (older : List EntryLines) (c : EntryLines) (rest text : List ℕ) (is : text ≡ joined (lines_of (c ∷ older)) ++ rest) (plain : AllPlain c.saved) (runs : c.entry.saved.runs ≡ runs_behind c.entry.saved.len [] c.saved) where
+module _ (older : List EntryLines) (c : EntryLines) (rest text : List ℕ) (is : text ≡ text_of_lines (lines_of (c ∷ older)) ++ rest) (plain : AllPlain c.saved) (runs : c.entry.saved.runs ≡ runs_behind c.entry.saved.len [] c.saved) where
   heading_there : (way : Way) (n : ℕ) → heading_at text way n (mark_of older c) ≡ heading way n c.entry
   heading_there way n =
       let mark = mark_of older c in
       let places : where_at text mark ≡ (if mark.saved == 0 then [] else ranges_text c.entry.saved.runs) = ap (λ t. if mark.saved == 0 then [] else t) (ranges_there older c rest text is plain runs) in
       ap (λ t. heading_start way n mark.saved ++ t ++ heading_end mark.after mark.len) places
       ∙ heading_parts (heading_front way n) (amount_text mark.saved) (if mark.saved == 0 then [] else ranges_text c.entry.saved.runs)
-      (if mark.saved == 0 then codes "no bytes" else bytes_text mark.saved ++ codes " at " ++ ranges_text c.entry.saved.runs) (length_text mark.after mark.len)
+      (if mark.saved == 0 then codes "no bytes" else bytes_text mark.saved ++ codes " at " ++ ranges_text c.entry.saved.runs) (length_words mark.after mark.len)
       (writes_same (mark.saved == 0) (codes "no bytes") (bytes_text mark.saved ++ codes " at ") (ranges_text c.entry.saved.runs))
 
-  saved_there : (compares : Bool) (image : List ℕ) → saved_at compares image text (mark_of older c) ≡ lines_text compares image c.entry.saved.len c.saved
+  saved_there : (compares : Bool) (image : List ℕ) → saved_lines_at compares image text (mark_of older c) ≡ lines_text compares image c.entry.saved.len c.saved
   saved_there false image = shown_there (made_line c.entry.saved.len) older c rest text is plain
   saved_there true image = shown_there (diff_line image c.entry.saved.len) older c rest text is plain
 
   step_there : (s : Steps) (image : List ℕ) (n : ℕ) → mark_step s image text n (mark_of older c) ≡ step_text s image n c
   step_there s image n =
-      ap (λ t. t ++ saved_at s.compares image text (mark_of older c) ++ codes "\n") (heading_there s.way n)
+      ap (λ t. t ++ saved_lines_at s.compares image text (mark_of older c) ++ codes "\n") (heading_there s.way n)
       ∙ ap (λ t. heading s.way n c.entry ++ t ++ codes "\n") (saved_there s.compares image)
 
 number_none : (way : Way) (n : ℕ) → number_at way n 0 ≡ n
@@ -123,7 +123,7 @@ newest_last s image text n (x ∷ marks) m =
     ∙ append_assoc (mark_step s image text n m) (newest_first s image text (next_number s.way n) marks) (mark_step s image text (number_at s.way (next_number s.way n) (length marks)) x)
 
 -- the steps over the newest marks are those over the newest entries
-pub steps_there : (s : Steps) (image : List ℕ) (cs : List EntryLines) (n k : ℕ) (rest text : List ℕ) → text ≡ joined (lines_of cs) ++ rest → AllPlain (lines_of cs) → GiveRuns cs → k ≤ length cs
+pub steps_there : (s : Steps) (image : List ℕ) (cs : List EntryLines) (n k : ℕ) (rest text : List ℕ) → text ≡ text_of_lines (lines_of cs) ++ rest → AllPlain (lines_of cs) → GiveRuns cs → k ≤ length cs
     → newest_first s image text n (drop (length (marks_of cs) - k) (marks_of cs)) ≡ steps_text s image n (take k cs)
 unfolding lines_of marks_of newest_first steps_text
 steps_there s image cs n zero rest text is plain runs enough = ap (newest_first s image text n) (drop_all (length (marks_of cs) - 0) (marks_of cs) (omega arith))
@@ -132,7 +132,7 @@ steps_there s image (c ∷ older) n (suc k) rest text is plain runs enough =
     let own : List (List ℕ) = c.first ∷ (c.saved ++ tail_of older c) in
     let parts = plain_front (lines_of older) own plain in
     let saved = plain_front c.saved (tail_of older c) parts.1.1 in
-    let before : text ≡ joined (lines_of older) ++ (joined own ++ rest) = is ∙ ap (λ t. t ++ rest) (joined-append (lines_of older) own) ∙ append_assoc (joined (lines_of older)) (joined own) rest in
+    let before : text ≡ text_of_lines (lines_of older) ++ (text_of_lines own ++ rest) = is ∙ ap (λ t. t ++ rest) (joined-append (lines_of older) own) ∙ append_assoc (text_of_lines (lines_of older)) (text_of_lines own) rest in
     let m : Mark = mark_of older c in
     let many = marks_many older in
     let count : length (marks_of older ++ m ∷ []) - suc k ≡ length (marks_of older) - k = omega (arith, length-append (marks_of older) (m ∷ [])) in
@@ -141,4 +141,4 @@ steps_there s image (c ∷ older) n (suc k) rest text is plain runs enough =
     ap (newest_first s image text n) left
     ∙ newest_last s image text n (drop (length (marks_of older) - k) (marks_of older)) m
     ∙ ap (λ t. t ++ newest_first s image text (next_number s.way n) (drop (length (marks_of older) - k) (marks_of older))) (step_there older c rest text is saved.0 runs.0 s image n)
-    ∙ ap (λ t. step_text s image n c ++ t) (steps_there s image older (next_number s.way n) k (joined own ++ rest) text before parts.0 runs.1 (omega (arith, enough)))
+    ∙ ap (λ t. step_text s image n c ++ t) (steps_there s image older (next_number s.way n) k (text_of_lines own ++ rest) text before parts.0 runs.1 (omega (arith, enough)))

@@ -9,7 +9,7 @@ use Rattle.bx_journal_format.specs.declared.read.marks.Mark.{Mark}
 use Rattle.bx_journal_format.specs.Finished.{IsFinished}
 use Rattle.bx_journal_format.specs.Shown.{shown}
 use Rattle.bx_journal_format.specs.Spelled.{EntryLines, IsSpelled, entry_in, lines_of}
-use Rattle.bx_journal_format.specs.Text.{Stage, Between, Saving, Ending, IsPrefix, Reading, Reads, after_lines, joined, split, start}
+use Rattle.bx_journal_format.specs.Text.{Stage, Between, Saving, Ending, IsPrefix, Reading, Reads, after_lines, text_of_lines, split, start}
 use Rattle.bx_journal_format.specs.count.Marks.{marks_of}
 use Rattle.bx_journal_format.proofs.CleanLemmas.{clean_shown}
 use Rattle.bx_journal_format.proofs.Foreign.{joined_lines, lines_plain}
@@ -323,7 +323,7 @@ undo_only Redo torn none = absurd (let h : Some torn ≡ None = none refl in cc)
 module _ (text now image : List ℕ) (s : Steps) (slice marks : List Mark) (w0 w1 w2 : Option (List ℕ)) (enough : s.count ≤ length marks) (same : now ≡ text) (is : slice ≡ marks) (put : AreStepsPut s image now s.count slice w1 w2) where
   entries_shown : (front line : List ℕ) (cs : List EntryLines) → IsPrefix front text → IsSpelled front cs → marks ≡ marks_of cs → Appends w0 w1 line → HasShown s image cs line w0 w2
   entries_shown front line cs prefix spelled marks_are before =
-      let whole : text ≡ joined (lines_of cs) ++ prefix.0 = prefix.1 ∙ ap (λ t. t ++ prefix.0) (sym (joined_lines front spelled.finished.whole) ∙ ap joined spelled.lines) in
+      let whole : text ≡ text_of_lines (lines_of cs) ++ prefix.0 = prefix.1 ∙ ap (λ t. t ++ prefix.0) (sym (joined_lines front spelled.finished.whole) ∙ ap text_of_lines spelled.lines) in
       let plain : AllPlain (lines_of cs) = subst AllPlain spelled.lines (lines_plain front) in
       let many : length (marks_of cs) ≡ length cs = marks_many cs in
       let fits : s.count ≤ length cs = omega (arith, enough, ap length marks_are, many) in

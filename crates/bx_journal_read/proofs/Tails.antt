@@ -10,12 +10,12 @@ use Rattle.bx_journal_format.specs.Kept.{Kept}
 use Rattle.bx_image.specs.Change.{IsAsGood}
 use Rattle.bx_journal_format.specs.declared.format.version.Version.{Version}
 use Rattle.bx_journal_format.specs.read.Plain.{HasNoNewline}
-use Rattle.bx_journal_format.specs.Text.{IsPrefix, Reading, Entry, Stage, Between, Saving, Ending, IsRest, Reads, Split, split, with_front, start, joined, after_lines, is_short, begins_with_s}
+use Rattle.bx_journal_format.specs.Text.{IsPrefix, Reading, Entry, Stage, Between, Saving, Ending, IsRest, Reads, Split, split, with_first_byte, start, text_of_lines, after_lines, is_short, begins_with_s}
 use Rattle.bx_journal_read.specs.model.Stack.{stack_of, HaveLengths, AllCover, image_at, recovered, IsSound, Recovers}
 use Rattle.bx_journal_read.specs.model.Phase.{IsAtRest}
 use Rattle.bx_journal_format.specs.count.Mark.{IsMark}
 use Rattle.bx_journal_read.specs.scan.Step.{HasTail}
-use Rattle.bx_journal_store.specs.Store.{IsPartlyCut}
+use Rattle.bx_journal_store.specs.Store.{IsCutInPart}
 use Rattle.bx_journal_format.proofs.Splits.{split-append, split-plain, plain_front}
 use Rattle.bx_journal_format.proofs.EntryRun.{short_front}
 use Rattle.bx_journal_format.proofs.Runs.{SafeRun, GoesBy, GoesAllBy, Goes, safe_prefix, safe_all, after_lines-append}
@@ -49,32 +49,32 @@ rest_front es (Saving v s) rest (b ∷ t) r front =
 rest_front es (Ending v s) rest t r front = (r.0, r.1, prefix_of t rest _ front r.2)
 
 -- lines and what follows them are all of the text
-front_joined : (b : ℕ) (s : Split) → joined (with_front b s).lines ++ (with_front b s).rest ≡ b ∷ (joined s.lines ++ s.rest)
+front_joined : (b : ℕ) (s : Split) → text_of_lines (with_first_byte b s).lines ++ (with_first_byte b s).rest ≡ b ∷ (text_of_lines s.lines ++ s.rest)
 front_joined b s = by_lines s.lines
   where
-    by_lines : (lines : List (List ℕ)) → joined (with_front b (record { lines = lines; rest = s.rest })).lines ++ (with_front b (record { lines = lines; rest = s.rest })).rest ≡ b ∷ (joined lines ++ s.rest)
+    by_lines : (lines : List (List ℕ)) → text_of_lines (with_first_byte b (record { lines = lines; rest = s.rest })).lines ++ (with_first_byte b (record { lines = lines; rest = s.rest })).rest ≡ b ∷ (text_of_lines lines ++ s.rest)
     by_lines [] = refl
     by_lines (l ∷ ls) = refl
 
 newline : (b : ℕ) → eqb b 10 ≡ true → 10 ≡ b
 newline b is = grind (arith, common_steps)
 
-pub joined_rest : (text : List ℕ) → joined (split text).lines ++ (split text).rest ≡ text
+pub joined_rest : (text : List ℕ) → text_of_lines (split text).lines ++ (split text).rest ≡ text
 unfolding split
 joined_rest [] = refl
 joined_rest (b ∷ text) = by_test (eqb b 10) refl (joined_rest text)
   where
-    by_test : (is : Bool) → eqb b 10 ≡ is → joined (split text).lines ++ (split text).rest ≡ text
-        → joined (cond is (record { lines = [] ∷ (split text).lines; rest = (split text).rest }) (with_front b (split text))).lines ++ (cond is (record { lines = [] ∷ (split text).lines; rest = (split text).rest }) (with_front b (split text))).rest ≡ b ∷ text
+    by_test : (is : Bool) → eqb b 10 ≡ is → text_of_lines (split text).lines ++ (split text).rest ≡ text
+        → text_of_lines (cond is (record { lines = [] ∷ (split text).lines; rest = (split text).rest }) (with_first_byte b (split text))).lines ++ (cond is (record { lines = [] ∷ (split text).lines; rest = (split text).rest }) (with_first_byte b (split text))).rest ≡ b ∷ text
     by_test true is ih =
         let same : 10 ≡ b = newline b is in
         rw same (ap (λ s. b ∷ s) ih)
     by_test false is ih = front_joined b (split text) ∙ ap (λ s. b ∷ s) ih
 
-front_rest : (b : ℕ) (s : Split) → eqb b 10 ≡ false → HasNoNewline s.rest → HasNoNewline (with_front b s).rest
+front_rest : (b : ℕ) (s : Split) → eqb b 10 ≡ false → HasNoNewline s.rest → HasNoNewline (with_first_byte b s).rest
 front_rest b s apart plain = by_lines s.lines
   where
-    by_lines : (lines : List (List ℕ)) → HasNoNewline (with_front b (record { lines = lines; rest = s.rest })).rest
+    by_lines : (lines : List (List ℕ)) → HasNoNewline (with_first_byte b (record { lines = lines; rest = s.rest })).rest
     by_lines [] = (apart, plain)
     by_lines (l ∷ ls) = plain
 
@@ -83,38 +83,38 @@ unfolding split
 rest_plain [] = tt
 rest_plain (b ∷ text) = by_test (eqb b 10) refl (rest_plain text)
   where
-    by_test : (is : Bool) → eqb b 10 ≡ is → HasNoNewline (split text).rest → HasNoNewline (cond is (record { lines = [] ∷ (split text).lines; rest = (split text).rest }) (with_front b (split text))).rest
+    by_test : (is : Bool) → eqb b 10 ≡ is → HasNoNewline (split text).rest → HasNoNewline (cond is (record { lines = [] ∷ (split text).lines; rest = (split text).rest }) (with_first_byte b (split text))).rest
     by_test true is plain = plain
     by_test false is plain = front_rest b (split text) is plain
 
 -- a front of lines and a rest
-goes_in : (Q : Reading → Type 0) (r q : Reading) (ls : List (List ℕ)) (R : List ℕ) (j : ℕ) → SafeRun Q (λ s. s ≡ q) r ls → HasNoNewline R → IsRest q.entries q.stage R → Goes Q r (take j (joined ls ++ R))
+goes_in : (Q : Reading → Type 0) (r q : Reading) (ls : List (List ℕ)) (R : List ℕ) (j : ℕ) → SafeRun Q (λ s. s ≡ q) r ls → HasNoNewline R → IsRest q.entries q.stage R → Goes Q r (take j (text_of_lines ls ++ R))
 goes_in Q r q ls R j run plain rest =
-    elim (cases_lt j (length (joined ls))) [
+    elim (cases_lt j (length (text_of_lines ls))) [
       | inl less ↦
-          let same : take j (joined ls ++ R) ≡ take j (joined ls) = take-append-le j (joined ls) R (omega (arith, less)) in
-          subst (Goes Q r) (sym same) (safe_prefix Q (λ s. s ≡ q) r ls run (take j (joined ls)) (drop j (joined ls), sym (take-append-drop j (joined ls))))
+          let same : take j (text_of_lines ls ++ R) ≡ take j (text_of_lines ls) = take-append-le j (text_of_lines ls) R (omega (arith, less)) in
+          subst (Goes Q r) (sym same) (safe_prefix Q (λ s. s ≡ q) r ls run (take j (text_of_lines ls)) (drop j (text_of_lines ls), sym (take-append-drop j (text_of_lines ls))))
       | inr more ↦
-          let k : ℕ = j - length (joined ls) in
-          let count : j ≡ length (joined ls) + k = omega (arith, more) in
-          let same : take j (joined ls ++ R) ≡ joined ls ++ take k R = ap (λ n. take n (joined ls ++ R)) count ∙ take-append-add (joined ls) R k in
+          let k : ℕ = j - length (text_of_lines ls) in
+          let count : j ≡ length (text_of_lines ls) + k = omega (arith, more) in
+          let same : take j (text_of_lines ls ++ R) ≡ text_of_lines ls ++ take k R = ap (λ n. take n (text_of_lines ls ++ R)) count ∙ take-append-add (text_of_lines ls) R k in
           subst (Goes Q r) (sym same) (behind k)
     ]
   where
-    behind : (k : ℕ) → Goes Q r (joined ls ++ take k R)
+    behind : (k : ℕ) → Goes Q r (text_of_lines ls ++ take k R)
     behind k =
-        let g : GoesAllBy Q (λ s. s ≡ q) r (split (joined ls)) = safe_all Q (λ s. s ≡ q) r ls run in
+        let g : GoesAllBy Q (λ s. s ≡ q) r (split (text_of_lines ls)) = safe_all Q (λ s. s ≡ q) r ls run in
         let plain_k : HasNoNewline (take k R) = plain_front (take k R) (drop k R) (subst HasNoNewline (sym (take-append-drop k R)) plain) in
-        let parts : split (joined ls ++ take k R) ≡ record { lines = (split (joined ls)).lines; rest = take k R } =
-        split-append (joined ls) (take k R) g.whole ∙ ap (λ (s : Split). record { lines = (split (joined ls)).lines ++ s.lines; rest = s.rest }) (split-plain (take k R) plain_k)
-        ∙ ap (λ ms. record { lines = ms; rest = take k R }) (append-nil (split (joined ls)).lines) in
+        let parts : split (text_of_lines ls ++ take k R) ≡ record { lines = (split (text_of_lines ls)).lines; rest = take k R } =
+        split-append (text_of_lines ls) (take k R) g.whole ∙ ap (λ (s : Split). record { lines = (split (text_of_lines ls)).lines ++ s.lines; rest = s.rest }) (split-plain (take k R) plain_k)
+        ∙ ap (λ ms. record { lines = ms; rest = take k R }) (append-nil (split (text_of_lines ls)).lines) in
         let fits : IsRest g.reading.entries g.reading.stage (take k R) =
         subst (λ (s : Reading). IsRest s.entries s.stage (take k R)) (sym g.ends) (rest_front q.entries q.stage R (take k R) rest (drop k R, sym (take-append-drop k R))) in
-        let goes : GoesBy Q r (record { lines = (split (joined ls)).lines; rest = take k R }) = record { reading = g.reading; lines = g.lines; rest = fits; has = g.has; short = g.short } in
+        let goes : GoesBy Q r (record { lines = (split (text_of_lines ls)).lines; rest = take k R }) = record { reading = g.reading; lines = g.lines; rest = fits; has = g.has; short = g.short } in
         subst (GoesBy Q r) (sym parts) goes
 
 -- what a cut that failed leaves of a text with a rest
-pub tail_leaves : (Q : Reading → Type 0) (text new : List ℕ) (n : ℕ) (r q : Reading) → IsMark text n r → ReadsShort text q → OnTheWay Q r q → IsPartlyCut n text new → Leaves Q new
+pub tail_leaves : (Q : Reading → Type 0) (text new : List ℕ) (n : ℕ) (r q : Reading) → IsMark text n r → ReadsShort text q → OnTheWay Q r q → IsCutInPart n text new → Leaves Q new
 tail_leaves Q text new n r q mark read each part =
     let parts = split_at_mark text n r mark in
     let ls : List (List ℕ) = (split (drop n text)).lines in
@@ -127,7 +127,7 @@ tail_leaves Q text new n r q mark read each part =
     sym (after_lines-append start r (split (take n text)).lines (split (drop n text)).lines mark.lines) ∙ sym (ap (λ (s : Split). after_lines start s.lines) parts) ∙ read.lines in
     let rest : IsRest q.entries q.stage (split (drop n text)).rest = subst (λ (s : Split). IsRest q.entries q.stage s.rest) parts read.rest in
     let run : SafeRun Q (λ s. s ≡ q) r (split (drop n text)).lines = foreign_run Q q (split (drop n text)).lines r lines (lines_plain (drop n text)) shorts.1 each in
-    let g0 : Goes Q r (take (length new - n) (joined (split (drop n text)).lines ++ (split (drop n text)).rest)) =
+    let g0 : Goes Q r (take (length new - n) (text_of_lines (split (drop n text)).lines ++ (split (drop n text)).rest)) =
     goes_in Q r q (split (drop n text)).lines (split (drop n text)).rest (length new - n) run (rest_plain (drop n text)) rest in
     let g : Goes Q r (take (length new - n) (drop n text)) = subst (λ t. Goes Q r (take (length new - n) t)) (joined_rest (drop n text)) g0 in
     let is : take n text ++ take (length new - n) (drop n text) ≡ new = sym (cut_front text new n part.no_shorter part.front) in
@@ -141,7 +141,7 @@ early_fine x stack es finished lengths is (Ending w t) h = absurd h
 pub tail_recovers : (text x : List ℕ) (stack : List (List ℕ)) (es : List Entry) (stage : Stage) (n : ℕ) → HasTail text x stack es stage n → Recovers text x stack
 tail_recovers text x stack es stage n t = record { reading = record { entries = es; stage = stage }; reads = t.reads; sound = t.sound; lengths = t.lengths; stack_is = t.stack_is }
 
-pub tail_fault : (text new x : List ℕ) (stack : List (List ℕ)) (es : List Entry) (stage : Stage) (n : ℕ) → HasTail text x stack es stage n → image_at stage x ≡ x → IsPartlyCut n text new → Recovers new x stack
+pub tail_fault : (text new x : List ℕ) (stack : List (List ℕ)) (es : List Entry) (stage : Stage) (n : ℕ) → HasTail text x stack es stage n → image_at stage x ≡ x → IsCutInPart n text new → Recovers new x stack
 tail_fault text new x stack es stage n t same part =
     let q : Reading = record { entries = es; stage = stage } in
     let read : ReadsShort text (record { entries = es; stage = stage }) = record { lines = t.reads.lines; rest = t.reads.rest; short = t.sound.short } in

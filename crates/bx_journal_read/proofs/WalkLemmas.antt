@@ -1,7 +1,7 @@
 -- The lines of a text that was walked along, and what is unfinished at its end.
 use Rattle.std.proofs.Common.{◌≡◌, inl, inr, ℕ, ◌+◌, ◌-◌, ◌≤◌, Bool, true, false, List, [], ◌∷◌, ◌++◌, length, length-append, take, drop, length-take, length-drop, refl, ap, sym, ◌∙◌, subst, arith, append-nil, Option, Some, None}
 use Rattle.bx_journal_format.specs.Kept.{Kept}
-use Rattle.bx_journal_format.specs.Text.{Entry, Stage, Between, Saving, Ending, Reading, Reads, IsRest, joined, split, start, next_at, after_lines}
+use Rattle.bx_journal_format.specs.Text.{Entry, Stage, Between, Saving, Ending, Reading, Reads, IsRest, text_of_lines, split, start, next_at, after_lines}
 use Rattle.bx_journal_format.specs.count.Mark.{IsMark}
 use Rattle.bx_journal_format.proofs.Inverse.{bind_some, next_between, next_ending, next_saving}
 use Rattle.bx_journal_format.specs.declared.read.count.Tally.{Tally}
@@ -55,7 +55,7 @@ shorter_append most (l ∷ a) b h k = (h.0, shorter_append most a b h.1 k)
 
 pub window_shorter : (bytes : List ℕ) (most : ℕ) → length bytes ≤ most → AllShorter most (split bytes).lines
 window_shorter bytes most le =
-    joined_shorter most (split bytes).lines (omega (arith, le, ap length (joined_rest bytes), length-append (joined (split bytes).lines) (split bytes).rest))
+    joined_shorter most (split bytes).lines (omega (arith, le, ap length (joined_rest bytes), length-append (text_of_lines (split bytes).lines) (split bytes).rest))
 
 -- the lines between two places
 pub lines_between : (text : List ℕ) (p q : Reading) (n m : ℕ) → IsMark text n p → IsMark text m q → n ≤ m → after_lines p (split (take (m - n) (drop n text))).lines ≡ Some q
@@ -114,7 +114,7 @@ whole_between text p q n m first next le =
     let is : take m text ≡ a ++ b = ap (λ i. take i text) (sym count) ∙ take_sum n (m - n) text in
     sym (ap (λ s. s.rest) (ap split is ∙ split-append a b first.whole)) ∙ next.whole
 
-no_lines : (ls : List (List ℕ)) → length ls ≡ 0 → length (joined ls) ≡ 0
+no_lines : (ls : List (List ℕ)) → length ls ≡ 0 → length (text_of_lines ls) ≡ 0
 no_lines [] h = refl
 no_lines (l ∷ ls) h = absurd (omega (arith, h))
 

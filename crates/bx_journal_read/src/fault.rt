@@ -1,7 +1,7 @@
 //! What stops a call of a session.
 ghost use Rattle.std.specs.Prelude.{◌≡◌};
 ghost use Rattle.bx_journal_read.specs.declared.fault.SessionFault.TheVariants.{NoMemory as OutOfMemory, TooLarge as ImageTooLarge, DeviceFailed as CallFailed};
-ghost use Rattle.bx_journal_read.specs.model.Fault.{fault_of, reading_fault, redo_fault};
+ghost use Rattle.bx_journal_read.specs.model.Fault.{saving_fault, reading_fault, redo_fault};
 
 use bx_image::{DeviceFailed, ImageFault, TooLarge};
 use bx_journal_store::TextFault;
@@ -81,7 +81,7 @@ impl From<TooLarge> for SessionFault {
 
 fn of_image(fault: ImageFault) -> SessionFault
 where
-    ensures { result ≡ fault_of fault }
+    ensures { result ≡ saving_fault fault }
 {
     match fault {
         ImageFault::NoMemory => SessionFault::NoMemory,
@@ -113,7 +113,7 @@ where
 }
 
 impl From<ImageFault> for SessionFault {
-    ghost from_gives = { λ f e. e ≡ fault_of f };
+    ghost from_gives = { λ f e. e ≡ saving_fault f };
 
     fn from(fault: ImageFault) -> Self {
         of_image(fault)

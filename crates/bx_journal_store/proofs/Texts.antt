@@ -6,7 +6,7 @@ use Rattle.std.proofs.lemmas.List.{places, take_all}
 use Rattle.bx_image.specs.Image.{place, cut}
 use Rattle.bx_image.specs.File.{IsFrontPlaced, IsCutOnTheWay}
 use Rattle.bx_image.proofs.Images.{same_image, length-place, length-cut, slice_index-cut, slice_index-place_within, slice_index-place_below}
-use Rattle.bx_journal_store.specs.Store.{IsPartlyAppended, IsPartlyCut}
+use Rattle.bx_journal_store.specs.Store.{IsPartlyAppended, IsCutInPart}
 
 -- bytes that are placed at the end are appended
 pub place_end : (x bytes : List ℕ) → place x (length x) bytes ≡ x ++ bytes
@@ -39,7 +39,7 @@ appended_at x y z bytes end is same placed =
 pub IsPartlyAppended-placed : (x y z bytes : List ℕ) (end : ℕ) → end ≡ length x → y ≡ x → IsFrontPlaced end bytes y z → IsPartlyAppended bytes x z
 IsPartlyAppended-placed x y z bytes end is same (k, placed) = (k, appended_at x y z (take k bytes) end is same placed)
 
-pub IsPartlyCut-on_the_way : (n : ℕ) (old new : List ℕ) → n ≤ length old → IsCutOnTheWay n old new → IsPartlyCut n old new
+pub IsPartlyCut-on_the_way : (n : ℕ) (old new : List ℕ) → n ≤ length old → IsCutOnTheWay n old new → IsCutInPart n old new
 IsPartlyCut-on_the_way n old new fits (m, least, most, is) =
     let long : length (cut old m) ≡ m = length-cut old m in
     rw is (record {

@@ -5,7 +5,7 @@ ghost use Rattle.bx_image.specs.declared.device.fuse.Part.TheVariants.{Half};
 ghost use Rattle.bx_image.specs.Device.{GoesOn};
 ghost use Rattle.bx_image.specs.declared.device.fuse.Fuse.TheVariants.{Never, After, Once};
 ghost use Rattle.bx_image.specs.Power.{FadesBehind, FadesFrom};
-ghost use Rattle.bx_journal_store.specs.Store.{IsPartlyAppended, IsPartlyCut};
+ghost use Rattle.bx_journal_store.specs.Store.{IsPartlyAppended, IsCutInPart};
 
 use crate::{DeviceFailed, NoMemory, TextFault, TextStore};
 use bx_image::{Fuse, Part};
@@ -43,7 +43,7 @@ fn cut_half<T: TextStore>(store: &mut T, n: u64) -> Result<(), DeviceFailed>
     requires within { T.honest store.old → n ≤ length (T.text store.old) }
     ensures part { T.honest store.old → OnOk result (T.text store.new ≡ take (reached Half (length (T.text store.old)) n) (T.text store.old)) }
     ensures fades { T.honest store.old → FadesFrom n (T.survives store.old) (T.survives store.new) }
-    ensures cut { T.honest store.old → IsPartlyCut n (T.text store.old) (T.text store.new) }
+    ensures cut { T.honest store.old → IsCutInPart n (T.text store.old) (T.text store.new) }
     ensures goes_on { GoesOn T.honest T.room T.failures (is_err result) store.old store.new }
 {
     let len = store.len()?;
@@ -60,7 +60,7 @@ fn cut_partly<T: TextStore>(store: &mut T, n: u64, part: Part) -> Result<(), Dev
     requires within { T.honest store.old → n ≤ length (T.text store.old) }
     ensures part { T.honest store.old → OnOk result (T.text store.new ≡ take (reached part (length (T.text store.old)) n) (T.text store.old)) }
     ensures fades { T.honest store.old → FadesFrom n (T.survives store.old) (T.survives store.new) }
-    ensures cut { T.honest store.old → IsPartlyCut n (T.text store.old) (T.text store.new) }
+    ensures cut { T.honest store.old → IsCutInPart n (T.text store.old) (T.text store.new) }
     ensures goes_on { GoesOn T.honest T.room T.failures (is_err result) store.old store.new }
 {
     match part {

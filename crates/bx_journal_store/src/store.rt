@@ -2,7 +2,7 @@
 ghost use Rattle.std.specs.Prelude.{◌≡◌, ◌+◌, ◌<◌, ◌≤◌, ◌^◌, List, ℕ, length, take, drop, ◌++◌, IfOk, IsOk, OnOk, OnErr, is_err, false};
 ghost use Rattle.bx_image.specs.Device.{GoesOn};
 ghost use Rattle.bx_image.specs.Power.{FadesBehind, FadesFrom, NoMore, Only};
-ghost use Rattle.bx_journal_store.specs.Store.{IsPartlyAppended, IsPartlyCut, has_failed};
+ghost use Rattle.bx_journal_store.specs.Store.{IsPartlyAppended, IsCutInPart, text_has_failed};
 
 use crate::{DeviceFailed, NoMemory, TextFault};
 use std::alloc::Allocator;
@@ -51,7 +51,7 @@ pub trait TextStore {
         ensures bytes { honest self.old → IfOk result (λ bytes. bytes.items ≡ text self.old) }
         ensures text { honest self.old → text self.new ≡ text self.old }
         ensures survives { honest self.old → NoMore (survives self.old) (survives self.new) }
-        ensures goes_on { GoesOn honest room failures (has_failed result) self.old self.new };
+        ensures goes_on { GoesOn honest room failures (text_has_failed result) self.old self.new };
 
     /// Fills `buf` with the bytes from the place `at` on; the range has to lie within the text. The
     /// text stays.
@@ -81,7 +81,7 @@ pub trait TextStore {
         requires countable { failures self.old < u64.MAX }
         requires within { honest self.old → n ≤ length (text self.old) }
         ensures ok { honest self.old → OnOk result (text self.new ≡ take n (text self.old)) }
-        ensures failed { honest self.old → OnErr result (IsPartlyCut n (text self.old) (text self.new)) }
+        ensures failed { honest self.old → OnErr result (IsCutInPart n (text self.old) (text self.new)) }
         ensures fades { honest self.old → FadesFrom n (survives self.old) (survives self.new) }
         ensures goes_on { GoesOn honest room failures (is_err result) self.old self.new };
 

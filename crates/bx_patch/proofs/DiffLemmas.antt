@@ -7,10 +7,10 @@ use Rattle.std.proofs.lemmas.List.{length-take, length-drop}
 use Rattle.bx_text.specs.Fold.{line_bytes}
 use Rattle.bx_patch.specs.declared.diff.fault.DiffFault.{DiffFault}
 use Rattle.bx_patch.specs.declared.diff.row.Extent.{Extent}
-use Rattle.bx_patch.specs.Text.{PatchLine, length_text, line_text, headed, row_lines, rows_from, row_count, patch_lines, patch_text}
-use Rattle.bx_patch.specs.Diff.{OnlyReads, WritesPart}
+use Rattle.bx_patch.specs.Text.{PatchLine, length_text, signed_line_text, headed, row_lines, rows_from, row_count, patch_lines, patch_text}
+use Rattle.bx_patch.specs.Diff.{OnlyReads, WritesPrefix}
 use Rattle.bx_patch.specs.private.Row.{window_lines}
-use Rattle.bx_patch.specs.private.Diff.{HasPut, lengths_line, lines_at, lines_before}
+use Rattle.bx_patch.specs.private.Diff.{HasPut, lengths_line, lines_of_window, lines_before}
 use Rattle.bx_patch.proofs.PushLemmas.{flat_more, equal_rows}
 use Rattle.bx_patch.proofs.RowLemmas.{nested_take}
 use Rattle.bx_patch.proofs.WritingLemmas.{headed_prefix}
@@ -83,15 +83,15 @@ rows_on extent x y at next whole on =
     ∙ ap (λ t. rows_from extent x y 0 k ++ t) (window_is extent x y 32768 k n few ∙ ap (λ p. window_lines extent p (take 32768 (drop p x)) (take 32768 (drop p y)) n) base)
 
 -- windows that are equal have no lines
-pub equal_windows : (extent : Extent) (at : ℕ) (a b : List ℕ) (n : ℕ) → a ≡ b → flat_map line_text (window_lines extent at a b n) ≡ []
+pub equal_windows : (extent : Extent) (at : ℕ) (a b : List ℕ) (n : ℕ) → a ≡ b → flat_map signed_line_text (window_lines extent at a b n) ≡ []
 equal_windows extent at a b n e =
-    ap (λ b. flat_map line_text (window_lines extent at a b n)) (sym e) ∙ rows_none 0 n
+    ap (λ b. flat_map signed_line_text (window_lines extent at a b n)) (sym e) ∙ rows_none 0 n
   where
-    rows_none : (k n : ℕ) → flat_map line_text (flat_map (λ k. row_lines extent (at + 16 * k) (line_bytes a k) (line_bytes a k)) (range_with_len k n)) ≡ []
+    rows_none : (k n : ℕ) → flat_map signed_line_text (flat_map (λ k. row_lines extent (at + 16 * k) (line_bytes a k) (line_bytes a k)) (range_with_len k n)) ≡ []
     rows_none k zero = refl
     rows_none k (suc n) =
-        flat_more line_text (row_lines extent (at + 16 * k) (line_bytes a k) (line_bytes a k)) (flat_map (λ k. row_lines extent (at + 16 * k) (line_bytes a k) (line_bytes a k)) (range_with_len (k + 1) n))
-        ∙ ap (λ t. t ++ flat_map line_text (flat_map (λ k. row_lines extent (at + 16 * k) (line_bytes a k) (line_bytes a k)) (range_with_len (k + 1) n))) (equal_rows extent (at + 16 * k) (line_bytes a k) (line_bytes a k) refl)
+        flat_more signed_line_text (row_lines extent (at + 16 * k) (line_bytes a k) (line_bytes a k)) (flat_map (λ k. row_lines extent (at + 16 * k) (line_bytes a k) (line_bytes a k)) (range_with_len (k + 1) n))
+        ∙ ap (λ t. t ++ flat_map signed_line_text (flat_map (λ k. row_lines extent (at + 16 * k) (line_bytes a k) (line_bytes a k)) (range_with_len (k + 1) n))) (equal_rows extent (at + 16 * k) (line_bytes a k) (line_bytes a k) refl)
         ∙ rows_none (k + 1) n
 
 -- the rows before an address are the first ones of the patch
@@ -107,20 +107,20 @@ lengths_are old new = ap (λ t. t ++ codes "\n") (append_assoc (codes "length " 
 
 module _ (extent : Extent) (head : List ℕ) (begun : Bool) (written : ℕ) (first now : Option (List ℕ)) (x y a b : List ℕ) (at next : ℕ) (old : a ≡ x) (new : b ≡ y)
     (inside : at < max (length x) (length y)) (whole : at % 32768 ≡ 0) (on : next ≡ at + min 32768 (max (length x) (length y) - at)) where
-  lines_on : lines_before extent x y at ++ lines_at extent a b at ≡ lines_before extent x y next
+  lines_on : lines_before extent x y at ++ lines_of_window extent a b at ≡ lines_before extent x y next
   lines_on =
-      ap (λ a. lines_before extent x y at ++ lines_at extent a b at) old ∙ ap (λ b. lines_before extent x y at ++ lines_at extent x b at) new ∙ sym (rows_on extent x y at next whole on)
+      ap (λ a. lines_before extent x y at ++ lines_of_window extent a b at) old ∙ ap (λ b. lines_before extent x y at ++ lines_of_window extent x b at) new ∙ sym (rows_on extent x y at next whole on)
 
-  pub next_put : HasPut head (lines_before extent x y at ++ lines_at extent a b at) begun written first now → HasPut head (lines_before extent x y next) begun written first now
+  pub next_put : HasPut head (lines_before extent x y at ++ lines_of_window extent a b at) begun written first now → HasPut head (lines_before extent x y next) begun written first now
   next_put put = subst (λ (ls : List PatchLine). HasPut head ls begun written first now) lines_on put
 
-  pub next_part : (fault : DiffFault) → WritesPart first now (headed head (lines_before extent x y at ++ lines_at extent a b at)) fault →
-      WritesPart first now (headed head (patch_lines extent x y)) fault
+  pub next_part : (fault : DiffFault) → WritesPrefix first now (headed head (lines_before extent x y at ++ lines_of_window extent a b at)) fault →
+      WritesPrefix first now (headed head (patch_lines extent x y)) fault
   next_part fault part =
       let n : ℕ = (next + 15) / 16 in
       let few : n ≤ row_count x y = omega arith in
-      let here = subst (λ (ls : List PatchLine). WritesPart first now (headed head ls) fault) lines_on part in
-      subst (λ (ls : List PatchLine). WritesPart first now (headed head ls) fault) (sym (rows_front extent x y n few))
+      let here = subst (λ (ls : List PatchLine). WritesPrefix first now (headed head ls) fault) lines_on part in
+      subst (λ (ls : List PatchLine). WritesPrefix first now (headed head ls) fault) (sym (rows_front extent x y n few))
       (headed_prefix fault head (lines_before extent x y next) (rows_from extent x y n (row_count x y - n)) first now here)
 
 -- a comparison of two devices of these lengths, from their start

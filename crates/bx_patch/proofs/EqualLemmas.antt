@@ -5,16 +5,16 @@ use Rattle.std.specs.List.{flat_map}
 use Rattle.bx_text.specs.Fold.{line_bytes}
 use Rattle.bx_patch.specs.Laws.{EqualIsEmpty}
 use Rattle.bx_patch.specs.declared.diff.row.Extent.{Extent}
-use Rattle.bx_patch.specs.Text.{PatchLine, headed, length_text, line_text, patch_lines, patch_text, row_count, row_lines, rows_from}
+use Rattle.bx_patch.specs.Text.{PatchLine, headed, length_text, signed_line_text, patch_lines, patch_text, row_count, row_lines, rows_from}
 use Rattle.bx_patch.proofs.WritingLemmas.{no_more}
 use Rattle.bx_patch.proofs.MakesLemmas.{no_lines}
 use Rattle.bx_patch.proofs.PushLemmas.{equal_rows, flat_more}
 
-none_from : (extent : Extent) (x : List ℕ) (k n : ℕ) → flat_map line_text (rows_from extent x x k n) ≡ []
+none_from : (extent : Extent) (x : List ℕ) (k n : ℕ) → flat_map signed_line_text (rows_from extent x x k n) ≡ []
 none_from extent x k zero = refl
 none_from extent x k (suc n) =
     let row = row_lines extent (16 * k) (line_bytes x k) (line_bytes x k) in
-    flat_more line_text row (rows_from extent x x (k + 1) n) ∙ ap (λ t. t ++ flat_map line_text (rows_from extent x x (k + 1) n)) (equal_rows extent (16 * k) (line_bytes x k) (line_bytes x k) refl)
+    flat_more signed_line_text row (rows_from extent x x (k + 1) n) ∙ ap (λ t. t ++ flat_map signed_line_text (rows_from extent x x (k + 1) n)) (equal_rows extent (16 * k) (line_bytes x k) (line_bytes x k) refl)
     ∙ none_from extent x (k + 1) n
 
 same_none : (extent : Extent) (x : List ℕ) → patch_lines extent x x ≡ []

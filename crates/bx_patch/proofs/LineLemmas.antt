@@ -13,7 +13,7 @@ use Rattle.bx_read.proofs.FullLines.{first_line}
 use Rattle.bx_read.proofs.WrittenLemmas.{reads_back}
 use Rattle.bx_text.specs.Dump.{dump_line}
 use Rattle.bx_patch.specs.Patch.{Asked, Pieces}
-use Rattle.bx_patch.specs.Text.{PatchLine, sign_of, line_text, length_text, headed}
+use Rattle.bx_patch.specs.Text.{PatchLine, sign_of, signed_line_text, length_text, headed}
 use Rattle.bx_patch.specs.Grammar.{IsLength, IsSigned, GivesSigned, GivesPatch}
 
 -- a line with 1 to 16 bytes at an address that can be read
@@ -55,15 +55,15 @@ signed new at bytes fine =
     let back = reads_back false 16 2 at bytes (omega arith) fine.some fine.few (omega arith) fine.bytes fine.small in
     record { text = wide_line_text false 16 2 at bytes; hex = back.1.0; spelled = refl; is = back.1.1 }
 
-pub gives : (ls : List PatchLine) → Each IsFine ls → GivesSigned (lines_of (flat_map line_text ls)) (pieces_of false ls) (pieces_of true ls)
+pub gives : (ls : List PatchLine) → Each IsFine ls → GivesSigned (lines_of (flat_map signed_line_text ls)) (pieces_of false ls) (pieces_of true ls)
 gives [] fine = (refl, refl)
 gives ((true, at, bytes) ∷ ls) fine =
     let l = fine.0 in
-    rw (front_line 43 at bytes (flat_map line_text ls) (λ h. absurd (omega (arith, h))) l.some l.few l.bytes l.small)
+    rw (front_line 43 at bytes (flat_map signed_line_text ls) (λ h. absurd (omega (arith, h))) l.some l.few l.bytes l.small)
     (inr (inr ((at, bytes), pieces_of true ls, signed true at bytes l, refl, gives ls fine.1)))
 gives ((false, at, bytes) ∷ ls) fine =
     let l = fine.0 in
-    rw (front_line 45 at bytes (flat_map line_text ls) (λ h. absurd (omega (arith, h))) l.some l.few l.bytes l.small)
+    rw (front_line 45 at bytes (flat_map signed_line_text ls) (λ h. absurd (omega (arith, h))) l.some l.few l.bytes l.small)
     (inr (inl ((at, bytes), pieces_of false ls, signed false at bytes l, refl, gives ls fine.1)))
 
 -- the line that tells the lengths
@@ -122,7 +122,7 @@ asked_by old new (l ∷ ls) = record { lengths = Some (old, new); expected = pie
 pub headed_gives : (old new : ℕ) (ls : List PatchLine) → old < 2 ^ 59 → new < 2 ^ 59 → Each IsFine ls → GivesPatch (lines_of (headed (length_text old new ++ codes "\n") ls)) (asked_by old new ls)
 headed_gives old new [] small little fine = (refl, (refl, refl))
 headed_gives old new (l ∷ ls) small little fine =
-    let body = flat_map line_text (l ∷ ls) in
+    let body = flat_map signed_line_text (l ∷ ls) in
     let text = length_text old new in
     let line : lines_of (headed (length_text old new ++ codes "\n") (l ∷ ls)) ≡ text ∷ lines_of body =
     ap lines_of (append_assoc text (10 ∷ []) body) ∙ first_line text body (one_line text (length_line old new small little)) in

@@ -15,7 +15,7 @@ use Rattle.bx_read.specs.Text.{lines_of}
 use Rattle.bx_patch.specs.Patch.{Asked, HasPiece, Agrees, new_length, patch_change, reversed, Pieces}
 use Rattle.bx_patch.specs.declared.diff.row.Extent.{Extent}
 use Rattle.bx_patch.specs.Text.{PatchLine, differs, row_count, patch_lines, patch_text}
-use Rattle.bx_patch.specs.Grammar.{EndsWithin, Fits, IsPatch}
+use Rattle.bx_patch.specs.Grammar.{EndsWithin, IsInLengths, IsPatch}
 use Rattle.bx_patch.specs.Laws.{IsShort, PatchMakesNew, PatchReversed, PatchIsStrict, PatchTellsLength}
 use Rattle.bx_patch.proofs.UniqueLemmas.{one_patch}
 use Rattle.bx_patch.proofs.LineLemmas.{Each, IsFine, pieces_of, asked_by, headed_gives}
@@ -175,7 +175,7 @@ module _ (extent : Extent) (x y : List ℕ) (short : IsShort x) (little : IsShor
   ends false ((false, at, bytes) ∷ ls) are =
       All-cons (EndsWithin (length x)) (at, bytes) (pieces_of false ls) (piece_within x at bytes are.0.fine.some are.0.has) (ends false ls are.1)
 
-  lines_fit : (ls : List PatchLine) → Each (IsOf x y) ls → Fits (asked_by (length x) (length y) ls)
+  lines_fit : (ls : List PatchLine) → Each (IsOf x y) ls → IsInLengths (asked_by (length x) (length y) ls)
   lines_fit [] are = tt
   lines_fit (l ∷ ls) are = (ends false (l ∷ ls) are, ends true (l ∷ ls) are)
 
@@ -304,7 +304,7 @@ fit_length A n (p ∷ ps) z fits long =
     let first = All-head (EndsWithin n) p ps fits in
     fit_length A n ps (place z p.0 p.1) (All-tail (EndsWithin n) p ps fits) (length-place z p.0 p.1 ∙ omega (arith, long, first, end_of_le p.0 p.1))
 
-tells : (A : Type 0) (l : Option (ℕ × ℕ)) (e w : Pieces) (x : List ℕ) → Fits (record { lengths = l; expected = e; written = w }) →
+tells : (A : Type 0) (l : Option (ℕ × ℕ)) (e w : Pieces) (x : List ℕ) → IsInLengths (record { lengths = l; expected = e; written = w }) →
     Agrees (record { lengths = l; expected = e; written = w }) x →
     IfSome l (λ lengths. length (effect {A = A} (patch_change (record { lengths = l; expected = e; written = w })) x) ≡ lengths.1)
 unfolding effect brought

@@ -13,10 +13,10 @@ use Rattle.bx_read.specs.Text.{contents}
 use Rattle.bx_patch.specs.declared.other.Other.TheVariants.{Length, Bytes}
 use Rattle.bx_patch.specs.declared.other.window.Cached.{Cached}
 use Rattle.bx_patch.specs.declared.read.patch.PatchLengths.{PatchLengths}
-use Rattle.bx_patch.specs.Other.{DiffersFirst, HasFirst, IsFirstOther, OtherDisagrees, has_other}
+use Rattle.bx_patch.specs.Other.{DiffersFirst, HasFirstBytes, IsFirstOther, OtherDisagrees, has_other}
 use Rattle.bx_patch.specs.Patch.{HasPiece, Pieces}
 use Rattle.bx_patch.specs.Text.{differs}
-use Rattle.bx_patch.specs.private.Other.{FindsAmong, HasBytes, IsCache}
+use Rattle.bx_patch.specs.private.Other.{FindsAmong, HasPage, IsImagePage}
 use Rattle.bx_patch.proofs.RowLemmas.{nested_take}
 
 drop_twice : (n m : ℕ) (xs : List ℕ) → drop m (drop n xs) ≡ drop (n + m) xs
@@ -31,7 +31,7 @@ drop_twice (suc n) m (x ∷ xs) =
     drop_twice n m xs ∙ ap (λ k. drop k (x ∷ xs)) (sym count)
 
 -- a byte of a page is one of the image
-page_place : (x page : List ℕ) (k : Cached) (at n j : ℕ) → take k.count page ≡ take k.count (drop k.at x) → HasBytes k at n → j < n
+page_place : (x page : List ℕ) (k : Cached) (at n j : ℕ) → take k.count page ≡ take k.count (drop k.at x) → HasPage k at n → j < n
     → take 1 (drop j (take n (drop (at - k.at) page))) ≡ take 1 (drop (at + j) x)
 page_place x page k at n j are has small =
     let m : ℕ = (at - k.at) + j in
@@ -45,7 +45,7 @@ page_place x page k at n j are has small =
     ∙ nested_take x k.at k.count m 1 (omega arith) ∙ ap (λ i. take 1 (drop i x)) there
 
 -- the bytes of a page at an address, beside those of a piece
-module _ (x page bytes : List ℕ) (k : Cached) (at n : ℕ) (are : take k.count page ≡ take k.count (drop k.at x)) (has : HasBytes k at n) where
+module _ (x page bytes : List ℕ) (k : Cached) (at n : ℕ) (are : take k.count page ≡ take k.count (drop k.at x)) (has : HasPage k at n) where
   abbrev seen : List ℕ
   seen = take ((at - k.at) + n - (at - k.at)) (drop (at - k.at) page)
 
@@ -57,7 +57,7 @@ module _ (x page bytes : List ℕ) (k : Cached) (at n : ℕ) (are : take k.count
       ap (λ l. differs l bytes j) seen_is
       ∙ ap (λ a. not (bytes_eq a (take 1 (drop j bytes)))) (page_place x page k at n j are has small)
 
-  pub page_has : (same : ℕ) → same ≤ min (length seen) (length bytes) → ((j : ℕ) → j < same → differs seen bytes j ≡ false) → HasFirst x (at, bytes) same
+  pub page_has : (same : ℕ) → same ≤ min (length seen) (length bytes) → ((j : ℕ) → j < same → differs seen bytes j ≡ false) → HasFirstBytes x (at, bytes) same
   page_has same most agree j below =
       let few : same ≤ n = omega (arith, most, ap length seen_is, length-take {A = ℕ} n (drop (at - k.at) page)) in
       sym (place_is j (omega arith)) ∙ agree j below
@@ -86,8 +86,8 @@ rest_is x bytes at done j =
     ap (λ i. not (bytes_eq (take 1 (drop i x)) (take 1 (drop j (drop done bytes))))) place
     ∙ ap (λ l. not (bytes_eq (take 1 (drop (at + (done + j)) x)) (take 1 l))) (drop_twice done j bytes)
 
-pub has_more : (x now bytes rest : List ℕ) (at done same : ℕ) → now ≡ x → rest ≡ drop done bytes → HasFirst x (at, bytes) done → HasFirst now (at + done, rest) same
-    → HasFirst x (at, bytes) (done + same)
+pub has_more : (x now bytes rest : List ℕ) (at done same : ℕ) → now ≡ x → rest ≡ drop done bytes → HasFirstBytes x (at, bytes) done → HasFirstBytes now (at + done, rest) same
+    → HasFirstBytes x (at, bytes) (done + same)
 has_more x now bytes rest at done same is behind before more j below = elim (cases_lt j done) as (λ _. has_other x (at, bytes) j ≡ false) [
   | inl early ↦ before j early
   | inr late ↦
@@ -98,7 +98,7 @@ has_more x now bytes rest at done same is behind before more j below = elim (cas
 ]
 
 -- a cache of an image that is the same as before
-pub cache_again : (honest now_honest : Type 0) (image now page : List ℕ) (c : Cached) → (now_honest → honest) → (now_honest → now ≡ image) → IsCache honest image page c → IsCache now_honest now page c
+pub cache_again : (honest now_honest : Type 0) (image now page : List ℕ) (c : Cached) → (now_honest → honest) → (now_honest → now ≡ image) → IsImagePage honest image page c → IsImagePage now_honest now page c
 cache_again honest now_honest image now page c still same cache = record {
   long = λ h. cache.long (still h) ∙ sym (ap length (same h));
   are = λ h. cache.are (still h) ∙ ap (λ im. take c.count (drop c.at im)) (sym (same h));
@@ -117,7 +117,7 @@ is_same : (a b : List ℕ) → a ≡ b → not (bytes_eq a b) ≡ false
 is_same a b e = ap not ((bytes_eq-Decides a b).1 e)
 
 -- an image that has each byte of a piece has the piece
-pub whole_piece : (x bytes : List ℕ) (at : ℕ) → HasFirst x (at, bytes) (length bytes) → HasPiece x (at, bytes)
+pub whole_piece : (x bytes : List ℕ) (at : ℕ) → HasFirstBytes x (at, bytes) (length bytes) → HasPiece x (at, bytes)
 whole_piece x [] at has = refl
 whole_piece x (b ∷ bytes) at has =
     let first : take 1 (drop at x) ≡ b ∷ [] =
@@ -152,7 +152,7 @@ among_more {A = A} x pieces i piece within has next leads a found =
 -- the pieces up to one that the image hasn't
 pub among_here : {A : Type 0} (x now bytes : List ℕ) (pieces : List (Piece A)) (i same : ℕ) (piece : Piece A) → now ≡ x → bytes ≡ piece.bytes → i < length pieces → piece ≡ get_or pieces i piece
     → ((a : Option ℕ) → FindsAmong x (contents (drop i pieces)) a → FindsAmong x (contents pieces) a)
-    → same < length bytes → HasFirst now (piece.at, bytes) same → (same < length bytes → has_other now (piece.at, bytes) same ≡ true)
+    → same < length bytes → HasFirstBytes now (piece.at, bytes) same → (same < length bytes → has_other now (piece.at, bytes) same ≡ true)
     → FindsAmong x (contents pieces) (Some (piece.at + same))
 among_here {A = A} x now bytes pieces i same piece is text within here leads small has other =
     let next : drop i pieces ≡ piece ∷ drop (i + 1) pieces = drop_more pieces i piece within ∙ ap (λ p. p ∷ drop (i + 1) pieces) (sym here) in
@@ -164,12 +164,12 @@ among_here {A = A} x now bytes pieces i same piece is text within here leads sma
 -- one piece more that the image has
 pub among_next : {A : Type 0} (x now bytes : List ℕ) (pieces : List (Piece A)) (i same : ℕ) (piece : Piece A) → now ≡ x → bytes ≡ piece.bytes → i < length pieces → piece ≡ get_or pieces i piece
     → ((a : Option ℕ) → FindsAmong x (contents (drop i pieces)) a → FindsAmong x (contents pieces) a)
-    → same ≤ length bytes → length bytes ≤ same → HasFirst now (piece.at, bytes) same
+    → same ≤ length bytes → length bytes ≤ same → HasFirstBytes now (piece.at, bytes) same
     → (a : Option ℕ) → FindsAmong x (contents (drop (i + 1) pieces)) a → FindsAmong x (contents pieces) a
 among_next {A = A} x now bytes pieces i same piece is text within here leads most least has =
     let next : drop i pieces ≡ piece ∷ drop (i + 1) pieces = drop_more pieces i piece within ∙ ap (λ p. p ∷ drop (i + 1) pieces) (sym here) in
     let all : same ≡ length bytes = omega arith in
-    let P : ℕ → Type 0 = λ n. HasFirst now (piece.at, bytes) n in
+    let P : ℕ → Type 0 = λ n. HasFirstBytes now (piece.at, bytes) n in
     let Q : List ℕ → Type 0 = λ y. HasPiece y (piece.at, bytes) in
     let R : List ℕ → Type 0 = λ b. HasPiece x (piece.at, b) in
     among_more x pieces i piece within (subst R text (subst Q is (whole_piece now bytes piece.at (subst P all has)))) next leads

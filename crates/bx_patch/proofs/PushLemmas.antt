@@ -8,15 +8,15 @@ use Rattle.std.proofs.lemmas.Slice.Eq.{bytes_eq-Decides}
 use Rattle.bx_text.specs.Dump.{dump_line}
 use Rattle.bx_patch.specs.declared.diff.row.Extent.{Extent}
 use Rattle.bx_patch.specs.declared.diff.row.Extent.TheVariants.{Bytes, Rows}
-use Rattle.bx_patch.specs.Text.{differs, sign_of, line_for, line_text, span_lines, row_lines, spans_from}
+use Rattle.bx_patch.specs.Text.{differs, sign_of, line_for, signed_line_text, span_lines, row_lines, spans_from}
 use Rattle.bx_patch.specs.private.Row.{AreSame, AreOther, window_lines}
 use Rattle.bx_patch.proofs.SpanLemmas.{span_run, span_skip, span_none, Ends}
 
-pub line_some : (new : Bool) (at : ℕ) (bytes : List ℕ) → 0 < length bytes → flat_map line_text (line_for new at bytes) ≡ sign_of new ∷ dump_line false 16 2 at bytes
+pub line_some : (new : Bool) (at : ℕ) (bytes : List ℕ) → 0 < length bytes → flat_map signed_line_text (line_for new at bytes) ≡ sign_of new ∷ dump_line false 16 2 at bytes
 line_some new at [] some = absurd (omega arith)
 line_some new at (b ∷ bytes) some = append-nil (sign_of new ∷ dump_line false 16 2 at (b ∷ bytes))
 
-pub line_none : (new : Bool) (at : ℕ) (bytes : List ℕ) → length bytes ≡ 0 → flat_map line_text (line_for new at bytes) ≡ []
+pub line_none : (new : Bool) (at : ℕ) (bytes : List ℕ) → length bytes ≡ 0 → flat_map signed_line_text (line_for new at bytes) ≡ []
 line_none new at [] none = refl
 line_none new at (b ∷ bytes) none = absurd (omega arith)
 
@@ -26,20 +26,20 @@ flat_more f (x ∷ xs) ys = ap (λ t. f x ++ t) (flat_more f xs ys) ∙ sym (app
 
 -- the text of what is left of a row
 abbrev pub row_rest : ℕ → List ℕ → List ℕ → ℕ → List ℕ
-row_rest at old new from = flat_map line_text (flat_map (span_lines at old new) (spans_from (differs old new) from (16 - from)))
+row_rest at old new from = flat_map signed_line_text (flat_map (span_lines at old new) (spans_from (differs old new) from (16 - from)))
 
 pub row_begin : (at : ℕ) (old new : List ℕ) (from : ℕ) → from ≤ 16 → AreSame old new 0 from →
-    flat_map line_text (row_lines Bytes at old new) ≡ row_rest at old new from
+    flat_map signed_line_text (row_lines Bytes at old new) ≡ row_rest at old new from
 row_begin at old new from most same =
     let count : 16 ≡ from + (16 - from) = omega arith in
     let spans : spans_from (differs old new) 0 16 ≡ spans_from (differs old new) from (16 - from) =
     ap (spans_from (differs old new) 0) count ∙ span_skip (differs old new) 0 from (16 - from) (λ j above below. same j above (omega arith))
     ∙ ap (λ a. spans_from (differs old new) a (16 - from)) (let e : 0 + from ≡ from = omega arith in e) in
-    ap (λ spans. flat_map line_text (flat_map (span_lines at old new) spans)) spans
+    ap (λ spans. flat_map signed_line_text (flat_map (span_lines at old new) spans)) spans
 
 pub row_next : (at : ℕ) (old new : List ℕ) (from to next : ℕ) → from < 16 → from < to → to ≤ next → next ≤ 16 →
     AreOther old new from to → (to < 16 → differs old new to ≡ false) → AreSame old new to next →
-    row_rest at old new from ≡ flat_map line_text (span_lines at old new (record { at = from; end = to })) ++ row_rest at old new next
+    row_rest at old new from ≡ flat_map signed_line_text (span_lines at old new (record { at = from; end = to })) ++ row_rest at old new next
 row_next at old new from to next inside some later most other ends same =
     let test = differs old new in
     let k : ℕ = to - from - 1 in
@@ -56,8 +56,8 @@ row_next at old new from to next inside some later most other ends same =
     let skip : spans_from test to m ≡ spans_from test next (16 - next) =
     ap (spans_from test to) rest_count ∙ span_skip test to (next - to) (16 - next) (λ j above below. same j above (omega arith))
     ∙ ap (λ a. spans_from test a (16 - next)) rest_place in
-    ap (λ spans. flat_map line_text (flat_map (span_lines at old new) spans)) (run ∙ ap (λ spans. record { at = from; end = to } ∷ spans) skip)
-    ∙ flat_more line_text (span_lines at old new (record { at = from; end = to })) (flat_map (span_lines at old new) (spans_from test next (16 - next)))
+    ap (λ spans. flat_map signed_line_text (flat_map (span_lines at old new) spans)) (run ∙ ap (λ spans. record { at = from; end = to } ∷ spans) skip)
+    ∙ flat_more signed_line_text (span_lines at old new (record { at = from; end = to })) (flat_map (span_lines at old new) (spans_from test next (16 - next)))
   where
     end_by : (m : ℕ) → m ≡ 16 - to → Ends (differs old new) to m
     end_by zero e = inl refl
@@ -67,7 +67,7 @@ pub row_end : (at : ℕ) (old new : List ℕ) (from : ℕ) → 16 ≤ from → r
 unfolding spans_from
 row_end at old new from over =
     let none : 16 - from ≡ 0 = omega arith in
-    ap (λ n. flat_map line_text (flat_map (span_lines at old new) (spans_from (differs old new) from n))) none
+    ap (λ n. flat_map signed_line_text (flat_map (span_lines at old new) (spans_from (differs old new) from n))) none
 
 -- a line that was pushed in two steps
 pub added : (old mid new line text : List ℕ) (sign : ℕ) → mid ≡ old ++ sign ∷ [] → new ≡ mid ++ line → text ≡ sign ∷ line → new ≡ old ++ text
@@ -92,23 +92,23 @@ passes old new from to inside other least ends = elim (cases_lt from to) [
     clash b t f = cc
 
 pub pushed_line : (old mid after line bytes : List ℕ) (sign at : ℕ) (new : Bool) → mid ≡ old ++ sign ∷ [] → after ≡ mid ++ line → sign ≡ sign_of new →
-    line ≡ dump_line false 16 2 at bytes → 0 < length bytes → after ≡ old ++ flat_map line_text (line_for new at bytes)
+    line ≡ dump_line false 16 2 at bytes → 0 < length bytes → after ≡ old ++ flat_map signed_line_text (line_for new at bytes)
 pushed_line old mid after line bytes sign at new a b s l some =
-    added old mid after line (flat_map line_text (line_for new at bytes)) sign a b
+    added old mid after line (flat_map signed_line_text (line_for new at bytes)) sign a b
     (line_some new at bytes some ∙ ap (λ t. sign_of new ∷ t) (sym l) ∙ ap (λ s. s ∷ line) (sym s))
 
 -- rows that are equal have no lines
 never_differs : (x : List ℕ) (j : ℕ) → differs x x j ≡ false
 never_differs x j = ap not ((bytes_eq-Decides (take 1 (drop j x)) (take 1 (drop j x))).1 refl)
 
-pub equal_rows : (extent : Extent) (at : ℕ) (old new : List ℕ) → old ≡ new → flat_map line_text (row_lines extent at old new) ≡ []
+pub equal_rows : (extent : Extent) (at : ℕ) (old new : List ℕ) → old ≡ new → flat_map signed_line_text (row_lines extent at old new) ≡ []
 equal_rows Bytes at old new e =
     let none : row_lines Bytes at old old ≡ [] = ap (λ spans. flat_map (span_lines at old old) spans) (span_none (differs old old) 0 16 (never_differs old)) in
-    ap (λ n. flat_map line_text (row_lines Bytes at old n)) (sym e) ∙ ap (flat_map line_text) none
+    ap (λ n. flat_map signed_line_text (row_lines Bytes at old n)) (sym e) ∙ ap (flat_map signed_line_text) none
 equal_rows Rows at old new e =
-    ap (λ b. flat_map line_text (cond b [] (span_lines at old new (record { at = 0; end = 16 })))) ((bytes_eq-Decides old new).1 e)
+    ap (λ b. flat_map signed_line_text (cond b [] (span_lines at old new (record { at = 0; end = 16 })))) ((bytes_eq-Decides old new).1 e)
 
-pub equal_added : (text : List ℕ) (extent : Extent) (at : ℕ) (old new : List ℕ) → old ≡ new → text ≡ text ++ flat_map line_text (row_lines extent at old new)
+pub equal_added : (text : List ℕ) (extent : Extent) (at : ℕ) (old new : List ℕ) → old ≡ new → text ≡ text ++ flat_map signed_line_text (row_lines extent at old new)
 equal_added text extent at old new e = sym (append-nil text) ∙ ap (λ t. text ++ t) (sym (equal_rows extent at old new e))
 
 -- a row that isn't equal has the lines for all of it
@@ -126,12 +126,12 @@ flat_next f from (suc n) =
     ap (λ m. flat_map f (range_with_len from m)) count ∙ ap (λ t. f from ++ t) (flat_next f (from + 1) n ∙ ap (λ k. flat_map f (range_with_len (from + 1) n) ++ f k) place)
     ∙ sym (append_assoc (f from) (flat_map f (range_with_len (from + 1) n)) (f (from + suc n)))
 
-pub rows_added : (extent : Extent) (first text next : List ℕ) (at : ℕ) (a b : List ℕ) (k : ℕ) → text ≡ first ++ flat_map line_text (window_lines extent at a b k) →
-    next ≡ text ++ flat_map line_text (row_lines extent (at + 16 * k) (line_bytes a k) (line_bytes b k)) →
-    next ≡ first ++ flat_map line_text (window_lines extent at a b (k + 1))
+pub rows_added : (extent : Extent) (first text next : List ℕ) (at : ℕ) (a b : List ℕ) (k : ℕ) → text ≡ first ++ flat_map signed_line_text (window_lines extent at a b k) →
+    next ≡ text ++ flat_map signed_line_text (row_lines extent (at + 16 * k) (line_bytes a k) (line_bytes b k)) →
+    next ≡ first ++ flat_map signed_line_text (window_lines extent at a b (k + 1))
 rows_added extent first text next at a b k so_far more =
     let row = λ (k : ℕ). row_lines extent (at + 16 * k) (line_bytes a k) (line_bytes b k) in
     let place : 0 + k ≡ k = omega arith in
     let lines : window_lines extent at a b (k + 1) ≡ window_lines extent at a b k ++ row k = flat_next row 0 k ∙ ap (λ j. window_lines extent at a b k ++ row j) place in
-    more ∙ ap (λ t. t ++ flat_map line_text (row k)) so_far ∙ append_assoc first (flat_map line_text (window_lines extent at a b k)) (flat_map line_text (row k))
-    ∙ ap (λ t. first ++ t) (sym (flat_more line_text (window_lines extent at a b k) (row k)) ∙ ap (flat_map line_text) (sym lines))
+    more ∙ ap (λ t. t ++ flat_map signed_line_text (row k)) so_far ∙ append_assoc first (flat_map signed_line_text (window_lines extent at a b k)) (flat_map signed_line_text (row k))
+    ∙ ap (λ t. first ++ t) (sym (flat_more signed_line_text (window_lines extent at a b k) (row k)) ∙ ap (flat_map signed_line_text) (sym lines))

@@ -12,10 +12,10 @@ use Rattle.bx_read.specs.Text.{lines_of, contents}
 use Rattle.bx_read.proofs.GrammarLemmas.{read_line-found}
 use Rattle.bx_patch.specs.declared.read.fault.PatchFault.{PatchFault}
 use Rattle.bx_patch.specs.Fault.{IsFaultOfLine, IsFaultOfPatch, IsPast}
-use Rattle.bx_patch.specs.Grammar.{EndsWithin, Fits, GivesPatch, GivesSigned, IsLength, IsPatch, IsRemark, IsSigned}
+use Rattle.bx_patch.specs.Grammar.{EndsWithin, IsInLengths, GivesPatch, GivesSigned, IsLength, IsPatch, IsRemark, IsSigned}
 use Rattle.bx_patch.specs.Patch.{Asked, nothing_asked, Pieces}
 use Rattle.bx_patch.specs.Text.{sign_of}
-use Rattle.bx_patch.specs.private.Read.{Adds, Gives, HasRead, HasSign}
+use Rattle.bx_patch.specs.private.Read.{Adds, Gives, HasReadLines, HasSign}
 use Rattle.bx_patch.proofs.LengthLemmas.{true_false}
 
 some_same : {A : Type 0} (x y : A) → Some x ≡ Some y → x ≡ y
@@ -116,13 +116,13 @@ adds_lengths line p o n e is =
 not_past : (a b : ℕ) → (a < b → ⊥) → b ≤ a
 not_past a b apart = elim (cases_lt a b) [ inl past ↦ absurd (apart past) | inr fits ↦ fits ]
 
-fits_old : (l : Option (ℕ × ℕ)) (e w : Pieces) (piece : ℕ × List ℕ) → (IsPast l false piece → ⊥) → Fits (record { lengths = l; expected = e; written = w }) →
-    Fits (record { lengths = l; expected = e ++ piece ∷ []; written = w })
+fits_old : (l : Option (ℕ × ℕ)) (e w : Pieces) (piece : ℕ × List ℕ) → (IsPast l false piece → ⊥) → IsInLengths (record { lengths = l; expected = e; written = w }) →
+    IsInLengths (record { lengths = l; expected = e ++ piece ∷ []; written = w })
 fits_old None e w piece apart fits = tt
 fits_old (Some l) e w piece apart fits = (All-push (EndsWithin l.0) e piece fits.0 (not_past l.0 (piece.0 + length piece.1) apart), fits.1)
 
-fits_new : (l : Option (ℕ × ℕ)) (e w : Pieces) (piece : ℕ × List ℕ) → (IsPast l true piece → ⊥) → Fits (record { lengths = l; expected = e; written = w }) →
-    Fits (record { lengths = l; expected = e; written = w ++ piece ∷ [] })
+fits_new : (l : Option (ℕ × ℕ)) (e w : Pieces) (piece : ℕ × List ℕ) → (IsPast l true piece → ⊥) → IsInLengths (record { lengths = l; expected = e; written = w }) →
+    IsInLengths (record { lengths = l; expected = e; written = w ++ piece ∷ [] })
 fits_new None e w piece apart fits = tt
 fits_new (Some l) e w piece apart fits = (fits.0, All-push (EndsWithin l.1) w piece fits.1 (not_past l.1 (piece.0 + length piece.1) apart))
 
@@ -151,7 +151,7 @@ IfOk-map (Err e) f p = tt
 
 -- a text before its first line is read, one that is read a line further, and one that is read whole
 pub read_none : {A : Type 0} (text : List ℕ) (e w : List (Piece A)) → e ≡ [] → w ≡ [] →
-    HasRead text text 0 (record { lengths = None; expected = contents e; written = contents w })
+    HasReadLines text text 0 (record { lengths = None; expected = contents e; written = contents w })
 read_none text e w a b = record { before = []; lines = refl; count = refl; gives = (refl, (ap contents a, ap contents b)); fits = tt }
 
 -- a piece that doesn't end behind the length of its image
@@ -160,8 +160,8 @@ pub within : (past : Bool) (l : Option (ℕ × ℕ)) (new side : Bool) (piece : 
 within past l new side piece same fits is ends =
     true_false past (is (subst (λ (b : Bool). IsPast l b piece) (sym same) ends)) fits
 
-pub read_on : (text rest later line : List ℕ) (n : ℕ) (old new : Asked) → lines_of rest ≡ line ∷ lines_of later → HasRead text rest n old → Adds old line new →
-    HasRead text later (n + 1) new
+pub read_on : (text rest later line : List ℕ) (n : ℕ) (old new : Asked) → lines_of rest ≡ line ∷ lines_of later → HasReadLines text rest n old → Adds old line new →
+    HasReadLines text later (n + 1) new
 read_on text rest later line n old new step have adds =
     let next = adds have.before have.gives have.fits in
     record {
@@ -172,13 +172,13 @@ read_on text rest later line n old new step have adds =
       fits = next.1;
     }
 
-pub read_all : (text rest : List ℕ) (n : ℕ) (p : Asked) → length rest ≡ 0 → HasRead text rest n p → IsPatch text p
+pub read_all : (text rest : List ℕ) (n : ℕ) (p : Asked) → length rest ≡ 0 → HasReadLines text rest n p → IsPatch text p
 read_all text [] n p none have =
     (subst (λ (ls : List (List ℕ)). GivesPatch ls p) (sym (have.lines ∙ append-nil have.before)) have.gives, have.fits)
 read_all text (c ∷ rest) n p none have = absurd (omega arith)
 
 pub refused : (text rest later line : List ℕ) (n number : ℕ) (p : Asked) (fault : PatchFault) → lines_of rest ≡ line ∷ lines_of later → number ≡ n + 1 →
-    HasRead text rest n p → IsFaultOfLine p number line fault → IsFaultOfPatch text fault
+    HasReadLines text rest n p → IsFaultOfLine p number line fault → IsFaultOfPatch text fault
 refused text rest later line n number p fault step e have is =
     let count : number ≡ length have.before + 1 = e ∙ ap (λ k. k + 1) have.count in
     record {

@@ -11,7 +11,7 @@ use Rattle.bx_read.proofs.GrammarLemmas.{read_line-only}
 use Rattle.bx_patch.specs.declared.read.fault.PatchFault.{PatchFault}
 use Rattle.bx_patch.specs.declared.read.fault.PatchFault.TheVariants.{NoMemory, Line, OfNoKind, BadLength, PastLength}
 use Rattle.bx_patch.specs.Fault.{FaultIsOfPatch, HasNoSign, IsFaultOfLine, IsNoLength, IsPast, IsToTell}
-use Rattle.bx_patch.specs.Grammar.{EndsWithin, Fits, GivesPatch, GivesSigned, IsRemark, IsSigned}
+use Rattle.bx_patch.specs.Grammar.{EndsWithin, IsInLengths, GivesPatch, GivesSigned, IsRemark, IsSigned}
 use Rattle.bx_patch.specs.Patch.{Asked, nothing_asked, Pieces}
 use Rattle.bx_patch.specs.Text.{sign_of}
 use Rattle.bx_patch.proofs.UniqueLemmas.{first_of, length_first, no_remark, one_patch, one_piece, one_sign, remark_first, signed_first}
@@ -143,7 +143,7 @@ past_signed l q p line after later more true piece is past old others e w (inr (
     past_fits l true piece past (has_piece l.1 q.written a.1 p.written piece all others)
 
 past_rest : (l m : Option (ℕ × ℕ)) (q p : Asked) (line : List ℕ) (after : List (List ℕ)) (new : Bool) (piece : ℕ × List ℕ) → l ≡ q.lengths → m ≡ p.lengths →
-    IsSigned new line piece → IsPast l new piece → Fits (record { lengths = m; expected = p.expected; written = p.written }) → Rest q p (line ∷ after) → ⊥
+    IsSigned new line piece → IsPast l new piece → IsInLengths (record { lengths = m; expected = p.expected; written = p.written }) → Rest q p (line ∷ after) → ⊥
 past_rest None m q p line after new piece e f is past fits rest = past
 past_rest (Some l) m q p line after new piece e f is past fits (inl a) = let h : ◌≡◌ {A = Option (ℕ × ℕ)} (Some l) None = e ∙ ap Asked.lengths a.0 in cc
 past_rest (Some l) None q p line after new piece e f is past fits (inr a) = let h : ◌≡◌ {A = Option (ℕ × ℕ)} (Some l) None = e ∙ sym a.2 ∙ sym f in cc
@@ -157,7 +157,7 @@ past_rest (Some l) (Some m) q p line after new piece e f is past fits (inr a) =
     some_same e = cc
 
 -- a line with a fault behind lines that ask q
-no_rest : (fault : PatchFault) (q p : Asked) (number : ℕ) (line : List ℕ) (after : List (List ℕ)) → IsFaultOfLine q number line fault → Fits p → Rest q p (line ∷ after) → ⊥
+no_rest : (fault : PatchFault) (q p : Asked) (number : ℕ) (line : List ℕ) (after : List (List ℕ)) → IsFaultOfLine q number line fault → IsInLengths p → Rest q p (line ∷ after) → ⊥
 no_rest NoMemory q p number line after is fits rest = is
 no_rest (Line fault) q p number line after is fits rest = bars_rest q p line after (bars_fault q number line is.1 is.0 fault is.2 is.3) rest
 no_rest (OfNoKind n) q p number line after is fits rest = bars_rest q p line after (bars_kind q line is.1 is.2 is.3) rest

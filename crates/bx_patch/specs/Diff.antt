@@ -51,6 +51,6 @@ TellsWritten n more (WriteFailed written) = (written ≡ counted n) × (0 < more
 TellsWritten n more fault = Unit {0}
 
 -- A prefix of the text was written, and a failed write tells its length.
-abbrev pub WritesPart : Option (List ℕ) → Option (List ℕ) → List ℕ → DiffFault → Type 0
-WritesPart old new text fault =
+abbrev pub WritesPrefix : Option (List ℕ) → Option (List ℕ) → List ℕ → DiffFault → Type 0
+WritesPrefix old new text fault =
     (prefix rest : List ℕ) × (text ≡ prefix ++ rest) × Appends old new prefix × TellsWritten (length prefix) (length rest) fault

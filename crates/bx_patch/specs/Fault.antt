@@ -4,7 +4,7 @@ use Rattle.bx_read.specs.FaultTable.{IsFaultOf}
 use Rattle.bx_read.specs.Text.{lines_of}
 use Rattle.bx_patch.specs.declared.read.fault.PatchFault.{PatchFault}
 use Rattle.bx_patch.specs.declared.read.fault.PatchFault.TheVariants.{NoMemory, Line, OfNoKind, BadLength, PastLength}
-use Rattle.bx_patch.specs.Grammar.{Fits, GivesPatch, IsLength, IsPatch, IsRemark, IsSigned}
+use Rattle.bx_patch.specs.Grammar.{IsInLengths, GivesPatch, IsLength, IsPatch, IsRemark, IsSigned}
 use Rattle.bx_patch.specs.Patch.{Asked, nothing_asked}
 use Rattle.bx_patch.specs.Text.{sign_of}
 
@@ -43,7 +43,7 @@ pub record IsFaultOfPatch (text : List ℕ) (fault : PatchFault) : Type 0 where
   pub asked : Asked
   pub lines : lines_of text ≡ before ++ line ∷ after
   pub gives : GivesPatch before asked
-  pub fits : Fits asked
+  pub fits : IsInLengths asked
   pub is : IsFaultOfLine asked (length before + 1) line fault
 
 -- A text that has a fault is no patch.

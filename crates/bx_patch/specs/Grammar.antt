@@ -50,9 +50,9 @@ abbrev pub EndsWithin : ℕ → ℕ × List ℕ → Type 0
 EndsWithin n piece = piece.0 + length piece.1 ≤ n
 
 -- Where lengths are stated, what is expected ends within the old one, and what is written within the new one.
-abbrev pub Fits : Asked → Type 0
-Fits p = IfSome p.lengths (λ lengths. All (EndsWithin lengths.0) p.expected × All (EndsWithin lengths.1) p.written)
+abbrev pub IsInLengths : Asked → Type 0
+IsInLengths p = IfSome p.lengths (λ lengths. All (EndsWithin lengths.0) p.expected × All (EndsWithin lengths.1) p.written)
 
 -- The text is a patch that asks this.
 abbrev pub IsPatch : List ℕ → Asked → Type 0
-IsPatch text p = GivesPatch (lines_of text) p × Fits p
+IsPatch text p = GivesPatch (lines_of text) p × IsInLengths p

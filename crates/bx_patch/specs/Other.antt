@@ -9,12 +9,12 @@ abbrev pub has_other : List ℕ → ℕ × List ℕ → ℕ → Bool
 has_other x piece i = not (bytes_eq (take 1 (drop (piece.0 + i) x)) (take 1 (drop i piece.1)))
 
 -- the image has the first i bytes of a piece
-abbrev pub HasFirst : List ℕ → ℕ × List ℕ → ℕ → Type 0
-HasFirst x piece i = (j : ℕ) → j < i → has_other x piece j ≡ false
+abbrev pub HasFirstBytes : List ℕ → ℕ × List ℕ → ℕ → Type 0
+HasFirstBytes x piece i = (j : ℕ) → j < i → has_other x piece j ≡ false
 
 -- the first place of a piece at which the image hasn't its byte
 abbrev pub DiffersFirst : List ℕ → ℕ × List ℕ → ℕ → Type 0
-DiffersFirst x piece i = (i < length piece.1) × HasFirst x piece i × (has_other x piece i ≡ true)
+DiffersFirst x piece i = (i < length piece.1) × HasFirstBytes x piece i × (has_other x piece i ≡ true)
 
 -- the first address, in the order of the pieces, at which the image hasn't the byte that is expected
 abbrev pub IsFirstOther : List ℕ → Pieces → ℕ → Type 0

@@ -57,8 +57,8 @@ abbrev pub sign_of : Bool → ℕ
 sign_of new = if new then 43 else 45
 
 -- xxd's default line behind the sign
-abbrev pub line_text : PatchLine → List ℕ
-line_text line = sign_of line.0 ∷ dump_line false 16 2 line.1 line.2
+abbrev pub signed_line_text : PatchLine → List ℕ
+signed_line_text line = sign_of line.0 ∷ dump_line false 16 2 line.1 line.2
 
 -- the line that tells both lengths, without its newline
 abbrev pub length_text : ℕ → ℕ → List ℕ
@@ -67,7 +67,7 @@ length_text old new = codes "length " ++ (decimal old ++ (codes " to " ++ decima
 -- lines behind a first one; nothing where there is no line
 abbrev pub headed : List ℕ → List PatchLine → List ℕ
 headed head [] = []
-headed head (line ∷ lines) = head ++ flat_map line_text (line ∷ lines)
+headed head (line ∷ lines) = head ++ flat_map signed_line_text (line ∷ lines)
 
 -- The text of the patch from x to y.
 abbrev pub patch_text : Extent → List ℕ → List ℕ → List ℕ

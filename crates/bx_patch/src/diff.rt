@@ -2,7 +2,7 @@
 ghost use Rattle.std.specs.Prelude.{◌<◌, IfErr, OnOk, MatchResult};
 ghost use Rattle.std.specs.Io.KnownBytes.{Appends};
 ghost use Rattle.bx_patch.specs.Text.{patch_text};
-ghost use Rattle.bx_patch.specs.Diff.{AreShort, IsFaultFor, OnlyReads, WritesPart, fails, of_new, of_old};
+ghost use Rattle.bx_patch.specs.Diff.{AreShort, IsFaultFor, OnlyReads, WritesPrefix, fails, of_new, of_old};
 
 mod compare;
 mod device;
@@ -42,7 +42,7 @@ pub fn write_patch<D: Device, E: Device, W: Write, A: Allocator + Clone>(
         → OnOk result (Appends (W.contents out.old) (W.contents out.new) (patch_text extent (D.image old.old) (E.image new.old))) }
     // After a fault a prefix of it was, and a failed write tells how long that is.
     ensures part { D.honest old.old → E.honest new.old
-        → IfErr result (WritesPart (W.contents out.old) (W.contents out.new) (patch_text extent (D.image old.old) (E.image new.old))) }
+        → IfErr result (WritesPrefix (W.contents out.old) (W.contents out.new) (patch_text extent (D.image old.old) (E.image new.old))) }
     // It is too large exactly where one of the two is, unless a length couldn't be read.
     ensures fault { D.honest old.old → E.honest new.old
         → MatchResult result (λ _. AreShort (D.image old.old) (E.image new.old)) (IsFaultFor (D.image old.old) (E.image new.old)) }

@@ -1,7 +1,7 @@
 -- Files that a run made.
 use Rattle.std.proofs.Common.{◌≡◌, ◌⊎◌, ◌∙◌, ◌<◌, ◌≤◌, ℕ, Bool, true, false, List, Option, Some, None, refl, sym, subst, inl, inr, rules, arith}
 use Rattle.bx_program_world.specs.World.{IsOwnText, Makes, Sight}
-use Rattle.bx_program_files.specs.Files.{HasMade, IsOpened, if_made}
+use Rattle.bx_program_files.specs.Files.{HasMade, IsTextOpened, if_made}
 
 -- a file that was made is a later one
 pub made_later : (old new : Sight) (name : List ℕ) (n : ℕ) → Makes old new name n → old.before ≤ old.there → new.before ≤ n
@@ -20,7 +20,7 @@ made_one old new name n m = record {
 }
 
 -- a text that was made is opened
-pub made_opened : (old new : Sight) (name : List ℕ) (image n : ℕ) → Makes old new name n → IsOwnText new image n → IsOpened name image n true old new
+pub made_opened : (old new : Sight) (name : List ℕ) (image n : ℕ) → Makes old new name n → IsOwnText new image n → IsTextOpened name image n true old new
 made_opened old new name image n m own = record {
   files = made_one old new name n m;
   named = m.named;
@@ -29,7 +29,7 @@ made_opened old new name image n m own = record {
 }
 
 -- a file that was opened and made is a later one
-pub opened_later : (old new : Sight) (name : List ℕ) (image n : ℕ) (made : Bool) → IsOpened name image n made old new → made ≡ true
+pub opened_later : (old new : Sight) (name : List ℕ) (image n : ℕ) (made : Bool) → IsTextOpened name image n made old new → made ≡ true
     → old.before ≤ old.there → new.before ≤ n
 opened_later old new name image n true o _ begun =
     let fresh = o.files.fresh.0 in let before = o.files.streams.before in grind (arith, fresh, before, begun)

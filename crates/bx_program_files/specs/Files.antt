@@ -1,6 +1,6 @@
 -- What a run makes of files and their names.
 use Rattle.std.specs.Prelude.{◌≡◌, ◌⊎◌, ◌<◌, ◌≤◌, ℕ, Bool, cond, List, [], Option, None, Some, IfSome}
-use Rattle.bx_program_world.specs.World.{AreApart, KeepsStreams, Sight, Trio}
+use Rattle.bx_program_world.specs.World.{AreThreeFiles, KeepsStreams, Sight, Trio}
 use Rattle.bx_program_world.specs.Rule.{text_unfit}
 use Rattle.bx_program_files.specs.Fit.{AreFit}
 use Rattle.bx_program_files.specs.declared.names.Names.{Names}
@@ -29,7 +29,7 @@ abbrev pub IsOwn : List ℕ → ℕ → ℕ → Sight → Type 0
 IsOwn name image n w = text_unfit w.caller (w.stat image) (w.is_link name) (w.stat n) ≡ None
 
 -- A text of an image was opened, or made and opened
-pub record IsOpened (name : List ℕ) (image n : ℕ) (made : Bool) (old new : Sight) : Type 0 where
+pub record IsTextOpened (name : List ℕ) (image n : ℕ) (made : Bool) (old new : Sight) : Type 0 where
   pub files : HasMade (if_made made n) old new
   pub named : new.named name ≡ Some n
   pub there : n < new.there
@@ -45,8 +45,8 @@ pub record LeavesFiles (old new : Sight) : Type 0 where
   pub streams : KeepsStreams old new
 
 -- each name leads to a file that is there
-abbrev pub IsWithin : Sight → Type 0
-IsWithin w = (name : List ℕ) (n : ℕ) → w.named name ≡ Some n → n < w.there
+abbrev pub AreAllThere : Sight → Type 0
+AreAllThere w = (name : List ℕ) (n : ℕ) → w.named name ≡ Some n → n < w.there
 
 -- The three files of a session are open: image and journal were there, and are led to as before; the redo text may have been made. All that
 -- was there may be opened; the redo text is one of the image's own.
@@ -55,6 +55,6 @@ pub record AreOpened (names : Names) (mounted : Bool) (t : Trio) (made : Bool) (
   pub image : old.named names.image ≡ Some t.image
   pub journal : old.named names.journal ≡ Some t.journal
   pub redo : new.named names.redo ≡ Some t.redo
-  pub apart : AreApart new.there t
+  pub apart : AreThreeFiles new.there t
   pub fit : AreFit names mounted old
   pub own : IsOwn names.redo t.image t.redo new

@@ -1,7 +1,7 @@
 //! One file that is opened, or made and opened.
 ghost use Rattle.std.specs.Prelude.{◌≡◌, ◌↔◌, ◌<◌, ◌≤◌, true, false, None, Some, IfOk, OnErr};
 ghost use Rattle.bx_program_world.specs.World.{MayBeImage, MayBeText, Sight, TakesAtMost};
-ghost use Rattle.bx_program_files.specs.Files.{HasMade, IsOpened, IsThere, IsWithin, LeavesFiles, if_made};
+ghost use Rattle.bx_program_files.specs.Files.{HasMade, IsTextOpened, IsThere, AreAllThere, LeavesFiles, if_made};
 
 use crate::unopened::{Unopened, Which};
 use bx_program_world::{Refusal, World};
@@ -19,7 +19,7 @@ pub struct Opened<F> {
 pub fn unmake<W: World>(world: &mut W, name: &str, file: &W::File, made: bool)
     requires made { W.honest world.old → made ≡ true → (W.sight world.old).before ≤ W.number file.now }
     requires named { W.honest world.old → (W.sight world.old).named name.now ≡ Some (W.number file.now) }
-    ensures left { W.honest world.old → (first : Sight) → IsWithin first → HasMade (if_made made (W.number file.now)) first (W.sight world.old)
+    ensures left { W.honest world.old → (first : Sight) → AreAllThere first → HasMade (if_made made (W.number file.now)) first (W.sight world.old)
         → LeavesFiles first (W.sight world.new) }
     ensures most { W.honest world.old → TakesAtMost (W.sight world.old) (W.sight world.new) (W.number file.now) }
     ensures stays { W.honest world.old → made ≡ false → W.sight world.new ≡ W.sight world.old }
@@ -81,7 +81,7 @@ pub fn open_journal<W: World>(
 fn make_locked<W: World>(world: &mut W, name: &str, image: &W::File) -> Result<W::File, Refusal>
     requires there { W.honest world.old → W.number image.now < (W.sight world.old).there }
     ensures ok { W.honest world.old
-        → IfOk result (λ f. IsOpened name.now (W.number image.now) (W.number f) true (W.sight world.old) (W.sight world.new)) }
+        → IfOk result (λ f. IsTextOpened name.now (W.number image.now) (W.number f) true (W.sight world.old) (W.sight world.new)) }
     ensures err { W.honest world.old → OnErr result (LeavesFiles (W.sight world.old) (W.sight world.new)) }
     ensures honesty { W.honest world.new ↔ W.honest world.old }
 {
@@ -105,7 +105,7 @@ fn open_or_make<W: World>(
     requires may { W.honest world.old → MayBeText (W.number image.now) (W.sight world.old) name.now }
     requires there { W.honest world.old → W.number image.now < (W.sight world.old).there }
     ensures ok { W.honest world.old
-        → IfOk result (λ o. IsOpened name.now (W.number image.now) (W.number o.file) o.made (W.sight world.old) (W.sight world.new)) }
+        → IfOk result (λ o. IsTextOpened name.now (W.number image.now) (W.number o.file) o.made (W.sight world.old) (W.sight world.new)) }
     ensures err { W.honest world.old → OnErr result (LeavesFiles (W.sight world.old) (W.sight world.new)) }
     ensures honesty { W.honest world.new ↔ W.honest world.old }
 {
@@ -128,7 +128,7 @@ pub fn open_redo<W: World>(
     requires may { W.honest world.old → MayBeText (W.number image.now) (W.sight world.old) name.now }
     requires there { W.honest world.old → W.number image.now < (W.sight world.old).there }
     ensures ok { W.honest world.old
-        → IfOk result (λ o. IsOpened name.now (W.number image.now) (W.number o.file) o.made (W.sight world.old) (W.sight world.new)) }
+        → IfOk result (λ o. IsTextOpened name.now (W.number image.now) (W.number o.file) o.made (W.sight world.old) (W.sight world.new)) }
     ensures err { W.honest world.old → OnErr result (LeavesFiles (W.sight world.old) (W.sight world.new)) }
     ensures honesty { W.honest world.new ↔ W.honest world.old }
 {

@@ -4,9 +4,9 @@ use Rattle.std.specs.Prelude.{IfSome}
 use Rattle.std.specs.Option.{unwrap_or}
 use Rattle.std.proofs.lemmas.Bool.{cases_eq}
 use Rattle.bx_program_world.specs.World.{ChangesOnly, Sight, TakesAtMost, Trio, held}
-use Rattle.bx_program_files.specs.Files.{AreOpened, HasMade, IsWithin, LeavesFiles, if_made}
+use Rattle.bx_program_files.specs.Files.{AreOpened, HasMade, AreAllThere, LeavesFiles, if_made}
 use Rattle.bx_program_files.specs.declared.names.Names.{Names}
-use Rattle.bx_program_sessions.specs.Named.{AreNamed, KeepsOthers, bytes_of, contents_of}
+use Rattle.bx_program_sessions.specs.Named.{LeadTo, KeepsOthers, bytes_of_files, contents_of}
 
 pub some_injective : {m n : ℕ} → Some m ≡ Some n → m ≡ n
 some_injective {m} {n} is = ap (λ o. unwrap_or o m) is
@@ -22,12 +22,12 @@ still made old new m n has named = elim (has.named m) [
 ]
 
 -- what a file held under its name, before the three were opened
-held_before : (made : Option ℕ) (old new : Sight) (name : List ℕ) (n : ℕ) → IsWithin old → HasMade made old new → old.named name ≡ Some n
+held_before : (made : Option ℕ) (old new : Sight) (name : List ℕ) (n : ℕ) → AreAllThere old → HasMade made old new → old.named name ≡ Some n
     → new.bytes n ≡ held old name
 held_before made old new name n within has named = rw named (has.bytes n (within name n named))
 
 -- of the redo text too, which may have been made
-redo_before : (names : Names) (mounted : Bool) (t : Trio) (made : Bool) (old new : Sight) → IsWithin old → AreOpened names mounted t made old new
+redo_before : (names : Names) (mounted : Bool) (t : Trio) (made : Bool) (old new : Sight) → AreAllThere old → AreOpened names mounted t made old new
     → new.bytes t.redo ≡ held old names.redo
 redo_before names mounted t made old new within opened = elim (opened.files.named names.redo) [
   | inl same ↦ held_before _ old new names.redo t.redo within opened.files (sym same ∙ opened.redo)
@@ -39,8 +39,8 @@ redo_before names mounted t made old new within opened = elim (opened.files.name
     made_empty false is has = absurd (none_is_not_some t.redo is)
 
 -- the three hold when they are open what they held under their names
-pub contents_before : (names : Names) (mounted : Bool) (t : Trio) (made : Bool) (old new : Sight) → IsWithin old → AreOpened names mounted t made old new
-    → bytes_of t new ≡ contents_of names old
+pub contents_before : (names : Names) (mounted : Bool) (t : Trio) (made : Bool) (old new : Sight) → AreAllThere old → AreOpened names mounted t made old new
+    → bytes_of_files t new ≡ contents_of names old
 contents_before names mounted t made old new within opened =
     rw (
       held_before _ old new names.image t.image within opened.files opened.image,
@@ -49,7 +49,7 @@ contents_before names mounted t made old new within opened =
     ) refl
 
 -- the names lead to the three while they are open
-pub named_open : (names : Names) (mounted : Bool) (t : Trio) (made : Bool) (old new : Sight) → AreOpened names mounted t made old new → AreNamed names t new
+pub named_open : (names : Names) (mounted : Bool) (t : Trio) (made : Bool) (old new : Sight) → AreOpened names mounted t made old new → LeadTo names t new
 named_open names mounted t made old new opened = record {
   image = still _ old new names.image t.image opened.files opened.image;
   journal = still _ old new names.journal t.journal opened.files opened.journal;
@@ -57,7 +57,7 @@ named_open names mounted t made old new opened = record {
 }
 
 -- and behind the command
-pub named_behind : (names : Names) (t : Trio) (mid new : Sight) → AreNamed names t mid → ChangesOnly t mid new → AreNamed names t new
+pub named_behind : (names : Names) (t : Trio) (mid new : Sight) → LeadTo names t mid → ChangesOnly t mid new → LeadTo names t new
 named_behind names t mid new named only = record {
   image = only.named names.image ∙ named.image;
   journal = only.named names.journal ∙ named.journal;
@@ -68,7 +68,7 @@ one_file : (name : List ℕ) (m n : ℕ) (v w : Sight) → v.named name ≡ Some
 one_file name m n v w one other same = some_injective (sym one ∙ subst (λ (u : Sight). u.named name ≡ Some n) (sym same) other)
 
 -- names lead to one trio
-pub same_trio : (names : Names) (a b : Trio) (v w : Sight) → AreNamed names a v → AreNamed names b w → v ≡ w
+pub same_trio : (names : Names) (a b : Trio) (v w : Sight) → LeadTo names a v → LeadTo names b w → v ≡ w
     → (a.image ≡ b.image) × (a.journal ≡ b.journal) × (a.redo ≡ b.redo)
 same_trio names a b v w one other same = (
   one_file names.image _ _ v w one.image other.image same,
@@ -77,7 +77,7 @@ same_trio names a b v w one other same = (
 )
 
 -- what is held under the names is what the files have
-pub contents_named : (names : Names) (t : Trio) (w : Sight) → AreNamed names t w → contents_of names w ≡ bytes_of t w
+pub contents_named : (names : Names) (t : Trio) (w : Sight) → LeadTo names t w → contents_of names w ≡ bytes_of_files t w
 contents_named names t w named = rw (named.image, named.journal, named.redo) refl
 
 held_cleared : (last new : Sight) (name : List ℕ) (n r : ℕ) → last.named name ≡ Some n → TakesAtMost last new r → held new name ≡ last.bytes n
@@ -89,8 +89,8 @@ held_cleared last new name n r named most = elim (most.named name) [
 ]
 
 -- what is held under the names is what the files had, also where an empty redo text was taken away
-pub contents_cleared : (names : Names) (t : Trio) (last new : Sight) → AreNamed names t last → TakesAtMost last new t.redo
-    → contents_of names new ≡ bytes_of t last
+pub contents_cleared : (names : Names) (t : Trio) (last new : Sight) → LeadTo names t last → TakesAtMost last new t.redo
+    → contents_of names new ≡ bytes_of_files t last
 contents_cleared names t last new named most =
     rw (
       held_cleared last new names.image t.image t.redo named.image most,
@@ -99,7 +99,7 @@ contents_cleared names t last new named most =
     ) refl
 
 -- where the three hold what they held, so do all files
-same_bytes : (t : Trio) (mid new : Sight) → ChangesOnly t mid new → bytes_of t new ≡ bytes_of t mid → (i : ℕ) → new.bytes i ≡ mid.bytes i
+same_bytes : (t : Trio) (mid new : Sight) → ChangesOnly t mid new → bytes_of_files t new ≡ bytes_of_files t mid → (i : ℕ) → new.bytes i ≡ mid.bytes i
 same_bytes t mid new only same i =
     let image : new.bytes t.image ≡ mid.bytes t.image = ap (λ c. c.image) same in
     let journal : new.bytes t.journal ≡ mid.bytes t.journal = ap (λ c. c.journal) same in
@@ -123,7 +123,7 @@ fresh_behind false r old mid new has there bytes = tt
 
 -- where the three hold what they held, no more was made than the redo text
 pub made_behind : (names : Names) (mounted : Bool) (t : Trio) (made : Bool) (old mid new : Sight) → AreOpened names mounted t made old mid
-    → ChangesOnly t mid new → old.lent ≡ None → new.lent ≡ None → bytes_of t new ≡ bytes_of t mid → HasMade (if_made made t.redo) old new
+    → ChangesOnly t mid new → old.lent ≡ None → new.lent ≡ None → bytes_of_files t new ≡ bytes_of_files t mid → HasMade (if_made made t.redo) old new
 made_behind names mounted t made old mid new opened only free lent same =
     let files = opened.files in
     let there = only.there in
@@ -163,7 +163,7 @@ redo_was names mounted t false old mid opened = elim (opened.files.named names.r
 ]
 
 -- a name that led to a file leads to it still, when the redo text was taken away
-still_behind : (made : Bool) (r : ℕ) (old mid last new : Sight) (m : List ℕ) (n : ℕ) → IsWithin old → HasMade (if_made made r) old mid
+still_behind : (made : Bool) (r : ℕ) (old mid last new : Sight) (m : List ℕ) (n : ℕ) → AreAllThere old → HasMade (if_made made r) old mid
     → old.named m ≡ Some n → last.named m ≡ Some n → TakesAtMost last new r → (made ≡ false → new ≡ last) → new.named m ≡ Some n
 still_behind false r old mid last new m n within has named stands most unmade = rw (unmade refl) stands
 still_behind true r old mid last new m n within has named stands most unmade = elim (most.named m) [
@@ -178,7 +178,7 @@ stat_behind false r n old mid last new has below stands most unmade = rw (unmade
 stat_behind true r n old mid last new has below stands most unmade = most.stat n (λ is. made_apart true r n old mid has refl below is) ∙ stands
 
 -- no other file is changed
-pub others_of : (names : Names) (mounted : Bool) (t : Trio) (made : Bool) (old mid last new : Sight) → IsWithin old → AreOpened names mounted t made old mid
+pub others_of : (names : Names) (mounted : Bool) (t : Trio) (made : Bool) (old mid last new : Sight) → AreAllThere old → AreOpened names mounted t made old mid
     → ChangesOnly t mid last → TakesAtMost last new t.redo → (made ≡ false → new ≡ last) → KeepsOthers names old new
 others_of names mounted t made old mid last new within opened only most unmade = record {
   bytes = λ n below no_image no_journal no_redo. most.bytes n ∙ only.bytes n (

@@ -15,15 +15,15 @@ use Rattle.bx_cli_commands.specs.declared.fault.Fault.TheVariants.{OpenFailed}
 use Rattle.bx_program_sessions.specs.Contents.{Contents, IsUnopened}
 
 -- what the files of these numbers hold
-abbrev pub bytes_of : Trio → Sight → Contents
-bytes_of t w = record { image = w.bytes t.image; journal = w.bytes t.journal; redo = w.bytes t.redo }
+abbrev pub bytes_of_files : Trio → Sight → Contents
+bytes_of_files t w = record { image = w.bytes t.image; journal = w.bytes t.journal; redo = w.bytes t.redo }
 
 -- what the files of these names hold; one that is missing holds nothing
 abbrev pub contents_of : Names → Sight → Contents
 contents_of names w = record { image = held w names.image; journal = held w names.journal; redo = held w names.redo }
 
 -- the names lead to these files
-pub record AreNamed (names : Names) (t : Trio) (w : Sight) : Type 0 where
+pub record LeadTo (names : Names) (t : Trio) (w : Sight) : Type 0 where
   pub image : w.named names.image ≡ Some t.image
   pub journal : w.named names.journal ≡ Some t.journal
   pub redo : w.named names.redo ≡ Some t.redo

@@ -4,9 +4,9 @@ ghost use Rattle.bx_journal.specs.Images.{Images};
 ghost use Rattle.bx_cli_commands.specs.Command.{IsNear};
 ghost use Rattle.bx_cli_commands.specs.Refusal.{IsWholeRefusal};
 ghost use Rattle.bx_program_files.specs.Numbers.{numbers_of};
-ghost use Rattle.bx_program_world.specs.World.{AreApart, ChangesOnly};
+ghost use Rattle.bx_program_world.specs.World.{AreThreeFiles, ChangesOnly};
 ghost use Rattle.bx_program_sessions.specs.Contents.{Does, DoesFound, FoundIn, Holds, Survives};
-ghost use Rattle.bx_program_sessions.specs.Named.{IsUnrecovered, bytes_of};
+ghost use Rattle.bx_program_sessions.specs.Named.{IsUnrecovered, bytes_of_files};
 
 use crate::devices::{Closed, run_on};
 use bx_cli_commands::{Command, Reply};
@@ -36,20 +36,20 @@ pub fn run_lent<W: World, R: Read>(
 ) -> Done<W::File>
     requires near { IsNear command.old }
     requires free { W.honest world.old → (W.sight world.old).lent ≡ None }
-    requires apart { W.honest world.old → AreApart (W.sight world.old).there (numbers_of W.number files) }
+    requires apart { W.honest world.old → AreThreeFiles (W.sight world.old).there (numbers_of W.number files) }
     ensures only { W.honest world.old → ChangesOnly (numbers_of W.number files) (W.sight world.old) (W.sight world.new) }
     ensures free { W.honest world.old → (W.sight world.new).lent ≡ None }
     ensures redo { W.honest world.old → W.number result.redo ≡ W.number files.redo }
-    ensures how { W.honest world.old → (s : Images) → Holds (bytes_of (numbers_of W.number files) (W.sight world.old)) s
+    ensures how { W.honest world.old → (s : Images) → Holds (bytes_of_files (numbers_of W.number files) (W.sight world.old)) s
         → IsUnrecovered result.how }
-    ensures does { W.honest world.old → (s : Images) → Holds (bytes_of (numbers_of W.number files) (W.sight world.old)) s
-        → Does R.remaining s command.old result.reply (bytes_of (numbers_of W.number files) (W.sight world.new)) }
-    ensures found { W.honest world.old → (s : Images) → FoundIn (bytes_of (numbers_of W.number files) (W.sight world.old)) s
-        → DoesFound R.remaining s command.old result.how result.reply (bytes_of (numbers_of W.number files) (W.sight world.new)) }
-    ensures whole { W.honest world.old → (s : Images) → Holds (bytes_of (numbers_of W.number files) (W.sight world.old)) s
+    ensures does { W.honest world.old → (s : Images) → Holds (bytes_of_files (numbers_of W.number files) (W.sight world.old)) s
+        → Does R.remaining s command.old result.reply (bytes_of_files (numbers_of W.number files) (W.sight world.new)) }
+    ensures found { W.honest world.old → (s : Images) → FoundIn (bytes_of_files (numbers_of W.number files) (W.sight world.old)) s
+        → DoesFound R.remaining s command.old result.how result.reply (bytes_of_files (numbers_of W.number files) (W.sight world.new)) }
+    ensures whole { W.honest world.old → (s : Images) → Holds (bytes_of_files (numbers_of W.number files) (W.sight world.old)) s
         → IsWholeRefusal result.reply
-        → bytes_of (numbers_of W.number files) (W.sight world.new) ≡ bytes_of (numbers_of W.number files) (W.sight world.old) }
-    ensures survives { W.honest world.old → (s : Images) → Holds (bytes_of (numbers_of W.number files) (W.sight world.old)) s
+        → bytes_of_files (numbers_of W.number files) (W.sight world.new) ≡ bytes_of_files (numbers_of W.number files) (W.sight world.old) }
+    ensures survives { W.honest world.old → (s : Images) → Holds (bytes_of_files (numbers_of W.number files) (W.sight world.old)) s
         → (IsWholeRefusal result.reply → ⊥)
         → Survives R.remaining s command.old result.reply (W.survives world.new (W.number files.image))
         (W.survives world.new (W.number files.journal)) (W.survives world.new (W.number files.redo)) }

@@ -4,10 +4,10 @@ ghost use Rattle.bx_journal.specs.Images.{Images};
 ghost use Rattle.bx_cli_commands.specs.Command.{IsNear};
 ghost use Rattle.bx_cli_commands.specs.Refusal.{IsWholeRefusal};
 ghost use Rattle.bx_program_world.specs.World.{KeepsStreams, Sight, TakesAtMost, Trio};
-ghost use Rattle.bx_program_files.specs.Files.{HasMade, IsWithin, LeavesFiles, if_made};
+ghost use Rattle.bx_program_files.specs.Files.{HasMade, AreAllThere, LeavesFiles, if_made};
 ghost use Rattle.bx_program_files.specs.Fit.{AreFit};
 ghost use Rattle.bx_program_sessions.specs.Contents.{DoesFound, FoundIn, Holds, StepsTo, Survives};
-ghost use Rattle.bx_program_sessions.specs.Named.{AreNamed, IsUnrecovered, KeepsOthers, MayRefuse, NothingDone, contents_of};
+ghost use Rattle.bx_program_sessions.specs.Named.{LeadTo, IsUnrecovered, KeepsOthers, MayRefuse, NothingDone, contents_of};
 
 use crate::lent::{Done, run_lent};
 use bx_cli_commands::{Command, Fault, Reply};
@@ -56,7 +56,7 @@ fn is_unrecovered(how: Option<How>) -> bool
 fn clear<W: World>(world: &mut W, name: &str, done: &Done<W::File>, made: bool)
     requires made { W.honest world.old → made ≡ true → (W.sight world.old).before ≤ W.number done.now.redo }
     requires named { W.honest world.old → (W.sight world.old).named name.now ≡ Some (W.number done.now.redo) }
-    ensures left { W.honest world.old → IsWholeRefusal done.now.reply → IsUnrecovered done.now.how → (first : Sight) → IsWithin first
+    ensures left { W.honest world.old → IsWholeRefusal done.now.reply → IsUnrecovered done.now.how → (first : Sight) → AreAllThere first
         → HasMade (if_made made (W.number done.now.redo)) first (W.sight world.old) → LeavesFiles first (W.sight world.new) }
     ensures stays { W.honest world.old → (IsWholeRefusal done.now.reply → ⊥) → W.sight world.new ≡ W.sight world.old }
     ensures survives { W.honest world.old → (IsWholeRefusal done.now.reply → ⊥) → world.new ≡ world.old }
@@ -87,7 +87,7 @@ pub fn run_command<W: World, R: Read>(
 
     // So it is behind a loss of power.
     ensures survives { W.honest world.old → (s : Images) → Holds (contents_of names.now (W.sight world.old)) s → (IsWholeRefusal result.reply → ⊥)
-        → (t : Trio) → AreNamed names.now t (W.sight world.new)
+        → (t : Trio) → LeadTo names.now t (W.sight world.new)
         → Survives R.remaining s command.old result.reply
         (W.survives world.new t.image) (W.survives world.new t.journal) (W.survives world.new t.redo) }
 

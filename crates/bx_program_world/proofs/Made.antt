@@ -5,8 +5,8 @@ use Rattle.std.specs.Option.{unwrap_or}
 use Rattle.std.specs.Str.{bytes_eq}
 use Rattle.std.proofs.lemmas.Bool.Decides.{Decides-eqb}
 use Rattle.std.proofs.lemmas.Slice.Eq.{bytes_eq-Decides}
-use Rattle.bx_program_world.specs.Memory.{Passes, no_stat, sight_in, sight_of}
-use Rattle.bx_program_world.specs.MemoryFiles.{entry_of, is_gone_at, is_link_of, is_link_to, is_taken, lent_trio, stat_of, synced_at, unless_gone}
+use Rattle.bx_program_world.specs.Memory.{IsNoted, no_stat, sight_in, sight_of}
+use Rattle.bx_program_world.specs.MemoryFiles.{entry_named, is_gone_at, is_link_of, is_link_to, is_taken, lent_trio, stat_of, synced_at, unless_gone}
 use Rattle.bx_program_world.specs.Rule.{text_unfit}
 use Rattle.bx_program_world.specs.World.{IsOwnText, Makes}
 use Rattle.bx_program_world.specs.declared.memory.MemoryWorld.{MemoryWorld}
@@ -109,7 +109,7 @@ made_text old files entries run name s new_entries new_files same free there emp
   };
 }
   where
-    linked : (m : List ℕ) (b : Bool) → bytes_eq name m ≡ b → is_link_to (cond b (Some (File (length old.files.items))) (entry_of old.entries.items m)) ≡ is_link_of old.entries.items m
+    linked : (m : List ℕ) (b : Bool) → bytes_eq name m ≡ b → is_link_to (cond b (Some (File (length old.files.items))) (entry_named old.entries.items m)) ≡ is_link_of old.entries.items m
     linked m true eq =
         let is : name ≡ m = (bytes_eq-Decides name m).0 eq in
         sym (subst (λ x. is_link_of old.entries.items x ≡ false) is (free_no_link old.files.items old.entries.items name (length old.files.items) free))
@@ -119,7 +119,7 @@ made_text old files entries run name s new_entries new_files same free there emp
     link_same m = rw new_entries (linked m (bytes_eq name m) refl)
 
 -- a call that was noted leaves all that is seen
-pub sight_passes : (refused : Bool) (old new : MemoryWorld) → Passes refused old new → sight_of new ≡ sight_of old
+pub sight_passes : (refused : Bool) (old new : MemoryWorld) → IsNoted refused old new → sight_of new ≡ sight_of old
 sight_passes refused old new p = rw (p.files, p.entries, p.caller, p.before, p.lent, p.output, p.errors, p.stuck) refl
 
 -- the same, with the new number

@@ -50,7 +50,7 @@ abbrev pub found_of : MemoryWorld → ℕ → List ℕ → Type 0
 found_of w n c = (c ≡ bytes_at w.files.items n) ⊎ (c ≡ synced_at w.files.items n)
 
 -- a call was noted as refused, or passed; files and all else are as they were
-pub record Passes (refused : Bool) (old new : MemoryWorld) : Type 0 where
+pub record IsNoted (refused : Bool) (old new : MemoryWorld) : Type 0 where
   pub files : new.files ≡ old.files
   pub entries : new.entries ≡ old.entries
   pub caller : new.run.caller ≡ old.run.caller

@@ -3,7 +3,7 @@ use Rattle.std.proofs.Common.{refl, arith}
 use Rattle.std.specs.Prelude.{◌≡◌, ◌<◌, ◌≤◌, ℕ, zero, suc, Bool, true, false, not, cond, List, [], ◌∷◌, Option, None, Some, slice_get, length}
 use Rattle.std.specs.Option.{option_map_or}
 use Rattle.std.specs.Str.{bytes_eq}
-use Rattle.bx_program_world.specs.World.{AreApart, Trio}
+use Rattle.bx_program_world.specs.World.{AreThreeFiles, Trio}
 use Rattle.bx_program_world.specs.declared.memory.files.Entry.{Entry}
 use Rattle.bx_program_world.specs.declared.memory.files.Leads.{Leads}
 use Rattle.bx_program_world.specs.declared.memory.files.Leads.TheVariants.{File, Link}
@@ -12,9 +12,9 @@ use Rattle.bx_program_world.specs.declared.memory.files.LentFiles.{LentFiles}
 use Rattle.bx_program_world.specs.declared.stat.Stat.{Stat}
 
 -- what the first entry of a name leads to
-abbrev pub entry_of : List Entry → List ℕ → Option Leads
-entry_of [] name = None
-entry_of (e ∷ entries) name = cond (bytes_eq e.name name) (Some e.leads) (entry_of entries name)
+abbrev pub entry_named : List Entry → List ℕ → Option Leads
+entry_named [] name = None
+entry_named (e ∷ entries) name = cond (bytes_eq e.name name) (Some e.leads) (entry_named entries name)
 
 -- what the entry at a place leads to
 abbrev pub leads_at : List Entry → ℕ → Option Leads
@@ -29,7 +29,7 @@ led onward (Some (Link target)) = onward target
 -- the file that a name leads to by at most this many steps
 unfoldable pub follow : List Entry → ℕ → List ℕ → Option ℕ
 follow entries zero name = None
-follow entries (suc steps) name = led (λ target. follow entries steps target) (entry_of entries name)
+follow entries (suc steps) name = led (λ target. follow entries steps target) (entry_named entries name)
 
 abbrev pub is_link_to : Option Leads → Bool
 is_link_to None = false
@@ -38,7 +38,7 @@ is_link_to (Some (Link target)) = true
 
 -- whether a name is a symbolic link
 abbrev pub is_link_of : List Entry → List ℕ → Bool
-is_link_of entries name = is_link_to (entry_of entries name)
+is_link_of entries name = is_link_to (entry_named entries name)
 
 -- the bytes of a file; of one that isn't there none
 abbrev pub bytes_at : List Stored → ℕ → List ℕ
@@ -68,7 +68,7 @@ is_taken_by files (Some (Link target)) = true
 
 -- whether a name is one of a file that is there, or a link
 abbrev pub is_taken : List Stored → List Entry → List ℕ → Bool
-is_taken files entries name = is_taken_by files (entry_of entries name)
+is_taken files entries name = is_taken_by files (entry_named entries name)
 
 -- what the system tells of a file; none where it isn't there
 abbrev pub stat_of : List Stored → ℕ → Option Stat
@@ -84,9 +84,9 @@ lent_trio None = None
 lent_trio (Some l) = Some (trio_of l)
 
 -- no fewer files are there than were when the run began, and the lent ones are there, and three
-pub record IsKept (before there : ℕ) (lent : Option LentFiles) : Type 0 where
+pub record IsConsistent (before there : ℕ) (lent : Option LentFiles) : Type 0 where
   pub before_there : before ≤ there
-  pub apart : (l : LentFiles) → lent ≡ Some l → AreApart there (trio_of l)
+  pub apart : (l : LentFiles) → lent ≡ Some l → AreThreeFiles there (trio_of l)
 
 -- a file that isn't gone is there
 pub there_unless_gone : (files : List Stored) (n : ℕ) → is_gone_at files n ≡ false → n < length files

@@ -34,7 +34,7 @@ abbrev pub IsNoneOf : Trio → ℕ → Type 0
 IsNoneOf t n = (n ≡ t.image → ⊥) × (n ≡ t.journal → ⊥) × (n ≡ t.redo → ⊥)
 
 -- the three are three files, each of them there
-pub record AreApart (there : ℕ) (t : Trio) : Type 0 where
+pub record AreThreeFiles (there : ℕ) (t : Trio) : Type 0 where
   pub image_there : t.image < there
   pub journal_there : t.journal < there
   pub redo_there : t.redo < there
@@ -169,8 +169,8 @@ abbrev pub held : Sight → List ℕ → List ℕ
 held w name = option_map_or w.bytes (w.named name) []
 
 -- whatever is found of any file was found before
-abbrev pub NothingNew : (ℕ → List ℕ → Type 0) → (ℕ → List ℕ → Type 0) → Type 0
-NothingNew old new = (n : ℕ) → NoMore (old n) (new n)
+abbrev pub NothingNewFound : (ℕ → List ℕ → Type 0) → (ℕ → List ℕ → Type 0) → Type 0
+NothingNewFound old new = (n : ℕ) → NoMore (old n) (new n)
 
 -- whatever is found of a file that was there was found before
 abbrev pub NothingNewBelow : ℕ → (ℕ → List ℕ → Type 0) → (ℕ → List ℕ → Type 0) → Type 0

@@ -1,6 +1,6 @@
 //! A world in memory.
 ghost use Rattle.std.specs.Prelude.{◌≡◌, ◌<◌, ◌≤◌, List, ℕ, length, true, false, None, OnOk, OnErr};
-ghost use Rattle.bx_program_world.specs.MemoryFiles.{IsKept, bytes_at, file_within, synced_at};
+ghost use Rattle.bx_program_world.specs.MemoryFiles.{IsConsistent, bytes_at, file_within, synced_at};
 
 pub(crate) mod files;
 pub(crate) mod image;
@@ -87,7 +87,7 @@ pub struct MemoryWorld {
     files: Vec<Stored>,
     run: Run,
     plan: Plan,
-    ghost kept: { IsKept run.before (length files.items) run.lent },
+    ghost kept: { IsConsistent run.before (length files.items) run.lent },
 }
 
 /// An open file of a world in memory.
@@ -101,7 +101,7 @@ impl MemoryWorld {
     ghost use Rattle.bx_program_world.specs.declared.world.Refusal.TheVariants.{Missing};
     ghost use Rattle.bx_program_world.specs.World.{IsOwnText, Makes, NotesRefusal};
     ghost use Rattle.bx_program_world.specs.MemoryFiles.{file_named, is_taken};
-    ghost use Rattle.bx_program_world.specs.Memory.{BuriesEmpty, BuriesOrSticks, HasOtherBytes, NamesFile, NamesNothing, Passes, sight_of};
+    ghost use Rattle.bx_program_world.specs.Memory.{BuriesEmpty, BuriesOrSticks, HasOtherBytes, NamesFile, NamesNothing, IsNoted, sight_of};
 
     /// A world without files, which this user runs a program in.
     pub fn new(alloc: Global, caller: u32) -> Self
@@ -127,7 +127,7 @@ impl MemoryWorld {
 
     /// Takes note of a call, and says whether it is refused.
     fn refuses(&mut self) -> bool
-        ensures { Passes result self.old self.new }
+        ensures { IsNoted result self.old self.new }
     {
         let refuses = self.plan.calls.blows();
         if refuses {
@@ -138,7 +138,7 @@ impl MemoryWorld {
 
     /// Notes that a call is refused.
     fn refuse(&mut self) -> Refusal
-        ensures kept { Passes true self.old self.new }
+        ensures kept { IsNoted true self.old self.new }
         ensures other { result ≡ Refusal.Other None }
     {
         self.run.is_refused = true;

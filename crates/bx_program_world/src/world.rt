@@ -1,7 +1,7 @@
 //! The world that a program runs in.
 ghost use Rattle.std.specs.Prelude.{◌≡◌, ◌↔◌, ◌⊎◌, ◌+◌, ◌<◌, ◌≤◌, ◌^◌, ◌++◌, ℕ, List, Bool, true, Err, None, Some, IfOk, IfErr, OnOk, OnErr, length, take};
 ghost use Rattle.bx_program_world.specs.declared.world.Refusal.TheVariants.{Locked, Missing};
-ghost use Rattle.bx_program_world.specs.World.{AreApart, ChangesOnly, NotesRefusal, GivesBack, IsEmptyUnder, IsOwnText, IsStuck, KeepsFiles, LeavesTrio, Lends, Makes, MayBeImage, MayBeText, NothingNew, NothingNewBelow, NothingNewOf, Sight, TakesAtMost, TakesAway, Trio, WritesPart, stat_named};
+ghost use Rattle.bx_program_world.specs.World.{AreThreeFiles, ChangesOnly, NotesRefusal, GivesBack, IsEmptyUnder, IsOwnText, IsStuck, KeepsFiles, LeavesTrio, Lends, Makes, MayBeImage, MayBeText, NothingNewFound, NothingNewBelow, NothingNewOf, Sight, TakesAtMost, TakesAway, Trio, WritesPart, stat_named};
 ghost use Rattle.bx_image.specs.Power.{NoMore};
 
 use crate::stat::{Look, Stat};
@@ -67,7 +67,7 @@ pub trait World {
         ensures there { honest self.old → result ≡ Err Missing → ⊥ }
         ensures same { honest self.old → sight self.new ≡ sight self.old }
         ensures noted { honest self.old → NotesRefusal result (is_refused self.old) (is_refused self.new) }
-        ensures survives { honest self.old → NothingNew (survives self.old) (survives self.new) }
+        ensures survives { honest self.old → NothingNewFound (survives self.old) (survives self.new) }
         ensures honesty { honest self.new ↔ honest self.old };
 
     /// The user who runs the program.
@@ -82,7 +82,7 @@ pub trait World {
         ensures missing { honest self.old → result ≡ Err Missing → (sight self.old).named name.now ≡ None }
         ensures same { honest self.old → sight self.new ≡ sight self.old }
         ensures noted { honest self.old → NotesRefusal result (is_refused self.old) (is_refused self.new) }
-        ensures survives { honest self.old → NothingNew (survives self.old) (survives self.new) }
+        ensures survives { honest self.old → NothingNewFound (survives self.old) (survives self.new) }
         ensures honesty { honest self.new ↔ honest self.old };
 
     /// Opens a journal or a redo text that is there, beside its image.
@@ -93,7 +93,7 @@ pub trait World {
         ensures missing { honest self.old → result ≡ Err Missing → (sight self.old).named name.now ≡ None }
         ensures same { honest self.old → sight self.new ≡ sight self.old }
         ensures noted { honest self.old → NotesRefusal result (is_refused self.old) (is_refused self.new) }
-        ensures survives { honest self.old → NothingNew (survives self.old) (survives self.new) }
+        ensures survives { honest self.old → NothingNewFound (survives self.old) (survives self.new) }
         ensures honesty { honest self.new ↔ honest self.old };
 
     /// Makes an empty journal or redo text beside an image, and opens it. It may be read and written by nobody who may not read
@@ -114,7 +114,7 @@ pub trait World {
         ensures missing { honest self.old → result ≡ Err Missing → ⊥ }
         ensures same { honest self.old → sight self.new ≡ sight self.old }
         ensures noted { honest self.old → NotesRefusal result (is_refused self.old) (is_refused self.new) }
-        ensures survives { honest self.old → NothingNew (survives self.old) (survives self.new) }
+        ensures survives { honest self.old → NothingNewFound (survives self.old) (survives self.new) }
         ensures honesty { honest self.new ↔ honest self.old };
 
     /// Locks a file up to its closing, which has to have its name still. One that another program has locked is refused; nobody
@@ -124,7 +124,7 @@ pub trait World {
         ensures missing { honest self.old → result ≡ Err Missing → ⊥ }
         ensures same { honest self.old → sight self.new ≡ sight self.old }
         ensures noted { honest self.old → NotesRefusal result (is_refused self.old) (is_refused self.new) }
-        ensures survives { honest self.old → NothingNew (survives self.old) (survives self.new) }
+        ensures survives { honest self.old → NothingNewFound (survives self.old) (survives self.new) }
         ensures honesty { honest self.new ↔ honest self.old };
 
     /// Whether both are one file.
@@ -133,7 +133,7 @@ pub trait World {
         ensures missing { honest self.old → result ≡ Err Missing → ⊥ }
         ensures same { honest self.old → sight self.new ≡ sight self.old }
         ensures noted { honest self.old → NotesRefusal result (is_refused self.old) (is_refused self.new) }
-        ensures survives { honest self.old → NothingNew (survives self.old) (survives self.new) }
+        ensures survives { honest self.old → NothingNewFound (survives self.old) (survives self.new) }
         ensures honesty { honest self.new ↔ honest self.old };
 
     /// Takes a file away that this run made, if it is empty and has the name.
@@ -143,7 +143,7 @@ pub trait World {
             → TakesAway (sight self.old) (sight self.new) (number file.now) ⊎ IsStuck (sight self.old) (sight self.new) }
         ensures most { honest self.old → TakesAtMost (sight self.old) (sight self.new) (number file.now) }
         ensures noted { honest self.old → is_refused self.new ≡ is_refused self.old }
-        ensures survives { honest self.old → NothingNew (survives self.old) (survives self.new) }
+        ensures survives { honest self.old → NothingNewFound (survives self.old) (survives self.new) }
         ensures honesty { honest self.new ↔ honest self.old };
 
     /// Puts the name of a file on the disk.
@@ -151,7 +151,7 @@ pub trait World {
         ensures missing { honest self.old → result ≡ Err Missing → ⊥ }
         ensures noted { honest self.old → NotesRefusal result (is_refused self.old) (is_refused self.new) }
         ensures same { honest self.old → sight self.new ≡ sight self.old }
-        ensures survives { honest self.old → NothingNew (survives self.old) (survives self.new) }
+        ensures survives { honest self.old → NothingNewFound (survives self.old) (survives self.new) }
         ensures honesty { honest self.new ↔ honest self.old };
 
     /// Lends the three files of a session.
@@ -162,7 +162,7 @@ pub trait World {
         redo: Self::File,
     ) -> (Self::Image, Self::Text, Self::Text)
         requires free { honest self.old → (sight self.old).lent ≡ None }
-        requires apart { honest self.old → AreApart (sight self.old).there (record { image = number image; journal = number journal; redo = number redo }) }
+        requires apart { honest self.old → AreThreeFiles (sight self.old).there (record { image = number image; journal = number journal; redo = number redo }) }
         ensures image_failures { Self.Image.failures result.0 ≡ 0 }
         ensures journal_failures { Self.Text.failures result.1 ≡ 0 }
         ensures redo_failures { Self.Text.failures result.2 ≡ 2 ^ 32 }
@@ -203,7 +203,7 @@ pub trait World {
             → IfErr result (λ e. WritesPart e.written (sight self.old).output (sight self.new).output bytes.now) }
         ensures errors { honest self.old → (sight self.new).errors ≡ (sight self.old).errors }
         ensures files { honest self.old → KeepsFiles (sight self.old) (sight self.new) }
-        ensures survives { honest self.old → NothingNew (survives self.old) (survives self.new) }
+        ensures survives { honest self.old → NothingNewFound (survives self.old) (survives self.new) }
         ensures honesty { honest self.new ↔ honest self.old };
 
     /// Writes to standard error; how much of it arrives isn't known.
@@ -211,7 +211,7 @@ pub trait World {
         ensures errors { honest self.old → (n : ℕ) × (sight self.new).errors ≡ (sight self.old).errors ++ take n bytes.now }
         ensures output { honest self.old → (sight self.new).output ≡ (sight self.old).output }
         ensures files { honest self.old → KeepsFiles (sight self.old) (sight self.new) }
-        ensures survives { honest self.old → NothingNew (survives self.old) (survives self.new) }
+        ensures survives { honest self.old → NothingNewFound (survives self.old) (survives self.new) }
         ensures honesty { honest self.new ↔ honest self.old };
 
     /// No fewer files are there than were when the run began.

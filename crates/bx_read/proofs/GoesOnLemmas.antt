@@ -4,13 +4,13 @@ use Rattle.std.proofs.lemmas.List.{length-append, length-drop}
 use Rattle.bx_read.specs.Digits.{pairs_of}
 use Rattle.bx_read.specs.private.Full.{IsFull}
 use Rattle.bx_read.specs.private.NextLine.{joined_of}
-use Rattle.bx_read.specs.private.Rows.{GoesOn}
+use Rattle.bx_read.specs.private.Rows.{GoesOnWith}
 use Rattle.bx_read.specs.Text.{ReadLine, lines_of, answers, gathered, piece_then}
 use Rattle.bx_read.specs.declared.fault.ReadFault.{ReadFault}
 use Rattle.bx_read.proofs.FullLines.{full_coming}
 use Rattle.bx_read.proofs.RunLemmas.{joins}
 
-pub goes_none : (text : List ℕ) (at : ℕ) (bytes : List ℕ) → GoesOn text text 0 at bytes bytes
+pub goes_none : (text : List ℕ) (at : ℕ) (bytes : List ℕ) → GoesOnWith text text 0 at bytes bytes
 goes_none text at bytes = record {
   joins = λ p. ap (λ n. joined_of (piece_then (at, bytes) (gathered (answers n (lines_of text))))) (none p);
   fewer = λ p. subst (λ n. length (answers n (lines_of text)) ≤ length (answers p (lines_of text))) (none p) (omega arith);
@@ -25,8 +25,8 @@ line_joins : (at next : ℕ) (x y hex : List ℕ) (number : ℕ) (later : List (
     joined_of (piece_then (at, x) (gathered (Ok (next, hex, number) ∷ later))) ≡ joined_of (piece_then (at, x ++ y) (gathered later))
 line_joins at next x y hex number later pairs here = rw pairs (joins at next x y (gathered later) here)
 
-pub goes_more : (text rest after : List ℕ) (count at : ℕ) (old x longer bytes : List ℕ) → GoesOn text rest count at old x → IsFull rest (at + length x) bytes
-    → after ≡ drop 68 rest → longer ≡ x ++ bytes → GoesOn text after (count + 1) at old longer
+pub goes_more : (text rest after : List ℕ) (count at : ℕ) (old x longer bytes : List ℕ) → GoesOnWith text rest count at old x → IsFull rest (at + length x) bytes
+    → after ≡ drop 68 rest → longer ≡ x ++ bytes → GoesOnWith text after (count + 1) at old longer
 goes_more text rest after count at old x longer bytes so full cut more = record {
   joins = λ p.
       let next : (p + count) + 1 ≡ p + (count + 1) = omega arith in

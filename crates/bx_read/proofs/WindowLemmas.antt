@@ -11,7 +11,7 @@ use Rattle.bx_read.specs.Digits.{pairs_of}
 use Rattle.bx_read.specs.Line.{read_line}
 use Rattle.bx_read.specs.Runs.{with_piece, joined}
 use Rattle.bx_read.specs.Text.{lines_of, is_skipped, answer_then, answers, gathered, piece_then, contents, dump_pieces}
-use Rattle.bx_read.specs.Window.{IsWhole, GivesRuns, AreRunsOf, IsDumpFault, IsFaultBehind, ReadsAlike, HasLines, HasReadBy, HasReadDump, DumpView}
+use Rattle.bx_read.specs.Window.{AreWholeLines, GivesRuns, ArePiecesRuns, IsDumpFault, IsFaultBehind, ReadsAlike, HasLines, HasReadBy, HasReadDump, DumpView}
 use Rattle.bx_read.specs.private.Unfinished.{IsFaultOfFront}
 use Rattle.bx_read.specs.private.Window.{newlines, JoinsBehind, TakesText}
 use Rattle.bx_read.specs.private.NextLine.{joined_of}
@@ -116,7 +116,7 @@ lines_front (c ∷ front) rest = go (eqb c 10) refl (lines_front front rest) (so
     go true e same some = rw e (ap (λ l. [] ∷ l) same)
     go false e same some = rw e (ap (onto_first c) same ∙ onto_lines c (lines_of (front ++ 10 ∷ [])) (lines_of rest) some)
 
-pub lines_behind : (whole rest : List ℕ) → IsWhole whole → lines_of (whole ++ rest) ≡ lines_of whole ++ lines_of rest
+pub lines_behind : (whole rest : List ℕ) → AreWholeLines whole → lines_of (whole ++ rest) ≡ lines_of whole ++ lines_of rest
 lines_behind whole rest (inl none) = rw none refl
 lines_behind whole rest (inr (front, is)) =
     rw is (ap lines_of (append_assoc front (10 ∷ []) rest) ∙ lines_front front rest)
@@ -214,7 +214,7 @@ takes_text lines text got old new read joins = go (gathered (answers (lines + 1)
     go (Err fault) is e = cc
 
 -- whole lines that were read, and a text behind them
-module _ (whole text : List ℕ) (lines : ℕ) (pieces : Pieces) (ends : IsWhole whole) (read : dump_pieces whole ≡ Ok pieces) (count : lines ≡ length (lines_of whole)) where
+module _ (whole text : List ℕ) (lines : ℕ) (pieces : Pieces) (ends : AreWholeLines whole) (read : dump_pieces whole ≡ Ok pieces) (count : lines ≡ length (lines_of whole)) where
   all_of : dump_pieces (whole ++ text) ≡ gives_then (Ok pieces) (gathered (answers (lines + 1) (lines_of text)))
   all_of =
       ap (λ l. gathered (answers 1 l)) (lines_behind whole text ends)
@@ -228,7 +228,7 @@ module _ (whole text : List ℕ) (lines : ℕ) (pieces : Pieces) (ends : IsWhole
   fault_behind fault e = all_of ∙ ap (gives_then (Ok pieces)) e
 
 -- a fault of whole lines is that of each text which begins with them
-pub fault_lasts : (whole rest : List ℕ) (fault : ReadFault) → IsWhole whole → dump_pieces whole ≡ Err fault → dump_pieces (whole ++ rest) ≡ Err fault
+pub fault_lasts : (whole rest : List ℕ) (fault : ReadFault) → AreWholeLines whole → dump_pieces whole ≡ Err fault → dump_pieces (whole ++ rest) ≡ Err fault
 fault_lasts whole rest fault ends e =
     ap (λ l. gathered (answers 1 l)) (lines_behind whole rest ends)
     ∙ gathered_behind 1 (1 + length (lines_of whole)) (lines_of whole) (lines_of rest) refl
@@ -273,7 +273,7 @@ module _ (text more : List ℕ) (runs : Pieces) (lines : ℕ) (held : List ℕ) 
 
   -- whole lines now
   module _ (front : List ℕ) (end : more ≡ front ++ 10 ∷ []) where
-    ends_more : IsWhole (has.whole ++ (has.front ++ more))
+    ends_more : AreWholeLines (has.whole ++ (has.front ++ more))
     ends_more = inr (
       has.whole ++ (has.front ++ front),
       ap (λ l. has.whole ++ (has.front ++ l)) end
@@ -399,5 +399,5 @@ module _ (text : List ℕ) (runs : Pieces) (lines : ℕ) (held : List ℕ) (has 
   last_fault fault (inr e) = inr (ap dump_pieces (sym (append-nil text)) ∙ more_fault text [] runs lines held has fault (sym (no_more (lines + 1)) ∙ e))
 
 -- each run of a text begins below 2 ^ 62
-pub runs_near : {A : Type 0} (text : List ℕ) (runs : List (Piece A)) → AreRunsOf text runs → All (λ run. run.at < 2 ^ 62) runs
+pub runs_near : {A : Type 0} (text : List ℕ) (runs : List (Piece A)) → ArePiecesRuns text runs → All (λ run. run.at < 2 ^ 62) runs
 runs_near text runs are = all_near text runs (ap joined_of are.1 ∙ ap Ok (sym are.2))

@@ -12,7 +12,7 @@ use Rattle.bx_text.specs.Field.{char_at, hex_text}
 use Rattle.bx_text.specs.Dump.{pair_of, shown_byte}
 use Rattle.bx_text.specs.private.Dump.{default_line, hex_place, hex_columns, hex_width}
 use Rattle.bx_read.specs.Digits.{is_hex}
-use Rattle.bx_read.specs.Laws.{DumpLineReadsBack, WrittenLineReadsBack, IsWritten, line_text, wide_line_text}
+use Rattle.bx_read.specs.Laws.{DumpLineReadsBack, WrittenLineReadsBack, IsWritten, dump_line_text, wide_line_text}
 use Rattle.bx_read.proofs.GrammarLemmas.{and_true}
 use Rattle.bx_read.proofs.PieceLemmas.{piece_of}
 use Rattle.bx_read.proofs.PackedLemmas.{glyph_hex}
@@ -123,7 +123,7 @@ first_of (c ∷ front) rest line e some is = λ h.
 pub written_line : WrittenLineReadsBack
 written_line at bytes some few all small =
     let width : ℕ = 40 in
-    let text = line_text at bytes in
+    let text = dump_line_text at bytes in
     let is = line_reads false 16 2 at bytes (omega arith) some few (omega arith) all small in
     let prints : All Prints text = wide_prints false 16 2 at bytes all small in
     let first : is_hex (get_or text 0 0) ≡ true =
@@ -142,7 +142,7 @@ written_line at bytes some few all small =
 
 -- the same of a line of an image
 pub written : (at : ℕ) (bytes : List ℕ) → 0 < length bytes → length bytes ≤ 16 → All (λ b. b < 256) bytes → at + length bytes ≤ 2 ^ 48 - 1 →
-    (default_line at bytes ≡ line_text at bytes ++ codes "\n") × IsWritten (line_text at bytes) at bytes
+    (default_line at bytes ≡ dump_line_text at bytes ++ codes "\n") × IsWritten (dump_line_text at bytes) at bytes
 written at bytes some few all fits = written_line at bytes some few all (omega arith)
 
 pub reads_back : DumpLineReadsBack

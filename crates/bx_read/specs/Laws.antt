@@ -22,8 +22,8 @@ PiecesAreFew = (text : List ℕ) (pieces : List (ℕ × List ℕ)) → GivesPiec
     (length pieces ≤ length (lines_of text)) × (2 * total_bytes pieces ≤ length text)
 
 -- xxd's default line without its newline
-abbrev pub line_text : ℕ → List ℕ → List ℕ
-line_text at bytes = hex_text false 8 at ++ codes ": " ++ laid_out (λ i. 2 * i + i / 2) (λ i. pair_of false (slice_index bytes i)) (length bytes) 40
+abbrev pub dump_line_text : ℕ → List ℕ → List ℕ
+dump_line_text at bytes = hex_text false 8 at ++ codes ": " ++ laid_out (λ i. 2 * i + i / 2) (λ i. pair_of false (slice_index bytes i)) (length bytes) 40
     ++ codes " " ++ map shown_byte bytes
 
 -- a line for some columns and groups without its newline
@@ -51,4 +51,4 @@ pub record IsWritten (line : List ℕ) (at : ℕ) (bytes : List ℕ) : Type 0 wh
 -- xxd's default line of 1 to 16 bytes gives them back, at any address that a line can have.
 abbrev pub WrittenLineReadsBack : Type 0
 WrittenLineReadsBack = (at : ℕ) (bytes : List ℕ) → 0 < length bytes → length bytes ≤ 16 → All (λ b. b < 256) bytes → at < 2 ^ 62 →
-    (dump_line false 16 2 at bytes ≡ line_text at bytes ++ codes "\n") × IsWritten (line_text at bytes) at bytes
+    (dump_line false 16 2 at bytes ≡ dump_line_text at bytes ++ codes "\n") × IsWritten (dump_line_text at bytes) at bytes

@@ -15,16 +15,16 @@ pub record DumpView : Type 0 where
   pub fault : Option ReadFault
 
 -- whole lines: nothing, or a text that ends in a newline
-abbrev pub IsWhole : List ℕ → Type 0
-IsWhole text = (text ≡ []) ⊎ ((front : List ℕ) × (text ≡ front ++ 10 ∷ []))
+abbrev pub AreWholeLines : List ℕ → Type 0
+AreWholeLines text = (text ≡ []) ⊎ ((front : List ℕ) × (text ≡ front ++ 10 ∷ []))
 
 -- These are the runs of the text's pieces, by their addresses and bytes.
 abbrev pub GivesRuns : List ℕ → List (ℕ × List ℕ) → Type 0
 GivesRuns text runs = (pieces : List (ℕ × List ℕ)) × (dump_pieces text ≡ Ok pieces) × (runs ≡ joined pieces)
 
 -- These are the runs of the text's pieces.
-abbrev pub AreRunsOf : {A : Type 0} → List ℕ → List (Piece A) → Type 0
-AreRunsOf text runs = GivesRuns text (contents runs)
+abbrev pub ArePiecesRuns : {A : Type 0} → List ℕ → List (Piece A) → Type 0
+ArePiecesRuns text runs = GivesRuns text (contents runs)
 
 -- Memory was refused, or this is the text's fault.
 abbrev pub IsDumpFault : List ℕ → ReadFault → Type 0
@@ -45,7 +45,7 @@ pub record HasLines (text : List ℕ) (runs : List (ℕ × List ℕ)) (lines : �
   pub whole : List ℕ
   pub front : List ℕ
   pub spelled : text ≡ whole ++ front
-  pub ends : IsWhole whole
+  pub ends : AreWholeLines whole
   pub gives : GivesRuns whole runs
   pub counted : lines ≡ length (lines_of whole)
   pub stands : ReadsAlike front held

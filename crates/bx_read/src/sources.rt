@@ -6,7 +6,7 @@ ghost use Rattle.bx_text.specs.declared.stream.State.{State};
 ghost use Rattle.bx_text.specs.declared.fault.IoFault.{IoFault};
 ghost use Rattle.bx_read.specs.Plain.{plain_answer};
 ghost use Rattle.bx_read.specs.PlainWindow.{HasReadPlain, IsPlainFault};
-ghost use Rattle.bx_read.specs.Window.{AreRunsOf, HasReadDump, IsDumpFault};
+ghost use Rattle.bx_read.specs.Window.{ArePiecesRuns, HasReadDump, IsDumpFault};
 
 use crate::fault::ReadFault;
 use crate::plain_window::PlainRead;
@@ -111,7 +111,7 @@ pub fn read_runs_from<R: Read + Drop, A: Allocator + Clone>(
 ) -> Result<Result<Vec<Piece<A>, A>, ReadFault>, IoFault>
     // What was read is the text, up to the end.
     ensures runs { IfOk result (λ read. (text : List ℕ) × Consumes (R.remaining source.old.reader) (R.remaining source.new.reader) text
-        × (length text ≤ source.old.meter.limit - source.old.meter.taken) × MatchResult read (λ v. AreRunsOf text v.items) (IsDumpFault text)) }
+        × (length text ≤ source.old.meter.limit - source.old.meter.taken) × MatchResult read (λ v. ArePiecesRuns text v.items) (IsDumpFault text)) }
     ensures near { IfOk result (λ read. IfOk read (λ v. All (λ run. run.at < 2 ^ 62) v.items)) }
     ensures end { OnOk result (source.old.meter.state ≡ State.Open → IsAtEnd (R.remaining source.new.reader)) }
 
@@ -120,7 +120,7 @@ pub fn read_runs_from<R: Read + Drop, A: Allocator + Clone>(
     ensures stopped { IfErr result (λ e. StopsIn source.old.meter (R.remaining source.old.reader) (R.remaining source.new.reader) (IsRestCause e)) }
 
     // Where nothing more can be read, nothing is: no text is left.
-    ensures none_left { source.old.meter.state ≡ State.Ended → IfOk result (λ read. MatchResult read (λ v. AreRunsOf [] v.items) (IsDumpFault [])) }
+    ensures none_left { source.old.meter.state ≡ State.Ended → IfOk result (λ read. MatchResult read (λ v. ArePiecesRuns [] v.items) (IsDumpFault [])) }
     ensures lasting { IfSome (fault_of source.old.meter.state) (λ e. IsErrOf result e ⊎ IsErrOf result IoFault.NoMemory) }
     ensures closed { source.old.meter.state ≢ State.Open → source.new.reader ≡ source.old.reader }
 {

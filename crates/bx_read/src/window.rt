@@ -29,7 +29,7 @@ impl<A: Allocator> Model for DumpRead<A> {
 }
 
 impl<A: Allocator + Clone> DumpRead<A> {
-    ghost use Rattle.bx_read.specs.Window.{AreRunsOf, IsDumpFault, HasReadDump};
+    ghost use Rattle.bx_read.specs.Window.{ArePiecesRuns, IsDumpFault, HasReadDump};
 
     /// Nothing was read yet.
     pub fn new(alloc: &A) -> Result<DumpRead<A>, ReadFault>
@@ -75,7 +75,7 @@ impl<A: Allocator + Clone> DumpRead<A> {
     /// The runs of the text that was given, whose last newline may be missing: what `read_runs` answers of it as one text.
     pub fn finish(self, alloc: &A) -> Result<Vec<Piece<A>, A>, ReadFault>
         requires countable { self.lines + length self.held < 2 ^ 64 }
-        ensures exact { (text : List ℕ) → HasReadDump text self → MatchResult result (λ v. AreRunsOf text v.items) (IsDumpFault text) }
+        ensures exact { (text : List ℕ) → HasReadDump text self → MatchResult result (λ v. ArePiecesRuns text v.items) (IsDumpFault text) }
     {
         let DumpRead { read, fault } = self;
         if let Some(fault) = fault {

@@ -5,7 +5,7 @@ use Rattle.bx_image.specs.Image.{place, cut}
 use Rattle.bx_image.specs.Power.{FadesBehind, FadesFrom, Follows, IsFaded, KeepsBelow, KeepsOutside, NoMore}
 use Rattle.bx_image.proofs.Images.{length-cut, slice_index-cut}
 use Rattle.bx_image.proofs.Survivors.{KeepsBelow-cut, KeepsBelow_refl, KeepsOutside-place, KeepsOutside_refl, place_end}
-use Rattle.test_cache.specs.Cached.{MayBeFound, MayBeResized, MayBeWritten, MayFollow, changed, content_of}
+use Rattle.test_cache.specs.Cached.{MayBeFound, MayBeResized, MayBeWritten, MayFollow, after_one, content_of}
 use Rattle.test_cache.specs.declared.unsynced.Unsynced.{Unsynced}
 use Rattle.test_cache.specs.declared.unsynced.Unsynced.TheVariants.{Write, Resize}
 
@@ -108,7 +108,7 @@ pub follows_more : (change : Unsynced) (x c : List ℕ) (P Q : List ℕ → Type
 follows_more (Write at bytes) x c P Q more = written_more at bytes.items x c P Q more
 follows_more (Resize n) x c P Q more = resized_more n x c P Q more
 
-pub change_there : (change : Unsynced) (x : List ℕ) (P : List ℕ → Type 0) → P x → MayFollow change x P (changed change x)
+pub change_there : (change : Unsynced) (x : List ℕ) (P : List ℕ → Type 0) → P x → MayFollow change x P (after_one change x)
 change_there (Write at bytes) x P there = written_there at bytes.items x P there
 change_there (Resize n) x P there = resized_there n x P there
 
@@ -118,7 +118,7 @@ of_found synced changes x c same (inl is) = let T : List ℕ → Type 0 = λ y. 
 of_found synced changes x c same (inr there) = there
 
 -- what may be found behind one change more
-pub found_behind : (change : Unsynced) (synced : List ℕ) (earlier : List Unsynced) (x y c : List ℕ) → content_of synced earlier ≡ x → y ≡ changed change x
+pub found_behind : (change : Unsynced) (synced : List ℕ) (earlier : List Unsynced) (x y c : List ℕ) → content_of synced earlier ≡ x → y ≡ after_one change x
     → ((c ≡ y) ⊎ MayBeFound synced (change ∷ earlier) c) ↔ MayFollow change x (λ d. (d ≡ x) ⊎ MayBeFound synced earlier d) c
 found_behind change synced earlier x y c same is = (to, from)
   where

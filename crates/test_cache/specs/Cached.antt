@@ -6,14 +6,14 @@ use Rattle.test_cache.specs.declared.unsynced.Unsynced.{Unsynced}
 use Rattle.test_cache.specs.declared.unsynced.Unsynced.TheVariants.{Write, Resize}
 
 -- the content behind one change
-abbrev pub changed : Unsynced → List ℕ → List ℕ
-changed (Write at bytes) x = place x at bytes.items
-changed (Resize n) x = cut x n
+abbrev pub after_one : Unsynced → List ℕ → List ℕ
+after_one (Write at bytes) x = place x at bytes.items
+after_one (Resize n) x = cut x n
 
 -- the content behind the changes since the last sync; the newest of them comes first
 abbrev pub content_of : List ℕ → List Unsynced → List ℕ
 content_of synced [] = synced
-content_of synced (change ∷ earlier) = changed change (content_of synced earlier)
+content_of synced (change ∷ earlier) = after_one change (content_of synced earlier)
 
 -- What may be found once bytes were written at an address of x: it comes from what might be found before by a change of the
 -- range alone, and behind a write at the end it has faded as far as that had, and no further.
@@ -21,7 +21,7 @@ pub record MayBeWritten (at : ℕ) (bytes x : List ℕ) (old : List ℕ → Type
   pub outside : (d : List ℕ) × old d × KeepsOutside at (length bytes) d c
   pub fades : at ≡ length x → (n : ℕ) (rest : List ℕ) → AllFade n (x ++ bytes ++ rest) old → IsFaded n (x ++ bytes ++ rest) c
 
--- What may be found once the length of x was changed to n.
+-- What may be found once the length of x was after_one to n.
 pub record MayBeResized (n : ℕ) (x : List ℕ) (old : List ℕ → Type 0) (c : List ℕ) : Type 0 where
   pub below : (d : List ℕ) × old d × KeepsBelow (min n (length x)) d c
   pub fades : n ≤ length x → (m : ℕ) (longer : List ℕ) → AllFade m longer old → IsFaded (min m n) longer c

@@ -12,7 +12,7 @@ abbrev pub found : CachedFile → List ℕ → Type 0
 found f c = (c ≡ f.now.items) ⊎ MayBeFound f.synced.items f.unsynced.items c
 
 -- after a call that did nothing
-pub record IsSame (old new : CachedFile) : Type 0 where
+pub record IsUnchanged (old new : CachedFile) : Type 0 where
   pub now : new.now.items ≡ old.now.items
   pub synced : new.synced.items ≡ old.synced.items
   pub unsynced : new.unsynced.items ≡ old.unsynced.items

@@ -41,15 +41,15 @@ impl CachedFile {
 }
 
 impl CachedFile {
-    ghost use Rattle.test_cache.specs.Cached.{MayBeResized, MayBeWritten, MayFollow, changed};
-    ghost use Rattle.test_cache.specs.Files.{IsSame, content, found};
+    ghost use Rattle.test_cache.specs.Cached.{MayBeResized, MayBeWritten, MayFollow, after_one};
+    ghost use Rattle.test_cache.specs.Files.{IsUnchanged, content, found};
 
     // Makes one change, which leads to these bytes.
     fn add(&mut self, now: Vec<u8>, change: Unsynced) -> Result<(), AllocError>
-        requires { now.items ≡ changed change (content self.old) }
+        requires { now.items ≡ after_one change (content self.old) }
         ensures content { OnOk result (content self.new ≡ now.items) }
         ensures found { OnOk result ((c : List ℕ) → found self.new c ↔ MayFollow change (content self.old) (found self.old) c) }
-        ensures stays { OnErr result (IsSame self.old self.new) }
+        ensures stays { OnErr result (IsUnchanged self.old self.new) }
     {
         self.unsynced.insert(0, change).map_err(|_| AllocError)?;
         self.now = now;
@@ -61,7 +61,7 @@ impl CachedFile {
         requires { at + length bytes.now < 2 ^ 64 }
         ensures content { OnOk result (content self.new ≡ place (content self.old) at bytes.now) }
         ensures found { OnOk result ((c : List ℕ) → found self.new c ↔ MayBeWritten at bytes.now (content self.old) (found self.old) c) }
-        ensures stays { OnErr result (IsSame self.old self.new) }
+        ensures stays { OnErr result (IsUnchanged self.old self.new) }
     {
         let now = placed(self.alloc, self.now.as_slice(), at, bytes)?;
         let change = Unsynced::Write(at, Vec::from_slice(self.alloc, bytes)?);
@@ -72,7 +72,7 @@ impl CachedFile {
     pub fn resize_to(&mut self, n: u64) -> Result<(), AllocError>
         ensures content { OnOk result (content self.new ≡ cut (content self.old) n) }
         ensures found { OnOk result ((c : List ℕ) → found self.new c ↔ MayBeResized n (content self.old) (found self.old) c) }
-        ensures stays { OnErr result (IsSame self.old self.new) }
+        ensures stays { OnErr result (IsUnchanged self.old self.new) }
     {
         let now = resized(self.alloc, self.now.as_slice(), n)?;
         self.add(now, Unsynced::Resize(n))

@@ -3,7 +3,7 @@ use Rattle.std.specs.Prelude.{◌≡◌, ℕ, Option, List}
 use Rattle.bx_text.specs.declared.fault.IoFault.{IoFault}
 use Rattle.bx_dd.specs.declared.counts.Counts.{Counts}
 use Rattle.bx_dd.specs.declared.operands.plan.Plan.{Plan}
-use Rattle.bx_dd.specs.Behind.{IsRest}
+use Rattle.bx_dd.specs.Behind.{IsPlanRest}
 use Rattle.bx_dump.specs.declared.hexdump.options.HexdumpOptions.{HexdumpOptions}
 use Rattle.bx_dump.specs.declared.od.options.OdOptions.{OdOptions}
 use Rattle.bx_dump.specs.declared.xxd.options.XxdStyle.{XxdStyle}
@@ -51,11 +51,11 @@ StopsHexdumpBehind n o r0 r1 w0 w1 f = WritesFrontOf (behind n (hexdump_of o)) r
 
 -- what the rest of a plan makes, behind n bytes
 abbrev pub CopiesBehind : {A : Type 0} → ℕ → Plan A → Option (List ℕ) → Option (List ℕ) → Option (List ℕ) → Option (List ℕ) → Counts → Type 0
-CopiesBehind {A = A} n plan r0 r1 w0 w1 counts = (rest : Plan A) × IsRest n plan rest × CopiesOut rest r0 r1 w0 w1 counts
+CopiesBehind {A = A} n plan r0 r1 w0 w1 counts = (rest : Plan A) × IsPlanRest n plan rest × CopiesOut rest r0 r1 w0 w1 counts
 
 -- the rest of a plan stopped
 abbrev pub StopsCopyBehind : {A : Type 0} → ℕ → Plan A → Option (List ℕ) → Option (List ℕ) → Option (List ℕ) → Option (List ℕ) → Fault → Type 0
-StopsCopyBehind {A = A} n plan r0 r1 w0 w1 e = (rest : Plan A) × IsRest n plan rest × StopsOut rest r0 r1 w0 w1 e
+StopsCopyBehind {A = A} n plan r0 r1 w0 w1 e = (rest : Plan A) × IsPlanRest n plan rest × StopsOut rest r0 r1 w0 w1 e
 
 -- ---- what a job does
 

@@ -3,7 +3,7 @@ use Rattle.std.specs.Prelude.{◌≡◌, ◌↔◌, ◌<◌, ◌+◌, ◌-◌, �
 use Rattle.std.specs.List.{range_with_len}
 use Rattle.bx_read.specs.Text.{dump_pieces, lines_of}
 use Rattle.bx_read.specs.Grammar.{GivesPieces}
-use Rattle.bx_dump.specs.Pages.{part_of}
+use Rattle.bx_dump.specs.Pages.{bytes_dumped}
 use Rattle.bx_dump.specs.Laws.{xxd_text}
 use Rattle.bx_dump.specs.declared.xxd.options.XxdOptions.{XxdOptions}
 use Rattle.bx_dump.specs.declared.xxd.options.XxdStyle.TheVariants.{Normal}
@@ -17,7 +17,7 @@ chunks cols at bytes = map (λ k. (at + cols * k, take cols (drop (cols * k) byt
 
 -- the chunks that are dumped
 abbrev pub dumped_chunks : XxdOptions → List ℕ → List (ℕ × List ℕ)
-dumped_chunks o input = chunks o.cols (o.seek + o.shift) (part_of o.seek o.limit input)
+dumped_chunks o input = chunks o.cols (o.seek + o.shift) (bytes_dumped o.seek o.limit input)
 
 -- The input has bytes, and each chunk's address is below 2 ^ 62.
 pub record IsNormalDump (o : XxdOptions) (input : List ℕ) : Type 0 where
@@ -34,4 +34,4 @@ NormalTextReadsBack = (o : XxdOptions) (input : List ℕ) → IsNormalDump o inp
 abbrev pub NormalTextReverts : (A : Type 0) → Type 0
 NormalTextReverts A = (o : XxdOptions) (input image : List ℕ) (offset : ℕ) (pieces : List (ℕ × List ℕ)) → IsNormalDump o input
     → dump_pieces (xxd_text Normal o input) ≡ Ok pieces
-    → effect {A = A} (dump_change offset pieces) image ≡ place image (o.seek + o.shift + offset) (part_of o.seek o.limit input)
+    → effect {A = A} (dump_change offset pieces) image ≡ place image (o.seek + o.shift + offset) (bytes_dumped o.seek o.limit input)

@@ -1,6 +1,6 @@
 //! What is left to ask of an input behind bytes that were passed, as a seek passes them.
 ghost use Rattle.std.specs.Prelude.{◌≡◌, ◌+◌, ◌*◌, ◌%◌, ◌^◌, ◌≤◌};
-ghost use Rattle.bx_dd.specs.Behind.{IsRest};
+ghost use Rattle.bx_dd.specs.Behind.{IsPlanRest};
 ghost use Rattle.bx_dump.specs.Behind.{IsHexdumpRest, IsOdRest, IsXxdRest};
 
 use bx_dd::Plan;
@@ -57,7 +57,7 @@ pub fn xxd_rest(o: &XxdOptions, passed: u64) -> XxdOptions
 pub fn plan_rest(plan: &Plan, passed: u64) -> Plan
     requires skip { passed ≤ plan.now.skip * plan.now.ibs }
     requires whole { passed % plan.now.ibs ≡ 0 }
-    ensures { IsRest passed plan.now result }
+    ensures { IsPlanRest passed plan.now result }
 {
     Plan {
         input: None,

@@ -5,5 +5,5 @@ use Rattle.bx_text.specs.declared.number.size.SizeStyle.TheVariants.{Product}
 use Rattle.bx_text.specs.Number.{read_size}
 
 -- a product of factors
-abbrev pub number_of : List ℕ → Result ℕ SizeFault
-number_of text = read_size Product text
+abbrev pub product_number : List ℕ → Result ℕ SizeFault
+product_number text = read_size Product text

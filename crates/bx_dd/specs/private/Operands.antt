@@ -7,7 +7,7 @@ use Rattle.bx_dd.specs.declared.form.Letters.{Letters}
 use Rattle.bx_dd.specs.declared.form.Letters.TheVariants.{Keep, Upper, Lower}
 use Rattle.bx_dd.specs.declared.form.Shape.{Shape}
 use Rattle.bx_dd.specs.declared.form.Shape.TheVariants.{Flat, Block, Unblock}
-use Rattle.bx_dd.specs.Operands.{block_size, checked, converts, is_given, is_operand, name_of, number_or, place_of, value_fault}
+use Rattle.bx_dd.specs.Operands.{block_size, checked, converts, is_given, is_operand, operand_name, number_or, operand_place, value_fault}
 use Rattle.bx_dd.specs.declared.operands.Kind.{Kind}
 use Rattle.bx_dd.specs.declared.fault.DdFault.{DdFault}
 use Rattle.bx_dd.specs.declared.fault.DdFault.TheVariants.{UnknownOperand, NumberTooLarge, ZeroSize, Repeated, Conflict, MissingCbs}
@@ -39,7 +39,7 @@ shape_of words = if converts (codes "block") words then Block else if converts (
 
 -- whether the word is an operand of this name
 abbrev pub is_named : List ℕ → List ℕ → Bool
-is_named name word = is_operand word && bytes_eq (name_of word) name
+is_named name word = is_operand word && bytes_eq (operand_name word) name
 
 -- the fault of an operand of this kind that may have been given before
 abbrev pub kind_fault : ℕ → Option Kind → Bool → List ℕ → Option DdFault
@@ -58,8 +58,8 @@ abbrev pub later_fault : List (List ℕ) → Option DdFault
 later_fault words =
     if is_conflict words then Some Conflict else
     if is_cbs_missing words then Some MissingCbs else
-    if nat_lt (2 ^ 48) (number_or 0 (codes "skip") words * ibs_of words) then Some (NumberTooLarge (place_of (codes "skip") words + 1)) else
-    if nat_lt (2 ^ 48) (number_or 0 (codes "seek") words * obs_of words) then Some (NumberTooLarge (place_of (codes "seek") words + 1)) else None
+    if nat_lt (2 ^ 48) (number_or 0 (codes "skip") words * ibs_of words) then Some (NumberTooLarge (operand_place (codes "skip") words + 1)) else
+    if nat_lt (2 ^ 48) (number_or 0 (codes "seek") words * obs_of words) then Some (NumberTooLarge (operand_place (codes "seek") words + 1)) else None
 
 -- the fault of a number
 abbrev pub number_fault : ℕ → Result ℕ SizeFault → Option DdFault

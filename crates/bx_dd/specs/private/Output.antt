@@ -10,8 +10,8 @@ block_of form block = let full = if form.sync then block ++ replicate (form.ibs 
     map (cased form.letters) (if form.swab then swapped full else full)
 
 -- the byte that records are filled up with
-abbrev pub is_space : ℕ → Bool
-is_space b = b == 32
+abbrev pub is_fill : ℕ → Bool
+is_fill b = b == 32
 
 -- any byte but a newline
 abbrev pub goes_on : ℕ → Bool

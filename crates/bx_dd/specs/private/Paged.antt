@@ -17,7 +17,7 @@ use Rattle.bx_dd.specs.Counting.{counts_of}
 use Rattle.bx_dd.specs.Output.{converted, cut_records, joined}
 use Rattle.bx_dd.specs.Standing.{Stands}
 use Rattle.bx_dd.specs.private.Standing.{HasSizes}
-use Rattle.bx_dd.specs.private.Streaming.{Flows, Goes, Output, Stage, StopsFlow, StopsStage, unit_of}
+use Rattle.bx_dd.specs.private.Streaming.{Flows, Goes, Output, Staged, StopsFlow, StopsStage, unit_of}
 
 -- of a text, a part went out and the rest waits in the page
 abbrev pub GoesBy : {A : Type 0} → Option (List ℕ) → Option (List ℕ) → Page A → List ℕ → Type 0
@@ -84,29 +84,29 @@ pub record Passes (task : Task) (r0 r1 start : Option (List ℕ)) (buf : List �
   pub within : length input ≤ task.most
   pub ends : (length input ≡ task.most) ⊎ IsAtEnd r1
   pub read : turn.read ≡ length input
-  pub stage : Stage task.form start input (take turn.have buf) out turn.tail
+  pub stage : Staged task.form start input (take turn.have buf) out turn.tail
 
 -- Whatever stood so, a front of all that is written of the input went out.
 abbrev pub StopsStageOf : {V : Type 0} → Form → Output → Option (List ℕ) → List ℕ → Tail → Result V IoFault → Type 0
 StopsStageOf form out0 now pending tail outcome =
-    (input : List ℕ) (start : Option (List ℕ)) → Stage form start input pending out0 tail → IfErr outcome (StopsStage form start now input)
+    (input : List ℕ) (start : Option (List ℕ)) → Staged form start input pending out0 tail → IfErr outcome (StopsStage form start now input)
 
 -- More was read, whatever stood so: of all of it whole units flow, and the rest is pending.
-abbrev pub GoesOn : {E : Type 0} → Form → Output → Output → List ℕ → List ℕ → Turn → Result Turn E → Type 0
-GoesOn form out0 out1 before after turn outcome =
-    (input : List ℕ) (start : Option (List ℕ)) → Stage form start input (take turn.have before) out0 turn.tail →
-    IfOk outcome (λ t. Stage form start input (take t.have after) out1 t.tail)
+abbrev pub TakesTurn : {E : Type 0} → Form → Output → Output → List ℕ → List ℕ → Turn → Result Turn E → Type 0
+TakesTurn form out0 out1 before after turn outcome =
+    (input : List ℕ) (start : Option (List ℕ)) → Staged form start input (take turn.have before) out0 turn.tail →
+    IfOk outcome (λ t. Staged form start input (take t.have after) out1 t.tail)
 
 -- All that is written of the input went out, whatever stood so, and is counted.
 abbrev pub Finishes : {E : Type 0} → Form → Output → Output → List ℕ → Tail → Result Tail E → Type 0
 Finishes form out0 out1 pending tail outcome =
-    (input : List ℕ) (start : Option (List ℕ)) → Stage form start input pending out0 tail →
+    (input : List ℕ) (start : Option (List ℕ)) → Staged form start input pending out0 tail →
     IfOk outcome (λ t. Appends start out1.now (converted form input) × (out1.written ≡ length (converted form input))
     × ((if t.over then t.cut + 1 else t.cut) ≡ cut_records form.shape form.cbs (joined form input)))
 
 -- A front of it went out.
 abbrev pub StopsFinish : {V : Type 0} → Form → Output → Option (List ℕ) → List ℕ → Tail → Result V IoFault → Type 0
-StopsFinish form out0 now pending tail outcome = (input : List ℕ) (start : Option (List ℕ)) → Stage form start input pending out0 tail →
+StopsFinish form out0 now pending tail outcome = (input : List ℕ) (start : Option (List ℕ)) → Staged form start input pending out0 tail →
     IfErr outcome (WritesFront 0 start now (converted form input))
 
 -- These are the counts of whatever input is so long, gives so long an output, and has this many records cut.

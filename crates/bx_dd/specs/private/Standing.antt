@@ -12,8 +12,8 @@ abbrev pub finished : Shape → ℕ → List ℕ → List ℕ
 finished shape size bytes = take (length bytes - unfinished shape size bytes) bytes
 
 -- the bytes after them
-abbrev pub rest_of : Shape → ℕ → List ℕ → List ℕ
-rest_of shape size bytes = drop (length bytes - unfinished shape size bytes) bytes
+abbrev pub record_rest : Shape → ℕ → List ℕ → List ℕ
+record_rest shape size bytes = drop (length bytes - unfinished shape size bytes) bytes
 
 -- what the end of the input gives of a record that was kept
 abbrev pub last_of : Shape → ℕ → List ℕ → List ℕ

@@ -55,7 +55,7 @@ abbrev pub unit_of : Form → ℕ
 unit_of form = if form.swab || form.sync then form.ibs else 1
 
 -- Of what was read, whole units were converted and flow, and the rest is pending.
-pub record Stage (form : Form) (start : Option (List ℕ)) (input pending : List ℕ) (out : Output) (tail : Tail) : Type 0 where
+pub record Staged (form : Form) (start : Option (List ℕ)) (input pending : List ℕ) (out : Output) (tail : Tail) : Type 0 where
   pub done : List ℕ
   pub parts : input ≡ done ++ pending
   pub whole : length done % unit_of form ≡ 0

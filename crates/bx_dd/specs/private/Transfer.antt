@@ -18,8 +18,8 @@ abbrev pub IsReadOut : Option (List ℕ) → ℕ → ℕ → Option ℕ → List
 IsReadOut new ibs skip count input = IsAtEnd new ⊎ IsSomeAnd count (λ n. length input ≡ (skip + n) * ibs)
 
 -- no more was read than skip and count ask for
-abbrev pub IsWithin : ℕ → ℕ → Option ℕ → List ℕ → Type 0
-IsWithin ibs skip count input = IfSome count (λ n. length input ≤ (skip + n) * ibs)
+abbrev pub ReadsNoMore : ℕ → ℕ → Option ℕ → List ℕ → Type 0
+ReadsNoMore ibs skip count input = IfSome count (λ n. length input ≤ (skip + n) * ibs)
 
 -- why a transfer stopped after n bytes where there was room for `room` of them
 abbrev pub IsStopCause : DdFault → ℕ → ℕ → Type 0
@@ -30,16 +30,16 @@ abbrev pub StopsWithin : ℕ → Option (List ℕ) → Option (List ℕ) → ℕ
 StopsWithin most old new room fault = (bytes : List ℕ) × Consumes old new bytes × IsStopCause fault room (length bytes) × (length bytes ≤ most)
 
 -- these bytes were read: n blocks, or fewer up to the input's end
-pub record HasRead (old new : Option (List ℕ)) (n size : ℕ) (state : State) (input : List ℕ) : Type 0 where
+pub record HasReadBlocks (old new : Option (List ℕ)) (n size : ℕ) (state : State) (input : List ℕ) : Type 0 where
   pub consumed : Consumes old new input
   pub within : length input ≤ n * size
   pub extent : ((state ≡ Open) × (length input ≡ n * size)) ⊎ ((state ≡ Ended) × IsAtEnd new)
 
 -- blocks were read, and counted
 abbrev pub ReadsBlocks : Option (List ℕ) → Option (List ℕ) → ℕ → ℕ → Meter → Meter → Type 0
-ReadsBlocks old new n size before after = (input : List ℕ) × HasRead old new n size after.state input × (after.taken ≡ before.taken + length input)
+ReadsBlocks old new n size before after = (input : List ℕ) × HasReadBlocks old new n size after.state input × (after.taken ≡ before.taken + length input)
 
 -- blocks were read and converted, and counted
 abbrev pub TakesBlocks : Option (List ℕ) → Option (List ℕ) → ℕ → ℕ → Meter → Meter → Progress → Type 0
 TakesBlocks old new n size before after c =
-    (input : List ℕ) × IsAfter input c × HasRead old new n size after.state input × (after.taken ≡ before.taken + length input)
+    (input : List ℕ) × IsAfter input c × HasReadBlocks old new n size after.state input × (after.taken ≡ before.taken + length input)

@@ -1,6 +1,6 @@
 //! The plan that operands ask for.
 ghost use Rattle.std.specs.Prelude.{◌≡◌, None, Err, IfOk, IfSome, IsOkUnless};
-ghost use Rattle.bx_dd.specs.Operands.{fault_of, given};
+ghost use Rattle.bx_dd.specs.Operands.{operands_fault, given};
 ghost use Rattle.bx_dd.specs.Parsing.{IsPlanOf};
 
 use crate::fault::DdFault;
@@ -16,8 +16,8 @@ pub fn parse<A: Allocator + Clone, W: Allocator>(
     alloc: A,
     words: &Words<W>,
 ) -> Result<Plan<A>, DdFault>
-    ensures refused { IfSome (fault_of words.now) (λ e. result ≡ Err e) }
-    ensures accepted { fault_of words.now ≡ None → IsOkUnless result DdFault.NoMemory }
+    ensures refused { IfSome (operands_fault words.now) (λ e. result ≡ Err e) }
+    ensures accepted { operands_fault words.now ≡ None → IsOkUnless result DdFault.NoMemory }
     ensures plan { IfOk result (IsPlanOf words.now) }
 {
     match fault_of(words) {
@@ -31,7 +31,7 @@ fn plan_of<A: Allocator + Clone, W: Allocator>(
     alloc: A,
     words: &Words<W>,
 ) -> Result<Plan<A>, DdFault>
-    requires { fault_of words.now ≡ None }
+    requires { operands_fault words.now ≡ None }
     ensures plan { IfOk result (IsPlanOf words.now) }
     ensures fault { IsOkUnless result DdFault.NoMemory }
 {

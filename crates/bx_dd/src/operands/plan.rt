@@ -52,11 +52,11 @@ pub struct Plan<A: Allocator = Global> {
 }
 
 impl<A: Allocator> Plan<A> {
-    ghost use Rattle.bx_dd.specs.Plan.{form_of, change_of};
+    ghost use Rattle.bx_dd.specs.Plan.{plan_form, change_of};
 
     /// The sizes and conversions.
     pub(crate) fn form(&self) -> Form
-        ensures { result ≡ form_of self.now }
+        ensures { result ≡ plan_form self.now }
     {
         Form {
             ibs: self.ibs,

@@ -1,10 +1,10 @@
 //! A copy to a writer, written as it is read.
 ghost use Rattle.std.specs.Prelude.{◌≡◌, ◌≢◌, ℕ, ◌+◌, ◌-◌, ◌*◌, ◌^◌, ◌<◌, ◌≤◌, [], length, take, vec_capacity, true, false, Option, IfOk, IfErr, OnOk};
 ghost use Rattle.std.specs.Option.{ForSome};
-ghost use Rattle.bx_dd.specs.Plan.{form_of};
+ghost use Rattle.bx_dd.specs.Plan.{plan_form};
 ghost use Rattle.bx_dd.specs.private.Standing.{HasSizes};
 ghost use Rattle.bx_dd.specs.Streaming.{IsCopy, StopsCopy};
-ghost use Rattle.bx_dd.specs.private.Paged.{CountsAll, Finishes, Flushes, GoesOn, IsFresh, Passes, StopsFinish, StopsFlush, StopsStageOf, output_of};
+ghost use Rattle.bx_dd.specs.private.Paged.{CountsAll, Finishes, Flushes, TakesTurn, IsFresh, Passes, StopsFinish, StopsFlush, StopsStageOf, output_of};
 ghost use Rattle.bx_dd.specs.private.Streaming.{CopiesRest, Grows, StopsPass, most_of, unit_of};
 ghost use Rattle.bx_dd.specs.declared.form.Shape.TheVariants.{Flat, Unblock};
 
@@ -104,7 +104,7 @@ fn copy_with<R: Read, W: Write, A: Allocator, P: Allocator>(
     w: &mut W,
     plan: &Plan<P>,
 ) -> Result<Counts, IoFault>
-    requires input { unit_of (form_of plan.now) ≤ length buffers.input.items }
+    requires input { unit_of (plan_form plan.now) ≤ length buffers.input.items }
     requires few { length buffers.input.items ≤ 2 ^ 24 }
     requires held { buffers.waiting.held.items ≡ [] }
     requires space { plan.now.shape ≢ Flat → plan.now.cbs ≤ vec_capacity buffers.waiting.held }
@@ -203,7 +203,7 @@ fn pass<W: Write, A: Allocator>(
     ensures part { IfOk result (λ t. form.shape ≡ Unblock → length waiting.new.held.items < form.cbs) }
     ensures space { vec_capacity waiting.old.held ≤ vec_capacity waiting.new.held }
     ensures read { IfOk result (λ t. t.read ≡ turn.read) }
-    ensures ok { GoesOn form (output_of (W.contents w.old) waiting.old) (output_of (W.contents w.new) waiting.new) buf.old buf.new turn result }
+    ensures ok { TakesTurn form (output_of (W.contents w.old) waiting.old) (output_of (W.contents w.new) waiting.new) buf.old buf.new turn result }
     ensures err { StopsStageOf form (output_of (W.contents w.old) waiting.old) (W.contents w.new) (take turn.have buf.old) turn.tail result }
     ensures grows { Grows waiting.old.page.written waiting.new.page.written result }
 {

@@ -5,11 +5,11 @@ use Rattle.bx_text.specs.declared.fault.IoFault.{IoFault}
 use Rattle.bx_text.specs.declared.fault.IoFault.TheVariants.{ReadFailed, WriteFailed, InputTooLong}
 
 -- Why a dump stopped that had read and written this many bytes, of a text of `size` bytes.
-abbrev pub IsDumpFault : IoFault → ℕ → ℕ → ℕ → Type 0
-IsDumpFault ReadFailed read written size = read ≤ 2 ^ 40
-IsDumpFault (WriteFailed n) read written size = (n ≡ written) × (written < size) × (read ≤ 2 ^ 40)
-IsDumpFault InputTooLong read written size = read ≡ 2 ^ 40 + 1
-IsDumpFault fault read written size = ⊥
+abbrev pub StopsDump : IoFault → ℕ → ℕ → ℕ → Type 0
+StopsDump ReadFailed read written size = read ≤ 2 ^ 40
+StopsDump (WriteFailed n) read written size = (n ≡ written) × (written < size) × (read ≤ 2 ^ 40)
+StopsDump InputTooLong read written size = read ≡ 2 ^ 40 + 1
+StopsDump fault read written size = ⊥
 
 -- Reading is no more than a block of 2^14 bytes ahead of a write that fails: what was read before the last of them had its text
 -- written, but for at most `slack` bytes of its end and as many as stand for an empty input.
@@ -22,4 +22,4 @@ KeepsUp slack text input written fault = Unit {0}
 abbrev pub DumpsFrontBut : ℕ → (List ℕ → List ℕ) → Option (List ℕ) → Option (List ℕ) → Option (List ℕ) → Option (List ℕ) → IoFault → Type 0
 DumpsFrontBut slack text from_old from_new to_old to_new fault =
     (input : List ℕ) × (written : ℕ) × Consumes from_old from_new input × (written ≤ length (text input)) × Appends to_old to_new (take written (text input))
-    × IsDumpFault fault (length input) written (length (text input)) × KeepsUp slack text input written fault
+    × StopsDump fault (length input) written (length (text input)) × KeepsUp slack text input written fault

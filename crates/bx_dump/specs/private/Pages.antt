@@ -3,8 +3,8 @@ use Rattle.std.specs.Prelude.{◌≡◌, ℕ, ◌+◌, ◌^◌, ◌≤◌, ◌�
 use Rattle.std.specs.Option.{option_map_or}
 use Rattle.std.specs.Io.KnownBytes.{Appends, Consumes, IsAtEnd}
 use Rattle.bx_text.specs.declared.fault.IoFault.{IoFault}
-use Rattle.bx_dump.specs.Pages.{part_of}
-use Rattle.bx_dump.specs.private.Dumped.{IsDumpFault, KeepsUp}
+use Rattle.bx_dump.specs.Pages.{bytes_dumped}
+use Rattle.bx_dump.specs.private.Dumped.{StopsDump, KeepsUp}
 use Rattle.bx_dump.specs.declared.driver.pages.Part.{Part}
 
 -- What a call read and wrote: what was left of the input before and after it, and what was written.
@@ -22,8 +22,8 @@ abbrev pub streams_of : {R W : Type 0} → (R → Option (List ℕ)) → R → R
 streams_of remaining r0 r1 contents w0 w1 = streams (remaining r0) (remaining r1) (contents w0) (contents w1)
 
 -- at most this many of the bytes
-abbrev pub capped : Option ℕ → List ℕ → List ℕ
-capped limit bytes = option_map_or (λ most. take most bytes) limit bytes
+abbrev pub limited_to : Option ℕ → List ℕ → List ℕ
+limited_to limit bytes = option_map_or (λ most. take most bytes) limit bytes
 
 -- n bytes were read: all up to the input's end, or as many as are skipped and dumped at most
 abbrev pub IsEndOf : ℕ → Option ℕ → ℕ → Option (List ℕ) → Type 0
@@ -35,7 +35,7 @@ pub record WritesPart (text : List ℕ → List ℕ) (skip : ℕ) (limit : Optio
   pub consumed : Consumes io.old_input io.new_input input
   pub ends : IsEndOf skip limit (length input) io.new_input
   pub few : length input ≤ 2 ^ 40
-  pub dumped : length (part_of skip limit input) ≡ read
+  pub dumped : length (bytes_dumped skip limit input) ≡ read
   pub appended : Appends io.old_output io.new_output (text input)
   pub long : length (text input) ≡ written
 
@@ -48,7 +48,7 @@ pub record WritesFrontBut (slack : ℕ) (text : List ℕ → List ℕ) (skip : �
   pub asked : IfSome limit (λ most. length input ≤ skip + most)
   pub within : written ≤ length (text input)
   pub appended : Appends io.old_output io.new_output (take written (text input))
-  pub cause : IsDumpFault fault (from + length input) (before + written) (before + length (text input))
+  pub cause : StopsDump fault (from + length input) (before + written) (before + length (text input))
   pub ahead : KeepsUp slack text input written fault
 
 -- n bytes were dumped: all up to the input's end, or as many as may be
@@ -72,12 +72,12 @@ WritesNext text from limit io part = WritesRest text from limit io part.read par
 
 -- a front of it was written, after `before` bytes of other texts
 abbrev pub StopsNext : (List ℕ → List ℕ) → ℕ → Option ℕ → ℕ → Streams → IoFault → Type 0
-StopsNext text from limit before io fault = WritesFrontBut 0 (λ input. text (capped limit input)) 0 limit from before io fault
+StopsNext text from limit before io fault = WritesFrontBut 0 (λ input. text (limited_to limit input)) 0 limit from before io fault
 
 -- the text of the part was written
 abbrev pub WritesTextOf : (List ℕ → List ℕ) → ℕ → Option ℕ → Streams → Part → Type 0
-WritesTextOf text skip limit io part = WritesPart (λ input. text (part_of skip limit input)) skip limit io part.read part.written
+WritesTextOf text skip limit io part = WritesPart (λ input. text (bytes_dumped skip limit input)) skip limit io part.read part.written
 
 -- a front of it was written, after `before` bytes of other texts
 abbrev pub StopsTextOf : ℕ → (List ℕ → List ℕ) → ℕ → Option ℕ → ℕ → Streams → IoFault → Type 0
-StopsTextOf slack text skip limit before io fault = WritesFrontBut slack (λ input. text (part_of skip limit input)) skip limit 0 before io fault
+StopsTextOf slack text skip limit before io fault = WritesFrontBut slack (λ input. text (bytes_dumped skip limit input)) skip limit 0 before io fault

@@ -12,15 +12,15 @@ grown_text least offsets at run b =
     else b ∷ []
 
 -- what ends a run: a newline, where it was written
-abbrev pub end_text : ℕ → List ℕ → List ℕ
-end_text least run = if nat_le least (length run) then codes "\n" else []
+abbrev pub end_of_run : ℕ → List ℕ → List ℕ
+end_of_run least run = if nat_le least (length run) then codes "\n" else []
 
 unfoldable pub scan_text : ℕ → Address → ℕ → List ℕ → List ℕ → List ℕ
 scan_text least offsets at run [] = []
 scan_text least offsets at run (b ∷ bs) =
     if is_printable b
     then grown_text least offsets at run b ++ scan_text least offsets (at + 1) (run ++ b ∷ []) bs
-    else end_text least run ++ scan_text least offsets (at + 1) [] bs
+    else end_of_run least run ++ scan_text least offsets (at + 1) [] bs
 
 -- what stands printable at the end
 unfoldable pub scan_run : List ℕ → List ℕ → List ℕ

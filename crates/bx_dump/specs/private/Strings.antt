@@ -10,5 +10,5 @@ abbrev pub run_at : List ℕ → ℕ → List ℕ
 run_at x a = take (prefix_len is_printable (drop a x)) (drop a x)
 
 -- the lines of the runs that begin in bytes which stand from place `first` on
-abbrev pub runs_text : ℕ → Address → Bool → ℕ → List ℕ → List ℕ
-runs_text least offsets before first x = flat_map (line_at least offsets before first x) (range_with_len 0 (length x))
+abbrev pub runs_lines : ℕ → Address → Bool → ℕ → List ℕ → List ℕ
+runs_lines least offsets before first x = flat_map (line_at least offsets before first x) (range_with_len 0 (length x))

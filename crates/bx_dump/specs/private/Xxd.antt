@@ -39,5 +39,5 @@ abbrev pub columns : Digits → ℕ → List ℕ → ℕ → List ℕ
 columns digits group bytes width = laid_out (columns_place (cell_width digits) group) (λ i. cell_of digits (slice_index bytes i)) (length bytes) width
 
 -- this many lines of some bytes
-abbrev pub lines_of : Digits → ℕ → ℕ → ℕ → List ℕ → ℕ → List ℕ
-lines_of digits cols group at bytes n = in_lines (columns_line digits cols group) cols at (take (cols * n) bytes)
+abbrev pub columns_lines : Digits → ℕ → ℕ → ℕ → List ℕ → ℕ → List ℕ
+columns_lines digits cols group at bytes n = in_lines (columns_line digits cols group) cols at (take (cols * n) bytes)

@@ -2,7 +2,7 @@
 ghost use Rattle.std.specs.Prelude.{◌≡◌, ℕ, ◌+◌, ◌-◌, ◌*◌, ◌^◌, ◌<◌, ◌≤◌, [], List, ◌++◌, length, take, codes, not, IfOk, IfErr};
 ghost use Rattle.std.specs.List.{prefix_len};
 ghost use Rattle.bx_dump.specs.private.Runs.{Keeps, Scans, StopsScan, known_text, waiting};
-ghost use Rattle.bx_dump.specs.private.Scan.{scan_run, scan_text, end_text, AllPrint, EndsQuiet, IsQuiet};
+ghost use Rattle.bx_dump.specs.private.Scan.{scan_run, scan_text, end_of_run, AllPrint, EndsQuiet, IsQuiet};
 ghost use Rattle.bx_dump_columns.specs.Places.{cost_of, place_text};
 ghost use Rattle.bx_text.specs.Ascii.{is_printable};
 ghost use Rattle.bx_dump.specs.Pages.{WritesAll, WritesFrontOf};
@@ -208,7 +208,7 @@ impl Runs {
         requires some { 0 < self.old.least }
         requires within { self.old.count ≤ self.old.least }
         requires room { 0 < length page.old }
-        ensures text { (run : List ℕ) → Keeps self.old run → take result page.new ≡ end_text self.old.least run }
+        ensures text { (run : List ℕ) → Keeps self.old run → take result page.new ≡ end_of_run self.old.least run }
         ensures kept { Keeps self.new [] }
         ensures least { self.new.least ≡ self.old.least }
         ensures offsets { self.new.offsets ≡ self.old.offsets }

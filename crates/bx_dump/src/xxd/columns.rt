@@ -1,7 +1,7 @@
 //! Lines of xxd with columns.
 ghost use Rattle.std.specs.Prelude.{◌≡◌, ℕ, ◌+◌, ◌-◌, ◌*◌, ◌/◌, ◌^◌, ◌<◌, ◌≤◌, length, take};
 ghost use Rattle.std.specs.List.{flat_map};
-ghost use Rattle.bx_dump.specs.private.Xxd.{cell_of, cell_width, columns_line, columns_width, lines_of};
+ghost use Rattle.bx_dump.specs.private.Xxd.{cell_of, cell_width, columns_line, columns_width, columns_lines};
 
 use crate::xxd::lines::{LineForm, Put};
 use bx_dump_columns::xxd::binary::put_six;
@@ -127,7 +127,7 @@ fn put_full(
     requires long { length cells.now ≡ cell_width form.now.digits * length bytes.now }
     ensures inside { form.now.cols * result.lines ≤ length bytes.now }
     ensures most { result.used ≤ (form.now.field + form.now.cols + 26) * result.lines }
-    ensures text { take result.used text.new ≡ lines_of form.now.digits form.now.cols form.now.group at bytes.now result.lines }
+    ensures text { take result.used text.new ≡ columns_lines form.now.digits form.now.cols form.now.group at bytes.now result.lines }
 {
     let cols = sizes.cols;
     let wide = sizes.wide;
@@ -167,7 +167,7 @@ fn put_lines_of_6(text: &mut [u8], at: u32, bytes: &[u8]) -> Put
     requires address { at + length bytes.now < 2 ^ 32 }
     ensures inside { 6 * result.lines ≤ length bytes.now }
     ensures most { result.used ≤ 86 * result.lines }
-    ensures text { take result.used text.new ≡ lines_of Digits.Binary 6 1 at bytes.now result.lines }
+    ensures text { take result.used text.new ≡ columns_lines Digits.Binary 6 1 at bytes.now result.lines }
 {
     let lines = bytes.len().saturating_sub(10) / 6;
     for k in 0..lines {

@@ -1,7 +1,7 @@
 //! od's decimal values of two bytes, lane by lane.
 ghost use Rattle.std.specs.Prelude.{◌≡◌, ◌≤◌, ◌++◌, length, map, take};
 ghost use Rattle.std.specs.List.{flat_map};
-ghost use Rattle.bx_dump_columns.specs.Decimal.{words, amount, front, char_at, last_char, cells, cells_len, form_of};
+ghost use Rattle.bx_dump_columns.specs.Decimal.{words, amount, front, decimal_char, last_char, cells, cells_len, form_of};
 ghost use Rattle.bx_dump_columns.specs.Values.{values_text};
 
 use crate::od::options::{Kind, NumForm, Size};
@@ -47,7 +47,7 @@ fn fronts_of(values: u16x8, signed: bool) -> u16x8
 #[inline(always)]
 fn chars_at(values: u16x8, signed: bool, power: u16) -> u8x8
     requires { 10 ≤ power }
-    ensures { result ≡ map (char_at signed power) values }
+    ensures { result ≡ map (decimal_char signed power) values }
 {
     let amounts = amounts_of(values, signed);
     let upper = amounts / u16x8::splat(power);
@@ -64,7 +64,7 @@ fn chars_at(values: u16x8, signed: bool, power: u16) -> u8x8
 /// The character of each value in front of its fifth digit.
 #[inline(always)]
 fn first_chars(values: u16x8, signed: bool) -> u8x8
-    ensures { result ≡ map (char_at signed 100000) values }
+    ensures { result ≡ map (decimal_char signed 100000) values }
 {
     amounts_of(values, signed)
         .simd_lt(u16x8::splat(10000))

@@ -18,7 +18,7 @@ use Rattle.bx_journal_read.specs.model.Redo.{IsClean}
 use Rattle.bx_journal_read.specs.scan.Recovery.{IsTorn, LookReadFault}
 use Rattle.bx_journal_read.specs.model.Undoing.{HasLeft}
 use Rattle.bx_journal_read.specs.model.Stack.{HaveLengths, image_at}
-use Rattle.bx_journal.specs.Opened.{FaultsAsRead, FindsAgain, KeepsFoundUndone, KeepsPair, KeepsRedoText, RefusesLength, SparesClean, SparesPair, TellsRefused, TellsUndone, TellsUnfit}
+use Rattle.bx_journal.specs.Opened.{FaultsAsRead, FindsAgain, KeepsFoundUndone, KeepsPair, KeepsRedoText, IsLengthRefused, SparesClean, SparesPair, TellsRefused, TellsUndone, TellsUnfit}
 use Rattle.bx_journal.specs.Recovery.{OpenKind}
 
 -- what is left stands for what the journal's reading recovers, where the lengths that its entries record are those of the images
@@ -66,7 +66,7 @@ module _ {D T : Type 0} (d : DeviceViews D) (t : StoreViews T) (old : Devices D 
     pub faults : FaultsAsRead d t old result
     pub kind : IfErr result OpenKind
     pub unfinished : t.honest old.journal → IfErr result (λ e. e ≡ Interrupted → IsClean (t.text old.journal) → ⊥)
-    pub differs : RefusesLength d t old result
+    pub differs : IsLengthRefused d t old result
 
   -- What is left: beside finished entries alone, and behind each fault but an interruption, all is as it was
   pub record SparesAll (new : Devices D T) (result : Result Recovered SessionFault) : Type 0 where

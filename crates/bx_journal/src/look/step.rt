@@ -1,7 +1,7 @@
 //! Steps over changes, as they are shown: a heading, the saved lines, and an empty line for each.
 ghost use Rattle.std.specs.Prelude.{◌≡◌, ◌+◌, ◌<◌, ◌≤◌, ℕ, All, IsTrue, length, OnOk};
 ghost use Rattle.std.specs.Io.KnownBytes.{Appends};
-ghost use Rattle.bx_journal_read.specs.show.Steps.{first_number, AreStepsPut, mark_step, number_at, saved_at};
+ghost use Rattle.bx_journal_read.specs.show.Steps.{first_number, AreStepsPut, mark_step, number_at, saved_lines_at};
 ghost use Rattle.bx_journal_read.specs.show.Showing.{LiesWithin, WritesBeside};
 
 use bx_image::Device;
@@ -38,7 +38,7 @@ fn put_saved<D: Device, T: TextStore, A: Allocator + Clone, W: Write>(
     requires within { T.honest journal.old → mark.to ≤ length (T.text journal.old) }
     requires order { mark.from ≤ mark.to }
     ensures put { T.honest journal.old → (IsTrue compares → D.honest image.old) → OnOk result
-        (Appends (W.contents out.old) (W.contents out.new) (saved_at compares (D.image image.old) (T.text journal.old) mark)) }
+        (Appends (W.contents out.old) (W.contents out.new) (saved_lines_at compares (D.image image.old) (T.text journal.old) mark)) }
     ensures puts { WritesBeside D.Device T.TextStore result image.old image.new journal.old journal.new }
 {
     match compares {

@@ -8,8 +8,8 @@ ghost use Rattle.bx_journal_protocol.specs.protocol.Fading.{OpeningSurvives, Pai
 ghost use Rattle.bx_journal_protocol.specs.protocol.Written.{AreSettled};
 ghost use Rattle.bx_image.specs.Power.{NoMore, Only};
 ghost use Rattle.bx_journal_protocol.specs.model.Power.{FoundBefore, RecoverySurvives};
-ghost use Rattle.bx_journal_protocol.specs.protocol.Opening.{HasBuffersFor, HasRoomFor};
-ghost use Rattle.bx_journal.specs.Opened.{CountsStack, FaultsAsRead, KeepsPair, OfAll, Opens, RefusesLength, SparesPair};
+ghost use Rattle.bx_journal_protocol.specs.protocol.Opening.{HasBuffersFor, HasRoomToRestore};
+ghost use Rattle.bx_journal.specs.Opened.{CountsStack, FaultsAsRead, KeepsPair, OfAll, Opens, IsLengthRefused, SparesPair};
 ghost use Rattle.bx_journal.specs.private.Recovering.{CallsCount, EmptiesRedo, FaultsOfTorn, LeavesRead, OpensRead, WherePairSettled};
 ghost use Rattle.bx_journal_read.specs.scan.Recovery.{IsTorn, IsUnfinishedIn, KeepsStack, RecoverFault};
 ghost use Rattle.bx_journal_read.specs.model.Stack.{HaveLengths, image_at};
@@ -30,7 +30,7 @@ fn prepare<D: Device>(image: &mut D, torn: Torn) -> Result<(), SessionFault>
         → OnOk result (HaveLengths r.entries (image_at r.stage (D.image image.old))) }
     ensures fault { FaultsOfTorn D.Device image.old torn result }
     ensures kind { IfErr result (LookFault ⊥ [] []) }
-    ensures room { OnOk result (HasRoomFor torn.mark (D.room image.new)) }
+    ensures room { OnOk result (HasRoomToRestore torn.mark (D.room image.new)) }
     ensures looks { LooksAt D.honest D.image D.failures result image.old image.new }
     ensures found_before { D.honest image.old → NoMore (D.survives image.old) (D.survives image.new) }
 {
@@ -53,7 +53,7 @@ fn cut_unfinished<D: Device, T: TextStore, A: Allocator>(
     requires image_countable { D.failures image.old < u64.MAX }
     requires journal_countable { T.failures journal.old < u64.MAX }
     requires found { IsUnfinishedIn (T.honest journal.old) (T.text journal.old) torn }
-    requires room { HasRoomFor torn.mark (D.room image.old) }
+    requires room { HasRoomToRestore torn.mark (D.room image.old) }
     requires buffers { HasBuffersFor torn.mark buffers.old }
     ensures opened { OpensRead D.Device T.TextStore image.old journal.old image.new journal.new result }
     ensures left { LeavesRead T.TextStore journal.old journal.new result }
@@ -101,7 +101,7 @@ fn finish<D: Device, T: TextStore, A: Allocator>(
 ) -> Result<Recovered, DeviceFailed>
     requires countable { AreBelow D.Device T.TextStore u64.MAX devices.old }
     requires found { IsUnfinishedIn (T.honest devices.old.journal) (T.text devices.old.journal) torn }
-    requires room { HasRoomFor torn.mark (D.room devices.old.image) }
+    requires room { HasRoomToRestore torn.mark (D.room devices.old.image) }
     requires buffers { HasBuffersFor torn.mark buffers.old }
     ensures opened { OpensRead D.Device T.TextStore devices.old.image devices.old.journal devices.new.image devices.new.journal result }
     ensures left { LeavesRead T.TextStore devices.old.journal devices.new.journal result }
@@ -146,7 +146,7 @@ fn get_ready<D: Device, T: TextStore, A: Allocator + Clone>(
         → OnOk result (HaveLengths r.entries (image_at r.stage (D.image devices.old.image))) }
     ensures fault { FaultsOfTorn D.Device devices.old.image torn result }
     ensures kind { IfErr result (LookFault ⊥ [] []) }
-    ensures room { OnOk result (HasRoomFor torn.mark (D.room devices.new.image)) }
+    ensures room { OnOk result (HasRoomToRestore torn.mark (D.room devices.new.image)) }
     ensures buffers { IfOk result (HasBuffersFor torn.mark) }
     ensures settled { D.honest devices.old.image → T.honest devices.old.journal → T.honest devices.old.redo
         → OnOk result (AreSettled D.Device T.TextStore devices.new) }
@@ -182,7 +182,7 @@ pub fn recover_read<D: Device, T: TextStore, A: Allocator + Clone>(
     ensures sum { IfOk result (λ o. o.changes + o.undone ≤ 65535) }
     ensures faults { FaultsAsRead D.Device T.TextStore devices.old result }
     ensures kind { IfErr result RecoverFault }
-    ensures differs { RefusesLength D.Device T.TextStore devices.old result }
+    ensures differs { IsLengthRefused D.Device T.TextStore devices.old result }
     ensures keeps { KeepsPair D.Device T.TextStore devices.old devices.new result }
     ensures counted { CountsStack D.Device T.TextStore devices.old result }
     ensures refused { SparesPair D.Device T.TextStore devices.old devices.new result }

@@ -8,18 +8,18 @@ use Rattle.bx_journal_format.specs.declared.read.marks.MarkedLines.{MarkedLines}
 use Rattle.bx_journal_format.specs.Kept.{Run}
 use Rattle.bx_journal_format.specs.Line.{save_line}
 use Rattle.bx_journal_format.specs.Spelled.{EntryLines, GiveRuns, entry_in, lines_of, runs_behind}
-use Rattle.bx_journal_format.specs.Text.{Stage, Between, Saving, Ending, Reading, joined, split, start, after_lines}
+use Rattle.bx_journal_format.specs.Text.{Stage, Between, Saving, Ending, Reading, text_of_lines, split, start, after_lines}
 use Rattle.bx_journal_format.specs.count.Rows.{saved_length, summed_of, with_more}
 
 -- how many bytes lines have, with their newlines
-abbrev pub size_of : List (List ℕ) → ℕ
-size_of lines = length (joined lines)
+abbrev pub lines_size : List (List ℕ) → ℕ
+lines_size lines = length (text_of_lines lines)
 
 -- the mark of an entry behind older ones
 abbrev pub mark_of : List EntryLines → EntryLines → Mark
 mark_of older c = record {
-  from = size_of (lines_of older ++ c.first ∷ []);
-  to = size_of (lines_of older ++ c.first ∷ c.saved);
+  from = lines_size (lines_of older ++ c.first ∷ []);
+  to = lines_size (lines_of older ++ c.first ∷ c.saved);
   len = c.entry.saved.len;
   after = c.entry.after;
   saved = saved_length c.entry.saved;
@@ -35,8 +35,8 @@ pub record IsBegun (older : List EntryLines) (len : ℕ) (given : List Run) (tai
   pub first : List ℕ
   pub saved : List (List ℕ)
   pub is : lines ≡ first ∷ (saved ++ tail)
-  pub begins : from ≡ size_of (lines_of older ++ first ∷ [])
-  pub ends : to ≡ size_of (lines_of older ++ first ∷ saved)
+  pub begins : from ≡ lines_size (lines_of older ++ first ∷ [])
+  pub ends : to ≡ lines_size (lines_of older ++ first ∷ saved)
   pub runs : given ≡ runs_behind len [] saved
 
 -- the lines behind finished entries are those of the unfinished one

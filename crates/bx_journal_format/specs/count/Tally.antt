@@ -22,11 +22,11 @@ abbrev pub tally_of : Reading → Tally
 tally_of r = record { count = length r.entries; told = told_by r.entries; place = place_of r.stage }
 
 -- a line that isn't the end of an entry that tells no length
-abbrev pub Tells : Event → Type 0
-Tells (Committed after) = IsTrue (is_some after)
-Tells (Begun v len) = Unit {0}
-Tells (Saved l) = Unit {0}
-Tells (Complete v) = Unit {0}
+abbrev pub TellsLength : Event → Type 0
+TellsLength (Committed after) = IsTrue (is_some after)
+TellsLength (Begun v len) = Unit {0}
+TellsLength (Saved l) = Unit {0}
+TellsLength (Complete v) = Unit {0}
 
 -- where a line leads from a reading, seen as a tally: where only entries that tell their lengths are taken, all go on doing so
 pub record LeadsTo (only_second : Bool) (r : Reading) (line : List ℕ) (t : Tally) : Type 0 where

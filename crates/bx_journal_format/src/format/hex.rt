@@ -1,6 +1,6 @@
 //! Sixteen lower-case digits at once.
 ghost use Rattle.std.specs.Prelude.{◌≡◌, ◌<◌, ◌≤◌, ℕ, map, length, slice_index, unwrap_or, IsTrue, Some, IfSome};
-ghost use Rattle.bx_journal_format.specs.Hex.{hex_value, number_after};
+ghost use Rattle.bx_journal_format.specs.Hex.{hex_nibble, number_after};
 
 use std::simd::prelude::*;
 
@@ -23,7 +23,7 @@ pub fn sixteen(text: &[u8]) -> Option<u64>
 /// The value of each digit, and 255 for other bytes.
 #[inline(always)]
 fn values_of(text: u8x16) -> u8x16
-    ensures { result ≡ map (λ c. unwrap_or (hex_value c) 255) text }
+    ensures { result ≡ map (λ c. unwrap_or (hex_nibble c) 255) text }
 {
     let digit = text - u8x16::splat(b'0');
     let letter = text - u8x16::splat(b'a');

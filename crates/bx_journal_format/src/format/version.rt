@@ -1,6 +1,6 @@
 //! The two forms of entries.
 ghost use Rattle.std.specs.Prelude.{◌≡◌};
-ghost use Rattle.bx_journal_format.specs.Line.{digits_of};
+ghost use Rattle.bx_journal_format.specs.Line.{address_width};
 
 /// The two forms of entries: `change` with `done`, and `change2` with `done2`.
 #[derive(Clone, Copy, Debug, PartialEq, Eq)]
@@ -11,7 +11,7 @@ pub enum Version {
 
 /// How many digits a length has.
 pub fn width_of(version: Version) -> usize
-    ensures { result ≡ digits_of version }
+    ensures { result ≡ address_width version }
 {
     match version {
         Version::First => 8,

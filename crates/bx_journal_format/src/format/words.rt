@@ -1,8 +1,8 @@
 //! The words and numbers of a journal's lines.
 ghost use Rattle.std.specs.Prelude.{◌≡◌, ◌+◌, ◌^◌, ◌<◌, ◌≤◌, ◌++◌, codes, length, MatchOption, None, Some};
 ghost use Rattle.std.specs.Str.{bytes_eq};
-ghost use Rattle.bx_journal_format.specs.Hex.{hex_digits, hex_value, number_after, number_of as number_read};
-ghost use Rattle.bx_journal_format.specs.Line.{start_head as start_front, save_line, end_head as end_front, behind as behind_front};
+ghost use Rattle.bx_journal_format.specs.Hex.{hex_digits, hex_nibble, number_after, number_of as number_read};
+ghost use Rattle.bx_journal_format.specs.Line.{start_head as start_front, save_line, end_head as end_front, after_prefix as behind_front};
 
 use crate::Version;
 use crate::format::hex::sixteen;
@@ -170,7 +170,7 @@ pub fn behind_end(number: u32, line: &[u8]) -> Option<&[u8]>
 
 #[inline(always)]
 fn digit(c: u8) -> Option<u64>
-    ensures { result ≡ hex_value c }
+    ensures { result ≡ hex_nibble c }
 {
     match c {
         b'0'..=b'9' => Some((c - b'0') as u64),

@@ -1,7 +1,7 @@
 //! What may stand behind the last newline.
 ghost use Rattle.std.specs.Prelude.{◌≡◌, ◌↔◌, ◌<◌, ◌≤◌, List, ℕ, suc, length, IsTrue, ◌^◌};
 ghost use Rattle.bx_journal_format.specs.count.Front.{IsNumberFront, IsStartFront};
-ghost use Rattle.bx_journal_format.specs.Line.{digits_of, start_line as start_words};
+ghost use Rattle.bx_journal_format.specs.Line.{address_width, start_line as start_words};
 ghost use Rattle.bx_journal_format.specs.Text.{Between as Resting, Saving as Keeping, Ending as Closing, Entry, IsPrefix, IsRest, Reading, is_short as short};
 ghost use Rattle.bx_journal_format.specs.Parsed.{told_by, stage_of};
 ghost use Rattle.bx_journal_format.specs.count.Tally.{tally_of};
@@ -63,7 +63,7 @@ fn is_short(text: &[u8]) -> bool
 #[tactic(auto, unfolding(crate::specs::Line::start_line))]
 fn is_told_front(version: Version, number: u32, len: u64, rest: &[u8]) -> bool
     requires most { len ≤ MAX_LEN }
-    requires fits { len < 16 ^ digits_of version }
+    requires fits { len < 16 ^ address_width version }
     ensures { IsTrue result ↔ IsPrefix rest.now (start_words version number len) }
 {
     let mut line = start_head(version, number);

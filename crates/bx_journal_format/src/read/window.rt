@@ -2,7 +2,7 @@
 ghost use Rattle.std.specs.Prelude.{◌≡◌, ◌+◌, ◌<◌, ◌≤◌, ◌++◌, ◌∷◌, [], Bool, List, ℕ, length, take, drop, IfSome, IsTrue};
 ghost use Rattle.bx_journal_format.specs.Text.{Reading};
 ghost use Rattle.bx_journal_format.specs.read.Plain.{HasNoNewline};
-ghost use Rattle.bx_journal_format.specs.count.Tally.{IsTallied, IsPassed, IsCountedAll, LeadsTo, Tells, tally_of};
+ghost use Rattle.bx_journal_format.specs.count.Tally.{IsTallied, IsPassed, IsCountedAll, LeadsTo, TellsLength, tally_of};
 
 use crate::read::classify::{Event, MOST_CHANGES, classify, count_event};
 use crate::read::count::{Place, Tally, full_behind, next_end};
@@ -49,7 +49,7 @@ fn end_below(limit: u32, tally: Tally, text: &[u8]) -> Option<usize>
 /// Whether a line isn't the end of an entry that tells no length.
 #[inline]
 fn tells(event: Event) -> bool
-    ensures { IsTrue result → Tells event }
+    ensures { IsTrue result → TellsLength event }
 {
     match event {
         Event::Committed { after } => after.is_some(),

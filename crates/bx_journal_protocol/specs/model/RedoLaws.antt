@@ -21,7 +21,7 @@ use Rattle.bx_journal_read.specs.scan.Step.{EndsEntry, TakesBack}
 use Rattle.bx_journal_format.specs.Text.{Entry}
 use Rattle.bx_journal_format.specs.Finished.{IsFinished}
 use Rattle.bx_journal_format.specs.declared.format.version.Version.{Version}
-use Rattle.bx_journal_store.specs.Store.{IsPartlyCut, IsPartlyAppended}
+use Rattle.bx_journal_store.specs.Store.{IsCutInPart, IsPartlyAppended}
 
 -- an empty text is the redo text of nothing
 abbrev pub EmptyIsRedo : Type 0
@@ -77,7 +77,7 @@ EndIsSharp = (text new x : List ℕ) (stack : List (List ℕ)) (s : Kept) (line 
 -- a failed cut of the end line leaves the entry finished, or open
 abbrev pub CutIsSharp : Type 0
 CutIsSharp = (text new x : List ℕ) (below : List (List ℕ)) (v : Version) (e : Entry) (begins saved : ℕ) → TakesBack text x below v e begins saved
-    → IsPartlyCut saved text new
+    → IsCutInPart saved text new
     → Recovers new x (x ∷ below) ⊎ RecoversOpen new x below
 
 -- what a stopped step leaves is found as the images before it, or as those behind it

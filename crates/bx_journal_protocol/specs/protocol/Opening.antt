@@ -4,8 +4,8 @@ use Rattle.bx_journal_protocol.specs.declared.protocol.restore.Buffers.{Buffers}
 use Rattle.bx_journal_read.specs.declared.scan.mark.Mark.{Mark}
 
 -- restoring what is unfinished takes no more memory
-abbrev pub HasRoomFor : Option Mark → ℕ → Type 0
-HasRoomFor mark room = IfSome mark (λ m. m.len ≤ room)
+abbrev pub HasRoomToRestore : Option Mark → ℕ → Type 0
+HasRoomToRestore mark room = IfSome mark (λ m. m.len ≤ room)
 
 -- the buffers have a window for the longest line, and room for a part
 abbrev pub HasBuffersFor : {A : Type 0} → Option Mark → Buffers A → Type 0

@@ -29,7 +29,7 @@ pub record AreAtRest (text x redo : List ℕ) (s : Images) : Type 0 where
   pub undone : IsRedoOf redo x (changes_of s.stack) s.undone
 
 -- what an undo of an entry takes of the image x: an entry can tell it, or it isn't looked at
-pub record IsTaken {A : Type 0} (c : Change A) (x : List ℕ) (taken : Kept) : Type 0 where
+pub record IsTakenByUndo {A : Type 0} (c : Change A) (x : List ℕ) (taken : Kept) : Type 0 where
   pub len : taken.len ≡ length x
   pub is : length x ≤ MAX_LEN → (taken ≡ kept_of (saved c x)) × IsOf (saved c x) x
 
@@ -39,7 +39,7 @@ pub record UndoesOne {A : Type 0} (c : Change A) (entry : Saved A) (x : List ℕ
   pub some : 1 ≤ length below
   pub restores : RestoresKept c entry e.saved
   pub fits : e.saved.len ≤ MAX_LEN
-  pub taken_is : IsTaken c x taken
+  pub taken_is : IsTakenByUndo c x taken
 
 -- what one entry's redo starts from: the newest entry of the redo text, and where it begins
 pub record RedoesOne {A : Type 0} (c : Change A) (entry : Saved A) (redo : List ℕ) (s : Images) (e : Entry) (begins : ℕ) (z : List ℕ)
@@ -78,9 +78,9 @@ abbrev pub RestIsFound : Type 0
 RestIsFound = (text x redo : List ℕ) (s : Images) → AreAtRest text x redo s → Finds text x redo s
 
 -- how much of the redo text a change leaves
-abbrev pub place_of : RedoCut → ℕ
-place_of All = 0
-place_of (From begins) = begins
+abbrev pub cut_place : RedoCut → ℕ
+cut_place All = 0
+cut_place (From begins) = begins
 
 -- the side of a pair at rest
 abbrev pub side_of : List (List ℕ) → List ℕ → List ℕ → Side

@@ -19,7 +19,7 @@ use Rattle.bx_journal_protocol.specs.protocol.Written.{AreSettled}
 use Rattle.bx_journal_read.specs.model.Redo.{LeavesEither}
 use Rattle.bx_journal_read.specs.scan.Step.{TakesBack}
 use Rattle.bx_journal_protocol.specs.protocol.Turns.{kept_text, side_of}
-use Rattle.bx_journal_store.specs.Store.{IsPartlyCut}
+use Rattle.bx_journal_store.specs.Store.{IsCutInPart}
 
 -- a record in its text has room in the image, and its lines in a window
 pub record CanRestore {A : Type 0} (room : ℕ) (mark : Mark) (buffers : Buffers A) : Type 0 where
@@ -58,7 +58,7 @@ pub record Undoes {D T R E A : Type 0} (d : DeviceViews D) (t : StoreViews T) (r
 -- The journal is cut first: where that is stopped image and redo text are as they were, and else the journal is cut
 abbrev pub CutsFirst : {D T V E : Type 0} → StoreViews T → ℕ → Devices D T → Devices D T → Result V E → Type 0
 CutsFirst t saved old new result = OnErr result (((new.image ≡ old.image) × (new.redo ≡ old.redo)
-    × IsPartlyCut saved (t.text old.journal) (t.text new.journal)) ⊎ (t.text new.journal ≡ take saved (t.text old.journal)))
+    × IsCutInPart saved (t.text old.journal) (t.text new.journal)) ⊎ (t.text new.journal ≡ take saved (t.text old.journal)))
 
 -- Without its newest entry, whose record stands at this place, a pair is at rest
 abbrev pub UndoRests : {D T V E : Type 0} → DeviceViews D → StoreViews T → Placed → Devices D T → Devices D T → Result V E → Type 0

@@ -15,7 +15,7 @@ use Rattle.bx_journal_protocol.specs.write.Ranges.{kept_over}
 use Rattle.bx_journal_read.specs.model.Phase.{IsAtRest, RecoversEither}
 use Rattle.bx_journal_read.specs.model.Redo.{LeavesEither}
 use Rattle.bx_journal_read.specs.scan.Step.{WritesEntry}
-use Rattle.bx_journal_protocol.specs.protocol.Turns.{place_of, side_of}
+use Rattle.bx_journal_protocol.specs.protocol.Turns.{cut_place, side_of}
 
 -- the image and both texts are on the disk as they are
 pub record AreSettled {D T : Type 0} (d : DeviceViews D) (t : StoreViews T) (x : Devices D T) : Type 0 where
@@ -58,7 +58,7 @@ LeavesBoth d t c entry part old new result =
     d.honest old.image → t.honest old.journal → t.honest old.redo
     → (stack : List (List ℕ)) → WritesEntry c (t.text old.journal) (d.image old.image) stack entry.head entry.end_line
     → OnErr result (LeavesEither (t.text new.journal) (d.image new.image) (t.text new.redo) (side_of stack (d.image old.image) (t.text old.redo))
-    (side_of (effect c (d.image old.image) ∷ stack) (effect c (d.image old.image)) (take (place_of part) (t.text old.redo))))
+    (side_of (effect c (d.image old.image) ∷ stack) (effect c (d.image old.image)) (take (cut_place part) (t.text old.redo))))
 
 -- so it is of whatever is found of the three behind a loss of power, where all was on the disk before
 abbrev pub SurvivesBoth : {D T A : Type 0} → DeviceViews D → StoreViews T → Change A → EntryText → RedoCut → Devices D T → Devices D T → Type 0
@@ -67,4 +67,4 @@ SurvivesBoth d t c entry part old new =
     → (stack : List (List ℕ)) → WritesEntry c (t.text old.journal) (d.image old.image) stack entry.head entry.end_line
     → (y text redo : List ℕ) → d.survives new.image y → t.survives new.journal text → t.survives new.redo redo
     → LeavesEither (shown text) y redo (side_of stack (d.image old.image) (t.text old.redo))
-    (side_of (effect c (d.image old.image) ∷ stack) (effect c (d.image old.image)) (take (place_of part) (t.text old.redo)))
+    (side_of (effect c (d.image old.image) ∷ stack) (effect c (d.image old.image)) (take (cut_place part) (t.text old.redo)))

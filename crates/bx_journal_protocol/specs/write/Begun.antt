@@ -9,7 +9,7 @@ use Rattle.bx_journal_protocol.specs.declared.write.head.Head.{Head}
 use Rattle.bx_journal_protocol.specs.write.Ranges.{head_from, kept_over, rest_len, AreRanges, IsPlace}
 
 -- it can be gone on with over these ranges, whatever the image has
-pub record IsHead {A : Type 0} (ranges : List Span) (h : Head A) : Type 0 where
+pub record IsOpenHead {A : Type 0} (ranges : List Span) (h : Head A) : Type 0 where
   pub ordered : AreRanges (2 ^ 64) ranges
   pub place : IsPlace ranges h.place
   pub window : 16 ≤ length h.window.items

@@ -10,8 +10,8 @@ use Rattle.bx_image.specs.declared.record.spans.Span.{Span}
 use Rattle.bx_journal_protocol.specs.declared.write.ranges.Place.{Place}
 
 -- the saved lines of the bytes from an address up to another
-abbrev pub range_text : List ℕ → ℕ → ℕ → List ℕ
-range_text x at end = rows_text (rows (record { at = at; bytes = take (end - at) (drop at x) }))
+abbrev pub saved_lines_text : List ℕ → ℕ → ℕ → List ℕ
+saved_lines_text x at end = rows_text (rows (record { at = at; bytes = take (end - at) (drop at x) }))
 
 -- how long they are, whatever the bytes are
 abbrev pub range_len : ℕ → ℕ → ℕ
@@ -20,7 +20,7 @@ range_len at end = length (rows_text (rows (record { at = at; bytes = zeros (end
 -- the saved lines of ranges, where a number of bytes of the first are done
 abbrev pub left_text : List ℕ → List Span → ℕ → List ℕ
 left_text x [] done = []
-left_text x (r ∷ ranges) done = range_text x (r.at + done) r.end ++ left_text x ranges 0
+left_text x (r ∷ ranges) done = saved_lines_text x (r.at + done) r.end ++ left_text x ranges 0
 
 abbrev pub left_len : List Span → ℕ → ℕ
 left_len [] done = 0
@@ -49,8 +49,8 @@ pub record IsPlace (ranges : List Span) (p : Place) : Type 0 where
   pub left : IsLeft (drop p.range ranges) p.done
 
 -- the place behind the bytes of a range up to an address
-abbrev pub IsBehind : Span → Place → ℕ → Place → Type 0
-IsBehind r p next q =
+abbrev pub IsPlaceBehind : Span → Place → ℕ → Place → Type 0
+IsPlaceBehind r p next q =
     ((next ≡ r.end) × (q ≡ record { range = p.range + 1; done = 0 })) ⊎ ((next < r.end) × (q ≡ record { range = p.range; done = next - r.at }))
 
 -- an entry's head: the bytes that wait in a page, the lines from a place on, and the save line

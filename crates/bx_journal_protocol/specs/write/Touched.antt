@@ -32,7 +32,7 @@ pub record AreTouchedFrom {A B : Type 0} (honest : Type 0) (x : List ℕ) (es : 
   pub touched : AreTouched len (reverse es) (reverse rs)
 
 -- the head of an entry with ranges of the image x, which were looked at, is begun in a page, and its lines go on at a place
-pub record IsBegun (honest : Type 0) (x : List ℕ) (number : ℕ) (ranges : List Span) (page : List ℕ) (place : Place) : Type 0 where
+pub record IsHeadBegun (honest : Type 0) (x : List ℕ) (number : ℕ) (ranges : List Span) (page : List ℕ) (place : Place) : Type 0 where
   pub is_place : IsPlace ranges place
   pub text : honest → head_from x ranges place page number ≡ head_text number (kept_over x ranges)
   pub bytes : honest → HaveBytes (kept_over x ranges).runs
@@ -42,7 +42,7 @@ pub record IsBegun (honest : Type 0) (x : List ℕ) (number : ℕ) (ranges : Lis
 -- that of the first ranges is, if there are any
 abbrev pub IsFirstBegun : {A : Type 0} → Type 0 → List ℕ → ℕ → List (Vec Span A) → List ℕ → Place → Type 0
 IsFirstBegun honest x number [] page place = Unit {0}
-IsFirstBegun honest x number (r ∷ rs) page place = IsBegun honest x number r.items page place
+IsFirstBegun honest x number (r ∷ rs) page place = IsHeadBegun honest x number r.items page place
 
 -- and it is the head that a redo of these goes on with
 abbrev pub IsFirstHead : {D A B : Type 0} → DeviceViews D → D → ℕ → List (Vec Span A) → Head B → Type 0

@@ -3,7 +3,7 @@ ghost use Rattle.std.specs.Prelude.{◌≡◌, ◌↔◌, ◌+◌, ◌<◌, ◌�
 ghost use Rattle.bx_image.specs.Change.{effect, Fits};
 ghost use Rattle.bx_journal_protocol.specs.before.Ready.{IsReadyChange};
 ghost use Rattle.bx_journal_protocol.specs.model.Power.{FoundBefore};
-ghost use Rattle.bx_journal_protocol.specs.write.Begun.{rest_of, IsHead};
+ghost use Rattle.bx_journal_protocol.specs.write.Begun.{rest_of, IsOpenHead};
 ghost use Rattle.bx_journal_protocol.specs.Devices.{AreCounted, AreUnfailed, HaveStayed};
 ghost use Rattle.bx_journal_read.specs.model.Fault.{PrepareFault};
 ghost use Rattle.bx_journal_protocol.specs.protocol.Written.{AreSettled};
@@ -35,7 +35,7 @@ pub fn prepare_change<D: Device, T: TextStore, A: Allocator + Clone>(
     requires image_countable { D.failures devices.old.image < u64.MAX }
     requires journal_countable { T.failures devices.old.journal < u64.MAX }
     requires redo_countable { T.failures devices.old.redo < u64.MAX }
-    ensures head { IfOk result (λ p. IsHead p.ranges.items p.head) }
+    ensures head { IfOk result (λ p. IsOpenHead p.ranges.items p.head) }
     ensures some { IfOk result (λ p. 0 < length p.head.page.items) }
     ensures number { IfOk result (λ p. p.head.number ≡ number) }
     ensures prepared { D.honest devices.old.image → IfOk result (IsReadyChange change.now (D.image devices.old.image) number) }

@@ -1,7 +1,7 @@
 //! The head of a change's entry, begun before the first write: its first page is made, and the others are read from the image.
 ghost use Rattle.std.specs.Prelude.{◌≡◌, ◌+◌, ◌-◌, ◌^◌, ◌<◌, ◌≤◌, length, min, IfOk, IfErr};
 ghost use Rattle.bx_image.specs.Power.{NoMore};
-ghost use Rattle.bx_journal_protocol.specs.write.Begun.{rest_of, BeginsEntry, IsHead};
+ghost use Rattle.bx_journal_protocol.specs.write.Begun.{rest_of, BeginsEntry, IsOpenHead};
 ghost use Rattle.bx_journal_read.specs.scan.Looking.{LooksAt};
 ghost use Rattle.bx_journal_read.specs.model.Fault.{LacksOrFails};
 ghost use Rattle.bx_journal_protocol.specs.write.Ranges.{left_len, AreRanges};
@@ -47,7 +47,7 @@ pub fn begin_change<D: Device, A: Allocator + Clone>(
     requires countable { D.failures image.old < u64.MAX }
     requires few { len ≤ MAX_LEN }
     requires long { D.honest image.old → len ≡ length (D.image image.old) }
-    ensures head { IfOk result (λ b. IsHead b.ranges.items b.head) }
+    ensures head { IfOk result (λ b. IsOpenHead b.ranges.items b.head) }
     ensures some { IfOk result (λ b. 0 < length b.head.page.items) }
     ensures begins { D.honest image.old → IfOk result (λ b. BeginsEntry change.now (D.image image.old) b.ranges.items b.head) }
     ensures long { IfOk result (λ b. b.len ≡ min (rest_of b.ranges.items b.head) (2 ^ 64 - 1)) }

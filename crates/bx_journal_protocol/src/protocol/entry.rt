@@ -6,7 +6,7 @@ ghost use Rattle.bx_image.specs.Device.{GoesOn};
 ghost use Rattle.bx_image.specs.Power.{Only};
 ghost use Rattle.bx_journal_format.specs.Entry.{head_text};
 ghost use Rattle.bx_journal_format.specs.Text.{IsPrefix};
-ghost use Rattle.bx_journal_protocol.specs.write.Begun.{rest_of, IsBegunOver, IsHead, KeepsBuffers};
+ghost use Rattle.bx_journal_protocol.specs.write.Begun.{rest_of, IsBegunOver, IsOpenHead, KeepsBuffers};
 ghost use Rattle.bx_journal_protocol.specs.Devices.{AreBelow, GoOnPaired, ImageIsFirst, StepsOn};
 ghost use Rattle.bx_journal_read.specs.scan.Looking.{OneMore};
 ghost use Rattle.bx_journal_protocol.specs.protocol.Fading.{AllStayOpenFor, EndSurvives, HeadSurvives};
@@ -15,7 +15,7 @@ ghost use Rattle.bx_journal_protocol.specs.write.First.{WhereSettled};
 ghost use Rattle.bx_journal_protocol.specs.write.Page.{HasAppended};
 ghost use Rattle.bx_journal_protocol.specs.write.Ranges.{kept_over};
 ghost use Rattle.bx_journal_read.specs.scan.Step.{EndRests, EndStops, HeadOpens, HeadStops};
-ghost use Rattle.bx_journal_protocol.specs.protocol.Turns.{place_of};
+ghost use Rattle.bx_journal_protocol.specs.protocol.Turns.{cut_place};
 ghost use Rattle.bx_journal_protocol.specs.protocol.Written.{entry_on, head_on, EntrySettles, LeavesBoth, RestsBehind, StopsEither, SurvivesBoth};
 
 use crate::devices::Devices;
@@ -37,7 +37,7 @@ pub fn append_head_of<D: Device, T: TextStore, A: Allocator>(
 ) -> Result<(), DeviceFailed>
     requires image_countable { D.failures image.old < u64.MAX }
     requires journal_countable { T.failures journal.old < u64.MAX }
-    requires head { IsHead ranges.now head.old }
+    requires head { IsOpenHead ranges.now head.old }
     requires some { 0 < length head.old.page.items }
     requires begun { D.honest image.old → IsBegunOver (D.image image.old) ranges.now head.old }
     requires fits { T.honest journal.old → length (T.text journal.old) + rest_of ranges.now head.old ≤ T.room journal.old }
@@ -83,7 +83,7 @@ pub fn change_with<D: Device, T: TextStore, A: Allocator>(
     requires image_countable { D.failures image.old < u64.MAX }
     requires redo_countable { T.failures redo.old < u64.MAX }
     requires room { length (effect change.now []) ≤ D.room image.old }
-    requires within { T.honest redo.old → place_of part ≤ length (T.text redo.old) }
+    requires within { T.honest redo.old → cut_place part ≤ length (T.text redo.old) }
     ensures phase { D.honest image.old → StaysOpenFor change.now (D.image image.old) (D.image image.new) }
     ensures settled { D.honest image.old → OnOk result (Only (D.image image.new) (D.survives image.new)) }
     ensures redo_settled { T.honest redo.old → OnOk result (Only (T.text redo.new) (T.survives redo.new)) }
@@ -91,7 +91,7 @@ pub fn change_with<D: Device, T: TextStore, A: Allocator>(
         → AllStayOpenFor change.now (D.image image.old) (D.survives image.new) }
     ensures image { D.honest image.old → OnOk result (D.image image.new ≡ effect change.now (D.image image.old)) }
     ensures back { D.honest image.old → OnOk result (IsAsGood (kept_of (saved change.now (D.image image.old))) (D.image image.old) (D.image image.new)) }
-    ensures redo { T.honest redo.old → OnOk result (T.text redo.new ≡ take (place_of part) (T.text redo.old)) }
+    ensures redo { T.honest redo.old → OnOk result (T.text redo.new ≡ take (cut_place part) (T.text redo.old)) }
     ensures emptied_first { T.honest redo.old → part ≡ RedoCut.All → OnErr result ((image.new ≡ image.old) ⊎ (T.text redo.new ≡ [])) }
     ensures order { (n : ℕ) → part ≡ RedoCut.From n → ImageIsFirst D.honest D.image result (effect change.now) image.old image.new redo.old redo.new }
     ensures image_room { D.room image.old ≤ D.room image.new }
@@ -122,13 +122,13 @@ pub fn write_change<D: Device, T: TextStore, A: Allocator>(
     part: RedoCut,
 ) -> Result<(), DeviceFailed>
     requires countable { AreBelow D.Device T.TextStore u64.MAX devices.old }
-    requires head { IsHead ranges.now head.old }
+    requires head { IsOpenHead ranges.now head.old }
     requires some { 0 < length head.old.page.items }
     requires begun { D.honest devices.old.image → IsBegunOver (D.image devices.old.image) ranges.now head.old }
     requires image_room { length (effect change.now []) ≤ D.room devices.old.image }
     requires text_room { T.honest devices.old.journal
         → length (T.text devices.old.journal) + rest_of ranges.now head.old + length end.now ≤ T.room devices.old.journal }
-    requires within { T.honest devices.old.redo → place_of part ≤ length (T.text devices.old.redo) }
+    requires within { T.honest devices.old.redo → cut_place part ≤ length (T.text devices.old.redo) }
     ensures ok { RestsBehind D.Device T.TextStore change.now (entry_on D.image devices.old ranges.now head.old end.now) devices.old devices.new result }
     ensures fault { StopsEither D.Device T.TextStore change.now (entry_on D.image devices.old ranges.now head.old end.now) devices.old devices.new result }
     ensures left { LeavesBoth D.Device T.TextStore change.now (entry_on D.image devices.old ranges.now head.old end.now) part devices.old devices.new result }
@@ -139,7 +139,7 @@ pub fn write_change<D: Device, T: TextStore, A: Allocator>(
         → OnOk result (IsAsGood (kept_of (saved change.now (D.image devices.old.image))) (D.image devices.old.image) (D.image devices.new.image)) }
     ensures text { D.honest devices.old.image → T.honest devices.old.journal → OnOk result (T.text devices.new.journal
         ≡ T.text devices.old.journal ++ head_text head.old.number (kept_over (D.image devices.old.image) ranges.now) ++ end.now) }
-    ensures redo { T.honest devices.old.redo → OnOk result (T.text devices.new.redo ≡ take (place_of part) (T.text devices.old.redo)) }
+    ensures redo { T.honest devices.old.redo → OnOk result (T.text devices.new.redo ≡ take (cut_place part) (T.text devices.old.redo)) }
     ensures long { T.honest devices.old.journal
         → OnOk result (length (T.text devices.new.journal) ≡ length (T.text devices.old.journal) + rest_of ranges.now head.old + length end.now) }
     ensures front { T.honest devices.old.journal → OnOk result (IsPrefix (T.text devices.old.journal) (T.text devices.new.journal)) }

@@ -7,7 +7,7 @@ ghost use Rattle.bx_journal_protocol.specs.protocol.Fading.{BackSurvives, RestSu
 ghost use Rattle.bx_journal_format.specs.Kept.{Kept};
 ghost use Rattle.bx_journal_format.specs.Shown.{shown};
 ghost use Rattle.bx_journal_format.specs.read.Faded.{HasFirst};
-ghost use Rattle.bx_journal_store.specs.Store.{IsPartlyCut};
+ghost use Rattle.bx_journal_store.specs.Store.{IsCutInPart};
 ghost use Rattle.bx_journal_protocol.specs.write.First.{AllLeft, WhereSettled};
 ghost use Rattle.bx_journal_protocol.specs.protocol.Opening.{HasBuffersFor};
 ghost use Rattle.bx_journal_read.specs.scan.Restoring.{StandsAt};
@@ -24,7 +24,7 @@ use std::alloc::Allocator;
 fn keep_first<T: TextStore>(journal: &mut T, begins: u64) -> Result<(), DeviceFailed>
     requires countable { T.failures journal.old < u64.MAX }
     requires within { T.honest journal.old → begins ≤ length (T.text journal.old) }
-    ensures part { T.honest journal.old → IsPartlyCut begins (T.text journal.old) (T.text journal.new) }
+    ensures part { T.honest journal.old → IsCutInPart begins (T.text journal.old) (T.text journal.new) }
     ensures first { T.honest journal.old → HasFirst (T.text journal.old) (T.text journal.new) }
     ensures short { T.honest journal.old → OnOk result (begins ≡ 0 → length (T.text journal.new) ≤ 1) }
     ensures settled { WhereSettled T.TextStore journal.old (OnOk result (Only (T.text journal.new) (T.survives journal.new))) }

@@ -14,7 +14,7 @@ ghost use Rattle.bx_journal_protocol.specs.protocol.Takens.{AllShaped, entries_l
 ghost use Rattle.bx_journal_protocol.specs.protocol.Undone.{CanKeep, CanRestore, CutsFirst, KeepsLeftOut, KeepsRoom, LeftUndo, UndoRests, UndoStops, UndoSurvives, Undoes};
 ghost use Rattle.bx_journal_protocol.specs.protocol.Fading.{AllStayOpen, CutSurvives};
 ghost use Rattle.bx_journal_protocol.specs.protocol.Written.{EntrySettles};
-ghost use Rattle.bx_journal_store.specs.Store.{IsPartlyCut};
+ghost use Rattle.bx_journal_store.specs.Store.{IsCutInPart};
 
 use crate::devices::Devices;
 use crate::protocol::fill::{fill_last, take_last};
@@ -78,7 +78,7 @@ fn cut_end<T: TextStore>(journal: &mut T, saved: u64) -> Result<(), DeviceFailed
     requires countable { T.failures journal.old < u64.MAX }
     requires within_text { T.honest journal.old → saved ≤ length (T.text journal.old) }
     ensures text { T.honest journal.old → OnOk result (T.text journal.new ≡ take saved (T.text journal.old)) }
-    ensures cut { T.honest journal.old → OnErr result (IsPartlyCut saved (T.text journal.old) (T.text journal.new)) }
+    ensures cut { T.honest journal.old → OnErr result (IsCutInPart saved (T.text journal.old) (T.text journal.new)) }
     ensures settled { T.honest journal.old → OnOk result (Only (T.text journal.new) (T.survives journal.new)) }
     ensures survives { WhereSettled T.TextStore journal.old (CutSurvives (T.text journal.old) saved (T.survives journal.new)) }
     ensures goes_on { GoesOn T.honest T.room T.failures (is_err result) journal.old journal.new }

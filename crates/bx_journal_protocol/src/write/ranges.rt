@@ -6,10 +6,10 @@ ghost use Rattle.bx_journal_store.specs.Store.{IsPartlyAppended};
 ghost use Rattle.bx_journal_format.specs.Entry.{rows, head_text, rows_text};
 ghost use Rattle.bx_journal_format.specs.Text.{ended, IsPrefix};
 ghost use Rattle.bx_journal_protocol.specs.Devices.{GoOnPaired};
-ghost use Rattle.bx_journal_protocol.specs.write.Begun.{rest_of, IsHead, KeepsBuffers};
+ghost use Rattle.bx_journal_protocol.specs.write.Begun.{rest_of, IsOpenHead, KeepsBuffers};
 ghost use Rattle.bx_journal_protocol.specs.write.First.{AllHaveFirst};
 ghost use Rattle.bx_journal_protocol.specs.write.Page.{IsPaged, row_text};
-ghost use Rattle.bx_journal_protocol.specs.write.Ranges.{range_text, range_len, head_from, kept_over, left_len, rest_text, rest_len, AreRanges, IsBehind, IsPlace};
+ghost use Rattle.bx_journal_protocol.specs.write.Ranges.{saved_lines_text, range_len, head_from, kept_over, left_len, rest_text, rest_len, AreRanges, IsPlaceBehind, IsPlace};
 
 use crate::write::entry::put_words;
 use crate::write::first::put_first;
@@ -73,7 +73,7 @@ fn fill_part<D: Device, A: Allocator>(
     requires range { D.honest image.old → at + length part.old ≤ length (D.image image.old) }
     requires sum { at + length part.old < 2 ^ 64 }
     requires free { length page.old.items + 82 * ((length part.old + 15) / 16) ≤ vec_capacity page.old }
-    ensures put { D.honest image.old → OnOk result (page.new.items ≡ page.old.items ++ range_text (D.image image.old) at (at + length part.old)) }
+    ensures put { D.honest image.old → OnOk result (page.new.items ≡ page.old.items ++ saved_lines_text (D.image image.old) at (at + length part.old)) }
     ensures long { OnOk result (length page.new.items ≡ length page.old.items + range_len at (at + length part.old)) }
     ensures room { vec_capacity page.old ≤ vec_capacity page.new }
     ensures image { D.honest image.old → D.image image.new ≡ D.image image.old }
@@ -111,7 +111,7 @@ fn fill_range<D: Device, A: Allocator>(
     requires window { 16 ≤ length window.old }
     ensures forth { IfOk result (λ next. (at < next) × (next ≤ end)) }
     ensures put { D.honest image.old
-        → IfOk result (λ next. page.new.items ++ range_text (D.image image.old) next end ≡ page.old.items ++ range_text (D.image image.old) at end) }
+        → IfOk result (λ next. page.new.items ++ saved_lines_text (D.image image.old) next end ≡ page.old.items ++ saved_lines_text (D.image image.old) at end) }
     ensures long { IfOk result (λ next. length page.new.items + range_len next end ≡ length page.old.items + range_len at end) }
     ensures more { OnOk result (length page.old.items < length page.new.items) }
     ensures room { vec_capacity page.old ≤ vec_capacity page.new }
@@ -132,7 +132,7 @@ fn behind(range: Span, place: Place, next: u64) -> Place
     requires order { range.at ≤ next }
     requires within { next ≤ range.end }
     requires countable { place.range < u64.MAX }
-    ensures { IsBehind range place next result }
+    ensures { IsPlaceBehind range place next result }
 {
     if next == range.end {
         return Place {
@@ -283,7 +283,7 @@ fn put_rest_of<D: Device, T: TextStore, A: Allocator>(
 ) -> Result<(), DeviceFailed>
     requires image_countable { D.failures image.old < u64.MAX }
     requires journal_countable { T.failures journal.old < u64.MAX }
-    requires head { IsHead ranges.now head.old }
+    requires head { IsOpenHead ranges.now head.old }
     requires ranges { D.honest image.old → AreRanges (length (D.image image.old)) ranges.now }
     requires fits { T.honest journal.old → length (T.text journal.old) + rest_of ranges.now head.old ≤ T.room journal.old }
     ensures ok { D.honest image.old → T.honest journal.old
@@ -314,7 +314,7 @@ pub fn put_head_from<D: Device, T: TextStore, A: Allocator>(
 ) -> Result<(), DeviceFailed>
     requires image_countable { D.failures image.old < u64.MAX }
     requires journal_countable { T.failures journal.old < u64.MAX }
-    requires head { IsHead ranges.now head.old }
+    requires head { IsOpenHead ranges.now head.old }
     requires some { 0 < length head.old.page.items }
     requires ranges { D.honest image.old → AreRanges (length (D.image image.old)) ranges.now }
     requires fits { T.honest journal.old → length (T.text journal.old) + rest_of ranges.now head.old ≤ T.room journal.old }

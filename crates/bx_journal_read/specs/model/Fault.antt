@@ -8,10 +8,10 @@ use Rattle.bx_journal_store.specs.declared.fault.TextFault.{TextFault}
 use Rattle.bx_journal_store.specs.declared.fault.TextFault.TheVariants.{NoMemory as TextMemory, DeviceFailed as TextFailed}
 
 -- what a fault of saving is in a session
-abbrev pub fault_of : ImageFault → SessionFault
-fault_of ImageMemory = NoMemory
-fault_of ImageLarge = TooLarge
-fault_of ImageFailed = DeviceFailed
+abbrev pub saving_fault : ImageFault → SessionFault
+saving_fault ImageMemory = NoMemory
+saving_fault ImageLarge = TooLarge
+saving_fault ImageFailed = DeviceFailed
 
 -- want of memory, or a failed device: what any call may meet before its first write
 abbrev pub DeviceFault : SessionFault → Type 0

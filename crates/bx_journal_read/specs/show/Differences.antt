@@ -48,8 +48,8 @@ pub record IsCache (honest : Type 0) (image page : List ℕ) (c : Cached) : Type
   pub room : 16 ≤ length page
 
 -- the page has the bytes at an address
-abbrev pub HasBytes : Cached → ℕ → ℕ → Type 0
-HasBytes c at count = (c.at ≤ at) × (at + count ≤ c.at + c.count)
+abbrev pub HasCached : Cached → ℕ → ℕ → Type 0
+HasCached c at count = (c.at ≤ at) × (at + count ≤ c.at + c.count)
 
 -- the first bytes of a window are whole lines, and what is shown of each was added
 pub record AreAdded (show : List ℕ → List ℕ) (window : List ℕ) (taken : ℕ) (old new : List ℕ) : Type 0 where

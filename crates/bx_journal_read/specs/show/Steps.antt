@@ -45,14 +45,14 @@ keeps_length None len = false
 keeps_length (Some after) len = after == len
 
 -- what a step makes of the length, which is `-` where the entry doesn't tell it
-abbrev pub length_text : Option ℕ → ℕ → List ℕ
-length_text after len =
+abbrev pub length_words : Option ℕ → ℕ → List ℕ
+length_words after len =
     if keeps_length after len then codes "keeps length " ++ decimal len else codes "length " ++ after_text after ++ codes " to " ++ decimal len
 
 -- the heading of a step: the number of the change, the way, what is written, and the length
 abbrev pub heading : Way → ℕ → Entry → List ℕ
 heading way n e = codes "# change " ++ decimal n ++ codes ": " ++ way_word way ++ codes " writes " ++ writes_text e.saved ++ codes ", "
-    ++ length_text e.after e.saved.len ++ codes "\n"
+    ++ length_words e.after e.saved.len ++ codes "\n"
 
 -- the saved lines of an entry of this length, each made from its bytes, and beside the image where they are compared
 abbrev pub lines_text : Bool → List ℕ → ℕ → List (List ℕ) → List ℕ
@@ -180,20 +180,20 @@ told_end keeps after len = codes ", "
 
 -- what stands behind them
 abbrev pub heading_end : Option ℕ → ℕ → List ℕ
-heading_end after len = codes ", " ++ length_text after len ++ codes "\n"
+heading_end after len = codes ", " ++ length_words after len ++ codes "\n"
 
 -- the heading of the step of a mark
 abbrev pub heading_at : List ℕ → Way → ℕ → Mark → List ℕ
 heading_at text way n mark = heading_start way n mark.saved ++ where_at text mark ++ heading_end mark.after mark.len
 
 -- its saved lines, beside the image where they are compared
-abbrev pub saved_at : Bool → List ℕ → List ℕ → Mark → List ℕ
-saved_at compares image text mark = if compares then diff_text image mark.len (split (lines_at text mark)).lines
+abbrev pub saved_lines_at : Bool → List ℕ → List ℕ → Mark → List ℕ
+saved_lines_at compares image text mark = if compares then diff_text image mark.len (split (lines_at text mark)).lines
     else made_text mark.len (split (lines_at text mark)).lines
 
 -- the step of a mark
 abbrev pub mark_step : Steps → List ℕ → List ℕ → ℕ → Mark → List ℕ
-mark_step s image text n mark = heading_at text s.way n mark ++ saved_at s.compares image text mark ++ codes "\n"
+mark_step s image text n mark = heading_at text s.way n mark ++ saved_lines_at s.compares image text mark ++ codes "\n"
 
 -- the number of the step behind this many others
 abbrev pub number_at : Way → ℕ → ℕ → ℕ

@@ -1,6 +1,6 @@
 //! Bytes of an image that are kept in a page: lines that lie near one another take one read.
 ghost use Rattle.std.specs.Prelude.{◌≡◌, ◌+◌, ◌<◌, ◌≤◌, length, IfOk, IsTrue, OnErr};
-ghost use Rattle.bx_journal_read.specs.show.Differences.{HasBytes, IsCache};
+ghost use Rattle.bx_journal_read.specs.show.Differences.{HasCached, IsCache};
 ghost use Rattle.bx_journal_read.specs.show.Showing.{Stays};
 
 use bx_image::{Device, DeviceFailed};
@@ -15,7 +15,7 @@ pub struct Cached {
 
 /// Whether the page has these bytes.
 fn has_bytes(cached: Cached, at: u64, count: usize) -> bool
-    ensures { IsTrue result → HasBytes cached at count }
+    ensures { IsTrue result → HasCached cached at count }
 {
     if at < cached.at {
         return false;
@@ -40,7 +40,7 @@ pub fn keep<D: Device>(
     requires few { count ≤ length page.old }
     requires there { at + count ≤ cached.len }
     ensures cache { IfOk result (IsCache (D.honest device.old) (D.image device.old) page.new) }
-    ensures has { IfOk result (λ now. HasBytes now at count) }
+    ensures has { IfOk result (λ now. HasCached now at count) }
     ensures stays { Stays D.honest D.image D.failures result device.old device.new }
     ensures counts { OnErr result (D.failures device.new ≡ D.failures device.old + 1) }
 {

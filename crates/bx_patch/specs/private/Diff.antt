@@ -39,7 +39,7 @@ abbrev pub IsLate : DiffFault → Type 0
 IsLate fault = of_length fault ≡ false
 
 -- a fault of a write or of memory
-pub record IsOfText (fault : DiffFault) : Type 0 where
+pub record IsWritingFault (fault : DiffFault) : Type 0 where
   pub not_old : of_old fault ≡ false
   pub not_new : of_new fault ≡ false
   pub late : IsLate fault
@@ -49,8 +49,8 @@ abbrev pub part_at : List ℕ → ℕ → List ℕ
 part_at x at = take 32768 (drop at x)
 
 -- the lines for a window at an address
-abbrev pub lines_at : Extent → List ℕ → List ℕ → ℕ → List PatchLine
-lines_at extent x y at = window_lines extent at (part_at x at) (part_at y at) (row_count (part_at x at) (part_at y at))
+abbrev pub lines_of_window : Extent → List ℕ → List ℕ → ℕ → List PatchLine
+lines_of_window extent x y at = window_lines extent at (part_at x at) (part_at y at) (row_count (part_at x at) (part_at y at))
 
 -- the lines for the rows before an address
 abbrev pub lines_before : Extent → List ℕ → List ℕ → ℕ → List PatchLine

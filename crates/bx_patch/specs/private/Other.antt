@@ -6,15 +6,15 @@ use Rattle.bx_patch.specs.Other.{IsFirstOther}
 use Rattle.bx_patch.specs.Patch.{HasPiece, Pieces}
 
 -- a page has bytes of the image, which is of this length, where that is honest
-pub record IsCache (honest : Type 0) (image page : List ℕ) (c : Cached) : Type 0 where
+pub record IsImagePage (honest : Type 0) (image page : List ℕ) (c : Cached) : Type 0 where
   pub long : honest → c.len ≡ length image
   pub are : honest → take c.count page ≡ take c.count (drop c.at image)
   pub inside : c.count ≤ length page
   pub room : length page ≡ 4096
 
 -- the page has the bytes at an address
-abbrev pub HasBytes : Cached → ℕ → ℕ → Type 0
-HasBytes c at count = (c.at ≤ at) × (at + count ≤ c.at + c.count)
+abbrev pub HasPage : Cached → ℕ → ℕ → Type 0
+HasPage c at count = (c.at ≤ at) × (at + count ≤ c.at + c.count)
 
 -- the first address of pieces at which the image hasn't their byte; none where it has all
 abbrev pub FindsAmong : List ℕ → Pieces → Option ℕ → Type 0

@@ -8,7 +8,7 @@ use Rattle.bx_patch.specs.declared.read.fault.PatchFault.TheVariants.{Line}
 use Rattle.bx_patch.specs.declared.read.line.Kind.{Kind}
 use Rattle.bx_patch.specs.declared.read.line.Kind.TheVariants.{Remark, Lengths, Signed, Other}
 use Rattle.bx_patch.specs.Fault.{HasNoSign, IsToTell}
-use Rattle.bx_patch.specs.Grammar.{Fits, GivesPatch, IsRemark}
+use Rattle.bx_patch.specs.Grammar.{IsInLengths, GivesPatch, IsRemark}
 use Rattle.bx_patch.specs.Patch.{Asked}
 use Rattle.bx_patch.specs.Text.{sign_of}
 
@@ -17,9 +17,9 @@ abbrev pub Gives : List ℕ → ℕ → List ℕ → Type 0
 Gives line at bytes = (hex : List ℕ) × IsLine line at hex bytes
 
 -- a fault of the line behind a sign
-abbrev pub IsFaultBehind : ℕ → List ℕ → PatchFault → Type 0
-IsFaultBehind number text (Line fault) = IsFaultOf number text fault
-IsFaultBehind number text fault = ⊥
+abbrev pub IsSignedFault : ℕ → List ℕ → PatchFault → Type 0
+IsSignedFault number text (Line fault) = IsFaultOf number text fault
+IsSignedFault number text fault = ⊥
 
 -- the line begins with a sign
 abbrev pub HasSign : Bool → List ℕ → Type 0
@@ -34,15 +34,15 @@ IsKind before line Other = HasNoSign line × (IsRemark line → ⊥) × (IsToTel
 
 -- with the line behind them, lines that ask the one ask the other
 abbrev pub Adds : Asked → List ℕ → Asked → Type 0
-Adds old line new = (before : List (List ℕ)) → GivesPatch before old → Fits old → GivesPatch (before ++ line ∷ []) new × Fits new
+Adds old line new = (before : List (List ℕ)) → GivesPatch before old → IsInLengths old → GivesPatch (before ++ line ∷ []) new × IsInLengths new
 
 -- of a text this many lines were read, which ask this, and the rest wasn't
-pub record HasRead (text rest : List ℕ) (number : ℕ) (asked : Asked) : Type 0 where
+pub record HasReadLines (text rest : List ℕ) (number : ℕ) (asked : Asked) : Type 0 where
   pub before : List (List ℕ)
   pub lines : lines_of text ≡ before ++ lines_of rest
   pub count : number ≡ length before
   pub gives : GivesPatch before asked
-  pub fits : Fits asked
+  pub fits : IsInLengths asked
 
 -- the text doesn't begin with the word
 abbrev pub BeginsElse : List ℕ → List ℕ → Type 0

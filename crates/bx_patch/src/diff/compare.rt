@@ -2,8 +2,8 @@
 ghost use Rattle.std.specs.Prelude.{◌≡◌, ◌<◌, ◌≤◌, ◌+◌, ◌++◌, ◌^◌, ℕ, max, false, List, Option, length, take, IfErr, OnOk};
 ghost use Rattle.std.specs.Io.KnownBytes.{Appends};
 ghost use Rattle.bx_patch.specs.Text.{PatchLine, headed, patch_lines, row_count};
-ghost use Rattle.bx_patch.specs.Diff.{OnlyReads, WritesPart, fails, of_new, of_old};
-ghost use Rattle.bx_patch.specs.private.Diff.{HasPut, IsLate, IsOfText, lines_at};
+ghost use Rattle.bx_patch.specs.Diff.{OnlyReads, WritesPrefix, fails, of_new, of_old};
+ghost use Rattle.bx_patch.specs.private.Diff.{HasPut, IsLate, IsWritingFault, lines_of_window};
 ghost use Rattle.bx_patch.specs.private.Row.{window_lines};
 
 use crate::diff::device::{Lengths, WINDOW, fill_window};
@@ -50,9 +50,9 @@ fn put_window<W: Write, A: Allocator>(
         writing.new.begun writing.new.written first (W.contents out.new)) }
     ensures part { (lines : List PatchLine) (first : Option (List ℕ))
         → HasPut place.entry.head.now lines writing.old.begun writing.old.written first (W.contents out.old)
-        → IfErr result (WritesPart first (W.contents out.new) (headed place.entry.head.now
+        → IfErr result (WritesPrefix first (W.contents out.new) (headed place.entry.head.now
         (lines ++ window_lines place.entry.extent place.entry.at old.now new.now (row_count old.now new.now)))) }
-    ensures kind { IfErr result IsOfText }
+    ensures kind { IfErr result IsWritingFault }
 {
     match gather(&mut writing.text, place.extent, place.at, old, new) {
         Ok(()) => put_text(out, writing, place.head),
@@ -78,12 +78,12 @@ fn put_next<D: Device, E: Device, W: Write, A: Allocator>(
     ensures put { D.honest old.old → E.honest new.old → (lines : List PatchLine) (first : Option (List ℕ))
         → HasPut place.entry.head.now lines writing.old.begun writing.old.written first (W.contents out.old)
         → OnOk result (HasPut place.entry.head.now
-        (lines ++ lines_at place.entry.extent (D.image old.old) (E.image new.old) place.entry.at)
+        (lines ++ lines_of_window place.entry.extent (D.image old.old) (E.image new.old) place.entry.at)
         writing.new.begun writing.new.written first (W.contents out.new)) }
     ensures part { D.honest old.old → E.honest new.old → (lines : List PatchLine) (first : Option (List ℕ))
         → HasPut place.entry.head.now lines writing.old.begun writing.old.written first (W.contents out.old)
-        → IfErr result (WritesPart first (W.contents out.new)
-        (headed place.entry.head.now (lines ++ lines_at place.entry.extent (D.image old.old) (E.image new.old) place.entry.at))) }
+        → IfErr result (WritesPrefix first (W.contents out.new)
+        (headed place.entry.head.now (lines ++ lines_of_window place.entry.extent (D.image old.old) (E.image new.old) place.entry.at))) }
     ensures kind { IfErr result IsLate }
     ensures old { OnlyReads D.honest D.image D.room D.failures D.survives (fails of_old result) old.old old.new }
     ensures new { OnlyReads E.honest E.image E.room E.failures E.survives (fails of_new result) new.old new.new }
@@ -121,7 +121,7 @@ pub fn compare_devices<D: Device, E: Device, W: Write, A: Allocator>(
         → OnOk result (Appends (W.contents out.old) (W.contents out.new)
         (headed place.entry.head.now (patch_lines place.entry.extent (D.image old.old) (E.image new.old)))) }
     ensures part { D.honest old.old → E.honest new.old
-        → IfErr result (WritesPart (W.contents out.old) (W.contents out.new)
+        → IfErr result (WritesPrefix (W.contents out.old) (W.contents out.new)
         (headed place.entry.head.now (patch_lines place.entry.extent (D.image old.old) (E.image new.old)))) }
     ensures kind { IfErr result IsLate }
     ensures old { OnlyReads D.honest D.image D.room D.failures D.survives (fails of_old result) old.old old.new }

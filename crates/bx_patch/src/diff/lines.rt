@@ -1,7 +1,7 @@
 //! The lines for two windows.
 ghost use Rattle.std.specs.Prelude.{◌≡◌, ◌<◌, ◌+◌, ◌*◌, ◌++◌, ◌^◌, length, flat_map, OnOk};
 ghost use Rattle.bx_text.specs.Fold.{line_bytes};
-ghost use Rattle.bx_patch.specs.Text.{line_text, row_count, row_lines};
+ghost use Rattle.bx_patch.specs.Text.{signed_line_text, row_count, row_lines};
 ghost use Rattle.bx_patch.specs.private.Row.{window_lines};
 
 use crate::diff::row::{Extent, push_row};
@@ -30,7 +30,7 @@ fn push_kth<A: Allocator>(
 ) -> Result<(), AllocError>
     requires { at + 16 * k + 16 < 2 ^ 64 }
     ensures { OnOk result (text.new.items ≡ text.old.items
-        ++ flat_map line_text (row_lines extent (at + 16 * k) (line_bytes old.now k) (line_bytes new.now k))) }
+        ++ flat_map signed_line_text (row_lines extent (at + 16 * k) (line_bytes old.now k) (line_bytes new.now k))) }
 {
     push_row(
         text,
@@ -51,7 +51,7 @@ fn push_rows<A: Allocator>(
 ) -> Result<(), AllocError>
     requires small { at + length old.now + 32 < 2 ^ 64 }
     requires little { at + length new.now + 32 < 2 ^ 64 }
-    ensures { OnOk result (text.new.items ≡ text.old.items ++ flat_map line_text (window_lines extent at old.now new.now (row_count old.now new.now))) }
+    ensures { OnOk result (text.new.items ≡ text.old.items ++ flat_map signed_line_text (window_lines extent at old.now new.now (row_count old.now new.now))) }
 {
     let count = (old.len().max(new.len()) + 15) / 16;
     for k in 0..count {
@@ -70,7 +70,7 @@ pub fn gather<A: Allocator>(
 ) -> Result<(), AllocError>
     requires small { at + length old.now + 32 < 2 ^ 64 }
     requires little { at + length new.now + 32 < 2 ^ 64 }
-    ensures { OnOk result (text.new.items ≡ flat_map line_text (window_lines extent at old.now new.now (row_count old.now new.now))) }
+    ensures { OnOk result (text.new.items ≡ flat_map signed_line_text (window_lines extent at old.now new.now (row_count old.now new.now))) }
 {
     text.clear();
     if old == new {

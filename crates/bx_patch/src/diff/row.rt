@@ -1,6 +1,6 @@
 //! The lines for a row of 16 bytes.
 ghost use Rattle.std.specs.Prelude.{◌≡◌, ◌<◌, ◌≤◌, ◌+◌, ◌-◌, ◌++◌, ◌^◌, false, true, length, take, drop, flat_map, OnOk};
-ghost use Rattle.bx_patch.specs.Text.{differs, line_for, line_text, row_lines, sign_of, span_lines};
+ghost use Rattle.bx_patch.specs.Text.{differs, line_for, signed_line_text, row_lines, sign_of, span_lines};
 ghost use Rattle.bx_patch.specs.declared.diff.row.Extent.TheVariants.{Bytes as OfBytes};
 ghost use Rattle.bx_patch.specs.private.Row.{AreOther, AreSame};
 
@@ -80,7 +80,7 @@ fn push_short<A: Allocator>(
     bytes: &[u8],
 ) -> Result<(), AllocError>
     requires { length bytes.now ≤ 16 }
-    ensures { OnOk result (text.new.items ≡ text.old.items ++ flat_map line_text (line_for new at bytes.now)) }
+    ensures { OnOk result (text.new.items ≡ text.old.items ++ flat_map signed_line_text (line_for new at bytes.now)) }
 {
     if bytes.is_empty() {
         return Ok(());
@@ -98,7 +98,7 @@ fn push_full<A: Allocator>(
     at: u32,
     bytes: &[u8; 16],
 ) -> Result<(), AllocError>
-    ensures { OnOk result (text.new.items ≡ text.old.items ++ flat_map line_text (line_for new at bytes.now)) }
+    ensures { OnOk result (text.new.items ≡ text.old.items ++ flat_map signed_line_text (line_for new at bytes.now)) }
 {
     let mut line = [b' '; 68];
     put_full_line(&mut line, at, bytes);
@@ -116,7 +116,7 @@ fn push_line<A: Allocator>(
     bytes: &[u8],
 ) -> Result<(), AllocError>
     requires { length bytes.now ≤ 16 }
-    ensures { OnOk result (text.new.items ≡ text.old.items ++ flat_map line_text (line_for new at bytes.now)) }
+    ensures { OnOk result (text.new.items ≡ text.old.items ++ flat_map signed_line_text (line_for new at bytes.now)) }
 {
     match bytes.as_array::<16>() {
         Some(full) if at <= u32::MAX as u64 => push_full(text, new, at as u32, full),
@@ -145,7 +145,7 @@ fn push_span<A: Allocator>(
     requires order { span.at ≤ span.end }
     requires within { span.end ≤ 16 }
     requires address { at + 16 < 2 ^ 64 }
-    ensures { OnOk result (text.new.items ≡ text.old.items ++ flat_map line_text (span_lines at old.now new.now span)) }
+    ensures { OnOk result (text.new.items ≡ text.old.items ++ flat_map signed_line_text (span_lines at old.now new.now span)) }
 {
     let from = span.at as usize;
     let to = span.end as usize;
@@ -161,7 +161,7 @@ fn push_differing<A: Allocator>(
     new: &[u8],
 ) -> Result<(), AllocError>
     requires { at + 16 < 2 ^ 64 }
-    ensures { OnOk result (text.new.items ≡ text.old.items ++ flat_map line_text (row_lines OfBytes at old.now new.now)) }
+    ensures { OnOk result (text.new.items ≡ text.old.items ++ flat_map signed_line_text (row_lines OfBytes at old.now new.now)) }
 {
     let mut from = skip_same(old, new, 0);
     while from < ROW {
@@ -186,7 +186,7 @@ pub fn push_row<A: Allocator>(
     new: &[u8],
 ) -> Result<(), AllocError>
     requires { at + 16 < 2 ^ 64 }
-    ensures { OnOk result (text.new.items ≡ text.old.items ++ flat_map line_text (row_lines extent at old.now new.now)) }
+    ensures { OnOk result (text.new.items ≡ text.old.items ++ flat_map signed_line_text (row_lines extent at old.now new.now)) }
 {
     if old == new {
         return Ok(());

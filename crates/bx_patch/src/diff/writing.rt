@@ -1,9 +1,9 @@
 //! What is written of a patch: its first line, once there is another one, and the lines of a window at a time.
 ghost use Rattle.std.specs.Prelude.{◌≡◌, ◌+◌, ◌++◌, ℕ, true, List, Option, length, flat_map, IfOk, IfErr, OnOk};
 ghost use Rattle.std.specs.Io.KnownBytes.{Appends};
-ghost use Rattle.bx_patch.specs.Text.{PatchLine, headed, line_text};
-ghost use Rattle.bx_patch.specs.Diff.{WritesPart, counted};
-ghost use Rattle.bx_patch.specs.private.Diff.{HasPut, IsOfText, PutsPart};
+ghost use Rattle.bx_patch.specs.Text.{PatchLine, headed, signed_line_text};
+ghost use Rattle.bx_patch.specs.Diff.{WritesPrefix, counted};
+ghost use Rattle.bx_patch.specs.private.Diff.{HasPut, IsWritingFault, PutsPart};
 
 use crate::diff::fault::DiffFault;
 use bx_text::{IoFault, emit};
@@ -23,7 +23,7 @@ fn put<W: Write>(out: &mut W, before: u64, bytes: &[u8]) -> Result<u64, DiffFaul
     ensures put { OnOk result (Appends (W.contents out.old) (W.contents out.new) bytes.now) }
     ensures count { IfOk result (λ n. n ≡ counted (before + length bytes.now)) }
     ensures part { IfErr result (PutsPart before (W.contents out.old) (W.contents out.new) bytes.now) }
-    ensures kind { IfErr result IsOfText }
+    ensures kind { IfErr result IsWritingFault }
 {
     match emit(out, bytes) {
         Ok(()) => Ok(before.saturating_add(bytes.len() as u64)),
@@ -42,16 +42,16 @@ fn begin<W: Write, A: Allocator>(
 ) -> Result<(), DiffFault>
     ensures put { (lines : List PatchLine) (first : Option (List ℕ))
         → HasPut head.now lines writing.old.begun writing.old.written first (W.contents out.old)
-        → OnOk result (Appends first (W.contents out.new) (head.now ++ flat_map line_text lines)) }
+        → OnOk result (Appends first (W.contents out.new) (head.now ++ flat_map signed_line_text lines)) }
     ensures count { (lines : List PatchLine) (first : Option (List ℕ))
         → HasPut head.now lines writing.old.begun writing.old.written first (W.contents out.old)
-        → OnOk result (writing.new.written ≡ counted (length (head.now ++ flat_map line_text lines))) }
+        → OnOk result (writing.new.written ≡ counted (length (head.now ++ flat_map signed_line_text lines))) }
     ensures part { (lines : List PatchLine) (first : Option (List ℕ))
         → HasPut head.now lines writing.old.begun writing.old.written first (W.contents out.old)
-        → IfErr result (WritesPart first (W.contents out.new) (head.now ++ flat_map line_text lines)) }
+        → IfErr result (WritesPrefix first (W.contents out.new) (head.now ++ flat_map signed_line_text lines)) }
     ensures begun { OnOk result (writing.new.begun ≡ true) }
     ensures text { OnOk result (writing.new.text.items ≡ writing.old.text.items) }
-    ensures kind { IfErr result IsOfText }
+    ensures kind { IfErr result IsWritingFault }
 {
     if writing.begun {
         return Ok(());
@@ -72,13 +72,13 @@ pub fn put_text<W: Write, A: Allocator>(
     writing: &mut Writing<A>,
     head: &[u8],
 ) -> Result<(), DiffFault>
-    ensures put { (lines more : List PatchLine) (first : Option (List ℕ)) → writing.old.text.items ≡ flat_map line_text more
+    ensures put { (lines more : List PatchLine) (first : Option (List ℕ)) → writing.old.text.items ≡ flat_map signed_line_text more
         → HasPut head.now lines writing.old.begun writing.old.written first (W.contents out.old)
         → OnOk result (HasPut head.now (lines ++ more) writing.new.begun writing.new.written first (W.contents out.new)) }
-    ensures part { (lines more : List PatchLine) (first : Option (List ℕ)) → writing.old.text.items ≡ flat_map line_text more
+    ensures part { (lines more : List PatchLine) (first : Option (List ℕ)) → writing.old.text.items ≡ flat_map signed_line_text more
         → HasPut head.now lines writing.old.begun writing.old.written first (W.contents out.old)
-        → IfErr result (WritesPart first (W.contents out.new) (headed head.now (lines ++ more))) }
-    ensures kind { IfErr result IsOfText }
+        → IfErr result (WritesPrefix first (W.contents out.new) (headed head.now (lines ++ more))) }
+    ensures kind { IfErr result IsWritingFault }
 {
     if writing.text.as_slice().is_empty() {
         return Ok(());
@@ -95,7 +95,7 @@ fn put_lines<W: Write, A: Allocator>(out: &mut W, writing: &mut Writing<A>) -> R
     ensures count { OnOk result (writing.new.written ≡ counted (writing.old.written + length writing.old.text.items)) }
     ensures part { IfErr result (PutsPart writing.old.written (W.contents out.old) (W.contents out.new) writing.old.text.items) }
     ensures begun { writing.new.begun ≡ writing.old.begun }
-    ensures kind { IfErr result IsOfText }
+    ensures kind { IfErr result IsWritingFault }
 {
     match put(out, writing.written, writing.text.as_slice()) {
         Ok(written) => {

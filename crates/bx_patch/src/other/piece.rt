@@ -1,9 +1,9 @@
 //! How much of a piece an image has.
 ghost use Rattle.std.specs.Prelude.{◌≡◌, ◌+◌, ◌<◌, ◌≤◌, ◌^◌, ℕ, min, true, false, length, IfOk, is_err};
 ghost use Rattle.bx_patch.specs.Diff.{OnlyReads};
-ghost use Rattle.bx_patch.specs.Other.{HasFirst, has_other};
+ghost use Rattle.bx_patch.specs.Other.{HasFirstBytes, has_other};
 ghost use Rattle.bx_patch.specs.Text.{differs};
-ghost use Rattle.bx_patch.specs.private.Other.{IsCache};
+ghost use Rattle.bx_patch.specs.private.Other.{IsImagePage};
 
 use crate::diff::row::is_other;
 use crate::other::window::{Cached, PAGE, keep};
@@ -39,13 +39,13 @@ fn count_in_page<D: Device>(
     bytes: &[u8],
 ) -> Result<Looked, DeviceFailed>
     requires countable { D.failures device.old < u64.MAX }
-    requires cache { IsCache (D.honest device.old) (D.image device.old) page.old cached }
+    requires cache { IsImagePage (D.honest device.old) (D.image device.old) page.old cached }
     ensures most { IfOk result (λ looked. looked.same ≤ length bytes.now) }
-    ensures has { D.honest device.old → IfOk result (λ looked. HasFirst (D.image device.old) (at, bytes.now) looked.same) }
+    ensures has { D.honest device.old → IfOk result (λ looked. HasFirstBytes (D.image device.old) (at, bytes.now) looked.same) }
     ensures other { D.honest device.old
         → IfOk result (λ looked. looked.same ≡ 0 → 0 < length bytes.now → has_other (D.image device.old) (at, bytes.now) 0 ≡ true) }
     ensures below { IfOk result (λ looked. at + looked.same < 2 ^ 64) }
-    ensures cache { IfOk result (λ looked. IsCache (D.honest device.old) (D.image device.old) page.new looked.cached) }
+    ensures cache { IfOk result (λ looked. IsImagePage (D.honest device.old) (D.image device.old) page.new looked.cached) }
     ensures reads { OnlyReads D.honest D.image D.room D.failures D.survives (is_err result) device.old device.new }
 {
     if cached.len <= at {
@@ -71,13 +71,13 @@ pub fn count_in_piece<D: Device>(
     bytes: &[u8],
 ) -> Result<Looked, DeviceFailed>
     requires countable { D.failures device.old < u64.MAX }
-    requires cache { IsCache (D.honest device.old) (D.image device.old) page.old cached }
+    requires cache { IsImagePage (D.honest device.old) (D.image device.old) page.old cached }
     ensures most { IfOk result (λ looked. looked.same ≤ length bytes.now) }
-    ensures has { D.honest device.old → IfOk result (λ looked. HasFirst (D.image device.old) (at, bytes.now) looked.same) }
+    ensures has { D.honest device.old → IfOk result (λ looked. HasFirstBytes (D.image device.old) (at, bytes.now) looked.same) }
     ensures other { D.honest device.old
         → IfOk result (λ looked. looked.same < length bytes.now → has_other (D.image device.old) (at, bytes.now) looked.same ≡ true) }
     ensures below { IfOk result (λ looked. at + looked.same < 2 ^ 64) }
-    ensures cache { IfOk result (λ looked. IsCache (D.honest device.old) (D.image device.old) page.new looked.cached) }
+    ensures cache { IfOk result (λ looked. IsImagePage (D.honest device.old) (D.image device.old) page.new looked.cached) }
     ensures reads { OnlyReads D.honest D.image D.room D.failures D.survives (is_err result) device.old device.new }
 {
     let mut kept = cached;

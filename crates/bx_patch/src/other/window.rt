@@ -1,7 +1,7 @@
 //! Bytes of an image that are kept in a page: pieces that lie near one another take one read.
 ghost use Rattle.std.specs.Prelude.{◌≡◌, ◌+◌, ◌<◌, ◌≤◌, length, IfOk, IsTrue, is_err};
 ghost use Rattle.bx_patch.specs.Diff.{OnlyReads};
-ghost use Rattle.bx_patch.specs.private.Other.{HasBytes, IsCache};
+ghost use Rattle.bx_patch.specs.private.Other.{HasPage, IsImagePage};
 
 use bx_image::{Device, DeviceFailed};
 
@@ -18,7 +18,7 @@ pub struct Cached {
 
 /// Whether the page has these bytes.
 fn has_bytes(cached: Cached, at: u64, count: usize) -> bool
-    ensures { IsTrue result → HasBytes cached at count }
+    ensures { IsTrue result → HasPage cached at count }
 {
     if at < cached.at {
         return false;
@@ -39,12 +39,12 @@ pub fn keep<D: Device>(
     count: usize,
 ) -> Result<Cached, DeviceFailed>
     requires countable { D.failures device.old < u64.MAX }
-    requires cache { IsCache (D.honest device.old) (D.image device.old) page.old cached }
+    requires cache { IsImagePage (D.honest device.old) (D.image device.old) page.old cached }
     requires few { count ≤ length page.old }
     requires there { at + count ≤ cached.len }
-    ensures cache { IfOk result (IsCache (D.honest device.old) (D.image device.old) page.new) }
+    ensures cache { IfOk result (IsImagePage (D.honest device.old) (D.image device.old) page.new) }
     ensures len { IfOk result (λ now. now.len ≡ cached.len) }
-    ensures has { IfOk result (λ now. HasBytes now at count) }
+    ensures has { IfOk result (λ now. HasPage now at count) }
     ensures room { length page.new ≡ length page.old }
     ensures reads { OnlyReads D.honest D.image D.room D.failures D.survives (is_err result) device.old device.new }
 {

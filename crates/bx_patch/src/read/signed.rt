@@ -1,7 +1,7 @@
 //! A line of a dump behind a sign.
 ghost use Rattle.std.specs.Prelude.{◌≡◌, ◌⊎◌, ◌+◌, ◌<◌, ◌^◌, length, drop, IfOk, IfErr};
 ghost use Rattle.bx_patch.specs.Grammar.{IsSigned};
-ghost use Rattle.bx_patch.specs.private.Read.{Gives, HasSign, IsFaultBehind};
+ghost use Rattle.bx_patch.specs.private.Read.{Gives, HasSign, IsSignedFault};
 
 use crate::read::fault::PatchFault;
 use bx_read::Line;
@@ -11,7 +11,7 @@ use std::alloc::Allocator;
 /// The piece of a line that stands behind a sign.
 fn piece_of<A: Allocator>(alloc: A, line: &[u8], number: u64) -> Result<Piece<A>, PatchFault>
     ensures ok { IfOk result (λ piece. Gives line.now piece.at piece.bytes) }
-    ensures err { IfErr result (λ e. (e ≡ PatchFault.NoMemory) ⊎ IsFaultBehind number line.now e) }
+    ensures err { IfErr result (λ e. (e ≡ PatchFault.NoMemory) ⊎ IsSignedFault number line.now e) }
 {
     match Line::parse(line, number) {
         Err(fault) => Err(PatchFault::Line(fault)),
@@ -49,7 +49,7 @@ pub fn signed_piece<A: Allocator>(
     requires { HasSign new line.now }
     ensures ok { IfOk result (λ piece. IsSigned new line.now (piece.at, piece.bytes)) }
     ensures small { IfOk result (λ piece. piece.at + length piece.bytes < 2 ^ 63) }
-    ensures err { IfErr result (λ e. (e ≡ PatchFault.NoMemory) ⊎ IsFaultBehind number (drop 1 line.now) e) }
+    ensures err { IfErr result (λ e. (e ≡ PatchFault.NoMemory) ⊎ IsSignedFault number (drop 1 line.now) e) }
 {
     piece_of(alloc, behind(line), number)
 }

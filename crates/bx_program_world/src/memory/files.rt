@@ -1,6 +1,6 @@
 //! The files of a world in memory, and their names.
 ghost use Rattle.std.specs.Prelude.{◌≡◌, ◌↔◌, ◌<◌, ◌≤◌, [], ℕ, length, false, true, IfSome};
-ghost use Rattle.bx_program_world.specs.MemoryFiles.{bytes_at, entry_of, file_named, follow, is_gone_at, is_link_of, is_taken, leads_at, stat_of, synced_at};
+ghost use Rattle.bx_program_world.specs.MemoryFiles.{bytes_at, entry_named, file_named, follow, is_gone_at, is_link_of, is_taken, leads_at, stat_of, synced_at};
 
 use crate::stat::Stat;
 use bx_text::Name;
@@ -50,7 +50,7 @@ pub struct LentFiles {
 
 /// The place of the first entry of a name; where it has none, the number of entries.
 fn place_of(entries: &[Entry], name: &str) -> usize
-    ensures { leads_at entries.now result ≡ entry_of entries.now name.now }
+    ensures { leads_at entries.now result ≡ entry_named entries.now name.now }
 {
     for place in 0..entries.len() {
         if entries[place].name.as_str() == name {

@@ -1,7 +1,7 @@
 //! Full lines that go on with a run, as most lines of most dumps do.
 ghost use Rattle.std.specs.Prelude.{◌≡◌, ◌≤◌, ◌+◌, ◌==◌, length, MatchResult, IfSome};
 ghost use Rattle.bx_read.specs.private.Full.{IsFull};
-ghost use Rattle.bx_read.specs.private.Rows.{GoesOn};
+ghost use Rattle.bx_read.specs.private.Rows.{GoesOnWith};
 
 use crate::fault::ReadFault;
 use crate::full::{ENDED, full_line};
@@ -44,7 +44,7 @@ pub fn extend_run<'a, A: Allocator>(
     bytes: &mut Vec<u8, A>,
     text: &'a [u8],
 ) -> Result<Taken<'a>, ReadFault>
-    ensures { MatchResult result (λ t. GoesOn text.now t.rest.now t.count at bytes.old.items bytes.new.items) (λ e. e ≡ ReadFault.NoMemory) }
+    ensures { MatchResult result (λ t. GoesOnWith text.now t.rest.now t.count at bytes.old.items bytes.new.items) (λ e. e ≡ ReadFault.NoMemory) }
 {
     let mut count = 0;
     let mut rest = text;

@@ -1,7 +1,7 @@
 //! The lines of a text that comes in windows: runs of those that are whole, and what can still matter of the one behind them.
 ghost use Rattle.std.specs.Prelude.{◌≡◌, ◌≢◌, ◌⊎◌, ◌+◌, ◌^◌, ◌<◌, ◌≤◌, ◌++◌, ◌∷◌, [], ℕ, List, length, All, Err, MatchResult, IfOk, IfErr, OnErr};
 ghost use Rattle.bx_read.specs.Text.{lines_of, answers, gathered, contents};
-ghost use Rattle.bx_read.specs.Window.{AreRunsOf, IsDumpFault, IsFaultBehind, HasLines};
+ghost use Rattle.bx_read.specs.Window.{ArePiecesRuns, IsDumpFault, IsFaultBehind, HasLines};
 ghost use Rattle.bx_read.specs.private.Window.{newlines, TakesText};
 
 use crate::fault::ReadFault;
@@ -68,7 +68,7 @@ impl<A: Allocator + Clone> LinesRead<A> {
     pub fn take_last(mut self, alloc: &A) -> Result<Vec<Piece<A>, A>, ReadFault>
         requires countable { self.lines + length self.held.items < 2 ^ 64 }
         ensures exact { (text : List ℕ) → HasLines text (contents self.runs.items) self.lines self.held.items
-            → MatchResult result (λ v. AreRunsOf text v.items) (IsDumpFault text) }
+            → MatchResult result (λ v. ArePiecesRuns text v.items) (IsDumpFault text) }
     {
         match self.take_held(alloc) {
             Ok(()) => {}

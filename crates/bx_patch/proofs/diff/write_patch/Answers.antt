@@ -1,6 +1,6 @@
 use Rattle.std.proofs.Common.{◌∙◌, List, ℕ, subst}
 use Rattle.std.specs.Prelude.{IfErr}
-use Rattle.bx_patch.specs.Diff.{WritesPart}
+use Rattle.bx_patch.specs.Diff.{WritesPrefix}
 use Rattle.bx_patch.specs.Text.{headed, patch_lines, patch_text}
 use Rattle.bx_patch.proofs.DiffLemmas.{headed_is}
 use Rattle.bx_patch.proofs.WritingLemmas.{nothing_written}
@@ -18,7 +18,7 @@ returns-clause-part g c = λ honest faithful.
     let on = c.in-Ok.ensures in
     let head = c.as_bytes.result.now in
     let extent = c.args.extent in
-    let P = λ (text : List ℕ). IfErr c.compare_devices.result (WritesPart (g.W.Write.contents c.args.out.now) (g.W.Write.contents c.compare_devices.new.out) text) in
+    let P = λ (text : List ℕ). IfErr c.compare_devices.result (WritesPrefix (g.W.Write.contents c.args.out.now) (g.W.Write.contents c.compare_devices.new.out) text) in
     let part = c.compare_devices.ensures.part (on.old.goes_on.honesty.1 honest) (on.new.goes_on.honesty.1 faithful) in
     let first = subst (λ (a : List ℕ). P (headed head (patch_lines extent a (g.E.Device.image c.lengths_of.new.new)))) (on.old.stays honest) part in
     let both = subst (λ (b : List ℕ). P (headed head (patch_lines extent x b))) (on.new.stays faithful) first in

@@ -1,5 +1,5 @@
 use Rattle.std.proofs.Common.{sym, subst}
-use Rattle.bx_program_files.specs.Files.{IsWithin}
+use Rattle.bx_program_files.specs.Files.{AreAllThere}
 use Rattle.bx_program_sessions.specs.Contents.{DoesFound, FoundIn, Holds}
 use Rattle.bx_program_sessions.proofs.Files.{contents_before, contents_cleared, contents_named, made_behind, named_behind, named_open, same_trio}
 use Rattle.bx_program_sessions.proofs.Refused.{unrefused, why_refused}
@@ -8,7 +8,7 @@ use Rattle.bx_program_sessions.proofs.named.run_command.Goals as goal
 pub returns-clause-done : goal.returns-clause-done
 returns-clause-done g c old s holds stopped =
     let opening = c.open_trio.ensures.honesty.1 old in
-    let within : IsWithin (g.W.World.sight c.args.world.now) = λ name n e. g.met.W.World.within c.args.world.now name n old e in
+    let within : AreAllThere (g.W.World.sight c.args.world.now) = λ name n e. g.met.W.World.within c.args.world.now name n old e in
     let opened = c.in-Ok.ensures.ok old in
     let held = subst (λ contents. Holds contents s) (sym (contents_before _ _ _ _ _ _ within opened)) holds in
     let named = named_behind _ _ _ _ (named_open _ _ _ _ _ _ opened) (c.run_lent-done.ensures.only opening) in
@@ -18,7 +18,7 @@ returns-clause-done g c old s holds stopped =
 pub returns-clause-survives : goal.returns-clause-survives
 returns-clause-survives g c old s holds stopped t behind =
     let opening = c.open_trio.ensures.honesty.1 old in
-    let within : IsWithin (g.W.World.sight c.args.world.now) = λ name n e. g.met.W.World.within c.args.world.now name n old e in
+    let within : AreAllThere (g.W.World.sight c.args.world.now) = λ name n e. g.met.W.World.within c.args.world.now name n old e in
     let opened = c.in-Ok.ensures.ok old in
     let held = subst (λ contents. Holds contents s) (sym (contents_before _ _ _ _ _ _ within opened)) holds in
     let named = named_behind _ _ _ _ (named_open _ _ _ _ _ _ opened) (c.run_lent-done.ensures.only opening) in
@@ -30,7 +30,7 @@ returns-clause-survives g c old s holds stopped t behind =
 pub returns-clause-refused : goal.returns-clause-refused
 returns-clause-refused g c old s holds whole =
     let opening = c.open_trio.ensures.honesty.1 old in
-    let within : IsWithin (g.W.World.sight c.args.world.now) = λ name n e. g.met.W.World.within c.args.world.now name n old e in
+    let within : AreAllThere (g.W.World.sight c.args.world.now) = λ name n e. g.met.W.World.within c.args.world.now name n old e in
     let opened = c.in-Ok.ensures.ok old in
     let held = subst (λ contents. Holds contents s) (sym (contents_before _ _ _ _ _ _ within opened)) holds in
     let same = c.run_lent-done.ensures.whole opening s held whole in
@@ -41,7 +41,7 @@ returns-clause-refused g c old s holds whole =
 pub returns-clause-how : goal.returns-clause-how
 returns-clause-how g c old s holds =
     let opening = c.open_trio.ensures.honesty.1 old in
-    let within : IsWithin (g.W.World.sight c.args.world.now) = λ name n e. g.met.W.World.within c.args.world.now name n old e in
+    let within : AreAllThere (g.W.World.sight c.args.world.now) = λ name n e. g.met.W.World.within c.args.world.now name n old e in
     let opened = c.in-Ok.ensures.ok old in
     let held = subst (λ contents. Holds contents s) (sym (contents_before _ _ _ _ _ _ within opened)) holds in
     c.run_lent-done.ensures.how opening s held
@@ -49,7 +49,7 @@ returns-clause-how g c old s holds =
 pub returns-clause-why : goal.returns-clause-why
 returns-clause-why g c old s holds is_opened whole =
     let opening = c.open_trio.ensures.honesty.1 old in
-    let within : IsWithin (g.W.World.sight c.args.world.now) = λ name n e. g.met.W.World.within c.args.world.now name n old e in
+    let within : AreAllThere (g.W.World.sight c.args.world.now) = λ name n e. g.met.W.World.within c.args.world.now name n old e in
     let opened = c.in-Ok.ensures.ok old in
     let held = subst (λ contents. Holds contents s) (sym (contents_before _ _ _ _ _ _ within opened)) holds in
     why_refused g.R.Read.remaining _ _ _ _ (c.run_lent-done.ensures.does opening s held)
@@ -57,7 +57,7 @@ returns-clause-why g c old s holds is_opened whole =
 pub returns-clause-recovered : goal.returns-clause-recovered
 returns-clause-recovered g c old s found is_opened =
     let opening = c.open_trio.ensures.honesty.1 old in
-    let within : IsWithin (g.W.World.sight c.args.world.now) = λ name n e. g.met.W.World.within c.args.world.now name n old e in
+    let within : AreAllThere (g.W.World.sight c.args.world.now) = λ name n e. g.met.W.World.within c.args.world.now name n old e in
     let opened = c.in-Ok.ensures.ok old in
     let held = subst (λ contents. FoundIn contents s) (sym (contents_before _ _ _ _ _ _ within opened)) found in
     let named = named_behind _ _ _ _ (named_open _ _ _ _ _ _ opened) (c.run_lent-done.ensures.only opening) in

@@ -1,7 +1,7 @@
 use Rattle.std.proofs.Common.{◌≡◌, ◌*◌, [], length, refl, sym, ap, ◌∙◌, subst, arith}
 use Rattle.std.proofs.lemmas.Result.{IfErr-weaker, IfOk-weaker}
 use Rattle.bx_dd.specs.Counting.{counts_of}
-use Rattle.bx_dd.specs.Plan.{form_of}
+use Rattle.bx_dd.specs.Plan.{plan_form}
 use Rattle.bx_dd.specs.private.Standing.{HasSizes}
 use Rattle.bx_dd.proofs.CopyLemmas.{converted_none, copied_none, copied_rest, cut_none, stopped_rest, stopped_skip}
 use Rattle.bx_dd.proofs.stream.copy.copy_with.Goals as goal
@@ -32,10 +32,10 @@ returns-clause-ok g c =
     let plan = c.args.plan.now in
     let skips = rw (c.new-meter.ensures.limit, c.new-meter.ensures.taken) at c.in-Ok.ensures.ok in
     let short = skips.short c.if-all.false in
-    let sizes : HasSizes (form_of plan) = record { some_ibs = plan.some_ibs; few_ibs = plan.few_ibs; some_obs = plan.some_obs; some_cbs = plan.some_cbs; few_cbs = plan.few_cbs } in
+    let sizes : HasSizes (plan_form plan) = record { some_ibs = plan.some_ibs; few_ibs = plan.few_ibs; some_obs = plan.some_obs; some_cbs = plan.some_cbs; few_cbs = plan.few_cbs } in
     let form = c.form-form.result in
-    let is : form ≡ form_of plan = c.form-form.ensures in
+    let is : form ≡ plan_form plan = c.form-form.ensures in
     let here : HasSizes form = subst HasSizes (sym is) sizes in
-    let counted : c.counts.result ≡ counts_of (form_of plan) [] =
+    let counted : c.counts.result ≡ counts_of (plan_form plan) [] =
     c.counts.ensures.counts [] refl (sym (ap length (converted_none form here))) (sym (cut_none form here.some_ibs)) ∙ ap (λ f. counts_of f []) is in
     copied_none plan skips.input (omega (arith, short.0)) _ _ _ c.counts.result sizes skips.consumed short.1 skips.few counted

@@ -5,8 +5,8 @@ use Rattle.bx_text.proofs.KnownLemmas.{Consumes-trans}
 use Rattle.bx_text.specs.declared.stream.State.TheVariants.{Ended}
 use Rattle.bx_dd.specs.Counting.{counts_of}
 use Rattle.bx_dd.specs.Output.{converted}
-use Rattle.bx_dd.specs.Plan.{form_of}
-use Rattle.bx_dd.specs.private.Transfer.{HasRead}
+use Rattle.bx_dd.specs.Plan.{plan_form}
+use Rattle.bx_dd.specs.private.Transfer.{HasReadBlocks}
 use Rattle.bx_dd.proofs.TransferLemmas.{stopped_more, stopped_memory, has_stopped, asked_skip, asked_all, consumed_both, selected_both, within_both, read_out_both, IfOk-both}
 use Rattle.bx_dd.proofs.stream.transfer.transfer.Goals as goal
 
@@ -77,12 +77,12 @@ returns-clause-ok g c =
     let second = c.in_ok-convert-2.ensures.read in
     let size : length c.as_mut_slice.result.now ≡ plan.ibs = omega (arith, c.in_ok-block.ensures.len, ap length c.as_mut_slice.ensures.value) in
     let size-2 : length c.as_mut_slice-2.result.now ≡ plan.ibs = omega (arith, c.in_ok-block.ensures.len, ap length c.as_mut_slice-2.ensures.value) in
-    let skips = subst (λ (k : ℕ). HasRead old mid plan.skip k c.skip_blocks.new.meter.state first.0) size first.1 in
-    let takes = subst (λ (k : ℕ). HasRead mid new turns k c.take_blocks.new.meter.state second.0) size-2 second.2 in
+    let skips = subst (λ (k : ℕ). HasReadBlocks old mid plan.skip k c.skip_blocks.new.meter.state first.0) size first.1 in
+    let takes = subst (λ (k : ℕ). HasReadBlocks mid new turns k c.take_blocks.new.meter.state second.0) size-2 second.2 in
     let none : c.skip_blocks.new.meter.state ≡ Ended → (length second.0 ≡ 0) × (c.take_blocks.new.meter.state ≡ Ended) = λ e. (sym second.1.0 ∙ (c.in_ok-convert-2.ensures.none_left e).0, (c.in_ok-convert-2.ensures.none_left e).1) in
     let is = c.unwrap_or-count.ensures in
     let selects = selected_both old mid new plan.ibs plan.skip turns c.skip_blocks.new.meter.state c.take_blocks.new.meter.state first.0 second.0 skips takes none plan.count is in
-    let form : c.in_ok-convert-2.convert.form ≡ form_of plan = c.in_ok-convert-2.ensures.form ∙ c.in_ok-convert.ensures.form in
+    let form : c.in_ok-convert-2.convert.form ≡ plan_form plan = c.in_ok-convert-2.ensures.form ∙ c.in_ok-convert.ensures.form in
     let few : length (first.0 ++ second.0) ≤ 2 ^ 40 = omega (arith, length-append first.0 second.0, first.2, second.3, c.take_blocks.new.meter.within, c.in_ok-skip_blocks.ensures.limit, c.in_ok-convert-2.ensures.limit, c.new-meter.ensures.limit, c.new-meter.ensures.taken) in
     let some : length second.0 ≤ 2 ^ 40 = omega (arith, few, length-append first.0 second.0) in
     IfOk-both c.finish.result _ _ _
@@ -94,8 +94,8 @@ returns-clause-ok g c =
       );
       ends = read_out_both old mid new plan.ibs plan.skip turns c.skip_blocks.new.meter.state c.take_blocks.new.meter.state first.0 second.0 skips takes none plan.count is plan.some_ibs some;
       few = few;
-      made = bytes ∙ ap (λ f. converted f second.0) form ∙ ap (converted (form_of plan)) (sym selects);
-      counted = counts ∙ ap (λ f. counts_of f second.0) form ∙ ap (counts_of (form_of plan)) (sym selects);
+      made = bytes ∙ ap (λ f. converted f second.0) form ∙ ap (converted (plan_form plan)) (sym selects);
+      counted = counts ∙ ap (λ f. counts_of f second.0) form ∙ ap (counts_of (plan_form plan)) (sym selects);
     })
     (c.finish.ensures.bytes second.0 second.1) (c.finish.ensures.counts second.0 second.1)
 

@@ -1,5 +1,5 @@
 use Rattle.std.proofs.Common.{◌≡◌, arith}
-use Rattle.bx_dump.specs.Pages.{part_of}
+use Rattle.bx_dump.specs.Pages.{bytes_dumped}
 use Rattle.bx_dump.proofs.PagesLemmas.{part_short, part_whole, front_skip, front_behind}
 use Rattle.bx_dump.proofs.DumpLemmas.{ok_along, err_along}
 use Rattle.bx_dump.proofs.driver.pages.dump_part.Goals as goal
@@ -12,7 +12,7 @@ returns-in-Ok-false-clause-ok g c =
 pub returns-in-Err-clause-err : goal.returns-in-Err-clause-err
 returns-in-Err-clause-err g c =
     let stop = rw (c.new-meter.ensures.limit, c.new-meter.ensures.taken) at (c.in-Err.ensures.stopped c.new-meter.ensures.state) in
-    front_skip 0 (λ xs. g.P.Pages.written c.args.pages.now (part_of c.args.from c.args.limit xs)) c.args.from c.args.limit c.args.before _ _ _ c.in-Err.fault stop
+    front_skip 0 (λ xs. g.P.Pages.written c.args.pages.now (bytes_dumped c.args.from c.args.limit xs)) c.args.from c.args.limit c.args.before _ _ _ c.in-Err.fault stop
 
 pub returns-clause-ok : goal.returns-clause-ok
 returns-clause-ok g c =

@@ -9,7 +9,7 @@ use Rattle.bx_text.specs.declared.fault.IoFault.TheVariants.{WriteFailed, SkipPa
 use Rattle.bx_text.specs.Stream.{IsReadCause, Skips}
 use Rattle.bx_dump.specs.OdDump.{Reaches, od_of}
 use Rattle.bx_dump.specs.private.OdDump.{StopsShort}
-use Rattle.bx_dump.specs.Pages.{part_of}
+use Rattle.bx_dump.specs.Pages.{bytes_dumped}
 use Rattle.bx_dump.proofs.EndLemmas.{od_end_few}
 use Rattle.bx_dump.proofs.PagesLemmas.{all_of, front_of, part_whole, part_then, stop_then, front_then, front_behind}
 use Rattle.bx_dump.proofs.od.dump.od.Goals as goal
@@ -34,15 +34,15 @@ pub returns-in-Err-dump_lines-clause-err : goal.returns-in-Err-dump_lines-clause
 returns-in-Err-dump_lines-clause-err g c =
     let o = c.args.o.now in
     let lines = folded (od_line o.address o.kind) o.all (o.first + o.skip) in
-    let text = λ (xs : List ℕ). lines (part_of o.skip o.limit xs) in
-    let other = λ (xs : List ℕ). od_text o.address o.kind o.all (o.first + o.skip) (part_of o.skip o.limit xs) in
+    let text = λ (xs : List ℕ). lines (bytes_dumped o.skip o.limit xs) in
+    let other = λ (xs : List ℕ). od_text o.address o.kind o.all (o.first + o.skip) (bytes_dumped o.skip o.limit xs) in
     let rest = rw c.in_default.ensures.open.1 at c.in-Err-dump_lines.ensures.err in
-    inr (front_of (od_of o) _ _ _ _ c.in-Err-dump_lines.fault (front_then 0 (2 ^ 7) text other o.skip o.limit 0 0 _ _ _ _ c.in-Err-dump_lines.fault (λ xs. (od_end o.address (o.first + o.skip + length (part_of o.skip o.limit xs)), refl))
+    inr (front_of (od_of o) _ _ _ _ c.in-Err-dump_lines.fault (front_then 0 (2 ^ 7) text other o.skip o.limit 0 0 _ _ _ _ c.in-Err-dump_lines.fault (λ xs. (od_end o.address (o.first + o.skip + length (bytes_dumped o.skip o.limit xs)), refl))
     (λ xs. omega (
       arith,
-      od_end_few o.address (o.first + o.skip + length (part_of o.skip o.limit xs)),
-      length-append (text xs) (od_end o.address (o.first + o.skip + length (part_of o.skip o.limit xs))),
-      length-append (text []) (od_end o.address (o.first + o.skip + length (part_of o.skip o.limit []))),
+      od_end_few o.address (o.first + o.skip + length (bytes_dumped o.skip o.limit xs)),
+      length-append (text xs) (od_end o.address (o.first + o.skip + length (bytes_dumped o.skip o.limit xs))),
+      length-append (text []) (od_end o.address (o.first + o.skip + length (bytes_dumped o.skip o.limit []))),
     ))
     (front_behind 0 lines o.skip o.limit 0 _ _ _ _ _ c.in-Err-dump_lines.fault c.in_default.ensures.ok rest)))
 
@@ -50,8 +50,8 @@ pub returns-in-Err-emit_after-clause-err : goal.returns-in-Err-emit_after-clause
 returns-in-Err-emit_after-clause-err g c =
     let o = c.args.o.now in
     let lines = folded (od_line o.address o.kind) o.all (o.first + o.skip) in
-    let text = λ (xs : List ℕ). lines (part_of o.skip o.limit xs) in
-    let other = λ (xs : List ℕ). od_text o.address o.kind o.all (o.first + o.skip) (part_of o.skip o.limit xs) in
+    let text = λ (xs : List ℕ). lines (bytes_dumped o.skip o.limit xs) in
+    let other = λ (xs : List ℕ). od_text o.address o.kind o.all (o.first + o.skip) (bytes_dumped o.skip o.limit xs) in
     let done = c.in-Ok.lines in
     let whole = part_whole lines o.skip o.limit _ _ _ _ _ done.read done.written c.in_default.ensures.ok (rw c.in_default.ensures.open.1 at c.in-Ok.ensures.ok) in
     let line = rw (c.as_bytes.ensures.value, c.end_line-end.ensures) at c.in-Err-emit_after.ensures.err in
@@ -63,8 +63,8 @@ pub returns-clause-ok : goal.returns-clause-ok
 returns-clause-ok g c =
     let o = c.args.o.now in
     let lines = folded (od_line o.address o.kind) o.all (o.first + o.skip) in
-    let text = λ (xs : List ℕ). lines (part_of o.skip o.limit xs) in
-    let other = λ (xs : List ℕ). od_text o.address o.kind o.all (o.first + o.skip) (part_of o.skip o.limit xs) in
+    let text = λ (xs : List ℕ). lines (bytes_dumped o.skip o.limit xs) in
+    let other = λ (xs : List ℕ). od_text o.address o.kind o.all (o.first + o.skip) (bytes_dumped o.skip o.limit xs) in
     let done = c.in-Ok.lines in
     let whole = part_whole lines o.skip o.limit _ _ _ _ _ done.read done.written c.in_default.ensures.ok (rw c.in_default.ensures.open.1 at c.in-Ok.ensures.ok) in
     let line = rw (c.as_bytes.ensures.value, c.end_line-end.ensures) at c.in_default-emit_after.ensures.ok in

@@ -3,17 +3,17 @@ use Rattle.std.specs.Prelude.{nat_le, true, false, refl}
 use Rattle.std.proofs.lemmas.Bool.Decides.{nat_tests}
 use Rattle.std.proofs.lemmas.List.{length-append}
 use Rattle.bx_text.proofs.KnownLemmas.{Appends-trans}
-use Rattle.bx_dump.specs.private.Scan.{scan_text, scan_run, end_text}
+use Rattle.bx_dump.specs.private.Scan.{scan_text, scan_run, end_of_run}
 use Rattle.bx_dump.specs.Strings.{strings_of, strings_text}
 use Rattle.bx_dump.proofs.DumpLemmas.{front_whole, write_stop}
 use Rattle.bx_dump.proofs.PagesLemmas.{front_of}
 use Rattle.bx_dump.proofs.StringsLemmas.{strings_is, front_known}
 use Rattle.bx_dump.proofs.strings.dump.strings.Goals as goal
 
-long_end : (least : ℕ) (run : List ℕ) → least ≤ length run → end_text least run ≡ 10 ∷ []
+long_end : (least : ℕ) (run : List ℕ) → least ≤ length run → end_of_run least run ≡ 10 ∷ []
 long_end least run long = let e : nat_le least (length run) ≡ true = grind (arith, nat_tests) in rw e refl
 
-short_end : (least : ℕ) (run : List ℕ) → length run < least → end_text least run ≡ []
+short_end : (least : ℕ) (run : List ℕ) → length run < least → end_of_run least run ≡ []
 short_end least run short = let e : nat_le least (length run) ≡ false = grind (arith, nat_tests) in rw e refl
 
 pub scan_pages-requires-clause-page : goal.scan_pages-requires-clause-page

@@ -1,6 +1,6 @@
 use Rattle.std.proofs.Common.{◌≡◌, ℕ, ◌+◌, ◌^◌, List, refl, arith}
 use Rattle.bx_dump_columns.specs.Lines.{in_lines}
-use Rattle.bx_dump.specs.Pages.{part_of}
+use Rattle.bx_dump.specs.Pages.{bytes_dumped}
 use Rattle.bx_dump.specs.Styles.{group_of}
 use Rattle.bx_dump.specs.private.Xxd.{columns_line}
 use Rattle.bx_dump.proofs.DumpLemmas.{ok_along, err_along}
@@ -12,8 +12,8 @@ returns-clause-ok g c =
     let o = c.args.o.now in
     let form = c.new-form.result in
     let start = o.seek + o.shift in
-    let text = λ (xs : List ℕ). in_lines (columns_line form.digits form.cols form.group) form.cols start (part_of o.seek o.limit xs) in
-    let other = λ (xs : List ℕ). in_lines (columns_line c.args.digits o.cols (group_of o.cols o.group)) o.cols start (part_of o.seek o.limit xs) in
+    let text = λ (xs : List ℕ). in_lines (columns_line form.digits form.cols form.group) form.cols start (bytes_dumped o.seek o.limit xs) in
+    let other = λ (xs : List ℕ). in_lines (columns_line c.args.digits o.cols (group_of o.cols o.group)) o.cols start (bytes_dumped o.seek o.limit xs) in
     let made = c.new-form.ensures in
     let same : (xs : List ℕ) → text xs ≡ other xs = λ xs. rw (made.digits, made.cols, made.group, c.group_len-group.ensures.value) refl in
     ok_along c.dump_lines.result _ _ (λ d p. part_along text other o.seek o.limit _ _ _ _ d.read d.written same p) c.dump_lines.ensures.ok
@@ -23,8 +23,8 @@ returns-clause-err g c =
     let o = c.args.o.now in
     let form = c.new-form.result in
     let start = o.seek + o.shift in
-    let text = λ (xs : List ℕ). in_lines (columns_line form.digits form.cols form.group) form.cols start (part_of o.seek o.limit xs) in
-    let other = λ (xs : List ℕ). in_lines (columns_line c.args.digits o.cols (group_of o.cols o.group)) o.cols start (part_of o.seek o.limit xs) in
+    let text = λ (xs : List ℕ). in_lines (columns_line form.digits form.cols form.group) form.cols start (bytes_dumped o.seek o.limit xs) in
+    let other = λ (xs : List ℕ). in_lines (columns_line c.args.digits o.cols (group_of o.cols o.group)) o.cols start (bytes_dumped o.seek o.limit xs) in
     let made = c.new-form.ensures in
     let same : (xs : List ℕ) → text xs ≡ other xs = λ xs. rw (made.digits, made.cols, made.group, c.group_len-group.ensures.value) refl in
     err_along c.dump_lines.result _ _ (λ e p. front_along 0 (2 ^ 7) text other o.seek o.limit 0 0 _ _ _ _ e same (omega arith) p) c.dump_lines.ensures.err

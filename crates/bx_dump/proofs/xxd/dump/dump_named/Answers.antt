@@ -1,6 +1,6 @@
 use Rattle.std.proofs.Common.{◌≡◌, ℕ, ◌+◌, ◌^◌, ◌≤◌, List, [], ◌++◌, length, arith, refl, ap, length-append}
 use Rattle.bx_dump.specs.declared.xxd.options.XxdOptions.{XxdOptions}
-use Rattle.bx_dump.specs.Pages.{part_of}
+use Rattle.bx_dump.specs.Pages.{bytes_dumped}
 use Rattle.bx_dump.specs.Styles.{include_items}
 use Rattle.bx_dump_columns.specs.Names.{include_head, include_tail}
 use Rattle.bx_dump.specs.private.Styles.{named_text}
@@ -19,20 +19,20 @@ whole name items n m = omega (arith, tail_few name n m, length-append (include_h
 
 -- of what was read: the items, with the head in front, and the whole text
 abbrev items_of : XxdOptions → List ℕ → List ℕ
-items_of o xs = include_items o.cols (part_of o.seek o.limit xs)
+items_of o xs = include_items o.cols (bytes_dumped o.seek o.limit xs)
 
 abbrev front_of : XxdOptions → List ℕ → List ℕ → List ℕ
 front_of o name xs = include_head name ++ items_of o xs
 
 abbrev text_of : XxdOptions → List ℕ → List ℕ → List ℕ
-text_of o name xs = named_text name o.cols (part_of o.seek o.limit xs)
+text_of o name xs = named_text name o.cols (bytes_dumped o.seek o.limit xs)
 
 pub returns-in-Err-clause-err : goal.returns-in-Err-clause-err
 returns-in-Err-clause-err g c =
     let o = c.args.o.now in
     let name = c.args.name.now in
     let head = include_head name in
-    front_then (2 ^ 6) (2 ^ 7) (front_of o name) (text_of o name) o.seek o.limit 0 0 _ _ _ _ c.in-Err.fault (λ xs. (include_tail name (length (part_of o.seek o.limit xs)), refl)) (λ xs. longer name (items_of o xs) (items_of o []) (length (part_of o.seek o.limit xs)) (length (part_of o.seek o.limit [])))
+    front_then (2 ^ 6) (2 ^ 7) (front_of o name) (text_of o name) o.seek o.limit 0 0 _ _ _ _ c.in-Err.fault (λ xs. (include_tail name (length (bytes_dumped o.seek o.limit xs)), refl)) (λ xs. longer name (items_of o xs) (items_of o []) (length (bytes_dumped o.seek o.limit xs)) (length (bytes_dumped o.seek o.limit [])))
     (front_head (2 ^ 6) (items_of o) o.seek o.limit _ _ _ 0 head c.in-Err.fault c.in-Err.ensures.emits)
 
 pub returns-in-Err-dump_items-clause-err : goal.returns-in-Err-dump_items-clause-err
@@ -41,7 +41,7 @@ returns-in-Err-dump_items-clause-err g c =
     let name = c.args.name.now in
     let head = include_head name in
     let first = c.in-Ok.ensures.emits in
-    front_then (2 ^ 6) (2 ^ 7) (front_of o name) (text_of o name) o.seek o.limit 0 0 _ _ _ _ c.in-Err-dump_items.fault (λ xs. (include_tail name (length (part_of o.seek o.limit xs)), refl)) (λ xs. longer name (items_of o xs) (items_of o []) (length (part_of o.seek o.limit xs)) (length (part_of o.seek o.limit [])))
+    front_then (2 ^ 6) (2 ^ 7) (front_of o name) (text_of o name) o.seek o.limit 0 0 _ _ _ _ c.in-Err-dump_items.fault (λ xs. (include_tail name (length (bytes_dumped o.seek o.limit xs)), refl)) (λ xs. longer name (items_of o xs) (items_of o []) (length (bytes_dumped o.seek o.limit xs)) (length (bytes_dumped o.seek o.limit [])))
     (front_after (2 ^ 6) (items_of o) o.seek o.limit _ _ _ _ _ 0 0 c.in-Ok.before head c.in-Err-dump_items.fault first.0 first.1 c.in-Err-dump_items.ensures.err)
 
 pub returns-in-Ok-emit_tail-clause-ok : goal.returns-in-Ok-emit_tail-clause-ok
@@ -68,4 +68,4 @@ returns-in-Err-emit_tail-clause-err g c =
     let tail = include_tail name done.read in
     let same : c.in-Ok.before + done.written ≡ 0 + (length head + done.written) = omega (arith, first.0) in
     stop_then (front_of o name) (text_of o name) o.seek o.limit _ _ _ _ _ done.read (length head + done.written) tail (λ xs e. ap (λ n. head ++ items_of o xs ++ include_tail name n) e)
-    (part_after (items_of o) o.seek o.limit _ _ _ _ _ done.read done.written head first.1 c.in-Ok-dump_items.ensures.ok) (2 ^ 7) 0 c.in-Err-emit_tail.fault (whole name (items_of o []) done.read (length (part_of o.seek o.limit []))) (rw same at c.in-Err-emit_tail.ensures)
+    (part_after (items_of o) o.seek o.limit _ _ _ _ _ done.read done.written head first.1 c.in-Ok-dump_items.ensures.ok) (2 ^ 7) 0 c.in-Err-emit_tail.fault (whole name (items_of o []) done.read (length (bytes_dumped o.seek o.limit []))) (rw same at c.in-Err-emit_tail.ensures)

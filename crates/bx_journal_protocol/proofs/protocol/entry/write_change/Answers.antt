@@ -10,7 +10,7 @@ use Rattle.bx_journal_read.specs.model.Stack.{Recovers}
 use Rattle.bx_journal_protocol.specs.write.Ranges.{kept_over}
 use Rattle.bx_journal_protocol.proofs.ChangeSteps.{ends_of}
 use Rattle.bx_journal_read.specs.model.Redo.{LeavesEither, RecoversOpen}
-use Rattle.bx_journal_protocol.specs.protocol.Turns.{place_of, side_of}
+use Rattle.bx_journal_protocol.specs.protocol.Turns.{cut_place, side_of}
 use Rattle.bx_journal_protocol.proofs.StopLemmas.{before_stops, within_old, last_stops}
 use Rattle.bx_journal_read.proofs.Phases.{open_recovers}
 use Rattle.bx_journal_protocol.proofs.EndLineLemmas.{either_of}
@@ -88,10 +88,10 @@ returns-in_err-append_head_of-clause-left g c dh th rh stack writes =
     let r : List ℕ = g.T.TextStore.text c.args.devices.now.redo in
     let new : List ℕ = effect c.args.change.now x in
     let text : List ℕ = g.T.TextStore.text c.append_head_of.new.journal in
-    let left = before_stops text x r (side_of stack x r) (side_of (new ∷ stack) new (take (place_of c.args.part) r)) refl refl
+    let left = before_stops text x r (side_of stack x r) (side_of (new ∷ stack) new (take (cut_place c.args.part) r)) refl refl
     (c.in_err-append_head_of.ensures.fault dh th x stack (kept_of (saved c.args.change.now x)) writes.starts) in
     always_err c.from_residual.result
-    (subst (λ y. LeavesEither text y r (side_of stack x r) (side_of (new ∷ stack) new (take (place_of c.args.part) r))) (sym (c.in_err-append_head_of.ensures.goes_on.image dh)) left)
+    (subst (λ y. LeavesEither text y r (side_of stack x r) (side_of (new ∷ stack) new (take (cut_place c.args.part) r))) (sym (c.in_err-append_head_of.ensures.goes_on.image dh)) left)
 
 pub returns-in_err-change_with-clause-left : goal.returns-in_err-change_with-clause-left
 returns-in_err-change_with-clause-left g c dh th rh stack writes =
@@ -104,7 +104,7 @@ returns-in_err-change_with-clause-left g c dh th rh stack writes =
     let opened = c.in_ok-append_head_of.ensures.ok dh th x stack s writes.starts in
     let stays = subst (λ z. StaysOpenFor c.args.change.now z y) (c.in_ok-append_head_of.ensures.goes_on.image dh) (c.change_with.ensures.phase (c.in_ok-append_head_of.ensures.goes_on.image_honesty.1 dh)) in
     always_err c.from_residual-in_err-change_with.result
-    (within_old Second (as_read s) text y (g.T.TextStore.text c.change_with.new.redo) (side_of stack x r) (side_of (new ∷ stack) new (take (place_of c.args.part) r)) (stays text stack opened))
+    (within_old Second (as_read s) text y (g.T.TextStore.text c.change_with.new.redo) (side_of stack x r) (side_of (new ∷ stack) new (take (cut_place c.args.part) r)) (stays text stack opened))
 
 pub returns-clause-left : goal.returns-clause-left
 returns-clause-left g c dh th rh stack writes =
@@ -119,7 +119,7 @@ returns-clause-left g c dh th rh stack writes =
     let ends = ends_of c.args.change.now (g.T.TextStore.text c.args.devices.now.journal) text x y stack (head_text c.args.head.now.number (kept_over x c.args.ranges.now)) c.args.end.now writes (stays text stack opened) is in
     let last : List ℕ = g.T.TextStore.text c.append_end.new.journal in
     on_err_weaker c.append_end.result
-    (λ h. last_stops last y (g.T.TextStore.text c.change_with.new.redo) (side_of stack x r) (side_of (new ∷ stack) new (take (place_of c.args.part) r)) is (c.in_ok-change_with.ensures.redo rh)
+    (λ h. last_stops last y (g.T.TextStore.text c.change_with.new.redo) (side_of stack x r) (side_of (new ∷ stack) new (take (cut_place c.args.part) r)) is (c.in_ok-change_with.ensures.redo rh)
     (subst (λ z. RecoversOpen last y stack ⊎ Recovers last y (z ∷ stack)) is h))
     (c.append_end.ensures.fault (c.in_ok-append_head_of.ensures.goes_on.journal_honesty.1 th) y stack (as_read (kept_of (saved c.args.change.now x))) ends)
 
@@ -151,7 +151,7 @@ returns-in_err-append_head_of-clause-survives g c dh th rh settled stack writes 
     let z : List ℕ = effect c.args.change.now x in
     let head = c.in_err-append_head_of.ensures in
     let same : y ≡ x = settled.image y (head.goes_on.survives dh y image_there) in
-    before_stops (shown new) y redo (side_of stack x r) (side_of (z ∷ stack) z (take (place_of c.args.part) r)) same (settled.redo redo redo_there)
+    before_stops (shown new) y redo (side_of stack x r) (side_of (z ∷ stack) z (take (cut_place c.args.part) r)) same (settled.redo redo redo_there)
     (subst (λ w. Recovers (shown new) w stack) (sym same) (head.survives dh th settled.journal x stack (kept_of (saved c.args.change.now x)) writes.starts new there))
 
 pub returns-in_err-change_with-clause-survives : goal.returns-in_err-change_with-clause-survives
@@ -169,8 +169,8 @@ returns-in_err-change_with-clause-survives g c dh th rh settled stack writes y n
     let all = subst T (head.goes_on.image dh) (c.in_err-change_with.ensures.survives (head.goes_on.image_honesty.1 dh) only) in
     let moved = all y image_there text stack opened in
     let is : shown new ≡ text = ap shown (head.settled th new there) ∙ open_shown Second (as_read s) text y stack moved in
-    subst (λ w. LeavesEither w y redo (side_of stack x r) (side_of (z ∷ stack) z (take (place_of c.args.part) r))) (sym is)
-    (within_old Second (as_read s) text y redo (side_of stack x r) (side_of (z ∷ stack) z (take (place_of c.args.part) r)) moved)
+    subst (λ w. LeavesEither w y redo (side_of stack x r) (side_of (z ∷ stack) z (take (cut_place c.args.part) r))) (sym is)
+    (within_old Second (as_read s) text y redo (side_of stack x r) (side_of (z ∷ stack) z (take (cut_place c.args.part) r)) moved)
 
 pub returns-clause-survives : goal.returns-clause-survives
 returns-clause-survives g c dh th rh settled stack writes y new redo image_there there redo_there =
@@ -189,7 +189,7 @@ returns-clause-survives g c dh th rh settled stack writes y new redo image_there
     let stays = subst (λ v. StaysOpenFor c.args.change.now v w) (head.goes_on.image dh) (changed.phase still) in
     let ends = ends_of c.args.change.now (g.T.TextStore.text c.args.devices.now.journal) text x w stack (head_text c.args.head.now.number (kept_over x c.args.ranges.now)) c.args.end.now writes (stays text stack opened) is in
     let found = c.append_end.ensures.survives (head.goes_on.journal_honesty.1 th) (head.settled th) w stack (as_read s) ends new there in
-    last_stops (shown new) y redo (side_of stack x r) (side_of (z ∷ stack) z (take (place_of c.args.part) r)) (same ∙ is) (changed.redo_settled rh redo redo_there ∙ changed.redo rh)
+    last_stops (shown new) y redo (side_of stack x r) (side_of (z ∷ stack) z (take (cut_place c.args.part) r)) (same ∙ is) (changed.redo_settled rh redo redo_there ∙ changed.redo rh)
     (at_both (shown new) y w z stack same is found)
   where
     at_both : (text y w z : List ℕ) (stack : List (List ℕ)) → y ≡ w → w ≡ z → RecoversOpen text w stack ⊎ Recovers text w (w ∷ stack) → RecoversOpen text y stack ⊎ Recovers text y (z ∷ stack)

@@ -2,7 +2,7 @@ use Rattle.std.proofs.Common.{◌≡◌, ◌-◌, ◌^◌, ℕ, suc, List, lengt
 use Rattle.std.specs.Prelude.{slice_index_or, IfOk, Vec}
 use Rattle.bx_image.specs.Over.{LieWithin}
 use Rattle.bx_image.specs.declared.record.spans.Span.{Span}
-use Rattle.bx_journal_protocol.specs.write.Touched.{IsBegun}
+use Rattle.bx_journal_protocol.specs.write.Touched.{IsHeadBegun}
 use Rattle.bx_journal_protocol.proofs.TouchedLemmas.{begun_of, last_begun, last_within, none_begun, ranges_in}
 use Rattle.bx_journal_protocol.proofs.protocol.redo_entry.begin_last.Goals as goal
 use Rattle.bx_journal_protocol.proofs.protocol.redo_entry.begin_last.Goals.{After-as_slice-ranges}
@@ -39,4 +39,4 @@ returns-clause-begun g c =
     let did = c.look_and_begin.ensures in
     let begun = begun_of {honest = honest} x c.args.number c.as_slice-ranges.result.now page c.look_and_begin.result did.begun did.bytes did.long did.some did.place in
     last_begun honest x c.args.number ts (length ts - 1) c.index-takens-count.result page c.look_and_begin.result (some g at.After-as_slice-ranges)
-    (subst (λ rs. IfOk c.look_and_begin.result (IsBegun honest x c.args.number rs page)) (spans g at.After-as_slice-ranges) begun)
+    (subst (λ rs. IfOk c.look_and_begin.result (IsHeadBegun honest x c.args.number rs page)) (spans g at.After-as_slice-ranges) begun)

@@ -14,7 +14,7 @@ use Rattle.bx_journal_protocol.specs.model.OnTop.{OnTop}
 use Rattle.bx_journal_read.specs.model.Stack.{StandsFor}
 use Rattle.bx_journal_read.specs.model.Undoing.{HasLeft}
 use Rattle.bx_journal_protocol.specs.write.Ranges.{kept_over, left_len}
-use Rattle.bx_journal_protocol.specs.write.Touched.{AreTouched, IsBegun, IsFirstBegun, IsFirstWithin, IsTouched, entries_over}
+use Rattle.bx_journal_protocol.specs.write.Touched.{AreTouched, IsHeadBegun, IsFirstBegun, IsFirstWithin, IsTouched, entries_over}
 use Rattle.bx_journal_protocol.specs.protocol.Turns.{AreAtRest, AreStanding}
 use Rattle.bx_journal_protocol.proofs.DeviceLemmas.{always_err, filling_fails, goes_further, none_yet, step_fails}
 use Rattle.bx_journal_protocol.proofs.EntryLoop.{EntryTurn, all_left, entry_turn, left_at, long_at, one_less, places}
@@ -54,14 +54,14 @@ touched g c =
 
 -- its head is begun
 begun : (g : _) (c : After-as_slice-spans g)
-    → IsBegun (g.D.Device.honest c.args.devices.now.image) (g.D.Device.image c.loop-i.devices.image) (c.loop-i.count + 1) c.as_slice-spans.result.now c.loop-i.head.page.items c.loop-i.head.place
+    → IsHeadBegun (g.D.Device.honest c.args.devices.now.image) (g.D.Device.image c.loop-i.devices.image) (c.loop-i.count + 1) c.as_slice-spans.result.now c.loop-i.head.page.items c.loop-i.head.place
 begun g c =
     let x : List ℕ = g.D.Device.image c.loop-i.devices.image in
     let n : ℕ = c.loop-i.count + 1 in
     let page : List ℕ = c.loop-i.head.page.items in
     let place = c.loop-i.head.place in
     let honest : Type 0 = g.D.Device.honest c.args.devices.now.image in
-    subst (λ r. IsBegun honest x n r page place) (sym c.as_slice-spans.ensures.value)
+    subst (λ r. IsHeadBegun honest x n r page place) (sym c.as_slice-spans.ensures.value)
     (begun_pop x n c.take_both-entry.new.takens.items c.take_both-entry.result.1 page place (subst (λ us. IsFirstBegun honest x n (reverse us) page place) c.take_both-entry.ensures.ranges c.loop-i.invariant.begun))
 
 -- what its entry keeps

@@ -1,7 +1,7 @@
 use Rattle.std.proofs.Common.{◌≡◌, ◌⊎◌, inl, inr, ◌+◌, ◌<◌, ◌≤◌, ℕ, List, ◌∷◌, ◌++◌, length, drop, slice_index_or, ap, ◌∙◌, subst, arith}
 use Rattle.bx_image.proofs.Devices.{GoesOn_then}
 use Rattle.bx_image.specs.declared.record.spans.Span.{Span}
-use Rattle.bx_journal_protocol.specs.write.Ranges.{range_text}
+use Rattle.bx_journal_protocol.specs.write.Ranges.{saved_lines_text}
 use Rattle.bx_journal_protocol.proofs.RangeLemmas.{next_range, range_ends, page_step, page_len_step, place_behind}
 use Rattle.bx_journal_protocol.proofs.write.ranges.fill_page.Goals as goal
 
@@ -35,7 +35,7 @@ loop-now-preserved g c =
     record {
       place = place_behind _ ranges r c.loop-now.now c.behind-now.result c.in_ok-next.next c.requires.ordered inside here from c.behind-now.ensures;
       put = λ first. page_step x _ _ _ ranges r c.loop-now.now c.behind-now.result c.in_ok-next.next here at c.behind-now.ensures
-          (subst (λ y. c.fill_range.new.page.items ++ range_text y c.in_ok-next.next r.end ≡ c.loop-now.page.items ++ range_text y (r.at + c.loop-now.now.done) r.end) (before.image first) (c.in_ok-next.ensures.put (before.goes_on.honesty.1 first)))
+          (subst (λ y. c.fill_range.new.page.items ++ saved_lines_text y c.in_ok-next.next r.end ≡ c.loop-now.page.items ++ saved_lines_text y (r.at + c.loop-now.now.done) r.end) (before.image first) (c.in_ok-next.ensures.put (before.goes_on.honesty.1 first)))
           (before.put first);
       long = page_len_step _ _ _ ranges r c.loop-now.now c.behind-now.result c.in_ok-next.next here at c.behind-now.ensures c.in_ok-next.ensures.long before.long;
       grown = inr (more_than before.grown c.in_ok-next.ensures.more);

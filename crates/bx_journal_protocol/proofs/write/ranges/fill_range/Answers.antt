@@ -1,5 +1,5 @@
 use Rattle.std.proofs.Common.{◌≡◌, ◌+◌, List, ℕ, ◌++◌, length, ap, ◌∙◌, arith}
-use Rattle.bx_journal_protocol.specs.write.Ranges.{range_text, range_len}
+use Rattle.bx_journal_protocol.specs.write.Ranges.{saved_lines_text, range_len}
 use Rattle.bx_journal_protocol.proofs.RangeLemmas.{least_of, filled, filled_len, len_some}
 use Rattle.bx_journal_protocol.proofs.write.ranges.fill_range.Goals as goal
 
@@ -11,7 +11,7 @@ returns-clause-put g c honest =
     let is : length c.split_at_mut-part.result.0.now ≡ n = omega (arith, c.split_at_mut-part.ensures.front_len) in
     filled x old _ c.args.at n c.args.end c.fits_in-lines.result (omega arith) (omega (arith, c.requires.some, c.min-count.ensures)) (c.requires.range honest)
     (least_of c.args.at c.args.end c.fits_in-lines.result n (omega (arith, c.requires.some)) c.min-count.ensures)
-    (c.in_ok-fill_part.ensures.put honest ∙ ap (λ m. old ++ range_text x c.args.at (c.args.at + m)) is)
+    (c.in_ok-fill_part.ensures.put honest ∙ ap (λ m. old ++ saved_lines_text x c.args.at (c.args.at + m)) is)
 
 pub returns-clause-long : goal.returns-clause-long
 returns-clause-long g c =

@@ -1,6 +1,6 @@
 use Rattle.std.proofs.Common.{◌++◌, ap, sym, ◌∙◌, append-nil}
 use Rattle.std.specs.List.{flat_map}
-use Rattle.bx_patch.specs.Text.{line_text, span_lines}
+use Rattle.bx_patch.specs.Text.{signed_line_text, span_lines}
 use Rattle.bx_patch.proofs.PushLemmas.{row_begin, row_next, row_end, row_rest, gone_on, passes}
 use Rattle.bx_patch.proofs.diff.row.push_differing.Goals as goal
 
@@ -25,7 +25,7 @@ loop-from-preserved g c =
       most = next.ensures.most;
       other = next.ensures.other;
       text = gone_on _ c.loop-from.text.items c.push_span.new.text.items
-          (flat_map line_text (span_lines c.args.at old new (record { at = from; end = to }))) (row_rest c.args.at old new from) (row_rest c.args.at old new next.result)
+          (flat_map signed_line_text (span_lines c.args.at old new (record { at = from; end = to }))) (row_rest c.args.at old new from) (row_rest c.args.at old new next.result)
           c.loop-from.invariant.text
           (row_next c.args.at old new from to next.result c.loop-from-test.true more next.ensures.least next.ensures.most c.skip_other-to.ensures.other c.skip_other-to.ensures.same next.ensures.same)
           c.in_ok-push_span.ensures;

@@ -1,15 +1,15 @@
 use Rattle.std.proofs.Common.{◌-◌, ◌+◌, ◌<◌, ◌≤◌, ◌^◌, false, length}
 use Rattle.bx_patch.specs.Diff.{OnlyReads}
-use Rattle.bx_patch.specs.Other.{HasFirst}
-use Rattle.bx_patch.specs.private.Other.{IsCache}
+use Rattle.bx_patch.specs.Other.{HasFirstBytes}
+use Rattle.bx_patch.specs.private.Other.{IsImagePage}
 use Rattle.bx_patch.proofs.other.piece.count_in_piece.Given as goal
 
 abbrev pub invariant-loop-done : goal.invariant-loop-done
 invariant-loop-done g l = record {
   within : l.done ≤ length l.bytes;
   below : l.at + l.done < 2 ^ 64;
-  has : g.D.Device.honest l.fn.device → HasFirst (g.D.Device.image l.fn.device) (l.at, l.bytes) l.done;
-  cache : IsCache (g.D.Device.honest l.fn.device) (g.D.Device.image l.fn.device) l.page l.kept;
+  has : g.D.Device.honest l.fn.device → HasFirstBytes (g.D.Device.image l.fn.device) (l.at, l.bytes) l.done;
+  cache : IsImagePage (g.D.Device.honest l.fn.device) (g.D.Device.image l.fn.device) l.page l.kept;
   reads : OnlyReads g.D.Device.honest g.D.Device.image g.D.Device.room g.D.Device.failures g.D.Device.survives false l.fn.device l.device;
 }
 

@@ -1,7 +1,7 @@
 use Rattle.std.proofs.Common.{◌↔◌, List, ℕ, rules}
 use Rattle.bx_image.proofs.Files.{IsCutOnTheWay_none}
 use Rattle.test_cache.specs.Cached.{MayBeResized}
-use Rattle.test_cache.specs.Files.{IsSame, content, found}
+use Rattle.test_cache.specs.Files.{IsUnchanged, content, found}
 use Rattle.test_cache.proofs.Losses.{FadesFrom_resized, Follows_resized}
 use Rattle.test_cache.proofs.cached.CachedFileRandomAccess.resize.Goals as goal
 
@@ -17,5 +17,5 @@ returns-in-Ok-clause-fades c honest fits =
 
 pub returns-in-Err-clause-content : goal.returns-in-Err-clause-content
 returns-in-Err-clause-content c honest =
-    let stays : IsSame c.args.self.now c.resize_to.new.self = search rules in
+    let stays : IsUnchanged c.args.self.now c.resize_to.new.self = search rules in
     IsCutOnTheWay_none c.args.n _ _ stays.now

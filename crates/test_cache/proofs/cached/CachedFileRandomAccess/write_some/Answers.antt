@@ -1,7 +1,7 @@
 use Rattle.std.proofs.Common.{◌↔◌, List, ℕ, rules}
 use Rattle.bx_image.proofs.Files.{IsFrontPlaced_none}
 use Rattle.test_cache.specs.Cached.{MayBeWritten}
-use Rattle.test_cache.specs.Files.{IsSame, content, found}
+use Rattle.test_cache.specs.Files.{IsUnchanged, content, found}
 use Rattle.test_cache.proofs.Losses.{FadesBehind_written, Follows_written}
 use Rattle.test_cache.proofs.cached.CachedFileRandomAccess.write_some.Goals as goal
 
@@ -17,5 +17,5 @@ returns-in-Ok-clause-fades c honest is =
 
 pub returns-in-Err-clause-content : goal.returns-in-Err-clause-content
 returns-in-Err-clause-content c honest =
-    let stays : IsSame c.args.self.now c.write.new.self = search rules in
+    let stays : IsUnchanged c.args.self.now c.write.new.self = search rules in
     IsFrontPlaced_none c.args.at c.args.bytes.now _ _ stays.now
