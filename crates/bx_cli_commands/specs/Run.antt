@@ -156,6 +156,6 @@ DumpStep A before text offset reply after = TextStep before (dump_change {A = A}
 abbrev pub PlainStep : (A : Type 0) → Standing → List ℕ → ℕ → Reply → Standing → Type 0
 PlainStep A before text at reply after = TextStep before (plain_change {A = A} at) (plain_answer text) reply after
 
--- No count of failed calls falls, and the three together rise by no more than this many
+-- No count of failed calls falls, and the three together rise by at most `calls`
 abbrev pub CountsOn : {D T : Type 0} → DeviceViews D → StoreViews T → SessionView D T → SessionView D T → ℕ → Type 0
 CountsOn d t old new calls = (failed : ℕ) × (failed ≤ calls) × CountsBy d t old new failed

@@ -60,7 +60,7 @@ MovesUp Step moved k old (Err e) after = (after ≡ Up old) × Step old k (Err e
 abbrev pub CountsBelow : {D T : Type 0} → DeviceViews D → StoreViews T → ℕ → SessionView D T → Type 0
 CountsBelow d t limit s = (d.failures s.image < limit) × (t.failures s.journal < limit) × (t.failures s.redo < limit)
 
--- No count of failed calls falls, and the three together rise by exactly this many
+-- No count of failed calls falls, and the three together rise by exactly `failed`
 pub record CountsBy {D T : Type 0} (d : DeviceViews D) (t : StoreViews T) (old new : SessionView D T) (failed : ℕ) : Type 0 where
   pub image_least : d.failures old.image ≤ d.failures new.image
   pub journal_least : t.failures old.journal ≤ t.failures new.journal

@@ -34,9 +34,9 @@ pub enum Reply {
     Changed { number: u32 },
     /// dd's change was made, and has this number; the counts are dd's.
     Copied { number: u32, counts: Counts },
-    /// This many changes are left.
+    /// The count of changes that are left.
     Undone { left: u32 },
-    /// This many changes then stand.
+    /// The count of changes that then stand.
     Redone { changes: u32 },
     /// Nothing was done, unless the fault says otherwise.
     Refused(Fault),

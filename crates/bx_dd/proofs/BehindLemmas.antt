@@ -10,7 +10,7 @@ use Rattle.bx_dd.specs.Output.{converted}
 use Rattle.bx_dd.specs.Plan.{plan_form}
 use Rattle.bx_dd.specs.Transfer.{selected_by}
 
--- at most this many blocks of some bytes
+-- the first `count` blocks of some bytes, or all
 capped : ℕ → Option ℕ → List ℕ → List ℕ
 capped ibs count bytes = option_map_or (λ n. take (n * ibs) bytes) count bytes
 

@@ -13,7 +13,7 @@ use Rattle.bx_dd.specs.Transfer.{Copies, ReadsWithin, output_of}
 abbrev pub IsCopy : {A : Type 0} → Plan A → Option (List ℕ) → Option (List ℕ) → Option (List ℕ) → Option (List ℕ) → Counts → Type 0
 IsCopy plan r0 r1 w0 w1 counts = (bytes : List ℕ) × Appends w0 w1 bytes × Copies plan r0 r1 bytes counts
 
--- Why a copy stopped that had read and written this many bytes, of an output of `size` bytes. Memory is wanted before anything
+-- Why a copy stopped that had read `read` bytes and written `written`, of an output of `size`. Memory is wanted before anything
 -- is read, a write fails only before the output is whole, and an input is too long with one byte past 2^40.
 abbrev pub IsCopyFault : IoFault → ℕ → ℕ → ℕ → Type 0
 IsCopyFault NoMemory read written size = (read ≡ 0) × (written ≡ 0)

@@ -21,7 +21,7 @@ use std::alloc::Allocator;
 #[derive(Clone, Copy)]
 enum Kind {
     File,
-    /// A number from 1 to this many.
+    /// A number from 1 to the one that is named.
     Size(u64),
     Number,
     Conversions,
@@ -259,7 +259,7 @@ fn is_cbs_missing<W: Allocator>(words: &Words<W>) -> bool
     (converts(words, "block") || converts(words, "unblock")) && !is_given(words, "cbs")
 }
 
-/// Whether this many blocks are more than 2^48 bytes.
+/// Whether `count` blocks of `size` bytes are more than 2^48 bytes.
 fn is_too_far(count: u64, size: u64) -> bool
     ensures { result ≡ nat_lt (2 ^ 48) (count * size) }
 {

@@ -31,7 +31,7 @@ pub struct Page<A: Allocator = Global> {
 impl<A: Allocator> Page<A> {
     ghost use Rattle.bx_dd.specs.private.Paged.{Flushes, Puts, StopsFlush, StopsPut};
 
-    /// A page without room, after this many bytes that went out: what is put goes out at once.
+    /// A page without room, after `written` bytes that went out: what is put goes out at once.
     pub fn direct(alloc: A, written: u64) -> Page<A>
         requires { written ≤ 9223372036854775808 }
         ensures bytes { result.bytes.items ≡ [] }
@@ -87,7 +87,7 @@ impl<A: Allocator> Page<A> {
         }
     }
 
-    /// Puts this many spaces.
+    /// Puts `count` spaces.
     pub fn put_spaces<W: Write>(&mut self, w: &mut W, count: usize) -> Result<(), IoFault>
         ensures ok { Puts (W.contents w.old) (W.contents w.new) self.old self.new (replicate count 32) result }
         ensures err { StopsPut (W.contents w.old) (W.contents w.new) self.old (replicate count 32) result }
@@ -106,7 +106,7 @@ impl<A: Allocator> Page<A> {
     }
 }
 
-/// Writes bytes after this many others, and answers how many those are together.
+/// Writes bytes after `written` others, and answers how many those are together.
 fn send<W: Write>(w: &mut W, written: u64, bytes: &[u8]) -> Result<u64, IoFault>
     requires { written ≤ 9223372036854775808 }
     ensures sum { IfOk result (λ n. (n ≡ written + length bytes.now) × (n ≤ 9223372036854775808)) }

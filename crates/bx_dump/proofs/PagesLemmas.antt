@@ -263,7 +263,7 @@ front_along slack wide text other skip limit from before r0 r1 w0 w1 fault same 
       ahead = keeps_along fault slack wide d.written d.written text other d.input (λ front few. omega (arith, few, wider, ap length (same front), ap length (same []))) d.ahead;
     }
 
--- A text behind the dump: `last` where this many bytes were dumped.
+-- A text behind the dump: `last` where `read` bytes were dumped.
 module _ (text other : List ℕ → List ℕ) (skip : ℕ) (limit : Option ℕ) (r0 r1 w0 w1 w2 : Option (List ℕ)) (read written : ℕ) (last : List ℕ)
     (is : (xs : List ℕ) → length (bytes_dumped skip limit xs) ≡ read → other xs ≡ text xs ++ last) (d : WritesPart text skip limit (streams r0 r1 w0 w1) read written) where
   pub part_then : Appends w1 w2 last → WritesPart other skip limit (streams r0 r1 w0 w2) read (written + length last)

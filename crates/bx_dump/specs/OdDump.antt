@@ -7,7 +7,7 @@ use Rattle.bx_dump.specs.Od.{od_text}
 use Rattle.bx_dump.specs.Pages.{Dump, WritesFrontOf}
 use Rattle.bx_dump.specs.declared.od.options.OdOptions.{OdOptions}
 
--- at least this many bytes were read
+-- at least `count` bytes were read
 abbrev pub Reaches : ℕ → Option (List ℕ) → Option (List ℕ) → Type 0
 Reaches count r0 r1 = (input : List ℕ) × Consumes r0 r1 input × (count ≤ length input)
 
@@ -15,7 +15,7 @@ Reaches count r0 r1 = (input : List ℕ) × Consumes r0 r1 input × (count ≤ l
 abbrev pub od_of : OdOptions → Dump
 od_of o = record { text = od_text o.address o.kind o.all (o.first + o.skip); skip = o.skip; limit = o.limit }
 
--- the input ended before this many bytes
+-- the input ended before `count` bytes
 abbrev pub EndsBefore : ℕ → Option (List ℕ) → Option (List ℕ) → Type 0
 EndsBefore count r0 r1 = (input : List ℕ) × Consumes r0 r1 input × (length input ≤ 2 ^ 40) × (length input < count) × IsAtEnd r1
 

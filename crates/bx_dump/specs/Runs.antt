@@ -6,7 +6,7 @@ use Rattle.bx_text.specs.Ascii.{is_printable}
 use Rattle.bx_dump_columns.specs.Places.{place_text}
 use Rattle.bx_dump.specs.Strings.{strings_text}
 
--- the bytes from place a up to b print, those beside them don't, and they are at least this many
+-- the bytes from place a up to b print, those beside them don't, and there are at least `least` of them
 pub record IsPrintableRun (least : ℕ) (x : List ℕ) (a b : ℕ) : Type 0 where
   pub long : a + least ≤ b
   pub within : b ≤ length x

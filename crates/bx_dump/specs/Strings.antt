@@ -12,12 +12,13 @@ abbrev pub is_run_start : Bool → List ℕ → ℕ → Bool
 is_run_start before x zero = is_printable (slice_index x 0) && not before
 is_run_start before x (suc a) = is_printable (slice_index x (suc a)) && not (is_printable (slice_index x a))
 
--- the line of a run, where one of at least this many bytes begins at place a: it goes up to the next byte that doesn't print, or up to the end
+-- the line of a run, where one of at least `least` bytes begins at place a: it goes up to the next byte that doesn't print, or
+-- up to the end
 abbrev pub line_at : ℕ → Address → Bool → ℕ → List ℕ → ℕ → List ℕ
 line_at least offsets before first x a = let run = take (prefix_len is_printable (drop a x)) (drop a x) in
     if is_run_start before x a && nat_le least (length run) then place_text offsets (first + a) ++ (run ++ codes "\n") else []
 
--- all maximal runs of at least this many printable bytes, by rising place, each on a line
+-- all maximal runs of at least `least` printable bytes, by rising place, each on a line
 abbrev pub strings_text : ℕ → Address → List ℕ → List ℕ
 strings_text least offsets x = flat_map (line_at least offsets false 0 x) (range_with_len 0 (length x))
 

@@ -161,7 +161,7 @@ module _ (base : ℕ) (big : 2 ≤ base) where
       let first = digits_some 64 63 (n / p) refl refl in
       omega (arith, ap length text, length-append (digits base false (n / p)) (left_filled 48 k (digits base false (n % p))), long, first)
 
--- an address of this many digits needs no zeros, and a shorter one gets 7 characters
+-- an address of w digits needs no zeros, and a shorter one gets 7 characters
 pub address_filled : (w at : ℕ) → 7 ≤ w → w ≤ 10 → at < 8 ^ w → (7 < w → 8 ^ (w - 1) ≤ at) → left_filled 48 w (digits 8 false at) ≡ left_filled 48 7 (digits 8 false at)
 address_filled w at least most fits all =
     ⊎_elim

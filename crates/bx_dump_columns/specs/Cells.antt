@@ -17,11 +17,11 @@ grouped piece cells width =
     flat_map (piece_at piece cells) (range_with_len 0 (length cells / piece))
     ++ (drop (piece * (length cells / piece)) cells ++ replicate (width - (length cells + length cells / piece)) 32)
 
--- value k of this many bytes each: a space, and the digits of its bytes, the last byte first
+-- value k of `size` bytes each: a space, and the digits of its bytes, the last byte first
 abbrev pub hex_value : ℕ → List ℕ → ℕ → List ℕ
 hex_value size bytes k = 32 ∷ flat_map (pair_of false) (reverse (take size (drop (size * k) bytes)))
 
--- a text is this many values, where the cells are the digits of 16 bytes
+-- a text is `count` values, where the cells are the digits of 16 bytes
 abbrev pub ShowsValues : ℕ → ℕ → List ℕ → List ℕ → Type 0
 ShowsValues size count cells text =
     (bytes : List ℕ) → length bytes ≡ 16 → cells ≡ flat_map (pair_of false) bytes → text ≡ flat_map (hex_value size bytes) (range_with_len 0 count)

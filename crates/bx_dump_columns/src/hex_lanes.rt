@@ -130,7 +130,7 @@ pub fn put_shown(field: &mut [u8], bytes: &[u8])
         .copy_to_slice(field);
 }
 
-/// Puts this many times 16 bytes as text.
+/// Puts `count` times 16 bytes as text.
 #[inline(always)]
 fn put_shown_sixteens(field: &mut [u8], bytes: &[u8], count: usize)
     requires room { length field.old ≡ 16 * count }

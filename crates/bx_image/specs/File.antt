@@ -12,7 +12,7 @@ IsFrontPlaced at bytes old new = (k : ℕ) × (new ≡ place old at (take k byte
 abbrev pub IsCutOnTheWay : ℕ → List ℕ → List ℕ → Type 0
 IsCutOnTheWay n old new = (m : ℕ) × (min (length old) n ≤ m) × (m ≤ max (length old) n) × (new ≡ cut old m)
 
--- after a write that took this many of the bytes, or was stopped
+-- after a write that took the first n of the bytes, or was stopped
 abbrev pub WriteLeaves : Result ℕ Stop → ℕ → List ℕ → List ℕ → List ℕ → Type 0
 WriteLeaves (Ok n) at bytes old new = new ≡ place old at (take n bytes)
 WriteLeaves (Err Interrupted) at bytes old new = new ≡ old

@@ -79,7 +79,7 @@ listed_more front window rest taken i s u rows new h left f lead pushed =
     subst (λ l. IsListed l u new) (sym same)
     (subst (IsListed ((front ++ take taken window) ++ ended (take i rest)) u) (sym pushed) (listed_on (front ++ take taken window) (take i rest) s u rows h f.plain lead))
 
--- this many full lines more
+-- k full lines more
 listed_by : (front text : List ℕ) (s : Summed) (rows : List LogRow) (v : Version) (len count k : ℕ) → s.tally.place ≡ SavingPlace v len → AreFullSaved len text count → k ≤ count
     → IsListed front s rows → IsListed (front ++ take (68 * k) text) (with_more s (16 * k)) rows
 listed_by front text s rows v len count zero place so below h =

@@ -85,7 +85,7 @@ found_torn H text f t found is = subst (IsFoundIn H text) is found
 pub found_unclean : (H : Type 0) (text : List ℕ) (t : Torn) → IsUnfinishedIn H text t → H → IsClean text → ⊥
 found_unclean H text t i h = (i.torn h).unfinished
 
--- this many changes fit in a journal
+-- the changes of the stack fit in a journal
 pub found_few : (H : Type 0) (text x : List ℕ) (stack : List (List ℕ)) (t : Torn) → IsUnfinishedIn H text t → H → Recovers (shown text) x stack → changes_of stack ≤ 65535
 found_few H text x stack t i h rec = omega (arith, torn_stack (shown text) (shown text) x stack t (i.torn h).reading (i.torn h).torn refl rec, i.few)
 

@@ -39,7 +39,7 @@ redo_counts (NothingToRedo have) t u h = h
 redo_counts (RedoDamaged line) t u h = h
 redo_counts (Damaged line) t u h = h
 
--- a redo text of this many finished entries alone isn't called damaged
+-- a redo text of `count` finished entries alone isn't called damaged
 pub redo_in_step : (honest : Type 0) (text : List ℕ) (count : ℕ) (e : SessionFault) → honest → HasCount text count → RedoAgainFault honest text count e → (line : ℕ) → e ≡ RedoDamaged line → ⊥
 redo_in_step honest text count e th has h line is =
     elim (subst (RedoAgainFault honest text count) is h th) [

@@ -15,7 +15,7 @@ use Rattle.bx_journal_read.specs.model.Redo.{IsRedoOf, BeginsAt, HasTailAt, IsTo
 use Rattle.bx_journal_protocol.specs.model.RedoLaws.{RedoLineOne}
 use Rattle.bx_journal_protocol.proofs.RedoText.{one_reading, one_list}
 
--- this many lines and more
+-- where the first a lines and the first b lines lead to the same finished entries, b is not above a
 further : (es : List Entry) (ls : List (List ℕ)) (a b : ℕ) → a ≤ b → b ≤ length ls → after_lines start (take a ls) ≡ Some (record { entries = es; stage = Between }) → after_lines start (take b ls) ≡ Some (record { entries = es; stage = Between }) → b ≤ a
 further es ls a b le within p q =
     let count : b ≡ a + (b - a) = omega arith in

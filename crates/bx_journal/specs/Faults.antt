@@ -19,8 +19,8 @@ pub record FaultsOfChange {D T A V : Type 0} (d : DeviceViews D) (c : Change A) 
   pub fits : d.honest old.image → IsErrOf result NoMemory → Fits c (length (d.image old.image)) MAX_LEN
   pub fitted : d.honest old.image → IsErrOf result Interrupted → Fits c (length (d.image old.image)) MAX_LEN
 
--- Of an undo of k: there are too few changes exactly where there are, and the text is called damaged exactly where it isn't this many finished
--- entries alone
+-- Of an undo of k: there are too few changes exactly where there are, and the text is called damaged exactly where it isn't
+-- `old.count` finished entries alone
 pub record FaultsOfUndo {D T V : Type 0} (t : StoreViews T) (k : ℕ) (old : SessionView D T) (result : Result V SessionFault) : Type 0 where
   pub kind : IfErr result (UndoFault old.count)
   pub few : ((old.is_broken ≡ false) × (old.count < k)) ↔ IsErrOf result (TooFew old.count)

@@ -94,7 +94,7 @@ module _ {D T : Type 0} (d : DeviceViews D) (t : StoreViews T) (old : Devices D 
   abbrev pub SparesClean : {E : Type 0} → Devices D T → Result Recovered E → Type 0
   SparesClean new result = OfPair (IfOk result (λ o. o.how ≡ Clean → IsPairSame new))
 
-  -- this many undone images are reported as the redo text and the image that are left stand for
+  -- the redo text and the image that are left stand for as many undone images as are reported
   abbrev pub TellsUndone : {E : Type 0} → Devices D T → Result Recovered E → Type 0
   TellsUndone new result = OfAll (IfOk result (λ o. HasUndoneCount (t.text new.redo) (d.image new.image) o.changes o.undone))
 

@@ -207,7 +207,7 @@ to_is text marks m v n at h =
     let lines : (split text).lines ≡ lines_of h.entries ++ b.first ∷ b.saved = h.lines ∙ ap (λ ls. lines_of h.entries ++ ls) (b.is ∙ ap (λ ls. b.first ∷ ls) (append-nil b.saved)) in
     b.ends ∙ ap length (ap text_of_lines (sym lines) ∙ joined_lines text h.whole)
 
--- this many full lines more
+-- k full lines more
 marked_by : (front text : List ℕ) (m : Marking) (marks : List Mark) (v : Version) (len count k : ℕ) → m.sums.tally.place ≡ SavingPlace v len → AreFullSaved len text count → k ≤ count
     → IsMarked front m marks → IsMarked (front ++ take (68 * k) text) (record { sums = with_more m.sums (16 * k); from = m.from; to = m.to + 68 * k }) marks
 marked_by front text m marks v len count zero place so below h =

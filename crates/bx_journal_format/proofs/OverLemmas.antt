@@ -54,7 +54,7 @@ pub over_whole : (n : ℕ) (old new : List ℕ) → length new ≡ length old �
 over_whole n old new same long =
     take-append-le n new (drop (length new) old) (omega (arith, same, long)) ∙ take_all n new (omega (arith, same, long))
 
--- the run's bytes are the text's first ones, and this many lines were put behind them
+-- the run's bytes are the text's first ones, and `count` lines were put behind them
 pub record IsExtended (len at size from : ℕ) (old new : List ℕ) (count : ℕ) : Type 0 where
   pub within : from + 68 * count ≤ length old
   pub same : length new ≡ length old

@@ -45,7 +45,7 @@ take_less (suc n) m (x ∷ xs) =
     let e : suc n + m ≡ suc (n + m) = omega arith in
     ap (λ k. take (suc n) (take k (x ∷ xs))) e ∙ ap (λ l. x ∷ l) (take_less n m xs)
 
--- this many bytes, and that many more
+-- n bytes, and m more
 pub take_sum : (n m : ℕ) (xs : List ℕ) → take (n + m) xs ≡ take n xs ++ take m (drop n xs)
 take_sum n m xs =
     sym (take-append-drop n (take (n + m) xs)) ∙ ap (λ l. l ++ drop n (take (n + m) xs)) (take_less n m xs) ∙ ap (λ l. take n xs ++ l) (drop-take n m xs)

@@ -69,7 +69,8 @@ pub record IsReadTo {A : Type 0} (text : List ℕ) (older : List Entry) (es : Li
   pub marked : IsMarked text older es stage at
   pub counted : line ≡ suc (length (split (take at text)).lines)
 
--- this many full lines, with which a text goes on, lead from one stage to another and count among its lines, whatever entries are before
+-- `count` full lines, with which a text goes on, lead from one stage to another and count among its lines, whatever entries are
+-- before
 abbrev pub ReadingGoesOnBy : {A : Type 0} → List ℕ → StageRead A → StageRead A → ℕ → Type 0
 ReadingGoesOnBy {A = A} rest old new count =
     (text : List ℕ) (older : List Entry) (es : List (EntryRead A)) (at line : ℕ) → IsReadTo text older es old at line → rest ≡ drop at text

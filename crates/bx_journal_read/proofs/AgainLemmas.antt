@@ -58,12 +58,12 @@ kept_last {A = A} text es last count n longest room read is below within =
     let here : All (λ (e : EntryRead A). e.kept.len ≤ longest) (drop n es) = subst (All (λ (e : EntryRead A). e.kept.len ≤ longest)) is below in
     kept_more longest room (drop n es) (all_kept longest (drop n es) (each_drop n es (each_within read.older es sane)) here) within
 
--- the text is that of this many
+-- the text is that of `count` finished entries
 pub has_count : {A : Type 0} → (stored text : List ℕ) (es : List (EntryRead A)) (count : ℕ) → IsReadLast text es count → stored ≡ text → HasCount stored count
 has_count stored text es count read is =
     (entries_onto read.older es, subst (λ t. IsFinished t (entries_onto read.older es)) (sym is) read.finished, omega (arith, length-onto read.older es, read.counted))
 
--- a text of this many finished entries alone isn't called damaged
+-- a text of `count` finished entries alone isn't called damaged
 pub in_step : (honest : Type 0) (text : List ℕ) (count : ℕ) (e : SessionFault) → honest → HasCount text count → AgainFault honest text count e → (line : ℕ) → e ≡ Damaged line → ⊥
 in_step honest text count e th has h line is =
     elim (subst (AgainFault honest text count) is h th) [
@@ -85,7 +85,7 @@ pub not_whole : {A : Type 0} → (bytes : List ℕ) (j : JournalRead A) (count :
 not_whole bytes j count read apart h =
     apart (omega (arith, ap length (read.places.rest ∙ h.1.whole), length-drop j.whole bytes, read.places.mark.within))
 
--- the text is accepted, and isn't this many finished entries alone
+-- the text is accepted, and isn't `count` finished entries alone
 pub apart_of : {A : Type 0} → (text bytes : List ℕ) (j : JournalRead A) (count : ℕ) → HasRead bytes j → text ≡ bytes → (HasCount bytes count → ⊥) → IsOutOfStep text count 1
 apart_of text bytes j count read same apart =
     inr (refl, (reading_of j.entries.items j.stage, subst (λ t. Reads t (reading_of j.entries.items j.stage)) (sym same) read.reads), λ h. apart (subst (λ t. HasCount t count) same h))

@@ -85,7 +85,7 @@ module _ (H now : Type 0) (stored text : List ℕ) (still : H → now) (same : H
   again_last count (Ok r) f = last_is r.len count r.entries.items (last_of_all now text r.len count r.entries.items f)
   again_last count (Err e) f = tt
 
--- at least this many entries were read where all were
+-- at least k entries were read where all were
 pub few_of_all : {A E : Type 0} → (honest : Type 0) (stored : List ℕ) (count k : ℕ) (r : Result (FinishedRead A) E) → k ≤ count → IfOk r (λ o. IsReadFrom honest stored o.len o.entries.items count) → IfOk r (λ o. k ≤ length o.entries.items)
 few_of_all honest stored count k (Ok r) few f = omega (arith, few, f.read.counted)
 few_of_all honest stored count k (Err e) few f = tt

@@ -63,10 +63,10 @@ impl<F: RandomAccess> FileText<F> {
     }
 }
 
-// This many bytes are filled with zeros and then read, while they are still at hand.
+// The count of bytes that are filled with zeros and then read, while they are still at hand.
 const PART: usize = 262_144;
 
-// Reads this many bytes more, behind those that were read.
+// Reads `more` bytes, behind those that were read.
 fn read_more<F: RandomAccess, A: Allocator>(
     file: &mut F,
     bytes: &mut Vec<u8, A>,

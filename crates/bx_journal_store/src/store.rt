@@ -74,7 +74,7 @@ pub trait TextStore {
         ensures fades { honest self.old → FadesBehind (text self.old) bytes.now (survives self.old) (survives self.new) }
         ensures goes_on { GoesOn honest room failures (is_err result) self.old self.new };
 
-    /// Leaves the first `n` bytes; the text has at least this many.
+    /// Leaves the first `n` bytes; the text has at least `n`.
     ///
     /// Where it fails, a front of the text is left that has at least these.
     fn cut(&mut self, n: u64) -> Result<(), DeviceFailed>

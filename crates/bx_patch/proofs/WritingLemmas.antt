@@ -110,7 +110,7 @@ part_behind fault first mid now before text written put count part = (
       (sym (length-append before part.0)) (omega arith) (tells_behind fault written (length before) (length part.0) (length part.1) count part.4),
 )
 
--- a write that failed behind this many bytes
+-- a write that failed behind n bytes
 pub put_failed : (n told before : ℕ) (old new : Option (List ℕ)) (bytes : List ℕ) → told ≡ counted (before + n) → WritesFront 0 old new bytes (FrontFailed n) →
     PutsPart before old new bytes (WriteFailed told)
 put_failed n told before old new bytes e is = (

@@ -37,7 +37,7 @@ pub enum Reason {
     Unfinished,
     /// A change is unfinished behind those that can be shown.
     Begun,
-    /// The file has this many bytes and can't grow, and the change wants it to have `wanted`.
+    /// The file has `has` bytes and can't grow, and the change wants it to have `wanted`.
     Fixed {
         /// How many it has.
         has: u64,
@@ -53,7 +53,7 @@ pub enum Reason {
     },
     /// The image has these bytes in a row, the first of them where a patch has another one.
     There(Row),
-    /// The file has this many bytes, and should have as many as `expected`.
+    /// The file has `has` bytes, and should have as many as `expected`.
     Lengths {
         /// How many it has.
         has: u64,

@@ -6,7 +6,7 @@ use std::time::{Clock, Duration, Instant};
 /// Work that takes less time shows nothing, in milliseconds.
 const FIRST: u64 = 1000;
 
-/// The line is written again after this many milliseconds.
+/// The count of milliseconds after which the line is written again.
 const AGAIN: u64 = 200;
 
 /// Which of the standard streams a person looks at.
@@ -34,7 +34,7 @@ pub struct Progress<'r, R> {
 }
 
 impl<'r, R: Clock + Eprint> Progress<'r, R> {
-    /// Nothing is passed yet of this many bytes, where their number is known. `shows` says whether there is a line.
+    /// Nothing is passed yet of `total` bytes, where their number is known. `shows` says whether there is a line.
     pub fn new(rt: &'r R, shows: bool, total: Option<u64>) -> Progress<'r, R> {
         Progress {
             rt,
@@ -108,14 +108,14 @@ impl<'r, R: Clock + Eprint> Progress<'r, R> {
     }
 }
 
-/// The time in this many milliseconds; none where no clock tells.
+/// The time in `millis` milliseconds; none where no clock tells.
 fn after<C: Clock>(clock: &C, millis: u64) -> Option<Instant> {
     Instant::now(clock)
         .ok()?
         .checked_add(Duration::from_millis(millis))
 }
 
-/// A tenth of the unit in which this many bytes are given, and the unit's name.
+/// A tenth of the unit in which `bytes` bytes are given, and the unit's name.
 fn unit_of(bytes: u64) -> (u64, &'static str) {
     match bytes {
         0..=999_999 => (100, "kB"),

@@ -26,7 +26,7 @@ led onward None = None
 led onward (Some (File n)) = Some n
 led onward (Some (Link target)) = onward target
 
--- the file that a name leads to by at most this many steps
+-- the file that a name leads to by at most `steps` steps
 unfoldable pub follow : List Entry → ℕ → List ℕ → Option ℕ
 follow entries zero name = None
 follow entries (suc steps) name = led (λ target. follow entries steps target) (entry_named entries name)

@@ -26,7 +26,7 @@ const FIRST_OF_REDO: u64 = 1 << 32;
 /// Which writes of a device that is lent fail.
 #[derive(Clone, Copy)]
 pub struct Fails {
-    /// This many pass first.
+    /// The count of writes that pass first.
     pub pass: u64,
     /// How much of a write that fails takes effect.
     pub part: Part,

@@ -19,7 +19,7 @@ abbrev pub half_digit : Option ℕ → List ℕ
 half_digit None = []
 half_digit (Some digit) = digit ∷ []
 
--- Whatever follows the text is read as it is after these bytes and half a pair, this many newlines, and a last digit in this line.
+-- Whatever follows the text is read as it is after these bytes and half a pair, `passed` newlines, and a last digit in line `last`.
 pub record HasDigits (text bytes : List ℕ) (half : Option ℕ) (passed last : ℕ) : Type 0 where
   pub digits : (more : List ℕ) → hex_bytes (filter (λ c. not (is_space c)) (text ++ more))
       ≡ option_map (λ others. bytes ++ others) (hex_bytes (half_digit half ++ filter (λ c. not (is_space c)) more))

@@ -32,7 +32,7 @@ impl<'a> DumpLines<'a> {
         DumpLines { text, passed: 0 }
     }
 
-    /// The same of a text that follows this many lines.
+    /// The same of a text that follows `passed` lines.
     pub(crate) fn behind(text: &'a [u8], passed: u64) -> DumpLines<'a>
         requires { passed + length text.now < 2 ^ 64 }
         ensures { coming result ≡ answers (passed + 1) (lines_of text.now) }

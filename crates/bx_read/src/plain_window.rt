@@ -36,7 +36,7 @@ impl<A: Allocator> PlainRead<A> {
         }
     }
 
-    /// The same with room for this many bytes, without another growth.
+    /// The same with room for `capacity` bytes, without another growth.
     pub(crate) fn with_capacity(alloc: A, capacity: usize) -> Result<PlainRead<A>, AllocError>
         ensures read { IfOk result (λ read. HasReadPlain [] read) }
         ensures count { IfOk result (λ read. read.passed ≡ 0) }

@@ -26,7 +26,7 @@ pub fn read_runs<A: Allocator + Clone>(alloc: A, text: &[u8]) -> Result<Vec<Piec
     gather_runs(alloc, text, 0)
 }
 
-/// The runs of a text that follows this many lines, one after another. Memory for the first one is guessed from the text's
+/// The runs of a text that follows `passed` lines, one after another. Memory for the first one is guessed from the text's
 /// length, as if all lines went on.
 pub(crate) fn gather_runs<A: Allocator + Clone>(
     alloc: A,
@@ -112,7 +112,7 @@ struct TakenRun<'a, A: Allocator = Global> {
     next: Option<DumpLine<'a>>,
 }
 
-/// The run that a line begins, with room for this many bytes at first.
+/// The run that a line begins, with room for `room` bytes at first.
 fn take_run<'a, A: Allocator>(
     alloc: A,
     lines: &mut DumpLines<'a>,

@@ -22,7 +22,7 @@ pub fn arena(alloc: Global) -> Result<Bump, AllocError> {
 
 /// From here on the arena hands out `bytes` bytes: each growth has a number at which it is the first to be refused.
 ///
-/// A chunk has twice the bytes of the one before, so one of that many comes before twice as many were handed out.
+/// A chunk has twice the bytes of the one before, so one of `bytes` bytes comes before twice as many were handed out.
 pub fn squeeze(bump: &Bump, bytes: usize) -> Result<(), AllocError> {
     for _ in 0..bytes / PAGE.len() * 2 + 128 {
         if bump.chunk_capacity() >= bytes {

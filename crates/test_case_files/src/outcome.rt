@@ -13,10 +13,10 @@ pub struct Records {
 /// What opening a pair finds.
 #[derive(Clone, Copy, Debug, PartialEq, Eq)]
 pub enum Opening {
-    /// This many changes, and nothing behind them; that many that were undone can be made again.
+    /// `changes` changes, and nothing behind them; `undone` others can be made again.
     Clean { changes: u32, undone: u32 },
-    /// An unfinished change behind this many, which has not touched the image.
+    /// An unfinished change behind `changes` others, which has not touched the image.
     Dropped { changes: u32 },
-    /// An unfinished change of this number behind that many, which was taken back.
+    /// An unfinished change of this number behind `changes` others, which was taken back.
     Restored { number: u32, changes: u32 },
 }

@@ -50,7 +50,7 @@ fn play_written(alloc: Global, case: &PatchWritten, sweep: usize) -> Result<u32,
     }
 }
 
-/// The patch, and where the case says it the one with whole rows, to a writer that takes this many bytes a call.
+/// The patch, and where the case says it the one with whole rows, to a writer that takes `each` bytes a call.
 fn both(alloc: Global, case: &PatchWritten, each: usize) -> Result<u32, Wrong> {
     whole(alloc, case, Extent::Bytes, each)?;
     if case.rows.is_none() {

@@ -10,5 +10,5 @@ pub(crate) mod open;
 pub(crate) mod places;
 pub(crate) mod standing;
 
-/// No play comes near this many failed calls.
+/// More failed calls than any play comes near.
 pub const MANY: u64 = 100_000;

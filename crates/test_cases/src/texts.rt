@@ -128,7 +128,7 @@ fn all_undone(alloc: Global, case: &TextCase) -> Result<u32, Wrong> {
     Ok(1)
 }
 
-/// Stops the opening at each call of each device, in this many ways, and what is left again.
+/// Stops the opening at each call of each device, in `ways` ways, and what is left again.
 fn stopped<D: Device + Drop, T: TextStore + Drop, M: Medium<D, T>>(
     alloc: Global,
     medium: &M,

@@ -37,7 +37,7 @@ pub static SWEEPS: [&str; 13] = [
 /// The last sweep of cases that give a sum in place of the output.
 const BYTE_BY_BYTE: usize = 3;
 
-/// No play makes this many calls.
+/// More calls than any play makes.
 const MOST_CALLS: u32 = 100_000;
 
 /// Plays a case in one way. Tells how often.

@@ -1,6 +1,6 @@
 //! What the tests of several layers use.
 
-/// The first this many bytes, or all.
+/// The first `count` bytes, or all.
 pub fn front(bytes: &[u8], count: usize) -> &[u8] {
     &bytes[..count.min(bytes.len())]
 }

@@ -25,7 +25,7 @@ fn source_limit(rt: HostRuntime) {
     }
 }
 
-// How much was read when a heap of this many bytes had no more, which has all back then; nothing where all was read.
+// How much was read when a heap of `room` bytes had no more, which has all back then; nothing where all was read.
 fn refused_in(
     rt: &impl Abort,
     alloc: Global,

@@ -7,7 +7,7 @@ use std::process::Abort;
 use std::test::Fail;
 use test_arena::ration;
 
-/// Whether these are runs at these addresses, of this many bytes.
+/// Whether these are runs at these addresses, of these lengths.
 fn are(found: &[Piece], wanted: &[(u64, usize)]) -> bool {
     if found.len() != wanted.len() {
         return false;

@@ -106,7 +106,7 @@ fn any_digit(byte: u8) -> Option<u64> {
     digit(byte.to_ascii_lowercase())
 }
 
-/// This many lower-case digits.
+/// The number that `width` lower-case digits give.
 fn number(text: &[u8], width: usize) -> Option<u64> {
     if text.len() != width {
         return None;
@@ -483,7 +483,7 @@ fn first_form_line(entries: &[Entry]) -> Option<u64> {
     Some(entry.line)
 }
 
-/// The first line of the first entry that is one too many beside this many changes.
+/// The first line of the first entry that is one too many beside `changes` changes.
 fn excess_line(entries: &[Entry], changes: u32) -> Option<u64> {
     let most = MOST_ENTRIES.saturating_sub(changes as usize);
     Some(entries.get(most)?.line)
@@ -506,7 +506,7 @@ fn refused_line(reading: &Reading, image: &[u8], rest: &[u8], changes: u32) -> O
         .or(off_line(reading, image))
 }
 
-/// How many undone images opening is to find beside this many changes, where image and journal are in order.
+/// How many undone images opening is to find beside `changes` changes, where image and journal are in order.
 fn judge_redo(
     alloc: Global,
     image: &[u8],

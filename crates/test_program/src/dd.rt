@@ -10,8 +10,8 @@ use std::io::{ErrorKind, Read};
 use std::process::Abort;
 use std::test::Fail;
 
-/// A reader that is interrupted so often before each read, gives at most this many bytes a call, and fails once this many bytes were
-/// given.
+/// A reader that is interrupted `interruptions` times before each read, gives at most `each` bytes a call, and fails once it has
+/// given `fails_after`.
 #[derive(Drop)]
 pub struct Trickle<'a> {
     rest: &'a [u8],
@@ -75,7 +75,7 @@ fn dd_writes_before_it_reads_on(rt: HostRuntime) {
     }
 }
 
-/// What dd replies of an image where its input is five bytes, each behind this many interruptions, and fails behind this many.
+/// The interruptions before each of five bytes of input, the count of bytes behind which it fails, operands, and dd's reply.
 type Copied = (u32, usize, &'static str, Reply);
 
 const FAILED: Reply = Reply::Refused(Fault::Dd(DdFault::ReadFailed));

@@ -79,7 +79,7 @@ fn outcome_of(replies: &[Reply]) -> Outcome {
     }
 }
 
-/// The image behind this many of the two changes.
+/// The image behind the first `changes` of the two changes.
 fn image_of(changes: u32) -> &'static [u8] {
     match changes {
         0 => b"ABCDEFGH",
@@ -108,7 +108,7 @@ fn four_in<'a>(
     Ok(outcome)
 }
 
-/// The four commands in a heap of this many bytes, which all come back.
+/// The four commands in a heap of `bytes` bytes, which all come back.
 fn in_heap(rt: &impl Abort, alloc: Global, bytes: usize, large: &str) -> Result<Outcome, Fail> {
     let heap = LocalHeap::new(alloc, bytes)?;
     let outcome = four_in(rt, alloc, &heap, large)?;

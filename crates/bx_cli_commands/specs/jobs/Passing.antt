@@ -32,7 +32,7 @@ abbrev pub passable : Skip → ℕ → ℕ
 passable (Bytes count first) length = min (min count length - 1) (2 ^ 62 - first)
 passable (Blocks count size) length = min count (length / size) * size
 
--- this many bytes are among those to skip, of blocks whole ones, and addresses stay in their range
+-- n bytes are among those to skip, of blocks whole ones, and addresses stay in their range
 abbrev pub CanPass : ℕ → Skip → Type 0
 CanPass n (Bytes count first) = (n ≤ count) × (n ≤ 2 ^ 62 - first)
 CanPass n (Blocks count size) = (n ≤ count * size) × (n % size ≡ 0)

@@ -23,7 +23,7 @@ const MOST_NAME: usize = 1 << 62;
 /// What a dump did.
 #[derive(Clone, Copy, Debug, PartialEq, Eq)]
 pub enum Done {
-    /// This many bytes were dumped.
+    /// The count of bytes that were dumped.
     Dumped(u64),
     /// dd counted this.
     Copied(Counts),

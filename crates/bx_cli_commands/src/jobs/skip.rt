@@ -4,10 +4,10 @@ ghost use Rattle.std.specs.Prelude.{◌≡◌, ◌≤◌};
 /// What is skipped of an input before anything of it is used.
 #[derive(Clone, Copy, Debug, PartialEq, Eq)]
 pub enum Skip {
-    /// This many bytes of an input whose first byte has the address `first`. The last of them is read, so that an input that is
+    /// `count` bytes of an input whose first byte has the address `first`. The last of them is read, so that an input that is
     /// shorter by then ends there.
     Bytes { count: u64, first: u64 },
-    /// This many blocks of `size` bytes.
+    /// `count` blocks of `size` bytes.
     Blocks { count: u64, size: u64 },
 }
 

@@ -109,7 +109,7 @@ abbrev pub StopsFinish : {V : Type 0} → Form → Output → Option (List ℕ) 
 StopsFinish form out0 now pending tail outcome = (input : List ℕ) (start : Option (List ℕ)) → Staged form start input pending out0 tail →
     IfErr outcome (WritesFront 0 start now (converted form input))
 
--- These are the counts of whatever input is so long, gives so long an output, and has this many records cut.
+-- These are the counts of any input of `read` bytes with an output of `written` bytes and as many cut records as `tail` says.
 abbrev pub CountsAll : Form → ℕ → ℕ → Tail → Counts → Type 0
 CountsAll form read written tail counts =
     (input : List ℕ) → read ≡ length input → written ≡ length (converted form input) →

@@ -26,7 +26,7 @@ abbrev pub Grows : {V : Type 0} → ℕ → ℕ → Result V IoFault → Type 0
 Grows before after (Ok v) = before ≤ after
 Grows before after (Err fault) = before ≤ written_by fault
 
--- Of a text, a part went out, this many bytes, and the rest waits.
+-- Of a text, a part of `written` bytes went out, and the rest waits.
 pub record Goes (start now : Option (List ℕ)) (waits : List ℕ) (written : ℕ) (text : List ℕ) : Type 0 where
   pub out : List ℕ
   pub went : Appends start now out
@@ -65,7 +65,8 @@ pub record Staged (form : Form) (start : Option (List ℕ)) (input pending : Lis
 abbrev pub StopsStage : Form → Option (List ℕ) → Option (List ℕ) → List ℕ → IoFault → Type 0
 StopsStage form start now input fault = (more : List ℕ) → WritesFront 0 start now (converted form (input ++ more)) fault
 
--- The rest of an input was read after this many bytes, at most this many of it, and all that is made of it was written and counted.
+-- The rest of an input was read, at most `most` bytes behind the `before` that were read, and all that is made of it was written
+-- and counted.
 pub record CopiesRest (form : Form) (most before : ℕ) (r0 r1 w0 w1 : Option (List ℕ)) (counts : Counts) : Type 0 where
   pub input : List ℕ
   pub consumed : Consumes r0 r1 input
@@ -75,12 +76,13 @@ pub record CopiesRest (form : Form) (most before : ℕ) (r0 r1 w0 w1 : Option (L
   pub appended : Appends w0 w1 (converted form input)
   pub counted : counts ≡ counts_of form input
 
--- how many bytes are copied at most, where these are this many blocks
+-- how many bytes are copied at most: those of `count` blocks, or without a count as many as a number can say
 abbrev pub most_of : Option ℕ → ℕ → ℕ
 most_of None ibs = 2 ^ 64 - 1
 most_of (Some count) ibs = count * ibs
 
--- Some of the rest of an input was read after this many bytes, at most this many of it, and a front of what is made of it was written.
+-- Some of the rest of an input was read, at most `most` bytes behind the `before` that were read, and a front of what is made of it
+-- was written.
 pub record StopsPass (form : Form) (most before : ℕ) (r0 r1 w0 w1 : Option (List ℕ)) (fault : IoFault) : Type 0 where
   pub input : List ℕ
   pub written : ℕ

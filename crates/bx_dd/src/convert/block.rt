@@ -48,7 +48,7 @@ pub fn filler(shape: Shape) -> u8
     }
 }
 
-/// Appends a byte this many times.
+/// Appends a byte `count` times.
 fn push_fill<A: Allocator>(bytes: &mut Vec<u8, A>, fill: u8, count: usize) -> Result<(), AllocError>
     ensures ok { OnOk result (bytes.new.items ≡ bytes.old.items ++ replicate count fill) }
 {

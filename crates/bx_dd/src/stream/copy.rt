@@ -146,7 +146,7 @@ fn most_of(count: Option<u64>, ibs: u64) -> u64
     }
 }
 
-/// Copies the rest of an input, at most this many bytes of it.
+/// Copies the rest of an input, at most `task.most` bytes of it.
 fn copy_rest<R: Read, W: Write, A: Allocator>(
     meter: &mut Meter,
     r: &mut R,
@@ -170,7 +170,7 @@ fn copy_rest<R: Read, W: Write, A: Allocator>(
     }
 }
 
-/// The counts of this many bytes, read and written.
+/// The counts of `read` bytes that were read and `written` that were written.
 fn counts(form: Form, read: u64, written: u64, tail: Tail) -> Counts
     requires sizes { HasSizes form }
     requires few { tail.cut ≤ 2 ^ 42 }
@@ -285,7 +285,8 @@ fn finish<W: Write, A: Allocator>(
     }
 }
 
-/// Reads at most this many bytes, and converts their whole units. Where fewer come than were asked for, what was converted goes out before more are.
+/// Reads at most `task.most` bytes, and converts their whole units. Where fewer come than were asked for, what was converted goes
+/// out before more are.
 fn copy_units<R: Read, W: Write, A: Allocator>(
     meter: &mut Meter,
     r: &mut R,

@@ -4,7 +4,7 @@ use Rattle.std.specs.Io.KnownBytes.{Appends, Consumes}
 use Rattle.bx_text.specs.declared.fault.IoFault.{IoFault}
 use Rattle.bx_text.specs.declared.fault.IoFault.TheVariants.{ReadFailed, WriteFailed, InputTooLong}
 
--- Why a dump stopped that had read and written this many bytes, of a text of `size` bytes.
+-- Why a dump stopped that had read `read` bytes and written `written`, of a text of `size` bytes.
 abbrev pub StopsDump : IoFault → ℕ → ℕ → ℕ → Type 0
 StopsDump ReadFailed read written size = read ≤ 2 ^ 40
 StopsDump (WriteFailed n) read written size = (n ≡ written) × (written < size) × (read ≤ 2 ^ 40)

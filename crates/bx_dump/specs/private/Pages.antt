@@ -21,7 +21,7 @@ streams r0 r1 w0 w1 = record { old_input = r0; new_input = r1; old_output = w0; 
 abbrev pub streams_of : {R W : Type 0} → (R → Option (List ℕ)) → R → R → (W → Option (List ℕ)) → W → W → Streams
 streams_of remaining r0 r1 contents w0 w1 = streams (remaining r0) (remaining r1) (contents w0) (contents w1)
 
--- at most this many of the bytes
+-- the first `limit` of the bytes, or all where there is no limit
 abbrev pub limited_to : Option ℕ → List ℕ → List ℕ
 limited_to limit bytes = option_map_or (λ most. take most bytes) limit bytes
 

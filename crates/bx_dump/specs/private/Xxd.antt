@@ -38,6 +38,6 @@ columns_width width cols group = width * cols + (cols + group - 1) / group
 abbrev pub columns : Digits → ℕ → List ℕ → ℕ → List ℕ
 columns digits group bytes width = laid_out (columns_place (cell_width digits) group) (λ i. cell_of digits (slice_index bytes i)) (length bytes) width
 
--- this many lines of some bytes
+-- the first n lines of some bytes
 abbrev pub columns_lines : Digits → ℕ → ℕ → ℕ → List ℕ → ℕ → List ℕ
 columns_lines digits cols group at bytes n = in_lines (columns_line digits cols group) cols at (take (cols * n) bytes)

@@ -13,7 +13,7 @@ use crate::od::options::OdOptions;
 use bx_text::{IoFault, Meter, State, emit_after};
 use std::io::{Read, Write};
 
-/// Reads this many bytes away, which the input must have.
+/// Reads `count` bytes away, which the input must have.
 fn reach<R: Read>(meter: &mut Meter, r: &mut R, count: u64, block: &mut [u8]) -> Result<(), IoFault>
     requires open { meter.old.state ≡ State.Open }
     requires first { meter.old.taken ≡ 0 }

@@ -238,7 +238,7 @@ fn put_sixteen(page: &mut [u8], at: usize, bytes: &[u8], len: usize)
     u8x16::from_slice(bytes).copy_to_slice(&mut page[at..at + 16]);
 }
 
-/// Puts this many bytes in front at a place of the page.
+/// Puts the first `len` bytes at a place of the page.
 #[inline(always)]
 fn put_some(page: &mut [u8], at: usize, bytes: &[u8], len: usize)
     requires inside { len ≤ length bytes.now }
@@ -252,7 +252,7 @@ fn put_some(page: &mut [u8], at: usize, bytes: &[u8], len: usize)
     }
 }
 
-/// Puts this many bytes in front at a place of the page, and a newline.
+/// Puts the first `len` bytes at a place of the page, and a newline.
 #[inline(always)]
 fn put_row(page: &mut [u8], at: usize, bytes: &[u8], len: usize)
     requires inside { len ≤ length bytes.now }
@@ -263,7 +263,7 @@ fn put_row(page: &mut [u8], at: usize, bytes: &[u8], len: usize)
     page[at + len] = b'\n';
 }
 
-/// Puts the line of a run of this many bytes, which stands at `at`, and answers how long it is.
+/// Puts the line of a run of `len` bytes, which stands at `at`, and answers how long it is.
 #[inline(always)]
 fn put_line(page: &mut [u8], offsets: Address, at: u64, bytes: &[u8], len: usize) -> usize
     requires inside { len ≤ length bytes.now }

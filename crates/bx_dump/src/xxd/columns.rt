@@ -66,7 +66,7 @@ impl Columns {
 }
 
 impl Columns {
-    /// How many whole groups there are among this many bytes.
+    /// How many whole groups there are among `len` bytes.
     #[inline]
     fn groups_in(&self, len: usize) -> usize
         ensures { result ≡ len / self.now.group }

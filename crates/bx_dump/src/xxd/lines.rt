@@ -1,4 +1,4 @@
-//! Lines of this many bytes, one after another.
+//! Lines of `cols` bytes each, one after another.
 ghost use Rattle.std.specs.Prelude.{◌≡◌, ℕ, ◌+◌, ◌-◌, ◌*◌, ◌/◌, ◌^◌, ◌<◌, ◌≤◌, List, length, take, drop, min};
 ghost use Rattle.std.specs.List.{flat_map};
 ghost use Rattle.bx_dump_columns.specs.Lines.{in_lines};

@@ -20,7 +20,7 @@ fn put_few_pairs(cells: &mut [u8], bytes: &[u8], upper: bool)
     }
 }
 
-/// Puts the two digits of each byte, for this many times 16 bytes.
+/// Puts the two digits of each byte, for `count` times 16 bytes.
 fn put_sixteens(cells: &mut [u8], bytes: &[u8], upper: bool, count: usize)
     requires room { length cells.old ≡ 32 * count }
     requires enough { 16 * count ≤ length bytes.now }

@@ -123,7 +123,7 @@ fn count_line(count: u64) -> ShortText<24>
     line
 }
 
-/// Writes what a declaration of this many items ends with.
+/// Writes what a declaration of `count` items ends with.
 pub fn emit_tail<W: Write>(w: &mut W, before: u64, name: &[u8], count: u64) -> Result<u64, IoFault>
     requires name { length name.now ≤ 2 ^ 62 }
     requires before { before ≤ 2 ^ 63 }

@@ -129,7 +129,7 @@ fn clear<A: Allocator>(pages: &mut Vec<Page<A>, A>, from: usize, to: usize)
     }
 }
 
-// Takes empty pages until there are this many.
+// Takes empty pages until there are `count`.
 fn add_pages<A: Allocator + Clone>(
     pages: &mut Vec<Page<A>, A>,
     count: usize,

@@ -9,7 +9,7 @@ use Rattle.bx_journal_format.specs.Text.{IsDamagedAt, split}
 use Rattle.bx_journal_read.specs.model.Judging.{RefusesRedo, IsRedoCounted}
 use Rattle.bx_journal_read.specs.model.Redo.{IsRedoOf, IsRefusedAt}
 
--- the text was counted as a redo text beside this many changes, or is damaged at a line, or is there as it is
+-- the text was counted as a redo text beside `changes` changes, or is damaged at a line, or is there as it is
 abbrev pub IsRedoFound : {A : Type 0} → List ℕ → ℕ → RedoFound A → Type 0
 IsRedoFound text changes (Counted c) = IsRedoCounted text changes c.counted.count c.counted.told × (c.lines ≡ length (split text).lines)
 IsRedoFound text changes (Damaged line) = IsDamagedAt text line
@@ -21,7 +21,7 @@ pub record IsRedoIn {A : Type 0} (honest : Type 0) (stored : List ℕ) (changes 
   pub is : honest → stored ≡ text
   pub found : IsRedoFound text changes redo
 
--- a text was counted as a redo text beside this many changes: the store's, where that is honest
+-- a text was counted as a redo text beside `changes` changes: the store's, where that is honest
 pub record IsRedoCountedIn (honest : Type 0) (stored : List ℕ) (changes : ℕ) (c : CountedText) : Type 0 where
   pub text : List ℕ
   pub is : honest → stored ≡ text

@@ -34,7 +34,7 @@ pub record IsListedIn (window : List ℕ) (from : Summed) (old new : List LogRow
   pub leads : (front : List ℕ) → IsListed front from old → IsListed (front ++ take l.taken window) l.sums new
   pub within : l.taken ≤ length window
 
--- the rows of this many finished entries alone: the store's, where that is honest
+-- the rows of `count` finished entries alone: the store's, where that is honest
 pub record AreRowsOf (honest : Type 0) (stored : List ℕ) (rows : List LogRow) (count : ℕ) : Type 0 where
   pub text : List ℕ
   pub is : honest → stored ≡ text
@@ -43,7 +43,7 @@ pub record AreRowsOf (honest : Type 0) (stored : List ℕ) (rows : List LogRow) 
   pub counted : length entries ≡ count
   pub rows_are : rows ≡ rows_of entries
 
--- A call that looks for the rows of this many finished entries alone: it answers them, or why the text isn't that
+-- A call that looks for the rows of `count` finished entries alone: it answers them, or why the text isn't that
 pub record FindsRows {T A : Type 0} (t : StoreViews T) (count : ℕ) (result : Result (Vec LogRow A) SessionFault) (old new : T) : Type 0 where
   pub rows : IfOk result (λ rows. AreRowsOf (t.honest old) (t.text old) rows.items count)
   pub fault : IfErr result (AgainFault (t.honest old) (t.text old) count)

@@ -13,7 +13,7 @@ use bx_journal_store::TextStore;
 use std::alloc::Allocator;
 use std::io::Write;
 
-/// The number of the change that the step behind `i` others is over, where a text has this many entries.
+/// The number of the change that the step behind `i` others is over, where a text has `entries` entries.
 fn step_number(steps: Steps, entries: usize, i: u32) -> u64
     requires { i ≤ entries }
     ensures { result ≡ number_at steps.way (first_number steps.way steps.changes entries) i }

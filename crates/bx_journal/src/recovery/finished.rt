@@ -17,7 +17,7 @@ use bx_journal_read::{
 use bx_journal_store::TextStore;
 use std::alloc::Allocator;
 
-/// Counts the entries of the redo text, where it is one beside this many changes. It changes nothing.
+/// Counts the entries of the redo text, where it is one beside `changes` changes. It changes nothing.
 fn count_redo<T: TextStore, A: Allocator + Clone>(
     alloc: &A,
     redo: &mut T,
@@ -69,7 +69,7 @@ fn read_redo<T: TextStore, A: Allocator + Clone>(
     }
 }
 
-/// What the redo text is beside this many changes: counted in windows, and read otherwise only where it isn't counted so. It
+/// What the redo text is beside `changes` changes: counted in windows, and read otherwise only where it isn't counted so. It
 /// changes nothing.
 fn find_redo<T: TextStore, A: Allocator + Clone>(
     alloc: &A,

@@ -62,7 +62,7 @@ fn first_untold<A: Allocator>(entries: &[EntryRead<A>]) -> Option<u64>
     None
 }
 
-/// Where the first entry begins that tells no length, or else the first that is too many beside this many changes.
+/// Where the first entry begins that tells no length, or else the first that is too many beside `changes` changes.
 fn unfit_entry<A: Allocator>(entries: &[EntryRead<A>], changes: u32) -> Option<u64>
     requires { changes ≤ 65535 }
     ensures some { IfSome result (λ at. IsUntoldAt entries.now at ⊎ IsBeyondAt entries.now changes at) }
@@ -76,7 +76,7 @@ fn unfit_entry<A: Allocator>(entries: &[EntryRead<A>], changes: u32) -> Option<u
     Some(entry.begins)
 }
 
-/// Where a text of this length that was read isn't a redo text beside this many changes: where it is unfinished, else at
+/// Where a text of `len` bytes that was read isn't a redo text beside `changes` changes: where it is unfinished, else at
 /// the first entry that tells no length, else at the first that is too many.
 pub fn unfit_place<A: Allocator>(journal: &JournalRead<A>, len: u64, changes: u32) -> Option<u64>
     requires { changes ≤ 65535 }
@@ -95,7 +95,7 @@ pub fn unfit_place<A: Allocator>(journal: &JournalRead<A>, len: u64, changes: u3
     }
 }
 
-/// How many entries were read in a text, where it is a redo text beside this many changes.
+/// How many entries were read in a text, where it is a redo text beside `changes` changes.
 fn counted_read<A: Allocator>(
     text: &[u8],
     journal: &JournalRead<A>,
@@ -122,7 +122,7 @@ fn counted_read<A: Allocator>(
     })
 }
 
-/// How many entries and lines a redo text beside this many changes has, and the length that the last one tells. The line
+/// How many entries and lines a redo text beside `changes` changes has, and the length that the last one tells. The line
 /// that is reported is the damaged one, else the first that is unfinished, else where the first entry of the first form begins,
 /// else where the first begins that is too many.
 pub fn redo_counted<A: Allocator + Clone>(
@@ -143,7 +143,7 @@ pub fn redo_counted<A: Allocator + Clone>(
     }
 }
 
-/// What a redo text beside this many changes was counted as. Where it wasn't counted yet it is read entry by entry, from a
+/// What a redo text beside `changes` changes was counted as. Where it wasn't counted yet it is read entry by entry, from a
 /// copy of it.
 fn count_found<A: Allocator + Clone>(
     alloc: &A,
@@ -163,7 +163,7 @@ fn count_found<A: Allocator + Clone>(
     }
 }
 
-/// Whether the image has the length that the last entry of a redo text of this many lines tells, if there is one. A text
+/// Whether the image has the length that the last entry of a redo text of `lines` lines tells, if there is one. A text
 /// whose last line tells another length is damaged at that line.
 pub fn check_redo_length<D: Device>(
     image: &mut D,
@@ -184,7 +184,7 @@ pub fn check_redo_length<D: Device>(
     Ok(())
 }
 
-/// How many changes are undone, where the text that was found is the redo text of the image and of this many changes. It
+/// How many changes are undone, where the text that was found is the redo text of the image and of `changes` changes. It
 /// changes nothing.
 pub fn judge_redo<D: Device, A: Allocator + Clone>(
     alloc: &A,

@@ -57,7 +57,7 @@ fn rows<A: Allocator + Clone>(
 
 ghost use Rattle.bx_journal.specs.private.Rows.{FindsRows};
 
-/// The rows of a text that is to be this many finished entries alone, and is read whole.
+/// The rows of a text that is to be `count` finished entries alone, and is read whole.
 fn rows_of_whole<T: TextStore, A: Allocator + Clone>(
     alloc: &A,
     journal: &mut T,
@@ -73,7 +73,7 @@ fn rows_of_whole<T: TextStore, A: Allocator + Clone>(
     Ok(rows(alloc, &read.entries)?)
 }
 
-/// The rows of a text that is to be this many finished entries alone. It changes nothing. The text is read in windows, and
+/// The rows of a text that is to be `count` finished entries alone. It changes nothing. The text is read in windows, and
 /// only one that can't be read so is read whole.
 fn rows_of_text<T: TextStore, A: Allocator + Clone>(
     alloc: &A,
@@ -113,7 +113,7 @@ impl<D: Device, T: TextStore, A: Allocator + Clone> Session<D, T, A> {
         ensures is_broken { self.new.is_broken ≡ self.old.is_broken }
         ensures fault { IfErr result (λ e. (e ≡ SessionFault.Broken → ⊥) → AgainFault (T.honest self.old.journal) (T.text self.old.journal) self.old.count e) }
 
-        // The text is called damaged exactly where it isn't this many finished entries alone.
+        // The text is called damaged exactly where it isn't `count` finished entries alone.
         ensures undamaged { T.honest self.old.journal → HasCount (T.text self.old.journal) self.old.count
             → IfErr result (λ e. (n : ℕ) → e ≡ SessionFault.Damaged n → ⊥) }
         ensures whole { T.honest self.old.journal → OnOk result (HasCount (T.text self.old.journal) self.old.count) }

@@ -13,7 +13,7 @@ use bx_journal_read::{FinishedRead, SessionFault, of_redo, read_last_of};
 use bx_journal_store::TextStore;
 use std::alloc::Allocator;
 
-/// Reads the last j entries of a redo text that is to be this many finished entries alone. It changes nothing.
+/// Reads the last j entries of a redo text that is to be `undone` finished entries alone. It changes nothing.
 fn read_undone<T: TextStore, A: Allocator + Clone>(
     alloc: &A,
     redo: &mut T,
@@ -42,7 +42,7 @@ fn is_beyond(wanted: u32, have: u32) -> bool
     wanted > have
 }
 
-/// How many changes are undone when this many are made again.
+/// How many changes are still undone when `made` are made again.
 #[inline]
 fn undone_left(undone: u32, made: u32) -> u32
     requires { made ≤ undone }
@@ -105,7 +105,7 @@ impl<D: Device, T: TextStore, A: Allocator + Clone> Session<D, T, A> {
         // A refusal leaves nothing to be found after a loss of power that wasn't to be found before.
         ensures found_before { IfErr result (λ e. AfterFault e (Unit {0}) (NothingNew D.Device T.TextStore self.old self.new)) }
 
-        // Which faults come, and when: the redo text is called damaged exactly where it isn't this many finished entries alone.
+        // Which faults come, and when: the redo text is called damaged exactly where it isn't `undone` finished entries alone.
         ensures faults { FaultsOfRedo T.TextStore j self.old result }
 
         // A refusal changes nothing, an interruption breaks the session, and a broken one refuses all.

@@ -10,7 +10,7 @@ use bx_journal_read::{SessionFault, read_last_of};
 use bx_journal_store::TextStore;
 use std::alloc::Allocator;
 
-/// How many changes stand when this many are undone.
+/// How many changes still stand when `undone` are undone.
 #[inline]
 fn count_left(count: u32, undone: u32) -> u32
     requires { undone ≤ count }
@@ -72,7 +72,7 @@ impl<D: Device, T: TextStore, A: Allocator + Clone> Session<D, T, A> {
         // A refusal leaves nothing to be found after a loss of power that wasn't to be found before.
         ensures found_before { IfErr result (λ e. AfterFault e (Unit {0}) (NothingNew D.Device T.TextStore self.old self.new)) }
 
-        // Which faults come, and when: the text is called damaged exactly where it isn't this many finished entries alone.
+        // Which faults come, and when: the text is called damaged exactly where it isn't `count` finished entries alone.
         ensures faults { FaultsOfUndo T.TextStore k self.old result }
 
         // A refusal changes nothing, an interruption breaks the session, and a broken one refuses all.

@@ -6,7 +6,7 @@ use Rattle.bx_journal_format.specs.Hex.{hex_digits}
 use Rattle.bx_journal_format.specs.Line.{address_width, start_line}
 use Rattle.bx_journal_format.specs.Text.{Entry, IsPrefix, may_begin}
 
--- a front of the head with a length in this many digits
+-- a front of the head with a length in `width` digits
 abbrev pub IsNumberFront : List ℕ → ℕ → List ℕ → Type 0
 IsNumberFront head width rest = (n : ℕ) × (n ≤ MAX_LEN) × (n < 16 ^ width) × IsPrefix rest (head ++ hex_digits width n)
 

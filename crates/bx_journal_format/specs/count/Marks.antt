@@ -59,7 +59,7 @@ pub record IsMarked (text : List ℕ) (m : Marking) (marks : List Mark) : Type 0
   pub runs : GiveRuns entries
   pub marks_are : marks ≡ marks_of entries
 
--- a marking behind this many full saved lines more
+-- a marking behind `count` full saved lines more
 abbrev pub IsMarkedOn : Marking → ℕ → Marking → Type 0
 IsMarkedOn m count next = next ≡ record { sums = with_more m.sums (16 * count); from = m.from; to = m.to + 68 * count }
 

@@ -33,7 +33,7 @@ pub record SumsTo (r : Reading) (line : List ℕ) (s : Summed) : Type 0 where
   pub leads : next r line ≡ Some reading
   pub is : summed_of reading ≡ s
 
--- the sums with this many bytes more of the newest entry
+-- the sums with `more` bytes added to the newest entry
 abbrev pub with_more : Summed → ℕ → Summed
 with_more s more = record { tally = s.tally; len = s.len; saved = s.saved + more }
 

@@ -35,20 +35,20 @@ pub record LeadsTo (only_second : Bool) (r : Reading) (line : List ℕ) (t : Tal
   pub is : tally_of reading ≡ t
   pub tell : IsTrue only_second → AllTell r.entries → AllTell reading.entries
 
--- the text begins with this many full saved lines, in an entry of the length at this place; there are none at another place
+-- the text begins with `count` full saved lines, in an entry of the length at this place; there are none at another place
 abbrev pub AreFullAt : Place → List ℕ → ℕ → Type 0
 AreFullAt BetweenPlace text count = count ≡ 0
 AreFullAt (SavingPlace v len) text count = AreFullSaved len text count
 AreFullAt (EndingPlace v) text count = count ≡ 0
 
--- the text is this many finished entries alone, and the newest tells this length
+-- the text is `count` finished entries alone, and the newest tells this length
 pub record IsCounted (text : List ℕ) (count : ℕ) (told : Option ℕ) : Type 0 where
   pub entries : List Entry
   pub finished : IsFinished text entries
   pub counted : count ≡ length entries
   pub told_is : told ≡ told_by entries
 
--- a text of this many whole lines leads to this tally; where only entries that tell their lengths are taken, all of them do
+-- a text of `lines` whole lines leads to this tally; where only entries that tell their lengths are taken, all of them do
 pub record IsTallied (only_second : Bool) (text : List ℕ) (t : Tally) (lines : ℕ) : Type 0 where
   pub reading : Reading
   pub reads : after_lines start (split text).lines ≡ Some reading
@@ -57,7 +57,7 @@ pub record IsTallied (only_second : Bool) (text : List ℕ) (t : Tally) (lines :
   pub is : tally_of reading ≡ t
   pub tell : IsTrue only_second → AllTell reading.entries
 
--- the lines at the start of a window that were passed are counted, behind a front of this many lines
+-- the lines at the start of a window that were passed are counted, behind a front of n lines
 abbrev pub IsPassed : Bool → List ℕ → ℕ → List ℕ → Passed → Type 0
 IsPassed only_second front n window p = IsTallied only_second (front ++ take p.taken window) p.tally (n + p.lines)
 

@@ -18,7 +18,7 @@ pub record IsFullSaved (len at : ℕ) (text bytes : List ℕ) : Type 0 where
 abbrev pub BeginsFull : ℕ → List ℕ → Type 0
 BeginsFull len text = (at : ℕ) × (bytes : List ℕ) × (length bytes ≡ 16) × IsFullSaved len at text bytes
 
--- this many full lines of such an entry stand at the beginning of the text, one after another
+-- `count` full lines of such an entry stand at the beginning of the text, one after another
 pub record AreFullSaved (len : ℕ) (text : List ℕ) (count : ℕ) : Type 0 where
   pub within : 68 * count ≤ length text
   pub each : (k : ℕ) → k < count → BeginsFull len (drop (68 * k) text)
@@ -28,7 +28,7 @@ pub record IsSavingTo (text : List ℕ) (entries : List Entry) (v : Version) (le
   pub mark : IsMark text at (record { entries = entries; stage = Saving v (record { len = len; runs = runs }) })
   pub counted : line ≡ suc (length (split (take at text)).lines)
 
--- this many full lines, with which a text goes on, lead from these runs to those
+-- `count` full lines, with which a text goes on, lead from these runs to those
 pub record GoesOnBy (len : ℕ) (rest : List ℕ) (old new : List Run) (count : ℕ) : Type 0 where
   pub within : 68 * count ≤ length rest
   pub leads : (text : List ℕ) (entries : List Entry) (v : Version) (at line : ℕ) → rest ≡ drop at text → IsSavingTo text entries v len old at line
@@ -42,7 +42,7 @@ with_last front at bytes = front ++ record { at = at; bytes = bytes } ∷ []
 abbrev pub RunGoesOnBy : ℕ → List ℕ → ℕ → List ℕ → List ℕ → ℕ → Type 0
 RunGoesOnBy len rest at old new count = (front : List Run) → GoesOnBy len rest (with_last front at old) (with_last front at new) count
 
--- This many full lines of a window from a place on go on with any run of this address and size: their bytes stand at the
+-- `count` full lines of a window from a place on go on with any run of this address and size: their bytes stand at the
 -- window's beginning, and what is behind the lines stays
 pub record IsGathered (len at size from : ℕ) (old new : List ℕ) (count : ℕ) : Type 0 where
   pub within : from + 68 * count ≤ length old

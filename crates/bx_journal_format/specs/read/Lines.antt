@@ -26,7 +26,7 @@ abbrev pub IsReadAlike : {A : Type 0} → StageRead A → StageRead A → Type 0
 IsReadAlike {A = A} old new =
     (text : List ℕ) (older : List Entry) (es : List (EntryRead A)) (at : ℕ) → IsReadAt text older es old at → IsReadAt text older es new at
 
--- this many full lines, with which a text goes on, lead from one stage to another, whatever entries are before
+-- `count` full lines, with which a text goes on, lead from one stage to another, whatever entries are before
 abbrev pub StageGoesOnBy : {A : Type 0} → List ℕ → StageRead A → StageRead A → ℕ → Type 0
 StageGoesOnBy {A = A} rest old new count =
     (text : List ℕ) (older : List Entry) (es : List (EntryRead A)) (at : ℕ) → IsReadAt text older es old at → rest ≡ drop at text

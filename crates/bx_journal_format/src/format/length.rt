@@ -26,7 +26,7 @@ fn address_len(at: u64) -> u64
     hex_field(at, 8, false).as_bytes().len() as u64
 }
 
-/// How long a saved line of this many bytes is, with its newline.
+/// How long a saved line of `count` bytes is, with its newline.
 fn row_len(at: u64, count: usize) -> u64
     requires { count ≤ 16 }
     ensures { (bytes : List ℕ) → length bytes ≡ count → result ≡ length (ended (dump_line at bytes)) }

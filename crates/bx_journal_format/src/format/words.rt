@@ -11,7 +11,7 @@ use bx_text::{ShortText, hex_field, put_address};
 /// A line of a journal but for its saved lines, or the front of one.
 pub type Words = ShortText<34>;
 
-/// Appends a number in this many digits.
+/// Appends a number in `width` digits.
 pub fn push_number(line: &mut Words, width: u8, n: u64)
     requires fits { n < 16 ^ width }
     requires some { 0 < width }
@@ -193,7 +193,7 @@ pub fn number(text: &[u8]) -> Option<u64>
     Some(n)
 }
 
-/// The number that this many digits give.
+/// The number that `width` digits give.
 #[inline(always)]
 pub fn number_of(width: usize, text: &[u8]) -> Option<u64>
     requires { width ≤ 16 }

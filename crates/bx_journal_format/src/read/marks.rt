@@ -76,7 +76,7 @@ pub fn mark_one(now: Marking, line: &[u8], after: u64) -> Option<Marking>
     }
 }
 
-/// The marking after this many full saved lines more.
+/// The marking after `count` full saved lines more.
 #[inline]
 fn mark_full(now: Marking, count: usize) -> Option<Marking>
     ensures { IfSome result (IsMarkedOn now count) }

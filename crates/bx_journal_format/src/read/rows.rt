@@ -62,7 +62,7 @@ pub fn sum_one(now: Summed, line: &[u8]) -> Option<Summed>
     sum_event(now, event)
 }
 
-/// The sums after this many full saved lines more, each of 16 bytes.
+/// The sums after `count` full saved lines more, each of 16 bytes.
 #[inline]
 pub fn sum_full(now: Summed, count: usize) -> Option<Summed>
     ensures { IfSome result (IsMore now (16 * count)) }

@@ -12,7 +12,7 @@ const DONE: [u8; 4] = [b'd', b'o', b'n', b'e'];
 pub enum LastLine {
     /// It has a zero, or no line behind a newline begins so.
     Other,
-    /// Behind a newline stand this many letters of `done`, and all of the word where they are four or more.
+    /// Behind a newline stand the first `letters` letters of `done`, and all of the word where they are four or more.
     End { letters: usize },
 }
 

@@ -27,7 +27,7 @@ fn is_front(front: &[u8], line: &[u8]) -> bool
     &line[..front.len()] == front
 }
 
-/// Whether the text is a front of the head with a length in this many digits.
+/// Whether the text is a front of the head with a length in `width` digits.
 fn is_number_front(head: &[u8], width: usize, rest: &[u8]) -> bool
     requires { width ≤ 16 }
     ensures { IsTrue result ↔ IsNumberFront head.now width rest.now }

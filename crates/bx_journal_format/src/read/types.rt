@@ -4,7 +4,7 @@ use bx_image::Saved;
 use bx_text::Piece;
 use std::alloc::{Allocator, Global};
 
-/// What stands before a text that is read: this many entries, whose last one tells this length, in this many bytes and
+/// What stands before a text that is read: `count` entries, whose last one tells this length, in `at` bytes and `lines`
 /// lines.
 #[derive(Clone, Copy)]
 pub struct Front {

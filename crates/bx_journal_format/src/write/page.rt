@@ -4,12 +4,12 @@ ghost use Rattle.std.specs.Prelude.{◌≡◌, ◌≤◌, [], vec_capacity, IfOk
 use bx_text::NoMemory;
 use std::alloc::Allocator;
 
-/// A page has at most this many bytes, and room for each line.
+/// The most bytes of a page, which has room for each line.
 const MOST: u64 = 262_144;
 
 const LEAST: u64 = 82;
 
-/// An empty page for a text of this many bytes: with room for all of them, or for as many as a page has at most.
+/// An empty page for a text of `len` bytes: with room for all of them, or for as many as a page has at most.
 pub fn new_page<A: Allocator>(alloc: A, len: u64) -> Result<Vec<u8, A>, NoMemory>
     ensures empty { IfOk result (λ page. page.items ≡ []) }
     ensures room { IfOk result (λ page. 82 ≤ vec_capacity page) }

@@ -8,7 +8,7 @@ ghost use Rattle.bx_journal_format.specs.Text.{ended};
 use bx_text::{LineText, put_full_line, xxd_line};
 use std::alloc::Allocator;
 
-/// At most this many rows are written at once.
+/// The most rows that are written at once.
 const ROWS: usize = 128;
 
 /// Writes rows from this one on into the page: as many as it has room for, at most `ROWS`, and not the last of the run. The

@@ -28,7 +28,7 @@ pub fn append_page<T: TextStore, A: Allocator>(
     Ok(())
 }
 
-/// Makes room in the page for this many bytes: where it has none, the page is appended.
+/// Makes room in the page for `more` bytes: where it has none, the page is appended.
 #[inline]
 pub fn make_room<T: TextStore, A: Allocator>(
     store: &mut T,

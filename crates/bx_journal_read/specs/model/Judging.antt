@@ -14,17 +14,17 @@ abbrev pub RefusesRedo : ℕ → SessionFault → Type 0
 RefusesRedo line (RedoDamaged m) = m ≡ line
 RefusesRedo line e = DeviceFault e
 
--- why a text isn't a redo text beside this many changes, whatever the image is
+-- why a text isn't a redo text beside `changes` changes, whatever the image is
 abbrev pub IsUnfitAt : List ℕ → ℕ → ℕ → Type 0
 IsUnfitAt text changes line = IsNoRedoAt text line ⊎ IsTooManyAt text changes line
 
--- finished entries alone, each with its length, and with this many changes not too many
+-- finished entries alone, each with its length, and with `changes` changes not too many
 pub record IsFit (text : List ℕ) (changes : ℕ) (entries : List Entry) : Type 0 where
   pub finished : IsFinished text entries
   pub tell : AllTell entries
   pub few : changes + length entries ≤ 65535
 
--- such a text has this many entries, and the newest tells this length
+-- such a text has `count` entries, and the newest tells this length
 pub record IsRedoCounted (text : List ℕ) (changes count : ℕ) (told : Option ℕ) : Type 0 where
   pub entries : List Entry
   pub fit : IsFit text changes entries

@@ -10,7 +10,7 @@ use Rattle.bx_journal_read.specs.declared.answers.How.{How}
 use Rattle.bx_journal_read.specs.declared.answers.How.TheVariants.{Clean, Dropped, Restored}
 use Rattle.bx_journal_read.specs.model.Images.{Images}
 
--- A redo text and the image stand for the undone images below it. With this many changes they are not too many for a journal
+-- A redo text and the image stand for the undone images below it. With `changes` changes they are not too many for a journal
 pub record IsRedoOf (text x : List ℕ) (changes : ℕ) (undone : List (List ℕ)) : Type 0 where
   pub stands : StandsFor text x (x ∷ undone)
   pub tell : AllTell stands.entries
@@ -76,7 +76,7 @@ pub data IsNoRedoAt (text : List ℕ) (line : ℕ) : Type 0 where
   Tail : HasTailAt text line → IsNoRedoAt text line
   FirstForm : IsFirstFormAt text line → IsNoRedoAt text line
 
--- why a text isn't the redo text of an image with this many changes, and the line that is reported
+-- why a text isn't the redo text of an image with `changes` changes, and the line that is reported
 pub data IsRefusedAt (text x : List ℕ) (changes line : ℕ) : Type 0 where
   NoRedo : IsNoRedoAt text line → IsRefusedAt text x changes line
   TooMany : IsTooManyAt text changes line → IsRefusedAt text x changes line

@@ -61,7 +61,7 @@ pub record IsReadAgain {A : Type 0} (text : List ℕ) (es : List (EntryRead A)) 
   pub counted : length es ≡ count
   pub few : length es ≤ 65535
 
--- this many finished entries alone, as a text of this length was read again: the store's, where that is honest
+-- `count` finished entries alone, as a text of `len` bytes was read again: the store's, where that is honest
 pub record IsReadFrom {A : Type 0} (honest : Type 0) (stored : List ℕ) (len : ℕ) (es : List (EntryRead A)) (count : ℕ) : Type 0 where
   pub text : List ℕ
   pub is : honest → stored ≡ text
@@ -69,7 +69,7 @@ pub record IsReadFrom {A : Type 0} (honest : Type 0) (stored : List ℕ) (len : 
   pub countable : length text < 2 ^ 64
   pub read : IsReadAgain text es count
 
--- the last of this many finished entries alone, with their places; the entries before them are `older`, the newest first
+-- the last of `count` finished entries alone, with their places; the entries before them are `older`, the newest first
 pub record IsReadLast {A : Type 0} (text : List ℕ) (es : List (EntryRead A)) (count : ℕ) : Type 0 where
   pub older : List Entry
   pub finished : IsFinished text (entries_onto older es)
@@ -105,7 +105,8 @@ pub record IsLastFrom {A : Type 0} (honest : Type 0) (stored : List ℕ) (len : 
   pub long : len ≡ length text
   pub read : IsReadLast text es count
 
--- A call that looks for the last k entries, at least, of this many finished entries alone: it answers them, or none, and its fault isn't the text's
+-- A call that looks for the last k entries, at least, of `count` finished entries alone: it answers them, or none, and its fault
+-- isn't the text's
 pub record LooksForLast {T A : Type 0} (t : StoreViews T) (count k : ℕ) (result : Result (Option (FinishedRead A)) SessionFault) (old new : T) : Type 0 where
   pub read : IfOk result (λ found. IfSome found (λ o. IsLastFrom (t.honest old) (t.text old) o.len o.entries.items count))
   pub few : IfOk result (λ found. IfSome found (λ o. k ≤ length o.entries.items))

@@ -22,7 +22,7 @@ use Rattle.bx_journal_format.specs.count.Tally.{IsCounted}
 use Rattle.bx_journal_format.specs.Shown.{shown}
 use Rattle.bx_journal_format.specs.Text.{Stage, Between, Saving, Ending, Reading, Reads, IsDamagedAt}
 
--- this many finished entries alone were counted: the store's, where that is honest
+-- `count` finished entries alone were counted: the store's, where that is honest
 pub record IsCountedIn (honest : Type 0) (stored : List ℕ) (count : ℕ) (told : Option ℕ) : Type 0 where
   pub text : List ℕ
   pub is : honest → stored ≡ text
@@ -99,7 +99,7 @@ RecoverFault (LengthDiffers expected) = Unit {0}
 RecoverFault Interrupted = Unit {0}
 RecoverFault e = DeviceFault e
 
--- the redo text of an image and this many changes has this many undone images
+-- the redo text of an image and `changes` changes has `count` undone images
 abbrev pub HasUndoneCount : List ℕ → List ℕ → ℕ → ℕ → Type 0
 HasUndoneCount redo x changes count = (undone : List (List ℕ)) × IsRedoOf redo x changes undone × (count ≡ length undone)
 
@@ -137,6 +137,6 @@ FaultBeside image text redo x changes told e = FinishedFault image (image × tex
 abbrev pub RefusesBeside : {V : Type 0} → List ℕ → List ℕ → ℕ → Option ℕ → Result V SessionFault → Type 0
 RefusesBeside redo x changes told result = (line : ℕ) → HasToldLength told x → IsRefusedAt redo x changes line → MatchResult result (λ v. ⊥) (RefusesRedo line)
 
--- this many undone images are reported as the redo text and the image stand for
+-- the redo text and the image stand for as many undone images as are reported
 abbrev pub TellsCount : {E : Type 0} → List ℕ → List ℕ → ℕ → Result Recovered E → Type 0
 TellsCount redo x changes result = IfOk result (λ o. HasUndoneCount redo x changes o.undone)

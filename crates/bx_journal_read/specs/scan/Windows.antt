@@ -51,7 +51,7 @@ pub record IsWalkedTo (honest : Type 0) (stored : List ℕ) (only_second : Bool)
   pub few : w.tally.count ≤ 65535
   pub short : HasShortLines honest (take w.at stored) size
 
--- a front of a text is this many finished entries alone: of the store's, where that is honest
+-- a front of a text is `f.count` finished entries alone: of the store's, where that is honest
 pub record IsFrontCounted (honest : Type 0) (stored : List ℕ) (only_second : Bool) (f : Front) : Type 0 where
   pub front : List ℕ
   pub is : honest → front ≡ take f.at stored

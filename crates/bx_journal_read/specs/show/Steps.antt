@@ -115,7 +115,7 @@ pub record ShowsSteps (text image : List ℕ) (s : Steps) (old new : Option (Lis
   pub unfinished : (front : List ℕ) (entries : List EntryLines) (stage : Stage) → IsUnfinishedBehind text front entries stage
       → (s.way ≡ Undo) × HasShown s image entries (unfinished_line (suc (length entries)) stage) old new
 
--- a text has this many finished entries
+-- a text has `have` finished entries
 abbrev pub HasEntries : List ℕ → ℕ → Type 0
 HasEntries text have = (r : Reading) × Reads (shown text) r × (length r.entries ≡ have)
 
@@ -195,7 +195,7 @@ saved_lines_at compares image text mark = if compares then diff_text image mark.
 abbrev pub mark_step : Steps → List ℕ → List ℕ → ℕ → Mark → List ℕ
 mark_step s image text n mark = heading_at text s.way n mark ++ saved_lines_at s.compares image text mark ++ codes "\n"
 
--- the number of the step behind this many others
+-- the number of the step behind i others
 abbrev pub number_at : Way → ℕ → ℕ → ℕ
 number_at Undo first i = first - i
 number_at Redo first i = first + i
@@ -250,7 +250,7 @@ abbrev pub fault_that : Way → SessionFault → SessionFault
 fault_that Undo fault = fault
 fault_that Redo fault = redo_fault fault
 
--- what is answered where there are this many entries, which are too few
+-- what is answered where there are `have` entries, which are too few
 abbrev pub few_that : Way → ℕ → SessionFault
 few_that Undo have = TooFew have
 few_that Redo have = NothingToRedo have

@@ -23,7 +23,7 @@ pub struct CountedText {
     pub lines: u64,
 }
 
-/// How far the lines of a text were walked along: up to the place `at` they are this many, and lead to a tally.
+/// How far the lines of a text were walked along: up to the place `at` there are `lines` of them, which lead to a tally.
 #[derive(Clone, Copy)]
 pub struct Walk {
     pub tally: Tally,

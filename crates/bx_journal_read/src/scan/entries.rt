@@ -28,7 +28,7 @@ pub struct FinishedRead<A: Allocator = Global> {
     pub entries: Vec<EntryRead<A>, A>,
 }
 
-/// What was read in a text of this many bytes, where it is this many finished entries alone.
+/// What was read in a text of `len` bytes, where it is `count` finished entries alone.
 fn finished<A: Allocator>(len: u64, journal: JournalRead<A>, count: u32) -> Option<FinishedRead<A>>
     ensures some { (text : List ℕ) → HasRead text journal → len ≡ length text → IfSome result (λ o. IsReadAgain text o.entries.items count) }
     ensures len { IfSome result (λ o. o.len ≡ len) }
@@ -59,7 +59,7 @@ fn finished<A: Allocator>(len: u64, journal: JournalRead<A>, count: u32) -> Opti
     }
 }
 
-/// Reads a text that is to be this many finished entries alone. It changes nothing.
+/// Reads a text that is to be `count` finished entries alone. It changes nothing.
 pub fn read_again<T: TextStore, A: Allocator + Clone>(
     alloc: &A,
     store: &mut T,
@@ -152,7 +152,7 @@ fn read_windows<T: TextStore, A: Allocator + Clone>(
     Ok(Some(end.scan.read))
 }
 
-/// What was read behind a front of this many entries, in a text of this many bytes, where that is all of its entries, and at
+/// What was read behind a front of `first` entries, in a text of `len` bytes, where that is all of its `count` entries, and at
 /// least k.
 fn last_of<A: Allocator>(
     len: u64,
@@ -187,8 +187,8 @@ fn last_of<A: Allocator>(
     }
 }
 
-/// Reads what stands behind a front of finished entries in a text of `len` bytes: the last k entries at least, of this many in
-/// all. It takes the memory of their saved bytes, and of a window. It answers none where the text isn't this many finished
+/// Reads what stands behind a front of finished entries in a text of `len` bytes: the last k entries at least, of `count` in
+/// all. It takes the memory of their saved bytes, and of a window. It answers none where the text isn't `count` finished
 /// entries alone, and where a line is longer than the window. It changes nothing.
 fn read_from<T: TextStore, A: Allocator + Clone>(
     alloc: &A,
@@ -215,7 +215,7 @@ fn read_from<T: TextStore, A: Allocator + Clone>(
     Ok(last_of(len, longest, front.count, read, k, count))
 }
 
-/// Reads the last k entries of a text that is to be this many finished entries alone. It answers none where the text isn't
+/// Reads the last k entries of a text that is to be `count` finished entries alone. It answers none where the text isn't
 /// that, or a line is very long. It changes nothing.
 fn find_last<T: TextStore, A: Allocator + Clone>(
     alloc: &A,
@@ -235,7 +235,7 @@ fn find_last<T: TextStore, A: Allocator + Clone>(
     read_from(alloc, store, front, len, k, count)
 }
 
-/// Reads the last k entries of a text that is to be this many finished entries alone: what it takes of memory is in proportion
+/// Reads the last k entries of a text that is to be `count` finished entries alone: what it takes of memory is in proportion
 /// to their text. Where they can't be found so, all of the text is read, which says where it is damaged. It changes nothing.
 pub fn read_last_of<T: TextStore, A: Allocator + Clone>(
     alloc: &A,

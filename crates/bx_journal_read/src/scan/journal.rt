@@ -35,7 +35,7 @@ pub enum Found {
     Unfinished(Torn),
 }
 
-/// The count of what was read in the front of a text of this many bytes, where it is finished entries alone and all of the text.
+/// The count of what was read in the front of a text of `len` bytes, where it is finished entries alone and all of the text.
 fn as_counted<A: Allocator>(journal: &JournalRead<A>, len: u64) -> Option<Counted>
     requires few { length journal.now.entries.items ≤ 65535 }
     ensures some { (text : List ℕ) → HasRead text journal.now → length text ≤ len → IfSome result (λ c. IsCounted text c.count c.told) }

@@ -19,7 +19,7 @@ use bx_image::DeviceFailed;
 use bx_journal_format::{Place, Tally, Version, count_lines, next_end, rest_may_follow};
 use bx_journal_store::TextStore;
 
-/// The line that begins an entry has at most this many bytes, its newline included.
+/// The most bytes that a line has which begins an entry, its newline included.
 const LONGEST_START: usize = 34;
 
 /// Whether what follows the last line in a text's first `len` bytes may stand there.

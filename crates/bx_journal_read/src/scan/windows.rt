@@ -8,7 +8,7 @@ use bx_image::DeviceFailed;
 use bx_journal_store::TextStore;
 use bx_text::NoMemory;
 
-/// This many bytes of a text are read at a time.
+/// The count of bytes of a text that are read at a time.
 pub const WINDOW: u64 = 262_144;
 
 /// What the whole lines at the start of a window lead to, and how many bytes they have.

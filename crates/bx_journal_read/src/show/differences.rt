@@ -17,7 +17,7 @@ use bx_journal_store::TextStore;
 use std::alloc::Allocator;
 use std::io::Write;
 
-/// This many bytes of the image are read at a time.
+/// The count of bytes of the image that are read at a time.
 const PAGE: usize = 4096;
 
 /// Where reading stands in the text, and what is kept of the image.

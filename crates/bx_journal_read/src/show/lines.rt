@@ -14,7 +14,7 @@ use bx_journal_store::TextStore;
 use std::alloc::{AllocError, Allocator};
 use std::io::Write;
 
-/// Lines are gathered up to this many bytes before they are written.
+/// The count of bytes up to which lines are gathered before they are written.
 pub const GATHERED: usize = 1 << 20;
 
 /// Adds xxd's default line for bytes at an address behind a sign; nothing where there are no bytes.

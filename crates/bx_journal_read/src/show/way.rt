@@ -10,7 +10,7 @@ pub enum Way {
     Redo,
 }
 
-/// What is shown: this many steps that way. `changes` is how many changes stand: a redo makes change `changes + 1` first.
+/// What is shown: `count` steps that way. `changes` is how many changes stand: a redo makes change `changes + 1` first.
 /// `compares` puts beside each saved line what the image has there.
 #[derive(Clone, Copy, Debug)]
 pub struct Steps {

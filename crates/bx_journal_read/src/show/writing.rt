@@ -18,7 +18,7 @@ pub struct Writing<A: Allocator = Global> {
     pub written: u64,
 }
 
-/// A window and no lines yet, where this many bytes were written.
+/// A window and no lines yet, where `written` bytes were written.
 pub fn begin_writing<A: Allocator + Clone>(
     alloc: &A,
     written: u64,
@@ -33,7 +33,7 @@ pub fn begin_writing<A: Allocator + Clone>(
     })
 }
 
-/// Writes bytes behind this many others, and answers how many that are together.
+/// Writes bytes behind `before` others, and answers how many that are together.
 pub fn put<W: Write>(out: &mut W, before: u64, bytes: &[u8]) -> Result<u64, ShowFault>
     ensures put { OnOk result (Appends (W.contents out.old) (W.contents out.new) bytes.now) }
     ensures kind { IfErr result PutFault }

@@ -20,7 +20,7 @@ pub record HasPut (head : List ℕ) (lines : List PatchLine) (begun : Bool) (wri
   pub begun_is : begun ≡ has_lines lines
   pub count : written ≡ counted (length (headed head lines))
 
--- a prefix of the bytes was written behind this many others
+-- a prefix of the bytes was written behind `before` others
 abbrev pub PutsPart : ℕ → Option (List ℕ) → Option (List ℕ) → List ℕ → DiffFault → Type 0
 PutsPart before old new text fault =
     (prefix rest : List ℕ) × (text ≡ prefix ++ rest) × Appends old new prefix × TellsWritten (before + length prefix) (length rest) fault

@@ -36,7 +36,7 @@ IsKind before line Other = HasNoSign line × (IsRemark line → ⊥) × (IsToTel
 abbrev pub Adds : Asked → List ℕ → Asked → Type 0
 Adds old line new = (before : List (List ℕ)) → GivesPatch before old → IsInLengths old → GivesPatch (before ++ line ∷ []) new × IsInLengths new
 
--- of a text this many lines were read, which ask this, and the rest wasn't
+-- of a text the first `number` lines were read, which ask this, and the rest wasn't
 pub record HasReadLines (text rest : List ℕ) (number : ℕ) (asked : Asked) : Type 0 where
   pub before : List (List ℕ)
   pub lines : lines_of text ≡ before ++ lines_of rest

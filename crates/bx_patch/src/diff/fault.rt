@@ -17,7 +17,7 @@ pub enum DiffFault {
     /// A call of the second device failed.
     #[error("read failed")]
     NewFailed,
-    /// The writer failed; this many bytes were written before.
+    /// The writer failed, behind the `written` bytes that it took before.
     #[error("write failed after {written} bytes")]
     WriteFailed { written: u64 },
 }

@@ -18,7 +18,7 @@ pub struct Writing<A: Allocator> {
     pub written: u64,
 }
 
-/// Writes bytes behind this many others, and answers how many that are together.
+/// Writes bytes behind `before` others, and answers how many that are together.
 fn put<W: Write>(out: &mut W, before: u64, bytes: &[u8]) -> Result<u64, DiffFault>
     ensures put { OnOk result (Appends (W.contents out.old) (W.contents out.new) bytes.now) }
     ensures count { IfOk result (λ n. n ≡ counted (before + length bytes.now)) }

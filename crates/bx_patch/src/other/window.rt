@@ -5,7 +5,7 @@ ghost use Rattle.bx_patch.specs.private.Other.{HasPage, IsImagePage};
 
 use bx_image::{Device, DeviceFailed};
 
-/// This many bytes of the image are read at a time.
+/// The count of bytes of the image that are read at a time.
 pub const PAGE: usize = 4096;
 
 /// How long the image is, and which of its bytes the page has: `count` from an address on.

@@ -10,7 +10,7 @@ use std::rt::Files;
 /// A gap of more bytes than this is worth a hint.
 const GAP: u64 = 1 << 20;
 
-/// This many bytes of the image are read at a time.
+/// The count of bytes of the image that are read at a time.
 const PAGE: usize = 65_536;
 
 /// The lengths of an image before and after a change, and what the change makes of it.

@@ -54,7 +54,7 @@ impl Remarks {
         }
     }
 
-    /// A line on how much of this many bytes is read, for work whose output may be a terminal, where it has no place.
+    /// A line on how much of `total` bytes is read, for work whose output may be a terminal, where it has no place.
     pub fn progress_of_dump<'r, R>(&self, rt: &'r R, total: Option<u64>) -> Progress<'r, R>
     where
         R: Clock + Eprint,

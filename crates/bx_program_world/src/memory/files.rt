@@ -60,7 +60,7 @@ fn place_of(entries: &[Entry], name: &str) -> usize
     entries.len()
 }
 
-/// The file that a name leads to by at most this many steps.
+/// The file that a name leads to by at most `steps` steps.
 #[tactic(auto, unfolding(crate::specs::MemoryFiles::follow))]
 fn follow(entries: &[Entry], steps: u32, name: &str) -> Option<usize>
     ensures { result ≡ follow entries.now steps name.now }

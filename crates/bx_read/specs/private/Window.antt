@@ -12,6 +12,6 @@ newlines (c ∷ text) = if c == 10 then newlines text + 1 else newlines text
 abbrev pub JoinsBehind : List (ℕ × List ℕ) → List (ℕ × List ℕ) → List (ℕ × List ℕ) → Type 0
 JoinsBehind old new more = (pieces : List (ℕ × List ℕ)) → old ≡ joined pieces → new ≡ joined (pieces ++ more)
 
--- The text, which follows this many lines, is read, and its pieces join the runs of any before them.
+-- The text, which follows `lines` lines, is read, and its pieces join the runs of any before them.
 abbrev pub TakesText : ℕ → List ℕ → List (ℕ × List ℕ) → List (ℕ × List ℕ) → Type 0
 TakesText lines text old new = (more : List (ℕ × List ℕ)) × (gathered (answers (lines + 1) (lines_of text)) ≡ Ok more) × JoinsBehind old new more

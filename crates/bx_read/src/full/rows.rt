@@ -14,7 +14,7 @@ pub struct Taken<'a> {
     pub count: usize,
 }
 
-/// Whether what begins at `next` goes on with this many bytes at `at`.
+/// Whether what begins at `next` goes on with `count` bytes at `at`.
 #[inline]
 pub fn goes_on(at: u64, count: usize, next: u64) -> bool
     ensures { result ≡ (next == at + count) }
@@ -22,7 +22,7 @@ pub fn goes_on(at: u64, count: usize, next: u64) -> bool
     next >= at && next - at == count as u64
 }
 
-/// The bytes of the full line that the text begins with, where it goes on with this many bytes at an address.
+/// The bytes of the full line that the text begins with, where it goes on with `count` bytes at an address.
 #[inline(always)]
 fn next_full(at: u64, count: usize, text: &[u8]) -> Option<[u8; 16]>
     ensures full { IfSome result (λ bytes. IsFull text.now (at + count) bytes) }

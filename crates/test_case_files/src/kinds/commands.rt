@@ -37,11 +37,11 @@ pub enum Ask {
         text: Vec<u8>,
         reversed: bool,
     },
-    /// Takes this many changes back.
+    /// Takes back a count of changes.
     Undo(u32),
-    /// Makes this many changes again.
+    /// Makes a count of changes again.
     Redo(u32),
-    /// Cuts the image to this many bytes, or leaves it, and then writes.
+    /// Cuts the image to `base` bytes, or leaves it, and then writes.
     Change {
         base: Option<u64>,
         writes: Vec<Write>,

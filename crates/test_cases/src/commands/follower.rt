@@ -10,9 +10,9 @@ use test_case_files::{Answer, Ask, Opening, Row};
 /// What was stopped in the middle.
 #[derive(Clone, Copy)]
 enum Stop<'a> {
-    /// Undoing this many.
+    /// An undo of a count of changes.
     Undo(usize),
-    /// Making this many again.
+    /// A redo of a count of changes.
     Redo(usize),
     /// A change that was to leave this image.
     Change(&'a [u8]),
@@ -177,7 +177,7 @@ impl<'a> Follower<'a> {
         }
     }
 
-    /// The images that are expected where opening finds this, and this many changes stand. Where something unfinished was
+    /// The images that are expected where opening finds this, and `changes` changes stand. Where something unfinished was
     /// found, what was undone is given up.
     pub fn expected(
         &self,

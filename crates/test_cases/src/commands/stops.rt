@@ -80,7 +80,7 @@ fn too_many(alloc: Global, least: usize, most: usize, changes: usize) -> Wrong {
     }
 }
 
-/// Opens what a run left: this many changes stand. Answers the images that it stands for.
+/// Opens what a run left: the changes that stand are within the follower's bounds. Answers the images that it stands for.
 fn follows<'a>(alloc: Global, left: &Held, follower: &Follower<'a>) -> Result<Images<'a>, Wrong> {
     let (session, found) = recovered(alloc, left.texts())?;
     if follower.is_at_rest() && !matches!(found, Opening::Clean { .. }) {

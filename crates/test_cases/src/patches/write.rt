@@ -67,7 +67,7 @@ pub fn written(
     Ok(to.taken)
 }
 
-/// The patch is what the case tells, written this many bytes a call.
+/// The patch is what the case tells, written `each` bytes a call.
 pub fn whole(alloc: Global, case: &PatchWritten, extent: Extent, each: usize) -> Result<(), Wrong> {
     let found = written(alloc, case, extent, each)?;
     match (extent, &case.rows, &case.sum) {

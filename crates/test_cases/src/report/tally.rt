@@ -68,7 +68,7 @@ impl<'a> Tally<'a> {
         })
     }
 
-    /// This many plays of a sweep were right.
+    /// `plays` plays of a sweep were right.
     pub fn add(&mut self, sweep: usize, plays: u32) {
         if let Some(count) = self.plays.get_mut(sweep) {
             *count = count.saturating_add(plays as u64);

@@ -8,7 +8,7 @@ use bx_journal::{Session, SessionFault};
 use bx_journal_store::{FuseText, TextStore};
 use std::alloc::Global;
 
-/// The device that fails behind this many calls.
+/// The device that fails behind `pass` calls.
 pub fn fuse_at(kind: u32, pass: u64) -> Fused {
     let way = kind / DEVICES;
     Fused {
@@ -36,7 +36,7 @@ pub const LOCKED: Fused = Fused {
     pass: 1,
 };
 
-/// Which calls of a device fail: its reads, or else its writes; those behind this many, or the one behind them alone; and how
+/// Which calls of a device fail: its reads, or else its writes; those behind `pass`, or the one behind them alone; and how
 /// much of a write takes effect.
 #[derive(Clone, Copy)]
 pub struct Fused {

@@ -20,7 +20,7 @@ pub trait Call {
 /// No growth is smaller.
 const STEP: usize = 8;
 
-/// No search takes this many tries.
+/// More tries than any search takes.
 const MOST_TRIES: u32 = 100_000;
 
 /// What is known of a run that is tried with more and more bytes: with `low` the last growth that was found is refused.
@@ -29,14 +29,14 @@ struct Hunt {
     taken: usize,
     low: usize,
     gap: usize,
-    /// Another growth is refused with this many bytes, or none is; and what was taken then.
+    /// The count of bytes with which another growth is refused, or none is; and what was taken then.
     high: Option<(usize, Option<usize>)>,
     /// How many growths were found.
     growths: u32,
 }
 
 impl Hunt {
-    /// With no bytes the first growth is refused, when this many were taken.
+    /// With no bytes the first growth is refused, when `taken` bytes were taken.
     fn new(taken: usize) -> Self {
         Hunt {
             taken,
@@ -58,7 +58,7 @@ impl Hunt {
         }
     }
 
-    /// What came of this many bytes: how many were taken when a growth was refused, if one was. Tells whether any is left.
+    /// What came of `bytes` bytes: how many were taken when a growth was refused, if one was. Tells whether any is left.
     fn goes_on(&mut self, bytes: usize, taken: Option<usize>) -> bool {
         if taken == Some(self.taken) {
             self.low = bytes;
@@ -72,7 +72,7 @@ impl Hunt {
         }
     }
 
-    /// With this many bytes the next growth is the first to be refused, or none is.
+    /// With `high` bytes the next growth is the first to be refused, or none is.
     fn leap(&mut self, high: usize, found: Option<usize>) -> bool {
         match found {
             Some(taken) => {
@@ -88,7 +88,7 @@ impl Hunt {
     }
 }
 
-/// The call with this many bytes, in an arena of its own, and where that is too little again with enough.
+/// The call with `bytes` bytes, in an arena of its own, and where that is too little again with enough.
 fn once<C: Call>(alloc: Global, call: &C, bytes: usize) -> Result<Option<usize>, Wrong> {
     let bump = arena(alloc)?;
     let refused = call.make(alloc, &bump, Some((&bump, bytes)))?;

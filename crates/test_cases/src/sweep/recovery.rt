@@ -15,7 +15,7 @@ use bx_journal_store::TextStore;
 use std::alloc::Global;
 use test_case_files::Opening;
 
-/// No play makes this many calls, and none leaves so much that is opened.
+/// More calls than any play makes, and more states than any leaves to be opened.
 pub const MOST_CALLS: u64 = 10_000;
 
 /// Makes the change again that was undone last.
@@ -40,7 +40,7 @@ fn step_on(alloc: Global, session: MemSession, image: &[u8]) -> Result<MemSessio
     again_with(alloc, &Memory, session, wanted)
 }
 
-/// What this many changes leave: this image, and of none no journal.
+/// What `changes` changes leave: this image, and of none no journal.
 fn left_by(changes: u32, image: &[u8]) -> Wanted<'_> {
     Wanted {
         image: Some(image),
@@ -203,7 +203,7 @@ pub fn is_seen(seen: &[Held], texts: Texts<'_>) -> bool {
     })
 }
 
-/// Stops the opening of what was left at each call, in this many ways, then that of what is left each time, and so on: each once.
+/// Stops the opening of what was left at each call, in `ways` ways, then that of what is left each time, and so on: each once.
 /// Tells how often.
 pub fn openings<D: Device + Drop, T: TextStore + Drop, M: Medium<D, T>>(
     alloc: Global,

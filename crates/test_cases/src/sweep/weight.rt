@@ -1,34 +1,34 @@
 //! How many places of a dear sweep are taken, by the size of what is played.
 use test_case_files::{Ask, CommandsCase, Row};
 
-/// A command weighs as much as this many bytes.
+/// The count of bytes that weigh as much as a command.
 const COMMAND: usize = 8;
 
-/// For each this many bytes of a case, one more call is passed over between two that fail.
+/// The count of bytes of a case for which one more call is passed over between two that fail.
 const BYTES_A_STOP: usize = 64;
 
-/// Cases of at most this many bytes have all that their stops leave opened and stopped again.
+/// The most bytes of a case that has all that its stops leave opened and stopped again.
 const LIGHT: usize = 64;
 
-/// For each this many bytes of others, one more stop is passed over.
+/// The count of bytes of others for which one more stop is passed over.
 const BYTES_AN_OPENING: usize = 2;
 
 /// For as many bytes of a case one more loss of power is passed over where what is left goes on.
 const BYTES_A_LOSS: usize = 32;
 
-/// For each this many rows of a case, one more is passed over between two that are swept alone.
+/// The count of rows of a case for which one more is passed over between two that are swept alone.
 const ROWS: usize = 16;
 
-/// Of the changes of a text's bytes about this many are made.
+/// About how many of the changes of a text's bytes are made.
 const CHANGES: usize = 400;
 
-/// Texts of at most this many bytes are cut off and changed at each place.
+/// The most bytes of a text that is cut off and changed at each place.
 const LONG_TEXT: usize = 8_192;
 
-/// Longer ones at this many places.
+/// The count of places at which longer ones are.
 const PLACES: usize = 32;
 
-/// Runs of words whose input and output have at most this many bytes have their growths refused.
+/// The most bytes of input and output with which runs of words have their growths refused.
 const SMALL: usize = 4;
 
 /// Cases whose image has more bytes than this, or what a command of theirs is given and leaves, are large.
@@ -69,13 +69,13 @@ pub fn weight(case: &CommandsCase) -> usize {
     sum
 }
 
-/// Of the calls of a case, one in this many fails.
+/// Of how many calls of a case one fails.
 pub fn stop_step(case: &CommandsCase) -> u64 {
     let step = weight(case) / BYTES_A_STOP;
     (step as u64).saturating_add(1)
 }
 
-/// Of the calls of a case, one in this many fails where what is left is stopped again.
+/// Of how many calls of a case one fails, where what is left is stopped again.
 pub fn opening_step(case: &CommandsCase) -> u64 {
     let bytes = weight(case);
     if bytes <= LIGHT {
@@ -96,13 +96,13 @@ pub fn odd(step: u64) -> u64 {
     step | 1
 }
 
-/// Whether this row of a case is one of those that are swept alone: one in this many, and the first.
+/// Whether this row of a case is one of those that are swept alone: at most `ROWS`, at even distances from the first.
 pub fn is_swept(row: usize, rows: usize) -> bool {
     let step = (rows / ROWS).saturating_add(1);
     row.checked_rem(step) == Some(0)
 }
 
-/// Of the 255 changes of each byte of a text of this length, one in this many is made.
+/// Of how many of the 255 changes of each byte of a text of `len` bytes one is made.
 pub fn change_step(len: usize) -> usize {
     let step = len.saturating_mul(255) / CHANGES;
     step.saturating_add(1).min(255)

@@ -84,7 +84,7 @@ fn refused_so(alloc: Global, verdict: &Verdict, found: Fault) -> Result<(), Wron
     }
 }
 
-/// The judge makes no image of this many bytes. What calls for one isn't opened.
+/// The judge makes no image that is so long. What calls for one isn't opened.
 const LONG: usize = 1 << 16;
 
 fn is_long(verdict: &Verdict) -> bool {
@@ -151,7 +151,7 @@ pub fn fronts(alloc: Global, texts: Texts<'_>) -> Result<u32, Wrong> {
     Ok(count)
 }
 
-/// Opens the text with each byte changed, in all 255 ways or one in this many. Tells how often.
+/// Opens the text with each byte changed, in all 255 ways, or in some that lie a step apart. Tells how often.
 pub fn changed_bytes(alloc: Global, texts: Texts<'_>, all: bool) -> Result<u32, Wrong> {
     let len = text_of(texts).len();
     let step = if all { 1 } else { change_step(len) };
@@ -164,7 +164,7 @@ pub fn changed_bytes(alloc: Global, texts: Texts<'_>, all: bool) -> Result<u32, 
     Ok(count)
 }
 
-/// Opens the text with one byte changed, in one of this many ways. Tells how often.
+/// Opens the text with one byte changed, in one of each `step` ways. Tells how often.
 fn changed_byte(alloc: Global, texts: Texts<'_>, place: usize, step: usize) -> Result<u32, Wrong> {
     let mut count = 0u32;
     let first = place.checked_rem(step).unwrap_or(0);

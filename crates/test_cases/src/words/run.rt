@@ -67,7 +67,7 @@ pub fn run_freely(alloc: Global, job: RunOf<'_>, each: usize) -> Ran {
     run(alloc, job, from, to)
 }
 
-/// How many bytes of this many go through in one call.
+/// How many bytes of `len` go through in one call.
 fn each_of(len: usize, least: usize) -> usize {
     least.max(len / FEW_CALLS)
 }

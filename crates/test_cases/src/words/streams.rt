@@ -22,7 +22,7 @@ pub struct Turn {
 }
 
 impl Turn {
-    /// One that comes behind this many calls.
+    /// One that comes behind `left` calls.
     pub const fn new(act: Act, left: u32) -> Self {
         Turn {
             act,
@@ -54,7 +54,7 @@ impl Turn {
     }
 }
 
-/// A reader that gives at most this many bytes a call.
+/// A reader that gives at most `each` bytes a call.
 #[derive(Drop)]
 pub struct Input<'a> {
     rest: &'a [u8],
@@ -96,7 +96,7 @@ impl Read for Input<'_> {
     }
 }
 
-/// A writer that takes at most this many bytes a call.
+/// A writer that takes at most `each` bytes a call.
 #[derive(Drop)]
 pub struct Output {
     pub taken: Vec<u8>,

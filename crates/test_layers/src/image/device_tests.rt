@@ -98,7 +98,7 @@ fn image_reads_fail(rt: HostRuntime) -> Result<(), Fail> {
     Ok(())
 }
 
-// Does the change go through where this many calls that write pass?
+// Does the change go through where the first `pass` calls that write pass?
 fn applies(rt: &impl Abort, alloc: Global, change: &Change, pass: u64) -> Result<bool, Fail> {
     let mut image = FuseImage::new(memory(alloc, b"ABCDEF")?, pass, Part::Nothing, false);
     image.reserve(check(change, 6)?)?;
@@ -133,7 +133,7 @@ fn calls_of_apply(rt: HostRuntime) -> Result<(), Fail> {
     Ok(())
 }
 
-// Is all saved where this many calls that read pass?
+// Is all saved where the first `pass` calls that read pass?
 fn saves(rt: &impl Abort, alloc: Global, change: &Change, pass: u64) -> Result<bool, Fail> {
     let mut image = FuseImage::on_reads(memory(alloc, b"ABCDEFGHIJ")?, pass);
     assert!(rt; image.faults() < u64::MAX);

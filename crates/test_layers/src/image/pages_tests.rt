@@ -6,7 +6,7 @@ use std::alloc::Global;
 use std::process::Abort;
 use std::test::Fail;
 
-// Whether a heap of this many bytes has two pages more behind one. Where it hasn't the room stays, and the page goes on.
+// Whether a heap of `bytes` bytes has two pages more behind one. Where it hasn't the room stays, and the page goes on.
 fn has_three(rt: &impl Abort, alloc: Global, bytes: usize) -> Result<bool, Fail> {
     let heap = LocalHeap::new(alloc, bytes)?;
     let mut image = PagedImage::new(&heap);

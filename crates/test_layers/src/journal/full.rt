@@ -9,7 +9,7 @@ use std::test::Fail;
 /// The most changes, those that are undone with them.
 const MOST: u32 = 65_535;
 
-/// A text of this many changes of nothing on the empty image.
+/// A text of `count` changes of nothing on the empty image.
 fn entries(alloc: Global, count: u32) -> Result<Vec<u8>, AllocError> {
     let mut text = Vec::new(alloc);
     for n in 1..=count {

@@ -10,7 +10,7 @@ use std::process::Abort;
 use std::test::Fail;
 use test_arena::ration;
 
-/// This many bytes were overwritten.
+/// The count of bytes that were overwritten.
 pub const LEN: usize = 131_072;
 
 /// Many more than a window has.
@@ -22,7 +22,7 @@ const FIRST_ROW: usize = 68;
 /// How long a full line is.
 pub const LINE: usize = 68;
 
-/// Puts lines of one saved byte behind the others, this many.
+/// Puts `count` lines of one saved byte behind the others.
 fn push_bytes(alloc: Global, text: &mut Vec<u8>, count: usize) -> Result<(), AllocError> {
     for i in 0..count {
         let at = format!(in alloc; "{i:07x}0: ")?;
@@ -42,8 +42,8 @@ fn push_rows(alloc: Global, text: &mut Vec<u8>, end: usize) -> Result<(), AllocE
     Ok(())
 }
 
-/// The journal of a change of an image of this many bytes, at least `LEN`, that saved this many bytes and full lines behind them: an
-/// entry that is longer than two windows. Each of the bytes moves the windows' ends to another place in a full line.
+/// The journal of a change of an image of `len` bytes, at least `LEN`, that saved `bytes` single bytes and full lines behind
+/// them: an entry that is longer than two windows. Each of the bytes moves the windows' ends to another place in a full line.
 pub fn long_entry(alloc: Global, len: usize, bytes: usize) -> Result<Vec<u8>, AllocError> {
     let mut text = Vec::new(alloc);
     let first = format!(in alloc; "change2 00000001 {len:016x}\n")?;
@@ -131,7 +131,7 @@ fn long_rollback_in_windows(rt: HostRuntime) -> Result<(), Fail> {
     Ok(())
 }
 
-/// Whether opening answers this fault in the memory of an arena of this many bytes.
+/// Whether opening answers this fault in the memory of an arena of `bytes` bytes.
 fn fails_in(
     alloc: Global,
     start: Held<'_>,

@@ -300,7 +300,7 @@ const ZEROS: &[Row] = &[
     ),
 ];
 
-/// An image, the first this many bytes of a journal, a redo text, and the rows on them.
+/// An image, a journal and how many of its first bytes there are, a redo text, and the rows on them.
 type Start = (
     &'static [u8],
     &'static [u8],

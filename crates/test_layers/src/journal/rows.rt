@@ -29,7 +29,7 @@ pub enum Left {
 /// other reads do, what opening finds, what is asked for and answered, and what is left.
 pub type Row = (Calls, (u64, u64), Passes, Finds, Step, Left);
 
-/// Behind this many calls a session is stopped.
+/// What stops a session behind `pass` calls.
 fn stops_of(row: &Row, pass: u64) -> Stops {
     let (calls, _, (image, journal, redo), _, _, _) = *row;
     match calls {
@@ -68,7 +68,7 @@ fn assert_left(
     Ok(())
 }
 
-/// Plays a row behind this many calls.
+/// Plays a row behind `pass` calls.
 fn play_once(
     alloc: Global,
     rt: &impl Abort,

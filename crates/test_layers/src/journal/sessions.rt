@@ -6,7 +6,7 @@ use bx_journal_store::{FuseText, MemText, TextStore};
 use std::alloc::{AllocError, Allocator, Global};
 use std::process::Abort;
 
-/// No test comes near this many failed calls.
+/// More failed calls than any test comes near.
 const MANY: u64 = 100_000;
 
 /// An image, its journal and its redo text.
@@ -30,7 +30,7 @@ pub enum Finds {
     Clean(u32, u32),
     /// Behind these changes an unfinished one that was dropped.
     Dropped(u32),
-    /// One of this number behind that many changes, which was taken back.
+    /// One of the first number behind as many changes as the second says, which was taken back.
     Restored(u32, u32),
     /// A fault.
     Fails(SessionFault),
@@ -50,7 +50,7 @@ fn opened_of(finds: Finds) -> Result<Recovered, SessionFault> {
     })
 }
 
-/// This many saved bytes make an entry of more than 256 KiB.
+/// Enough saved bytes for an entry of more than 256 KiB.
 pub const WHOLE: usize = 65_536;
 
 /// What a session is asked for once it is open.
@@ -159,9 +159,9 @@ pub fn held(alloc: Global, bytes: Held<'_>) -> Result<MemTrio, AllocError> {
 /// What stops a session.
 #[derive(Clone, Copy)]
 pub enum Stops {
-    /// Of each device the reads behind this many.
+    /// Of each device all reads but the first ones, which pass.
     Reads(Passes),
-    /// The calls that write to the journal behind this many.
+    /// All calls that write to the journal but the first ones, which pass.
     Writes(u64),
 }
 

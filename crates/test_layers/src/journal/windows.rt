@@ -12,7 +12,7 @@ use std::test::Fail;
 const PATCHED_FIRST: &[u8] =
     b"change 00000001 00000008\n00000002: 4344                                     CD\nsave 00000001\ndone 00000001\n";
 
-// How many entries a text has, counted in windows of this many bytes.
+// How many entries a text has, counted in windows of `size` bytes.
 fn count_by(text: &[u8], size: usize, only_second: bool) -> Option<u32> {
     let mut tally = no_entries();
     let mut rest = text;
@@ -80,7 +80,7 @@ fn saved_in(alloc: Global, entries: &[EntryRead]) -> Result<Vec<u8>, AllocError>
     Ok(saved)
 }
 
-// What was read, and how many bytes of the text: those of the whole lines in a window of this many bytes.
+// What was read, and how many bytes of the text: those of the whole lines in a window of `size` bytes.
 fn read_window(
     alloc: Global,
     front: Front,
@@ -100,7 +100,7 @@ fn read_window(
     }
 }
 
-// What a text's entries saved, read in windows of this many bytes; nothing where they can't be read so.
+// What a text's entries saved, read in windows of `size` bytes; nothing where they can't be read so.
 fn read_by(alloc: Global, text: &[u8], size: usize) -> Result<Option<Vec<u8>>, AllocError> {
     let front = Front {
         count: 0,

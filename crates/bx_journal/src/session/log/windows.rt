@@ -102,7 +102,7 @@ impl<A: Allocator> Scan for RowScan<A> {
     ghost whole = { λ first now text h. h.whole };
 }
 
-/// Whether these are the sums of this many entries, and none is unfinished.
+/// Whether these are the sums of `count` entries, and none is unfinished.
 fn are_all(sums: Summed, count: u32) -> bool
     ensures { result ≡ true → (sums.tally.place ≡ Place.Between) × (sums.tally.count ≡ count) }
 {
@@ -114,7 +114,7 @@ fn are_all(sums: Summed, count: u32) -> bool
 }
 
 /// The rows of a text, in as much memory beside them for any length. It answers none where they can't be had so: where the
-/// text is anything but this many finished entries, and where a line is very long.
+/// text is anything but `count` finished entries, and where a line is very long.
 pub fn rows_in_windows<T: TextStore, A: Allocator + Clone>(
     alloc: &A,
     journal: &mut T,

@@ -53,7 +53,7 @@ fn spare(goes_on: bool, len: u64, end: u64, left: u64) -> usize {
     (16 * lines).min(len.saturating_sub(end)) as usize
 }
 
-/// Makes room for this many bytes behind a run, and where there is none, for that many more too.
+/// Makes room for `more` bytes behind a run, and where there is none, for `spare` others too.
 fn make_room<A: Allocator>(
     bytes: &mut Vec<u8, A>,
     more: usize,

@@ -20,7 +20,7 @@ pub fn rest_of<A: Allocator>(text: &Unread<A>) -> &[u8]
     rest
 }
 
-/// The text behind this many bytes more.
+/// The text behind its next `count` bytes.
 #[inline(always)]
 pub fn behind<A: Allocator>(text: Unread<A>, count: usize) -> Unread<A>
     requires { count ≤ length (drop text.from text.bytes.items) }

@@ -2,7 +2,7 @@ use Rattle.std.proofs.Common.{◌++◌, ◌-◌, ◌≤◌, List, ℕ, Option, r
 use Rattle.bx_dd.specs.private.Streaming.{Goes}
 use Rattle.bx_dd.proofs.page.Page.put_spaces.Given as goal
 
--- this many were put
+-- `done` spaces were put
 abbrev pub invariant-loop-done : goal.invariant-loop-done
 invariant-loop-done g l = record {
   inside : l.done ≤ l.count;

@@ -3,7 +3,7 @@ use Rattle.bx_journal_format.specs.Text.{Entry}
 use Rattle.bx_journal_format.specs.read.Lines.{IsReadAt, IsReadUpTo}
 use Rattle.bx_journal_format.proofs.read.lines.read_lines.Given as goal
 
--- this many bytes of the window are read, and the rest of it is as it was
+-- the bytes of the window up to `from` are read, and the rest of it is as it was
 abbrev pub invariant-loop-i : goal.invariant-loop-i
 invariant-loop-i g l = record {
   read : (text : List ℕ) (older : List Entry) → IsReadUpTo text older l.front l.fn.read → IsReadAt (text ++ l.fn.window) older l.entries.items l.stage (l.fn.read.at + l.from);

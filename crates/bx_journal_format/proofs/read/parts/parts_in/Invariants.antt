@@ -3,7 +3,7 @@ use Rattle.std.specs.Prelude.{vec_capacity}
 use Rattle.bx_journal_format.proofs.StretchLemmas.{HasParts}
 use Rattle.bx_journal_format.proofs.read.parts.parts_in.Given as goal
 
--- this many bytes were taken, and at most one part for each
+-- `taken` bytes were taken, and at most one part for each
 abbrev pub invariant-loop-window : goal.invariant-loop-window
 invariant-loop-window g l = record {
   has : HasParts l.len l.fn.window l.window l.parts.items l.taken l.used;

@@ -3,7 +3,7 @@ use Rattle.bx_journal_format.specs.Kept.{Run}
 use Rattle.bx_journal_format.specs.read.Followed.{GoesOnBy, with_last}
 use Rattle.bx_journal_format.proofs.read.runs.full_lines.extend_run.Given as goal
 
--- this many lines were added, and this is left of the text
+-- `count` lines were added, and this is left of the text
 abbrev pub invariant-loop-more : goal.invariant-loop-more
 invariant-loop-more g l = record {
   left : l.rest ≡ drop (68 * l.count) l.text;
