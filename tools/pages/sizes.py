@@ -10,9 +10,6 @@ import sources
 LIMITS = {"parameters": 8, "arguments": 6, "ensures": 12}
 # what stays above its limit, as "KIND CRATE: NAME (FILE)": `docs/DECISIONS.md` says why
 ALLOWED = {
-    "ensures bx_text: Meter::fill (src/stream.rt)": 14,
-    "ensures bx_text: Source::fill (src/stream.rt)": 14,
-    "ensures bx_text: Source::rest (src/stream.rt)": 13,
 }
 
 

@@ -9,14 +9,16 @@ use crate::commands::behind::{Lost, Next, Nothing, Stopped};
 use crate::commands::growths::play_growths;
 use crate::commands::rows::{first_texts, play_each, play_once};
 use crate::commands::stops::{Calls, play_stops};
-use crate::report::tally::{Failure, at};
-use crate::session::medium::{DEVICES, PageCache, WAYS};
-use crate::session::places::{Files, Memory, Pages, Place};
-use crate::sweep::weight::{is_large, is_swept, loss_step, odd, opening_step, stop_step};
 use bx_image::Device;
 use bx_journal_store::TextStore;
 use std::alloc::Global;
 use test_case_files::CommandsCase;
+use test_case_sessions::report::tally::{Failure, at};
+use test_case_sessions::session::medium::{DEVICES, PageCache, WAYS};
+use test_case_sessions::session::places::{Files, Memory, Pages, Place};
+use test_case_sessions::sweep::weight::{
+    is_large, is_swept, loss_step, odd, opening_step, stop_step,
+};
 
 /// The ways in which a case of commands is played.
 pub static SWEEPS: [&str; 9] = [

@@ -3,13 +3,13 @@ use crate::commands::{self, play_commands};
 use crate::looks::{self, play_looks};
 use crate::patches::{self, play_patch};
 use crate::reading::{self, play_reading};
-use crate::report::tally::{Failure, Tally};
-use crate::session::places::clear;
 use crate::texts::{self, play_text};
 use crate::words::{self, play_words};
 use std::alloc::AllocError;
 use std::{fs, io};
 use test_case_files::{Case, CaseFile, Test, read_cases};
+use test_case_sessions::report::tally::{Failure, Tally};
+use test_case_sessions::session::places::clear;
 
 /// What a name ends with that is a case file's.
 const ENDING: &str = ".cases";

@@ -4,17 +4,17 @@ mod shown;
 
 use crate::looks::growths::LookOf;
 use crate::looks::shown::{show, shown_so};
-use crate::report::compare::{Wrong, same_bytes, same_fault};
-use crate::session::MANY;
-use crate::session::devices::{Devices, Texts};
-use crate::session::fuse::{LOCKED, fuse};
-use crate::session::places::{Files, Memory, Pages, Place};
-use crate::sweep::hunt::each_growth;
 use bx_cli::list_ranges;
 use bx_image::Device;
 use bx_journal_store::TextStore;
 use std::alloc::Global;
 use test_case_files::{Look, LooksCase, Shows};
+use test_case_sessions::report::compare::{Wrong, same_bytes, same_fault};
+use test_case_sessions::session::MANY;
+use test_case_sessions::session::devices::{Devices, Texts};
+use test_case_sessions::session::fuse::{LOCKED, fuse};
+use test_case_sessions::session::places::{Files, Memory, Pages, Place};
+use test_case_sessions::sweep::hunt::each_growth;
 
 /// Of a longer journal no growths are refused.
 const MOST_SQUEEZED: usize = 8192;

@@ -6,9 +6,6 @@ mod files;
 mod looks;
 mod patches;
 mod reading;
-mod report;
-mod session;
-mod sweep;
 mod texts;
 mod words;
 

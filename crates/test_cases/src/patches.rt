@@ -8,11 +8,11 @@ use crate::patches::apply::makes_new;
 use crate::patches::growths::WriteOf;
 use crate::patches::read::read_once;
 use crate::patches::write::{calls, whole};
-use crate::report::compare::Wrong;
-use crate::sweep::hunt::each_growth;
 use bx_patch::Extent;
 use std::alloc::Global;
 use test_case_files::{PatchCase, PatchWritten};
+use test_case_sessions::report::compare::Wrong;
+use test_case_sessions::sweep::hunt::each_growth;
 
 /// Of larger images no growths are refused.
 const MOST_SQUEEZED: usize = 4096;

@@ -2,15 +2,15 @@
 use crate::reading::joined::same_runs;
 use crate::reading::source::{Streamed, once_from};
 use crate::reading::wanted::{refused, same_plain};
-use crate::report::compare::{Wrong, differs, no_fault, same_bytes, same_number};
-use crate::session::ask::{Limit, eased, limit_to};
-use crate::sweep::hunt::{Call, each_growth};
 use bumpalo::Bump;
 use bx_cli::Fault;
 use bx_read::{ReadFault, read_dump, read_plain};
 use bx_text::Piece;
 use std::alloc::{Allocator, Global};
 use test_case_files::{ReadingCase, Reads};
+use test_case_sessions::report::compare::{Wrong, differs, no_fault, same_bytes, same_number};
+use test_case_sessions::session::ask::{Limit, eased, limit_to};
+use test_case_sessions::sweep::hunt::{Call, each_growth};
 
 mod joined;
 mod source;

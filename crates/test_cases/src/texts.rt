@@ -3,16 +3,6 @@ mod damage;
 mod growths;
 mod zeros;
 
-use crate::report::compare::{Wrong, differs, same_bytes};
-use crate::session::answers::found_so;
-use crate::session::devices::{Held, Texts, Wanted, in_memory};
-use crate::session::medium::{DEVICES, Medium, OPENING_WAYS, PageCache};
-use crate::session::open::open;
-use crate::session::places::{Files, Memory, Pages, Place};
-use crate::session::standing::{again_with, hold};
-use crate::sweep::hunt::each_growth;
-use crate::sweep::images::{History, Images, history_of};
-use crate::sweep::recovery::openings;
 use crate::texts::damage::{changed_bytes, fronts};
 use crate::texts::growths::OpeningOf;
 use crate::texts::zeros::fronts_with_zeros;
@@ -20,6 +10,16 @@ use bx_image::Device;
 use bx_journal_store::TextStore;
 use std::alloc::Global;
 use test_case_files::TextCase;
+use test_case_sessions::report::compare::{Wrong, differs, same_bytes};
+use test_case_sessions::session::answers::found_so;
+use test_case_sessions::session::devices::{Held, Texts, Wanted, in_memory};
+use test_case_sessions::session::medium::{DEVICES, Medium, OPENING_WAYS, PageCache};
+use test_case_sessions::session::open::open;
+use test_case_sessions::session::places::{Files, Memory, Pages, Place};
+use test_case_sessions::session::standing::{again_with, hold};
+use test_case_sessions::sweep::hunt::each_growth;
+use test_case_sessions::sweep::images::{History, Images, history_of};
+use test_case_sessions::sweep::recovery::openings;
 
 /// The ways in which a text is opened.
 pub static SWEEPS: [&str; 10] = [

@@ -5,10 +5,6 @@ pub(crate) mod outcome;
 mod run;
 pub(crate) mod streams;
 
-use crate::report::compare::Wrong;
-use crate::report::tally::{Failure, at};
-use crate::sweep::hunt::each_growth;
-use crate::sweep::weight::is_small;
 use crate::words::job::same_job;
 use crate::words::outcome::{allowed, refused, right, turned_right};
 use crate::words::run::{RunOf, run_freely, run_turned};
@@ -16,6 +12,10 @@ use crate::words::streams::{Act, Turn};
 use bx_cli::{DumpJob, Job, plan_words};
 use std::alloc::Global;
 use test_case_files::WordsCase;
+use test_case_sessions::report::compare::Wrong;
+use test_case_sessions::report::tally::{Failure, at};
+use test_case_sessions::sweep::hunt::each_growth;
+use test_case_sessions::sweep::weight::is_small;
 
 /// The ways in which a case of words is played.
 pub static SWEEPS: [&str; 13] = [

@@ -1,13 +1,13 @@
 //! What is done with each thing that a stopped run left: its opening is stopped, or loses power; or the next command does.
 use crate::commands::stops::{Behind, Calls, Run, stop_run};
-use crate::report::compare::Wrong;
-use crate::session::devices::{Held, Texts};
-use crate::session::medium::{DEVICES, OPENING_WAYS, PageCache, Unsynced};
-use crate::session::places::Memory;
-use crate::sweep::images::Images;
-use crate::sweep::recovery::{is_seen, openings};
 use std::alloc::Global;
 use test_case_files::{Answer, Ask, Left, Row, Write};
+use test_case_sessions::report::compare::Wrong;
+use test_case_sessions::session::devices::{Held, Texts};
+use test_case_sessions::session::medium::{DEVICES, OPENING_WAYS, PageCache, Unsynced};
+use test_case_sessions::session::places::Memory;
+use test_case_sessions::sweep::images::Images;
+use test_case_sessions::sweep::recovery::{is_seen, openings};
 
 /// Nothing.
 #[derive(Drop)]

@@ -1,11 +1,11 @@
 //! A plain list of images beside a run of commands on devices that fail.
-use crate::report::compare::{Wrong, fault_text};
-use crate::session::answers::{same_reply, same_reply_text};
-use crate::sweep::images::Images;
 use bx_cli::{Fault, Reply};
 use bx_journal::SessionFault;
 use std::alloc::{AllocError, Global};
 use test_case_files::{Answer, Ask, Opening, Row};
+use test_case_sessions::report::compare::{Wrong, fault_text};
+use test_case_sessions::session::answers::{same_reply, same_reply_text};
+use test_case_sessions::sweep::images::Images;
 
 /// What was stopped in the middle.
 #[derive(Clone, Copy)]

@@ -1,21 +1,21 @@
 //! Cases of commands with each growth refused in turn.
 use crate::commands::rows::{begun, play_row};
-use crate::report::compare::{Wrong, is_out_of_memory, same_bytes, unwanted};
-use crate::report::tally::{Failure, at};
-use crate::session::answers::same_reply;
-use crate::session::ask::{Limit, ask_for, eased, limit_to, lists};
-use crate::session::devices::{MemDevices, Texts, in_memory, unchanged};
-use crate::session::open::{MemSession, close, open};
-use crate::session::places::Memory;
-use crate::session::standing::Standing;
-use crate::sweep::hunt::{Call, each_growth};
-use crate::sweep::weight::is_swept;
 use bumpalo::Bump;
 use bx_cli::Reply;
 use bx_image::MemImage;
 use bx_journal_store::MemText;
 use std::alloc::Global;
 use test_case_files::{Ask, CommandsCase, Row};
+use test_case_sessions::report::compare::{Wrong, is_out_of_memory, same_bytes, unwanted};
+use test_case_sessions::report::tally::{Failure, at};
+use test_case_sessions::session::answers::same_reply;
+use test_case_sessions::session::ask::{Limit, ask_for, eased, limit_to, lists};
+use test_case_sessions::session::devices::{MemDevices, Texts, in_memory, unchanged};
+use test_case_sessions::session::open::{MemSession, close, open};
+use test_case_sessions::session::places::Memory;
+use test_case_sessions::session::standing::Standing;
+use test_case_sessions::sweep::hunt::{Call, each_growth};
+use test_case_sessions::sweep::weight::is_swept;
 
 /// Refuses each growth of each command of a case in turn, and of each log. Tells how many they were.
 pub fn play_growths(alloc: Global, case: &CommandsCase) -> Result<u32, Failure> {

@@ -1,16 +1,16 @@
 //! Cases of commands, played row by row with nothing in their way.
-use crate::report::compare::Wrong;
-use crate::session::answers::{same_opening, same_reply};
-use crate::session::ask::{ask_for, lists};
-use crate::session::devices::{Held, Texts, Wanted};
-use crate::session::open::found_again;
-use crate::session::places::Place;
-use crate::session::standing::{Standing, again, again_with, opened};
 use bx_image::Device;
 use bx_journal::Session;
 use bx_journal_store::TextStore;
 use std::alloc::Global;
 use test_case_files::{Answer, Ask, CommandsCase, Row};
+use test_case_sessions::report::compare::Wrong;
+use test_case_sessions::session::answers::{same_opening, same_reply};
+use test_case_sessions::session::ask::{ask_for, lists};
+use test_case_sessions::session::devices::{Held, Texts, Wanted};
+use test_case_sessions::session::open::found_again;
+use test_case_sessions::session::places::Place;
+use test_case_sessions::session::standing::{Standing, again, again_with, opened};
 
 /// What a case begins with.
 pub fn first_texts(case: &CommandsCase) -> Texts<'_> {

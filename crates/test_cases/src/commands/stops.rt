@@ -1,23 +1,23 @@
 //! Cases on devices that fail at each of their calls: what is left is opened again, and stands for images that it may.
 use crate::commands::follower::Follower;
 use crate::commands::rows::{begun, first_texts};
-use crate::report::compare::{Wrong, differs, unwanted};
-use crate::report::tally::{Failure, at};
-use crate::session::ask::ask_for;
-use crate::session::devices::{Held, Texts};
-use crate::session::fuse::{
-    Fused, FusedDevices, FusedSession, found_of, fuse_at, in_fused, is_of_device,
-};
-use crate::session::medium::Medium;
-use crate::session::open::{close, open};
-use crate::session::places::Memory;
-use crate::session::standing::Standing;
-use crate::sweep::images::{History, Images, history_of};
-use crate::sweep::recovery::{MOST_CALLS, recovered, stands_for};
 use bx_image::Device;
 use bx_journal_store::TextStore;
 use std::alloc::Global;
 use test_case_files::{Ask, CommandsCase, Opening, Row};
+use test_case_sessions::report::compare::{Wrong, differs, unwanted};
+use test_case_sessions::report::tally::{Failure, at};
+use test_case_sessions::session::ask::ask_for;
+use test_case_sessions::session::devices::{Held, Texts};
+use test_case_sessions::session::fuse::{
+    Fused, FusedDevices, FusedSession, found_of, fuse_at, in_fused, is_of_device,
+};
+use test_case_sessions::session::medium::Medium;
+use test_case_sessions::session::open::{close, open};
+use test_case_sessions::session::places::Memory;
+use test_case_sessions::session::standing::Standing;
+use test_case_sessions::sweep::images::{History, Images, history_of};
+use test_case_sessions::sweep::recovery::{MOST_CALLS, recovered, stands_for};
 
 /// Asks for what a row tells, if the list of images can follow it.
 fn run_row<'a, D: Device + Drop, T: TextStore + Drop>(

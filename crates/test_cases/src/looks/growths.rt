@@ -1,14 +1,14 @@
 //! Looks with each growth refused in turn.
 use crate::looks::shown::{show, shown_so, wanted_of};
-use crate::report::compare::{Wrong, front_of, is_out_of_memory};
-use crate::session::ask::{Limit, eased, limit_to};
-use crate::session::devices::{Texts, in_memory};
-use crate::session::fuse::{LOCKED, fuse};
-use crate::sweep::hunt::Call;
 use bumpalo::Bump;
 use bx_cli::Fault;
 use std::alloc::Global;
 use test_case_files::Look;
+use test_case_sessions::report::compare::{Wrong, front_of, is_out_of_memory};
+use test_case_sessions::session::ask::{Limit, eased, limit_to};
+use test_case_sessions::session::devices::{Texts, in_memory};
+use test_case_sessions::session::fuse::{LOCKED, fuse};
+use test_case_sessions::sweep::hunt::Call;
 
 /// A look of a case.
 #[derive(Clone, Copy)]

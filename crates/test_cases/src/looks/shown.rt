@@ -1,14 +1,14 @@
 //! One look, and what it is to write.
-use crate::report::compare::{Wrong, no_fault, same_bytes, same_fault};
-use crate::session::MANY;
-use crate::session::devices::Devices;
-use crate::session::open::{close, open};
 use bx_cli::{Fault, list_steps};
 use bx_image::Device;
 use bx_journal::{SessionFault, Steps, Way};
 use bx_journal_store::TextStore;
 use std::alloc::{Allocator, Global};
 use test_case_files::{Look, Shows};
+use test_case_sessions::report::compare::{Wrong, no_fault, same_bytes, same_fault};
+use test_case_sessions::session::MANY;
+use test_case_sessions::session::devices::Devices;
+use test_case_sessions::session::open::{close, open};
 
 /// Shows what a case asks for, as the program does with files that may only be read.
 pub fn show<D: Device + Drop, T: TextStore + Drop, A: Allocator + Clone>(

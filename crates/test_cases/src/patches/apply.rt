@@ -1,10 +1,10 @@
 //! A patch that is put onto the old image by a plain program, as `docs/FORMATS.md` says, and onto the new one the other way round.
 use crate::patches::write::written;
-use crate::report::compare::{Wrong, differs, same_bytes};
 use bx_patch::{Extent, Patch, PatchLengths, read_patch};
 use bx_text::Piece;
 use std::alloc::Global;
 use test_case_files::PatchWritten;
+use test_case_sessions::report::compare::{Wrong, differs, same_bytes};
 
 /// What is written of a case makes the new image of the old one, and the old one of the new one.
 pub fn makes_new(alloc: Global, case: &PatchWritten) -> Result<u32, Wrong> {

@@ -1,13 +1,13 @@
 //! Patches with each growth refused in turn.
 use crate::patches::read::reads;
 use crate::patches::write::{images, write};
-use crate::report::compare::{Wrong, differs, front_of, same_bytes};
-use crate::session::ask::{Limit, eased, limit_to};
-use crate::sweep::hunt::Call;
 use bumpalo::Bump;
 use bx_patch::{DiffFault, Extent};
 use std::alloc::Global;
 use test_case_files::{PatchRead, PatchWritten};
+use test_case_sessions::report::compare::{Wrong, differs, front_of, same_bytes};
+use test_case_sessions::session::ask::{Limit, eased, limit_to};
+use test_case_sessions::sweep::hunt::Call;
 
 /// The writing of a case's patch.
 #[derive(Clone, Copy)]

@@ -1,9 +1,11 @@
 //! Texts of patches that are read.
-use crate::report::compare::{Wrong, differs, no_fault, same_bytes, same_number, same_text};
 use bx_patch::{Patch, PatchFault, PatchLengths, read_patch};
 use bx_text::Piece;
 use std::alloc::{Allocator, Global};
 use test_case_files::{PatchAsks, PatchRead, PatchReads};
+use test_case_sessions::report::compare::{
+    Wrong, differs, no_fault, same_bytes, same_number, same_text,
+};
 
 /// Reads the text of a case with memory enough.
 pub fn read_once(alloc: Global, case: &PatchRead) -> Result<u32, Wrong> {

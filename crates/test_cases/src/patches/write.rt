@@ -1,6 +1,4 @@
 //! Patches that are written, to a writer that may fail.
-use crate::report::compare::{Wrong, differs, front_of, same_bytes, same_number, same_text};
-use crate::session::MANY;
 use crate::words::outcome::digest_of;
 use crate::words::streams::{Act, Output, Turn};
 use bx_image::{Device, MemImage};
@@ -8,6 +6,10 @@ use bx_patch::{DiffFault, Extent, write_patch};
 use std::alloc::{Allocator, Global};
 use std::io::Write;
 use test_case_files::PatchWritten;
+use test_case_sessions::report::compare::{
+    Wrong, differs, front_of, same_bytes, same_number, same_text,
+};
+use test_case_sessions::session::MANY;
 
 /// How many calls of a writer fail at most, one after another.
 const MOST_CALLS: u32 = 100_000;

@@ -1,7 +1,7 @@
 //! Runs, by the bytes of pieces that go on with one another.
-use crate::report::compare::{Wrong, differs, same_bytes, same_number};
 use bx_text::Piece;
 use std::alloc::{Allocator, Global};
+use test_case_sessions::report::compare::{Wrong, differs, same_bytes, same_number};
 
 /// Bytes and their addresses.
 type Placed = Vec<(u64, Vec<u8>)>;

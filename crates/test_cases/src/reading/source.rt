@@ -1,15 +1,15 @@
 //! Cases of reading whose text comes from a source, as a revert reads it.
 use crate::reading::joined::are_runs_of;
 use crate::reading::wanted::{refused, same_plain};
-use crate::report::compare::{Wrong, differs, no_fault};
-use crate::session::ask::{Limit, eased, limit_to};
-use crate::sweep::hunt::Call;
 use bumpalo::Bump;
 use bx_cli::{Fault, Form, change_from};
 use bx_image::Change;
 use bx_text::{IoFault, Source};
 use std::alloc::{Allocator, Global};
 use test_case_files::{ReadingCase, Reads};
+use test_case_sessions::report::compare::{Wrong, differs, no_fault};
+use test_case_sessions::session::ask::{Limit, eased, limit_to};
+use test_case_sessions::sweep::hunt::Call;
 
 /// No text of a case is longer.
 const MOST: u64 = 1 << 40;

@@ -1,8 +1,8 @@
 //! What a case of reading tells: a fault, or the bytes of plain hexadecimal.
-use crate::report::compare::{Wrong, differs, no_fault, same_bytes, same_fault};
 use bx_cli::Fault;
 use std::alloc::Global;
 use test_case_files::Reads;
+use test_case_sessions::report::compare::{Wrong, differs, no_fault, same_bytes, same_fault};
 
 /// A fault is the one that the case tells.
 pub fn refused(alloc: Global, reads: &Reads, fault: Fault) -> Result<(), Wrong> {

@@ -1,16 +1,16 @@
 //! Texts that are cut off or changed, opened beside the slow judge.
-use crate::report::compare::{Wrong, differs, front, same_faults, unwanted};
-use crate::session::answers::same_opening;
-use crate::session::ask::undo;
-use crate::session::devices::{Texts, Wanted, in_memory, texts_in, unchanged};
-use crate::session::open::{MemSession, close, open};
-use crate::session::places::Memory;
-use crate::session::standing::again_with;
-use crate::sweep::weight::{change_step, is_taken};
 use bx_cli::Fault;
 use bx_journal::SessionFault;
 use std::alloc::Global;
 use test_case_files::Opening;
+use test_case_sessions::report::compare::{Wrong, differs, front, same_faults, unwanted};
+use test_case_sessions::session::answers::same_opening;
+use test_case_sessions::session::ask::undo;
+use test_case_sessions::session::devices::{Texts, Wanted, in_memory, texts_in, unchanged};
+use test_case_sessions::session::open::{MemSession, close, open};
+use test_case_sessions::session::places::Memory;
+use test_case_sessions::session::standing::again_with;
+use test_case_sessions::sweep::weight::{change_step, is_taken};
 use test_oracle::judge::{Ending, Finding, Refusal, Verdict, judge};
 
 /// Undoing all leaves this image, and no journal.

@@ -1,15 +1,15 @@
 //! Openings with each growth refused in turn.
-use crate::report::compare::Wrong;
-use crate::session::answers::found_so;
-use crate::session::ask::{Limit, eased, limit_to};
-use crate::session::devices::{MemDevices, Texts, in_memory, unchanged};
-use crate::session::open::open;
-use crate::sweep::hunt::Call;
 use bumpalo::Bump;
 use bx_cli::Fault;
 use bx_journal::SessionFault;
 use std::alloc::Global;
 use test_case_files::Found;
+use test_case_sessions::report::compare::Wrong;
+use test_case_sessions::session::answers::found_so;
+use test_case_sessions::session::ask::{Limit, eased, limit_to};
+use test_case_sessions::session::devices::{MemDevices, Texts, in_memory, unchanged};
+use test_case_sessions::session::open::open;
+use test_case_sessions::sweep::hunt::Call;
 
 /// The opening of a case.
 #[derive(Clone, Copy)]

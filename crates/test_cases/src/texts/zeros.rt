@@ -1,9 +1,9 @@
 //! Texts in which a loss of power left zeros, opened beside the slow judge.
-use crate::report::compare::{Wrong, front};
-use crate::session::devices::Texts;
-use crate::sweep::weight::is_taken;
 use crate::texts::damage::judged;
 use std::alloc::Global;
+use test_case_sessions::report::compare::{Wrong, front};
+use test_case_sessions::session::devices::Texts;
+use test_case_sessions::sweep::weight::is_taken;
 use test_oracle::judge::judge;
 
 /// Opens each front of a journal, or of a long one some, with its last 1, 2, 4 .. bytes zero, and with one zero in each line

@@ -1,7 +1,4 @@
 //! Runs of a job with each growth refused in turn.
-use crate::report::compare::{Wrong, same_bytes};
-use crate::session::ask::{Limit, eased, limit_to};
-use crate::sweep::hunt::Call;
 use crate::words::outcome::right;
 use crate::words::run::{RunOf, dumped};
 use bumpalo::Bump;
@@ -9,6 +6,9 @@ use bx_cli::{Done, Fault};
 use bx_dd::report;
 use bx_text::IoFault;
 use std::alloc::Global;
+use test_case_sessions::report::compare::{Wrong, same_bytes};
+use test_case_sessions::session::ask::{Limit, eased, limit_to};
+use test_case_sessions::sweep::hunt::Call;
 
 impl Call for RunOf<'_> {
     fn make<'a>(

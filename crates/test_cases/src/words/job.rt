@@ -1,5 +1,4 @@
 //! The fields of jobs, as a case file names them.
-use crate::report::compare::{Wrong, differs, same_text};
 use bx_cli::{
     Access, ChangeJob, DdImageJob, DdJob, DiffJob, DumpJob, Durability, ForgetJob, HexdumpJob, Job,
     LogJob, LookJob, OdJob, PatchJob, RevertJob, ShowJob, StepsJob, StringsJob, Target, XxdJob,
@@ -10,6 +9,7 @@ use bx_dump::od::{Address, Kind, NumForm, Size};
 use bx_journal::Way;
 use bx_text::{Name, Words};
 use std::alloc::{AllocError, Global};
+use test_case_sessions::report::compare::{Wrong, differs, same_text};
 
 /// What a field of a job says.
 #[derive(Clone, Copy)]

@@ -1,8 +1,4 @@
 //! What a run came to, beside what its case tells.
-use crate::report::compare::{
-    Wrong, differs, fault_text, front, front_of, no_fault, same_bytes, same_fault, same_faults,
-    same_number, same_text,
-};
 use crate::words::run::{Ran, RunOf, run_freely};
 use crate::words::streams::Act;
 use bx_cli::{Done, Fault};
@@ -12,6 +8,10 @@ use md5::{Digest, Md5};
 use std::alloc::{AllocError, Global};
 use std::fmt::Write;
 use test_case_files::{Records, Refusal, WordsCase};
+use test_case_sessions::report::compare::{
+    Wrong, differs, fault_text, front, front_of, no_fault, same_bytes, same_fault, same_faults,
+    same_number, same_text,
+};
 
 /// A fault is the one that the case tells, and so is its status: 2 where the words are wrong, else 1.
 fn same_refusal(alloc: Global, wanted: &Refusal, fault: Fault) -> Result<(), Wrong> {

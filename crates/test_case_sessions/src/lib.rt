@@ -1,0 +1,6 @@
+//! Sessions that cases are played on, the sweeps that several kinds of cases share, and how what they find is compared and counted.
+#![tactic(auto)]
+
+pub mod report;
+pub mod session;
+pub mod sweep;
