@@ -4,6 +4,7 @@ ghost use Rattle.bx_cli_commands.specs.jobs.Passing.{CanPass};
 
 use crate::stopped::{STANDARD_INPUT, Stopped};
 use bx_cli::{Fault, Skip};
+use bx_program_system::{fixed_length, open_there};
 use bx_text::{IoFault, Name};
 use std::fs::{File, Metadata};
 use std::io::{self, Seek, SeekFrom};
@@ -62,15 +63,21 @@ pub fn file<'a, R: Files<File = File>>(
 {
     let file = open(rt, name)?;
     let movable = has_places(file.metadata());
-    let length = size_of(&file);
+    let length = size_of(rt, name.as_str(), &file);
     place(file, skip, name.as_str(), movable, length)
 }
 
-/// How many bytes a regular file has; none of another one, or where it doesn't tell. The file stays where it stands.
-pub fn size_of(file: &File) -> Option<u64> {
-    match file.metadata() {
-        Ok(found) if found.is_file() => Some(found.len()),
-        Ok(_) | Err(_) => None,
+/// How many bytes a regular file or a block device of this name has; none of another one, or where it doesn't tell. The file
+/// stays where it stands: a device is opened once more, since only a seek tells its length.
+pub fn size_of<R: Files<File = File>>(rt: &R, name: &str, file: &File) -> Option<u64> {
+    let found = file.metadata().ok()?;
+    let kind = found.file_type();
+    if kind.is_file() {
+        Some(found.len())
+    } else if kind.is_block_device() {
+        fixed_length(&open_there(rt, name, false).ok()?).ok()?
+    } else {
+        None
     }
 }
 

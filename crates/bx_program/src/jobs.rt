@@ -275,7 +275,7 @@ where
     match &job.dump {
         Some(name) => {
             let file = open(rt, name)?;
-            let progress = remarks.progress_of_input(rt, size_of(&file));
+            let progress = remarks.progress_of_input(rt, size_of(rt, name.as_str(), &file));
             let read = change_of(alloc, job, name.as_str(), file, seen, &progress);
             progress.end();
             read

@@ -55,7 +55,7 @@ where
     match &job.patch {
         Some(name) => {
             let file = open(rt, name)?;
-            let progress = remarks.progress_of_input(rt, size_of(&file));
+            let progress = remarks.progress_of_input(rt, size_of(rt, name.as_str(), &file));
             let text = text_of(alloc, name.as_str(), file, &progress);
             progress.end();
             asked_of(alloc, job, name.as_str(), text?)
