@@ -5,7 +5,7 @@ mod read;
 mod write;
 
 use crate::patches::apply::makes_new;
-use crate::patches::growths::WriteOf;
+use crate::patches::growths::{ReadOf, WriteOf};
 use crate::patches::read::read_once;
 use crate::patches::write::{calls, whole};
 use bx_patch::Extent;
@@ -32,7 +32,7 @@ pub fn play_patch(alloc: Global, case: &PatchCase, sweep: usize) -> Result<u32, 
         PatchCase::Written(case) => play_written(alloc, case, sweep),
         PatchCase::Read(case) => match sweep {
             0 => read_once(alloc, case),
-            4 => each_growth(alloc, case),
+            4 => each_growth(alloc, &ReadOf { case }),
             _ => Ok(0),
         },
     }

@@ -35,7 +35,7 @@ pub fn play_reading(alloc: Global, case: &ReadingCase, sweep: usize) -> Result<u
     match sweep {
         0 => once(alloc, case),
         1 if case.text.len() > MOST_IN_PIECES => Ok(0),
-        1 => each_growth(alloc, case),
+        1 => each_growth(alloc, &Whole { case }),
         2 => once_from(alloc, case),
         _ if case.text.len() > MOST_FROM_SOURCE => Ok(0),
         _ => each_growth(alloc, &Streamed { case }),
@@ -50,7 +50,13 @@ fn once(alloc: Global, case: &ReadingCase) -> Result<u32, Wrong> {
     Err(Wrong::NoMemory)
 }
 
-impl Call for ReadingCase {
+/// A case whose text is read whole.
+#[derive(Clone, Copy)]
+struct Whole<'a> {
+    case: &'a ReadingCase,
+}
+
+impl Call for Whole<'_> {
     fn make<'a>(
         &self,
         alloc: Global,
@@ -58,7 +64,7 @@ impl Call for ReadingCase {
         limit: Limit<'_>,
     ) -> Result<Option<usize>, Wrong> {
         limit_to(limit)?;
-        let has_room = reads(alloc, bump, self)?;
+        let has_room = reads(alloc, bump, self.case)?;
         Ok(eased(limit, !has_room))
     }
 }

@@ -46,7 +46,13 @@ fn same_written(
     }
 }
 
-impl Call for PatchRead {
+/// The reading of a case's patch.
+#[derive(Clone, Copy)]
+pub struct ReadOf<'a> {
+    pub case: &'a PatchRead,
+}
+
+impl Call for ReadOf<'_> {
     fn make<'a>(
         &self,
         alloc: Global,
@@ -54,7 +60,7 @@ impl Call for PatchRead {
         limit: Limit<'_>,
     ) -> Result<Option<usize>, Wrong> {
         limit_to(limit)?;
-        let has_room = reads(alloc, bump, self)?;
+        let has_room = reads(alloc, bump, self.case)?;
         Ok(eased(limit, !has_room))
     }
 }
