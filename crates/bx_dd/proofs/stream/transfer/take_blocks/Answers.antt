@@ -14,7 +14,7 @@ returns-in_err-n-clause-stopped g c =
     let room : length read.0 ≤ c.args.meter.now.limit - c.args.meter.now.taken = omega (arith, read.3, c.loop-i.invariant.limit, c.loop-i.meter.within) in
     let turn : (c.loop-i._i + 1) * length c.loop-i.block ≤ c.args.count * length c.loop-i.block = mul-le-mul_right (length c.loop-i.block) (omega (arith, c.loop-i-test.true)) in
     let size : c.args.count * length c.loop-i.block ≡ c.args.count * length c.args.block.now = ap (λ n. c.args.count * n) c.loop-i.auto.block in
-    rw (p.1, p.2) (stopped_more _ _ _ read.0 _ _ _ _ _ read.4 (omega (arith, read.3, c.loop-i.invariant.limit)) room (omega (arith, read.2, turn, size)) c.in_err-n.ensures.stops.stopped)
+    rw (p.1, p.2) (stopped_more _ _ _ read.0 _ _ _ _ _ read.4 (omega (arith, read.3, c.loop-i.invariant.limit)) room (omega (arith, read.2, turn, size)) c.in_err-n.ensures.stopped)
 
 pub block-requires-clause-whole : goal.block-requires-clause-whole
 block-requires-clause-whole g c =
