@@ -14,7 +14,7 @@ use Rattle.bx_journal_read.specs.model.Fault.{DeviceFault}
 use Rattle.bx_journal_read.specs.model.Images.{Images}
 use Rattle.bx_journal_read.specs.model.Judging.{RefusesRedo}
 use Rattle.bx_journal_read.specs.model.Machine.{changes_of}
-use Rattle.bx_journal_read.specs.model.Opening.{IsOpened, IsLengthRefused as RefusesTold, RefusesText}
+use Rattle.bx_journal_read.specs.model.Opening.{IsOpened, RefusesLength as RefusesTold, RefusesText}
 use Rattle.bx_journal_read.specs.model.Phase.{IsAtRest}
 use Rattle.bx_journal_read.specs.model.Redo.{IsClean, IsRedoOf, RefusesRedoAt, found_undone}
 use Rattle.bx_journal_read.specs.model.Stack.{Recovers, image_at, recovered}
