@@ -4,6 +4,7 @@ use Rattle.std.specs.Prelude.{codes, flat_map, replicate}
 use Rattle.std.proofs.lemmas.List.{take_all}
 use Rattle.bx_text.specs.declared.owned.pieces.Piece.{Piece}
 use Rattle.bx_image.specs.Change.{effect, placed}
+use Rattle.bx_image.specs.declared.change.Change.{Change}
 use Rattle.bx_image.specs.Image.{cut, place}
 use Rattle.bx_image.proofs.Edits.{resized_cut}
 use Rattle.bx_image.proofs.Records.{length-restore, placed-cut}
@@ -12,17 +13,19 @@ use Rattle.bx_read.specs.Laws.{dump_line_text}
 use Rattle.bx_read.specs.Text.{contents, lines_of}
 use Rattle.bx_read.proofs.DumpLemmas.{only, small}
 use Rattle.bx_read.proofs.FullLines.{first_line}
+use Rattle.bx_read.proofs.GrammarLemmas.{ok_same}
 use Rattle.bx_read.proofs.WrittenLemmas.{reads_back}
-use Rattle.bx_journal_format.specs.DumpLine.{dump_line}
-use Rattle.bx_journal_format.specs.Kept.{Kept, Run}
-use Rattle.bx_journal_format.specs.Line.{saved_in}
-use Rattle.bx_journal_format.specs.Spelled.{EntryLines}
-use Rattle.bx_journal_format.proofs.GrammarLemmas.{saved_found}
+use Rattle.bx_journal.specs.DumpLine.{dump_line}
+use Rattle.bx_journal.specs.Kept.{Kept, Run}
+use Rattle.bx_journal.specs.Line.{saved_in}
+use Rattle.bx_journal.specs.Spelled.{EntryLines}
+use Rattle.bx_journal.proofs.GrammarLemmas.{saved_found}
 use Rattle.bx_journal.specs.Differences.{line_made, made_text, signed_line}
 use Rattle.bx_journal.specs.ShowLaws.{run_then, shown_runs, step_onto, steps_onto}
 use Rattle.bx_journal.proofs.ShownWritten.{shown_within}
 use Rattle.bx_cli_commands.specs.Command.{dump_change}
-use Rattle.bx_cli_commands.specs.ShowDump.{ShownIsADump, shown_dump, shown_pieces}
+use Rattle.bx_cli_commands.specs.ShowDump.{KeepLength, ShownIsADump, ShownIsUndone, ShownReverts, shown_dump, shown_pieces}
+use Rattle.bx_cli_commands.proofs.Joined.{dump_joined}
 use Rattle.bx_cli_commands.proofs.Unfailed.{all_tail}
 
 -- a line of a dump gives bytes, and some
@@ -85,7 +88,7 @@ module _ (A : Type 0) where
       let same : run.at + 0 ≡ run.at = omega arith in
       ap (λ at. placed (map written (contents runs ++ ps)) (place x at run.bytes)) same ∙ placed_on runs ps (place x run.at run.bytes)
 
-  all_placed : (entries : List EntryLines) (x : List ℕ) → All (λ (c : EntryLines). c.entry.saved.len ≡ length x) entries → placed (map written (shown_pieces entries)) x ≡ steps_onto entries x
+  all_placed : (entries : List EntryLines) (x : List ℕ) → KeepLength entries x → placed (map written (shown_pieces entries)) x ≡ steps_onto entries x
   unfolding placed
   all_placed [] x same = refl
   all_placed (c ∷ older) x same =
@@ -97,7 +100,15 @@ module _ (A : Type 0) where
       placed_on runs (shown_pieces older) x ∙ ap (placed (map written (shown_pieces older))) whole
       ∙ all_placed older (step_onto c x) (λ i d inside. all_tail (λ (c : EntryLines). c.entry.saved.len ≡ length x) c older same i d inside ∙ sym long)
 
-pub shown_is_a_dump : (A : Type 0) → ShownIsADump A
+pub shown_is_a_dump : ShownIsADump
+shown_is_a_dump entries = only (lines_of (shown_dump entries)) 1 (shown_pieces entries) (all_give entries)
+
+pub shown_reverts : (A : Type 0) → ShownReverts A
 unfolding effect
-shown_is_a_dump A entries =
-    (only (lines_of (shown_dump entries)) 1 (shown_pieces entries) (all_give entries), λ x same. all_placed A entries x same)
+shown_reverts A entries x same = all_placed A entries x same
+
+pub shown_is_undone : (A : Type 0) → ShownIsUndone A
+shown_is_undone A entries x change same (pieces, read, is) =
+    let gives : pieces ≡ shown_pieces entries = ok_same pieces (shown_pieces entries) (sym read ∙ shown_is_a_dump entries) in
+    ap (λ (c : Change A). effect c x) is ∙ (dump_joined A 0 pieces).same_effect x ∙ ap (λ ps. effect {A = A} (dump_change 0 ps) x) gives
+    ∙ shown_reverts A entries x same

@@ -1,11 +1,14 @@
 -- What a look at the next undos shows, without its headings: a dump, which a revert takes.
 use Rattle.std.specs.Prelude.{◌≡◌, ℕ, Ok, List, ◌++◌, length, flat_map, codes, All}
 use Rattle.bx_image.specs.Change.{effect}
+use Rattle.bx_image.specs.declared.change.Change.{Change}
 use Rattle.bx_read.specs.Text.{contents, dump_pieces}
-use Rattle.bx_journal_format.specs.Spelled.{EntryLines}
 use Rattle.bx_journal.specs.Differences.{made_text}
 use Rattle.bx_journal.specs.ShowLaws.{shown_runs, steps_onto}
+use Rattle.bx_journal.specs.Spelled.{EntryLines}
 use Rattle.bx_cli_commands.specs.Command.{dump_change}
+use Rattle.bx_cli_commands.specs.Reading.{IsChangeOf}
+use Rattle.bx_cli_commands.specs.declared.reading.Form.TheVariants.{Dump}
 
 -- the steps over entries as they are shown, each without its heading: the saved lines, and an empty line
 abbrev pub shown_dump : List EntryLines → List ℕ
@@ -15,8 +18,19 @@ shown_dump entries = flat_map (λ (c : EntryLines). made_text c.entry.saved.len 
 abbrev pub shown_pieces : List EntryLines → List (ℕ × List ℕ)
 shown_pieces entries = flat_map (λ (c : EntryLines). contents (shown_runs c.entry.saved.len c.saved)) entries
 
--- It is read as a dump, and gives exactly these; and where no change changed the length, the change for which a revert of it asks makes of the
--- image what the undo makes of it
-abbrev pub ShownIsADump : (A : Type 0) → Type 0
-ShownIsADump A = (entries : List EntryLines) → (dump_pieces (shown_dump entries) ≡ Ok (shown_pieces entries))
-    × ((x : List ℕ) → All (λ (c : EntryLines). c.entry.saved.len ≡ length x) entries → effect {A = A} (dump_change 0 (shown_pieces entries)) x ≡ steps_onto entries x)
+-- no change of these entries changed the length of the image
+abbrev pub KeepLength : List EntryLines → List ℕ → Type 0
+KeepLength entries x = All (λ (c : EntryLines). c.entry.saved.len ≡ length x) entries
+
+-- It is read as a dump, and gives exactly these
+abbrev pub ShownIsADump : Type 0
+ShownIsADump = (entries : List EntryLines) → dump_pieces (shown_dump entries) ≡ Ok (shown_pieces entries)
+
+-- Where no change changed the length, the change that these ask for makes of the image what the undo makes of it
+abbrev pub ShownReverts : (A : Type 0) → Type 0
+ShownReverts A = (entries : List EntryLines) (x : List ℕ) → KeepLength entries x → effect {A = A} (dump_change 0 (shown_pieces entries)) x ≡ steps_onto entries x
+
+-- and so does each change for which a revert reads it
+abbrev pub ShownIsUndone : (A : Type 0) → Type 0
+ShownIsUndone A = (entries : List EntryLines) (x : List ℕ) (change : Change A) → KeepLength entries x → IsChangeOf Dump (shown_dump entries) 0 change
+    → effect change x ≡ steps_onto entries x

@@ -1,3 +1,4 @@
+pub use Rattle.bx_journal_format.proofs.GrammarLemmas
 pub mod CountedLemmas
 pub mod LogLemmas
 pub mod SavedBound

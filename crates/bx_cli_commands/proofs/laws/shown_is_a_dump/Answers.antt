@@ -1,5 +1,11 @@
-use Rattle.bx_cli_commands.proofs.ShownDump.{shown_is_a_dump}
+use Rattle.bx_cli_commands.proofs.ShownDump.{shown_is_a_dump, shown_is_undone, shown_reverts}
 use Rattle.bx_cli_commands.proofs.laws.shown_is_a_dump.Goals as goal
 
-pub returns : goal.returns
-returns g c = shown_is_a_dump g.row.A.Denot
+pub returns-clause-read : goal.returns-clause-read
+returns-clause-read g c = shown_is_a_dump
+
+pub returns-clause-reverts : goal.returns-clause-reverts
+returns-clause-reverts g c = shown_reverts g.row.A.Denot
+
+pub returns-clause-undone : goal.returns-clause-undone
+returns-clause-undone g c = shown_is_undone g.row.A.Denot
