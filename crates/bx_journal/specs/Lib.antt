@@ -1,7 +1,9 @@
 pub use Rattle.bx_journal_format.specs.DumpLine
 pub use Rattle.bx_journal_format.specs.Kept
 pub use Rattle.bx_journal_format.specs.Line
+pub use Rattle.bx_journal_format.specs.Ranges
 pub use Rattle.bx_journal_format.specs.Spelled
+pub use Rattle.bx_journal_format.specs.Text
 pub use Rattle.bx_journal_read.specs.model.Calls
 pub use Rattle.bx_journal_read.specs.model.Fault
 pub use Rattle.bx_journal_read.specs.model.Images
