@@ -12,6 +12,7 @@ pub mod Stopped
 pub mod LossParts
 pub mod LossGoesOn
 pub mod ShownDump
+pub mod Unheaded
 pub mod Tells
 pub mod SessionRuns
 pub mod Agreed

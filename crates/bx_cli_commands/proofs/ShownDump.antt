@@ -1,6 +1,6 @@
 -- What is shown of undos is a dump.
-use Rattle.std.proofs.Common.{◌≡◌, ◌<◌, ◌≤◌, ◌+◌, ◌-◌, ◌^◌, inl, inr, ℕ, false, Option, None, Some, Ok, List, [], ◌∷◌, ◌++◌, length, map, take, refl, sym, subst, ap, ◌∙◌, arith, All, append_assoc, append-nil}
-use Rattle.std.specs.Prelude.{codes, flat_map, replicate}
+use Rattle.std.proofs.Common.{◌≡◌, ◌<◌, ◌≤◌, ◌+◌, ◌-◌, ◌^◌, inl, inr, ℕ, false, Option, None, Some, List, [], ◌∷◌, ◌++◌, length, map, take, refl, sym, subst, ap, ◌∙◌, arith, All, append_assoc, append-nil}
+use Rattle.std.specs.Prelude.{codes, replicate}
 use Rattle.std.proofs.lemmas.List.{take_all}
 use Rattle.bx_text.specs.declared.owned.pieces.Piece.{Piece}
 use Rattle.bx_image.specs.Change.{effect, placed}
@@ -29,16 +29,16 @@ use Rattle.bx_cli_commands.proofs.Joined.{dump_joined}
 use Rattle.bx_cli_commands.proofs.Unfailed.{all_tail}
 
 -- a line of a dump gives bytes, and some
-line_gives : (line hex bytes : List ℕ) (at : ℕ) → IsLine line at hex bytes → (0 < length bytes) × (length bytes ≤ 256) × (at < 2 ^ 62) × All (λ b. b < 256) bytes
+pub line_gives : (line hex bytes : List ℕ) (at : ℕ) → IsLine line at hex bytes → (0 < length bytes) × (length bytes ≤ 256) × (at < 2 ^ 62) × All (λ b. b < 256) bytes
 line_gives line hex bytes at is = small (line ∷ []) ((at, bytes) ∷ []) (inr (at, hex, bytes, [], is, refl, refl)) 0 (at, bytes) (omega arith)
 
-signed : (at : ℕ) (bytes : List ℕ) → 0 < length bytes → signed_line [] at bytes ≡ dump_line_text at bytes ++ 10 ∷ []
+pub signed : (at : ℕ) (bytes : List ℕ) → 0 < length bytes → signed_line [] at bytes ≡ dump_line_text at bytes ++ 10 ∷ []
 unfolding dump_line
 signed at [] some = absurd (omega (arith, some))
 signed at (b ∷ bytes) some = refl
 
 -- the lines of a text that begins with xxd's default line for such bytes
-lines_are : (at : ℕ) (bytes made rest : List ℕ) → 0 < length bytes → length bytes ≤ 16 → at < 2 ^ 62 → All (λ b. b < 256) bytes
+pub lines_are : (at : ℕ) (bytes made rest : List ℕ) → 0 < length bytes → length bytes ≤ 16 → at < 2 ^ 62 → All (λ b. b < 256) bytes
     → (lines_of ((signed_line [] at bytes ++ made) ++ rest) ≡ dump_line_text at bytes ∷ lines_of (made ++ rest)) × ((hex : List ℕ) × IsLine (dump_line_text at bytes) at hex bytes)
 lines_are at bytes made rest some few near are =
     let back = reads_back false 16 2 at bytes (omega arith) some few (omega arith) are near in

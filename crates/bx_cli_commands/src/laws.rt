@@ -1,6 +1,6 @@
 //! Laws of commands, over their definitions alone.
 ghost use Rattle.bx_cli_commands.specs.Loss.{LossAtAnyCall, LossGoesOn};
-ghost use Rattle.bx_cli_commands.specs.ShowDump.{ShownIsADump, ShownIsUndone, ShownReverts};
+ghost use Rattle.bx_cli_commands.specs.ShowDump.{ShownIsADump, ShownIsUndone, ShownReverts, ShownUnheaded, UnfinishedUnheaded};
 ghost use Rattle.bx_cli_commands.specs.Laws.{KChangesAndUndo, RedoGivesBack, RedoGivesPart, RunsJoin, StackRunsJoin, StopsInPart, UndoGivesBack, UnfailedRuns};
 
 use bx_image::{Device, FuseImage};
@@ -64,9 +64,11 @@ pub fn loss_goes_on<D: Device, T: TextStore, R: Read, A: Allocator>()
     ensures { LossGoesOn D.Device T.TextStore R A R.remaining }
 {}
 
-/// What `show` writes of the next undos is, without the headings, a dump that a revert takes: it reads as exactly the runs that are shown.
+/// What `show` writes of the next undos is, without the lines that begin with `#`, a dump that a revert takes: it reads as exactly the runs that are shown.
 /// Where no change changed the length, the change that it asks for makes of the image what the undo makes of it, read by lines or by runs.
 pub fn shown_is_a_dump<A: Allocator>()
+    ensures unheaded { ShownUnheaded }
+    ensures unfinished { UnfinishedUnheaded }
     ensures read { ShownIsADump }
     ensures reverts { ShownReverts A }
     ensures undone { ShownIsUndone A }

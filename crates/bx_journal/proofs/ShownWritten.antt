@@ -3,8 +3,8 @@ use Rattle.std.proofs.Common.{◌≡◌, ◌≤◌, ◌+◌, ℕ, zero, suc, Opt
 use Rattle.std.proofs.lemmas.List.{length-map}
 use Rattle.std.specs.Option.{option_or}
 use Rattle.bx_image.specs.private.Change.{byte_of}
-use Rattle.bx_image.specs.Change.{AllWithin, byte_in, placed, restore}
-use Rattle.bx_image.specs.Image.{cut, end_of}
+use Rattle.bx_image.specs.Change.{AllWithin, byte_in, restore}
+use Rattle.bx_image.specs.Image.{end_of}
 use Rattle.bx_image.proofs.Records.{placed-cut, restore-IsSameRecord}
 use Rattle.bx_journal_format.specs.Kept.{Kept, Run, with_run}
 use Rattle.bx_journal_format.specs.Line.{saved_in}
