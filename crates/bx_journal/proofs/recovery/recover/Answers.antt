@@ -74,6 +74,10 @@ returns-in-Err-clause-spares g c =
       finds_err = search rules;
     }
 
+journal_text : {S T E : Type 0} → (Q : Type 0) (text : S → List ℕ) (o : Result T E) (new mid old : S) → text mid ≡ text old → OnErr o ((text new ≡ text mid) ⊎ Q) → OnErr o ((text new ≡ text old) ⊎ Q)
+journal_text Q text (Ok v) new mid old same h = tt
+journal_text Q text (Err e) new mid old same h = elim h [ inl is ↦ inl (is ∙ same) | inr q ↦ inr q ]
+
 pub returns-in-Unfinished-clause-spares : goal.returns-in-Unfinished-clause-spares
 returns-in-Unfinished-clause-spares g c =
     record {
@@ -153,10 +157,6 @@ returns-in-Unfinished-clause-redo_fault g c =
           absurd (found_unclean (g.T.TextStore.honest c.args.devices.now.journal) text c.in-Unfinished.torn i th (r.entries, r.finished));
       redo_kept = λ dh th rh s finds. recover_kind c.recover_read.result c.recover_read.ensures.kind;
     }
-
-journal_text : {S T E : Type 0} → (Q : Type 0) (text : S → List ℕ) (o : Result T E) (new mid old : S) → text mid ≡ text old → OnErr o ((text new ≡ text mid) ⊎ Q) → OnErr o ((text new ≡ text old) ⊎ Q)
-journal_text Q text (Ok v) new mid old same h = tt
-journal_text Q text (Err e) new mid old same h = elim h [ inl is ↦ inl (is ∙ same) | inr q ↦ inr q ]
 
 pub returns-in-Finished-clause-text : goal.returns-in-Finished-clause-text
 returns-in-Finished-clause-text g c =
