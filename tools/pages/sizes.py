@@ -3,14 +3,10 @@
 A definition of `specs/` has at most 8 parameters: those in braces don't count, nor do those of a `module _` around it. A function
 of a product crate or of test_cache has at most 6 arguments, `self` left out. A public call of a library has at most 12 `ensures`:
 a function that its `lib.rt` exports, or a method of a type or trait that it exports; of an inner part, of what another crate
-exports. What is above its limit and stays so is named below with its number, which may only fall. --list prints what is above,
-and each NAME the counts of all that has the name."""
+exports. --list prints what is above its limit, and each NAME the counts of all that has the name."""
 import sources
 
 LIMITS = {"parameters": 8, "arguments": 6, "ensures": 12}
-# what stays above its limit, as "KIND CRATE: NAME (FILE)": `docs/DECISIONS.md` says why
-ALLOWED = {
-}
 
 
 def arguments(parser):
@@ -53,14 +49,10 @@ def counted():
 
 
 def check(options):
-    rows, wrong, left = sorted(counted(), key=lambda row: (-row[1], row[2])), [], dict(ALLOWED)
-    for kind, limit in LIMITS.items():
-        of_kind = [row[1:] for row in rows if row[0] == kind]
-        above = [row for row in of_kind if row[0] > limit]
-        for count, at in of_kind:
-            if options.list and count > limit or at.split(" (")[0].replace("::", " ").split()[-1] in options.names:
-                print(f"{count} {kind} (at most {limit}): {at}")
-        named = [left.pop(f"{kind} {at}", limit) for _, at in above]
-        wrong += [f"{kind} {at}: {count}, in place of {most}" for (count, at), most in zip(above, named) if count != most]
-    wrong += [f"{at}: it isn't above the limit any more" for at in left]
-    return wrong, f"nothing is above its limit but {len(ALLOWED)} that are named"
+    wrong = []
+    for kind, count, at in sorted(counted(), key=lambda row: (-row[1], row[2])):
+        above = f"{count} {kind} (at most {LIMITS[kind]}): {at}"
+        if options.list and count > LIMITS[kind] or at.split(" (")[0].replace("::", " ").split()[-1] in options.names:
+            print(above)
+        wrong += [above] if count > LIMITS[kind] else []
+    return wrong, "nothing is above its limit"

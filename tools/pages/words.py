@@ -4,9 +4,9 @@ Documents are the .md files and the man page, without code. Comments are those o
 documents too), and of definitions and proofs. Each place of a phrase is printed where there are more than its ceiling, which may
 only fall ('..' is an ellipsis).
 
-It counts the words that people write, too, and --pages prints them page by page. What is quoted or written by a script is left
-out (quoted blocks, what stands between `<!-- written by` and `<!-- up to here -->`, docs/generated), and so are the
-commands of the man page's roff.
+It counts the words that people write, too, fails above their ceiling, and --pages prints them page by page. What is quoted or
+written by a script is left out (quoted blocks, what stands between `<!-- written by` and `<!-- up to here -->`, docs/generated),
+and so are the commands of the man page's roff.
 """
 import re
 
@@ -21,6 +21,8 @@ PHRASES = {
 }
 # the most that there may be of a phrase in a place; none of any other
 CEILINGS = {("comments of code", ".."): 2}
+# the most words that people write, which may only fall but for what is new; and those of README.md
+MOST, MOST_OF_README = 35000, 900
 
 
 def arguments(parser):
@@ -72,13 +74,14 @@ def found_in(files, phrase):
 
 
 def check(options):
-    bad, total = [], 0
-    for path in pages() if options.pages else []:
-        print(f"{written(path):6} {path.relative_to(ROOT)}")
+    bad, total, counts = [], 0, {str(path.relative_to(ROOT)): written(path) for path in pages()}
+    if options.pages:
+        print(*(f"{count:6} {name}" for name, count in counts.items()), sep="\n")
+    for name, count, most in (("the pages", sum(counts.values()), MOST), ("README.md", counts["README.md"], MOST_OF_README)):
+        bad += [f"{name}: {count} words, and may have {most}"] if count > most else []
     for place, files in texts().items():
         for phrase in PHRASES:
             found, most = found_in(files, phrase), CEILINGS.get((place, phrase), 0)
             total += len(found)
             bad += [*found, f"{place}: '{phrase}' stands {len(found)} times, and may {most} times"] if len(found) > most else []
-    count = sum(map(written, pages()))
-    return bad, f"{total} phrases that are to go, none above its ceiling; {count} words in what people write"
+    return bad, f"{total} phrases that are to go, none above its ceiling; {sum(counts.values())} words in what people write"
