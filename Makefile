@@ -82,7 +82,7 @@ check-completions:
 # The real tools beside bx, on random inputs and options; SEED draws others.
 compare: $(built)
 	tools/cases.py --bx $(program) --seed $(or $(SEED),2)
-	tests/seeks.py --bx $(program)
+	tests/hostile.py --bx $(program) seeks
 
 # The case files that hold what the real tools do, and random lists of commands, written again.
 record:

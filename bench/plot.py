@@ -6,11 +6,13 @@ Usage: bench/plot.py [RUN [PAGE [PICTURE]]]
 RUN is bench/out/run.tsv by default, PAGE docs/SPEED.md and PICTURE docs/pictures/speed.svg. Of PAGE the part between its two
 marks is written again. It needs matplotlib (Debian: python3-matplotlib).
 """
+import argparse
 import html
 import os
-import sys
+import pathlib
 
-TOP = os.path.join(os.path.dirname(os.path.abspath(__file__)), "..")
+TOP = pathlib.Path(__file__).resolve().parent.parent
+DEFAULTS = {"run": "bench/out/run.tsv", "page": "docs/SPEED.md", "picture": "docs/pictures/speed.svg"}
 BEGIN, END = "<!-- written by bench/plot.py -->", "<!-- up to here -->"
 FIELDS = ["group", "name", "beside", "goal", "ours", "there", "cat", "our_memory", "their_memory", "same"]
 SLOWER, FASTER = "#c2703d", "#3d6b99"
@@ -18,16 +20,11 @@ SLOWER, FASTER = "#c2703d", "#3d6b99"
 
 def read(name):
     """What the run tells of itself, and its rows."""
-    notes, rows = [], []
-    with open(name, encoding="utf-8") as run:
-        for line in run.read().splitlines():
-            if line.startswith("# "):
-                notes.append(line[2:])
-            else:
-                rows.append(dict(zip(FIELDS, line.split("\t"), strict=True)))
+    lines = name.read_text(encoding="utf-8").splitlines()
+    rows = [dict(zip(FIELDS, line.split("\t"), strict=True)) for line in lines if not line.startswith("# ")]
     for row in rows:
         row["ratio"] = int(row["there"]) / max(int(row["ours"]), 1)
-    return notes, rows
+    return [line[2:] for line in lines if line.startswith("# ")], rows
 
 
 def milliseconds(us):
@@ -51,14 +48,11 @@ def table(rows):
     lines = []
     for group in dict.fromkeys(row["group"] for row in rows):
         lines += ["", f"### {group[0].upper()}{group[1:]}", "",
-                  "| `bx` | Beside | `bx`, ms | There, ms | Times as fast | `cat` of the text, ms | `bx`, MiB | There, MiB | "
-                  "Same bytes |",
+                  "| `bx` | Beside | `bx`, ms | There, ms | Times as fast | `cat` of the text, ms | `bx`, MiB | There, MiB | Same bytes |",
                   "|---|---|---:|---:|---:|---:|---:|---:|---|"]
         for row in (row for row in rows if row["group"] == group):
-            said = [cell(row["name"]), cell(row["beside"]), milliseconds(row["ours"]), milliseconds(row["there"]),
-                    times(row["ratio"]),
-                    milliseconds(row["cat"]), mebibytes(row["our_memory"]), mebibytes(row["their_memory"]),
-                    "" if row["same"] == "-" else row["same"]]
+            said = [cell(row["name"]), cell(row["beside"]), milliseconds(row["ours"]), milliseconds(row["there"]), times(row["ratio"]),
+                    milliseconds(row["cat"]), mebibytes(row["our_memory"]), mebibytes(row["their_memory"]), row["same"].strip("-")]
             lines.append(f"| {' | '.join(said)} |")
     return lines
 
@@ -81,9 +75,8 @@ def draw(rows, picture):
     axes.set_yticks(list(places), [f"{row['name']}   beside   {row['beside']}" for row in shown])
     axes.set_ylim(-0.7, len(shown) - 0.3)
     for place, row in zip(places, shown):
-        axes.annotate(times(row["ratio"]), (row["ratio"], place), xytext=(4 if row["ratio"] >= 1 else -4, 0),
-                      textcoords="offset points",
-                      va="center", ha="left" if row["ratio"] >= 1 else "right", fontsize=8)
+        axes.annotate(times(row["ratio"]), (row["ratio"], place), xytext=(4 if row["ratio"] >= 1 else -4, 0), fontsize=8,
+                      textcoords="offset points", va="center", ha="left" if row["ratio"] >= 1 else "right")
     for number, row in enumerate(shown[:-1]):
         if row["group"] != shown[number + 1]["group"]:
             axes.axhline(number + 0.5, color="#a89984", linewidth=0.6)
@@ -96,19 +89,16 @@ def draw(rows, picture):
 
 
 def main():
-    run, page, picture = (sys.argv[1:] + [None] * 3)[:3]
-    run = run or os.path.join(TOP, "bench/out/run.tsv")
-    page = page or os.path.join(TOP, "docs/SPEED.md")
-    picture = picture or os.path.join(TOP, "docs/pictures/speed.svg")
+    parser = argparse.ArgumentParser(description=__doc__.split("\n", maxsplit=1)[0])
+    for name, default in DEFAULTS.items():
+        parser.add_argument(name, nargs="?", type=pathlib.Path, default=TOP / default)
+    run, page, picture = vars(parser.parse_args()).values()
     notes, rows = read(run)
     draw(rows, picture)
-    with open(page, encoding="utf-8") as text:
-        front, rest = text.read().split(BEGIN)
-    back = rest.split(END)[1]
-    shown = os.path.relpath(picture, os.path.dirname(page))
+    front, rest = page.read_text(encoding="utf-8").split(BEGIN)
+    shown = os.path.relpath(picture, page.parent)
     lines = ["", f"![How many times as fast each row is]({shown})", "", *(f"- {cell(note)}" for note in notes), *table(rows), ""]
-    with open(page, "w", encoding="utf-8") as text:
-        text.write(front + BEGIN + "\n".join(lines) + "\n" + END + back)
+    page.write_text(front + BEGIN + "\n".join(lines) + "\n" + END + rest.split(END)[1], encoding="utf-8")
 
 
 if __name__ == "__main__":

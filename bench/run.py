@@ -36,11 +36,9 @@ def dumps(goal, *lines):
 
 COPIES = [Row("copies to a stream", goal, line, line) for line, goal in (
     ("dd if=long", 3), ("dd if=long bs=1M", 1), ("dd if=long bs=16M", 1), ("dd if=long conv=ucase", 1.5),
-    ("dd if=long conv=swab", 1.5),
-    ("dd if=prose conv=block cbs=80", 1.5), ("dd if=long conv=unblock cbs=80", 1.5))]
+    ("dd if=long conv=swab", 1.5), ("dd if=prose conv=block cbs=80", 1.5), ("dd if=long conv=unblock cbs=80", 1.5))]
 DUMPS = [
-    *dumps(15, "xxd random", "xxd -p random"), *dumps(8, "xxd -b random"), *dumps(20, "xxd -i random"),
-    *dumps(8, "xxd -c 32 -g 4 random"),
+    *dumps(15, "xxd random", "xxd -p random"), *dumps(8, "xxd -b random"), *dumps(20, "xxd -i random"), *dumps(8, "xxd -c 32 -g 4 random"),
     *dumps(40, "od less", "od -t x1 less", "od -c less"), *dumps(20, "od -t d4 less", "od -t u1 less"), *dumps(1, "od few"),
     *dumps(60, "hexdump -C less"), *dumps(1, "hexdump -C few"),
     Row("dumps", "-", "xxd -p random", "basenc --base16 -w 60 random"),
@@ -81,16 +79,15 @@ CHANGES = [
 
 def shell(words, out=subprocess.DEVNULL):
     """Runs a line of the shell; a program whose reader goes away may fail."""
-    return subprocess.run(words, shell=True, stdin=subprocess.DEVNULL, stdout=out, stderr=subprocess.DEVNULL, check=False,
-                          text=True).stdout
+    return subprocess.run(words, shell=True, stdin=subprocess.DEVNULL, stdout=out, stderr=subprocess.DEVNULL, check=False, text=True).stdout
 
 
 def make(big, mid, stream):
     """The inputs, in the current folder."""
     for line in (f"head -c {stream}M /dev/urandom > long; head -c {stream * 3 // 4}M long | base64 > prose",
                  f"head -c {big}M /dev/urandom > random; head -c {mid}M random > less; head -c {big}M /dev/zero > zeros",
-                 f"head -c {mid}M zeros > few; head -c {big * 3 // 4}M random | base64 > text; xxd less > dump; xxd -p less > "
-                 f"plain"):
+                 f"head -c {mid}M zeros > few; head -c {big * 3 // 4}M random | base64 > text",
+                 "xxd less > dump; xxd -p less > plain"):
         shell(line)
     pathlib.Path("byte").write_text("0: 41", encoding="ascii")
     line = "00000000: 4142 4344 4546 4748 494a 4b4c 4d4e 4f50  ABCDEFGHIJKLMNOP\n"
@@ -165,8 +162,7 @@ def time_row(row, options, run):
     is_same = same(row, commands, options.bx)
     ours, there, *cat = best(options.rounds, commands + ["cat one"] * (row.group == "dumps"), row.before, options.bx)
     used = [memory(words, row.before, options.bx) for words in commands]
-    tell(run, row.group, name, "before" if options.before else named(row.real), row.goal, ours, there, *(cat or ["-"]), *used,
-         is_same)
+    tell(run, row.group, name, "before" if options.before else named(row.real), row.goal, ours, there, *(cat or ["-"]), *used, is_same)
 
 
 def build_calls(calls):
@@ -174,9 +170,7 @@ def build_calls(calls):
     of its own over copies of the crates, since the gate proves every crate that stands in the repository. It stays in
     bench/out."""
     listed = (TOP / "crates.txt").read_text(encoding="utf-8").splitlines()
-    crates = ["bx_text", "bx_read", "bx_image", "bx_journal_store", "bx_journal_format", "bx_journal_read",
-              "bx_journal_protocol", "bx_patch",
-              "bx_journal"]
+    crates = ["bx_text", "bx_read", "bx_image", "bx_patch", *(f"bx_journal{part}" for part in ("_store", "_format", "_read", "_protocol", ""))]
     for crate in crates:
         shutil.copytree(TOP / "crates" / crate, f"room/crates/{crate}")
     os.makedirs("room/crates/calls/src")
@@ -243,9 +237,8 @@ def main():
         make(big, mid, stream)
         model = re.search(r"^model name[^:]*: (.*)$", pathlib.Path("/proc/cpuinfo").read_text(encoding="utf-8"), re.M)
         print(f"# {model[1] if model else 'a processor'}, {os.cpu_count()} processors, Linux {os.uname().release}", file=run)
-        print(f"# inputs of {big} MiB, of {mid} MiB for od, hexdump, busybox and changes, and of {stream} MiB for copies to a "
-              f"stream; the "
-              f"least of {options.rounds}", file=run)
+        print(f"# inputs of {big} MiB, of {mid} MiB for od, hexdump, busybox and changes, and of {stream} MiB for copies to a stream; "
+              f"the least of {options.rounds}", file=run)
         for tool in (options.bx, "xxd", "od", "hexdump", "strings", "rg", "busybox"):
             said = shell(f"{tool} --version 2>&1", subprocess.PIPE) if shutil.which(tool) else ""
             print(f"# {said.splitlines()[0]}\n" if said else "", end="", file=run)

@@ -158,8 +158,7 @@ def orders(_judge, _options):
                 room.run(command)
             if behind:
                 image, journal, redo_text = room.get()
-                room.put((image, (journal or b"") + (behind if journal else behind.replace("00000002", "00000001")).encode(),
-                          redo_text))
+                room.put((image, (journal or b"") + (behind if journal else behind.replace("00000002", "00000001")).encode(), redo_text))
             done, calls = room.trace(words)
         found = "".join(letter for what, letter, *_ in calls if what == "sync")
         wrong = None if " -U " in words else wrong_in(calls)
@@ -167,8 +166,7 @@ def orders(_judge, _options):
             wrong = f"synced {found or 'nothing'}, and not {order or 'nothing'}"
         wrong = f"status {done.status}" if done.status != status else wrong
         bad += bool(wrong)
-        say(not wrong, f"{changes} changes, {undone} undone{', one unfinished' * bool(behind)}: {words}",
-            wrong or f"{len(order)} syncs")
+        say(not wrong, f"{changes} changes, {undone} undone{', one unfinished' * bool(behind)}: {words}", wrong or f"{len(order)} syncs")
     print(f"{len(ORDERS) - bad} of {len(ORDERS)} commands sync in order")
     return bad
 
@@ -226,8 +224,7 @@ def show(lost):
     """A content that is lost."""
     words, content, found, states = lost
     return "\n      ".join([words, *(f"{name} {held!r}" for name, held in zip(("image", "journal", "redo file"), content)),
-                            str(found),
-                            f"not one of {states}"])
+                            str(found), f"not one of {states}"])
 
 
 def sessions(judge, options, play, name="session"):

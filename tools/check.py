@@ -36,7 +36,6 @@ CHECKS = [
     ("order of syncs", "tests/power.py --bx BX orders", "strace"),
     ("losses of power", "tests/power.py --bx BX replay", "strace"),
     ("losses of power, by FUSE", "tests/power.py --bx BX cache", ""),
-    ("seeks", "tests/seeks.py --bx BX", "xxd od hexdump dd"),
     ("corpus of make fuzz", "tests/fuzz/run.py --corpus --bx BX", ""),
     ("release, as a dry run", "tools/release.py --dry-run --bx BX", "git"),
     ("package", "tests/package.sh BX", "lintian dpkg-deb dpkg-shlibdeps strip"),

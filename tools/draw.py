@@ -105,15 +105,13 @@ def states(pair):
     last, entry, _ = pair.get()
     begun, between = entry.index(b"\n", entry.index(b"save")) + 1, [FIRST[:2] + b"xy" + FIRST[4:], FIRST, last]
     dropped = one("a front of the head", [pair.opened(FIRST, entry[:n], b"lost\n") for n in range(1, begun)])
-    taken = one("a front behind the save line", [pair.opened(x, entry[:n], b"lost\n") for n in range(begun, len(entry))
-                                                 for x in between])
+    taken = one("a front behind the save line", [pair.opened(x, entry[:n], b"lost\n") for n in range(begun, len(entry)) for x in between])
     one("dropped or taken back", [dropped[1:], taken[1:], (FIRST, b"", b"")])
     one("finished", [pair.opened(last, entry), ("", last, entry, b"")])
     pair.run("undo", "image")
     one("undone", [tuple(pair.get()[:2]), (FIRST, b"")])
     one("redone", [(pair.run("redo", "image"), *pair.get()), ("", last, entry, b"")])
-    refused = [pair.opened(*put) + (put,) for put in ((last, b"x" + entry, b""), (last + b"more", entry, b""),
-                                                      (last, entry, b"lost\n"))]
+    refused = [pair.opened(*put) + (put,) for put in ((last, b"x" + entry, b""), (last + b"more", entry, b""), (last, entry, b"lost\n"))]
     for _, *left, put in refused:
         one("what is refused", [tuple(left), put])
     return {"entry": entry.decode().splitlines(), "first": FIRST.decode(), "last": last.decode(),

@@ -69,8 +69,7 @@ def prove(name, below, top, jobs):
 
 def chains(listed, names):
     """How many lines stand on the longest chain from each crate up to the program."""
-    lines = {name: sum(path.read_bytes().count(b"\n") for path in (sources.ROOT / "crates" / name).rglob("src/**/*.rt"))
-             for name in names}
+    lines = {name: sum(path.read_bytes().count(b"\n") for path in (sources.ROOT / "crates" / name).rglob("src/**/*.rt")) for name in names}
     found = {}
     for name in reversed(names):
         found[name] = lines[name] + max([found[other] for other in names if name in listed[other]], default=0)

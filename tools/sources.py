@@ -226,16 +226,12 @@ class Definition:
 
     def parameters(self):
         """How many parameters it has: those of its head, and those before its type's last arrow; none in braces."""
-        lines = [line for line in self.lines if not line.startswith("module _ ")]
-        text = " ".join([lines[0], *head_of(lines[1:])])[HEAD.match(lines[0]).end() :]
+        first, *rest = (line for line in self.lines if not line.startswith("module _ "))
+        head = itertools.takewhile(lambda line: line.startswith(" "), rest)
+        text = " ".join([first, *head])[HEAD.match(first).end() :]
         text = re.split(r"\bwhere\b", text)[0]
         front, *rest = split(text, ":")
         return sum(binders(front)) + sum(sum(binders(part) or [1]) for part in split(":".join(rest), "→")[:-1])
-
-
-def head_of(lines):
-    """The lines at the begin that go on with a head: they are set in."""
-    return list(itertools.takewhile(lambda line: line.startswith(" "), lines))
 
 
 def binders(text):

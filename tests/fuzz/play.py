@@ -4,9 +4,9 @@
 Usage: tests/fuzz/play.py BX SUBJECT FILE ..      (a line for each file; the status is 1 where there is a finding)
        tests/fuzz/play.py BX SUBJECT              (as the fork server of afl-fuzz: tests/fuzz/run.py starts it so)
 
-A finding is a crash, a run of more than a second of processor time or ten seconds, more than 64 MiB of memory, a changed file behind a refusal, and a command
-that doesn't take back what the one before it did. afl-fuzz gets an abort for each. What it takes for coverage, of a program that
-isn't instrumented, is which command gave which status, fault and number of lines.
+A finding is a crash, a run of more than a second of processor time or ten seconds, more than 64 MiB of memory, a changed file
+behind a refusal, and a command that doesn't take back what the one before it did. afl-fuzz gets an abort for each. What it takes
+for coverage, of a program that isn't instrumented, is which command gave which status, fault and number of lines.
 """
 import ctypes
 import os
@@ -106,13 +106,9 @@ def read_within(process):
     return lines
 
 
-def revert(bx, text, *options):
-    Play.there_and_back(play := Play(bx), ["revert", *options, "image"], ["undo", "image"], text)
-    return play
-
-
-def patch(bx, text):
-    Play.there_and_back(play := Play(bx), ["patch", "image"], ["undo", "image"], text)
+def change(bx, text, *command):
+    """A command that reads a text and changes the image."""
+    Play.there_and_back(play := Play(bx), [*command, "image"], ["undo", "image"], text)
     return play
 
 
@@ -143,14 +139,8 @@ def words(bx, text):
     return play
 
 
-SUBJECTS = {
-    "revert": revert,
-    "plain": lambda bx, text: revert(bx, text, "-p"),
-    "patch": patch,
-    "journal": journal,
-    "redo": redo,
-    "words": words,
-}
+SUBJECTS = {"revert": lambda bx, text: change(bx, text, "revert"), "plain": lambda bx, text: change(bx, text, "revert", "-p"),
+            "patch": lambda bx, text: change(bx, text, "patch"), "journal": journal, "redo": redo, "words": words}
 
 
 def play_once(bx, subject, text):

@@ -64,10 +64,8 @@ def main():
     parser.add_argument("--bx", default="./bx")
     parser.add_argument("--minutes", type=float, default=10)
     parser.add_argument("--corpus", action="store_true", help="the inputs of the corpus, once")
-    parser.add_argument("subjects", nargs="*", metavar="SUBJECT", help=" ".join(SUBJECTS))
+    parser.add_argument("subjects", nargs="*", metavar="SUBJECT", choices=[[], *SUBJECTS], help=" ".join(SUBJECTS))
     options = parser.parse_args()
-    if set(options.subjects) - set(SUBJECTS):
-        parser.error(f"the subjects are {' '.join(SUBJECTS)}")
     bx, chosen = os.path.abspath(options.bx), options.subjects or SUBJECTS
     if "patch" in chosen and subprocess.run([bx, "help", "patch"], capture_output=True, check=False).returncode:
         print("left out: patch (this bx has no such command)")

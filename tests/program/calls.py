@@ -18,13 +18,10 @@ SYNCED = [("revert -f dump img", BEFORE), (DD, AFTER), ("undo img", AFTER), ("re
 DUMPS = ["xxd", "xxd -i", "od -t x2", "hexdump -C", "strings -t x", "dd cbs=4 conv=block,ucase", "--help"]
 WRONG_WORDS = ["xxd -c 300", "bogus", "undo -k 1k img"]
 # what a folder may answer to a sync, and whether a command then stops
-FOLDER = {"EINVAL": False, "ENOSYS": False, "EOPNOTSUPP": False, "EPERM": False, "EACCES": False, "EIO": True, "ENOSPC": True,
-          "EROFS": True,
-          "EDQUOT": True}
-ALIASES = [f"{words} -J {names}" for words, names in (
-    ("revert -f dump", "own two"), ("revert -f dump", "one one"), ("undo", "hard one"), ("log", "hard one"), ("show", "hard one"),
-    ("revert -f dump", "hard one"), ("log", "own two"), ("show", "own two"), ("revert -f dump", "own soft"), ("undo", "own soft"),
-    ("log", "own soft"), ("show", "own soft"))]
+FOLDER = {**dict.fromkeys(("EINVAL", "ENOSYS", "EOPNOTSUPP", "EPERM", "EACCES"), False),
+          **dict.fromkeys(("EIO", "ENOSPC", "EROFS", "EDQUOT"), True)}
+ALIASES = [*(f"{words} -J own two" for words in ("revert -f dump", "log", "show")), "revert -f dump -J one one",
+           *(f"{words} -J {names}" for names in ("hard one", "own soft") for words in ("revert -f dump", "undo", "log", "show"))]
 TEXT = b"Hello World\n\0\1\2 and some more text\n"
 MEMORY = "out of memory"
 
@@ -156,9 +153,8 @@ def test_dumps():
     for words in DUMPS if build() else ():
         counted(f"each memory request, read and write of {words}", dumped(words, run(words, TEXT)))
     for words in WRONG_WORDS if build() else ():
-        counted(f"each memory request of {words}",
-                ((done.status == 1, (done.status, said(done)) in ((1, MEMORY), (2, "bad arguments")))
-                                                    for _, done, _ in each("a", words)))
+        rows = ((done.status == 1, (done.status, said(done)) in ((1, MEMORY), (2, "bad arguments"))) for _, done, _ in each("a", words))
+        counted(f"each memory request of {words}", rows)
 
 
 def test_without_locks():
@@ -177,8 +173,7 @@ def test_without_locks():
             os.symlink("own", "own.redo")
         done = shimmed("n", 0, words)
         well = done.status and held(*files) == tuple(files.values()) and not any(map(os.path.exists, ("hard.redo", "one.redo")))
-        say(well and os.path.exists("own.redo") == os.path.islink("own.redo"), f"one file by two names, without locks: {words}",
-            said(done))
+        say(well and os.path.exists("own.redo") == os.path.islink("own.redo"), f"one file by two names, without locks: {words}", said(done))
         remove("hard", "soft", "own.redo", "hard.redo", "one.redo")
     os.symlink("dangling", "j")
     expect("a new image as its journal, by a link", "revert -f dump -J j dangling", OPEN)

@@ -51,8 +51,7 @@ def refused(device, name, words, fault=OPEN, **how):
 def endless(device):
     for words in ENDLESS:
         with subprocess.Popen(["yes"], stdout=subprocess.PIPE, stderr=subprocess.DEVNULL) as yes:
-            refused(device, "an input without end onto a device", f"dd of=DEV -J device.bxj {words}", "image too large",
-                    given=yes.stdout)
+            refused(device, "an input without end onto a device", f"dd of=DEV -J device.bxj {words}", "image too large", given=yes.stdout)
             yes.stdout.close()
     with open("longer", "w+b") as longer:
         longer.write(bytes(SIZE - 512 + 1) + b"rest\n")
@@ -68,8 +67,7 @@ def killed(device, first):
     write("dump", dump)
 
     def kill(words, seconds):
-        with subprocess.Popen([*bx, *words.replace("DEV", device).split()], stdout=subprocess.DEVNULL,
-                              stderr=subprocess.DEVNULL) as child:
+        with subprocess.Popen([*bx, *words.replace("DEV", device).split()], stdout=subprocess.DEVNULL, stderr=subprocess.DEVNULL) as child:
             time.sleep(seconds)
             child.kill()
         return run(f"log -J device.bxj {device}").out.count(b"\n")
@@ -87,8 +85,7 @@ def killed(device, first):
 def mounted(device):
     """A device that is mounted is refused, and with --mounted it is changed."""
     os.mkdir("mounted")
-    if subprocess.run(f"mkfs.ext2 -q -F {device} && mount -o ro {device} mounted", shell=True, capture_output=True,
-                      check=False).returncode:
+    if subprocess.run(f"mkfs.ext2 -q -F {device} && mount -o ro {device} mounted", shell=True, capture_output=True, check=False).returncode:
         left_out("a device that is mounted (no mkfs.ext2, or it can't be mounted)")
         return
     remove(*TEXTS)
@@ -105,8 +102,7 @@ def mounted(device):
 
 def read_only(disk):
     """A device that is read-only, and a partition of one: nothing is written or made. It may be looked at, but for a recovery."""
-    table = bytes([0, 0, 0, 0, 131, 0, 0, 0, 1, 0, 0, 0, 255, 7, 0,
-                   0]) + bytes(48) + b"\125\252"  # one partition, from sector 1 on
+    table = bytes([0, 0, 0, 0, 131, 0, 0, 0, 1, 0, 0, 0, 255, 7, 0, 0]) + bytes(48) + b"\125\252"  # one partition, from sector 1 on
     write("parts", cut(disk, 446, table))
     device = loop_device("-r", "parts")
     if not device:
@@ -114,8 +110,7 @@ def read_only(disk):
         return
     remove(*TEXTS)
     names, before = [device], sum_of("parts")
-    if subprocess.run(["partx", "-a", device], capture_output=True,
-                      check=False).returncode == 0 and os.path.exists(f"{device}p1"):
+    if subprocess.run(["partx", "-a", device], capture_output=True, check=False).returncode == 0 and os.path.exists(f"{device}p1"):
         names.append(f"{device}p1")
     else:
         left_out("a partition of a device that is read-only")

@@ -21,8 +21,7 @@ CHECKED = {"xxd": "xxd", "include": "xxd -i", "od": "od -t x1", "hexdump": "hexd
 def within(name, most, want, words):
     """Compares the most KiB that a command held, its status, and the image behind it."""
     done = run(["-c", COUNTED, *bx, *words.split()], program=sys.executable)
-    say(done.status == 0 and int(done.out) <= most and held("img") == (want,), name,
-        f"status {done.status}, {int(done.out)} of {most} KiB")
+    say(done.status == 0 and int(done.out) <= most and held("img") == (want,), name, f"status {done.status}, {int(done.out)} of {most} KiB")
 
 
 def in_space(name, most, want, words):
@@ -58,8 +57,7 @@ def test_memory():
 def test_long_redo_file():
     fresh(b"ABxyEFGH", PATCHED, b"")
     os.truncate("img.bxj.redo", 2**30)
-    expect("a redo file of a gigabyte, in four of memory", "log img", "redo line 1 is damaged",
-           limits=[(resource.RLIMIT_AS, 4 * 10**9)])
+    expect("a redo file of a gigabyte, in four of memory", "log img", "redo line 1 is damaged", limits=[(resource.RLIMIT_AS, 4 * 10**9)])
 
 
 def test_checked_build():
@@ -73,11 +71,9 @@ def test_checked_build():
         write(f"cases/{name}", "Hello World\n")
         write(f"cases/{name}.args", words.replace(" ", "\n") + "\n")
     for number in numbers.split():
-        done = subprocess.run(["rt", "try", "--fail-alloc", number, "--cases", os.path.abspath("cases")],
-                              cwd=ROOT / "crates" / "bx",
+        done = subprocess.run(["rt", "try", "--fail-alloc", number, "--cases", os.path.abspath("cases")], cwd=ROOT / "crates" / "bx",
                               stdout=subprocess.PIPE, stderr=subprocess.STDOUT, text=True, check=False)
         lines = done.stdout.splitlines()
         refused, all_of = lines.count("bx: out of memory"), len(CHECKED)
         say(lines[-1].startswith(f"cases={all_of} ended={all_of} fault=0 ") and refused == all_of,
-            f"rt try --fail-alloc {number}",
-            f"{refused} of {all_of} refused; {lines[-1]}")
+            f"rt try --fail-alloc {number}", f"{refused} of {all_of} refused; {lines[-1]}")

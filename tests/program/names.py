@@ -12,13 +12,11 @@ DUMP = b"0: 41\n"
 # the commands that open an image and its texts
 ON_IMAGE = ["revert -f dump img", "dd if=dump of=img", "undo img", "undo -k 0 img", "redo img", "log img", "show img"]
 # a name that can be neither: as the image, as the journal, and as the redo file of the journal `kind`
-AS_IMAGE = ["revert -f dump NAME", "dd if=dump of=NAME -J new.bxj", "undo -J img.bxj NAME", "log -J img.bxj NAME",
-            "diff NAME img",
+AS_IMAGE = ["revert -f dump NAME", "dd if=dump of=NAME -J new.bxj", "undo -J img.bxj NAME", "log -J img.bxj NAME", "diff NAME img",
             "diff img NAME"]
 AS_JOURNAL = ["revert -f dump -J NAME img", "dd if=dump of=new -J NAME", "undo -J NAME img", "log -J NAME img"]
 AS_REDO = ["revert -f dump -J kind img", "dd if=dump of=new -J kind", "undo -J kind img", "redo -J kind img", "log -J kind img"]
-REFUSED = ["revert -f bad img", "revert -p -f bad img", "revert -f missing img", "revert -f .. img", "revert img",
-           "dd if=.. of=img",
+REFUSED = ["revert -f bad img", "revert -p -f bad img", "revert -f missing img", "revert -f .. img", "revert img", "dd if=.. of=img",
            "dd if=missing of=img", "dd of=img", "dd if=dump of=img obs=1 seek=281474976710655", "undo img", "redo img", "log img",
            "show img", "revert -f dump -J no/such img", "revert -f dump -J .. img", "revert -f dump -J changed img"]
 AMONG_DEVICES = ["dd if=dump of=/dev/sdzz1", "dd if=dump of=/dev/sdzz1 -J own.bxj", "revert -f dump /dev/bx.none",
@@ -29,8 +27,7 @@ AMONG_DEVICES = ["dd if=dump of=/dev/sdzz1", "dd if=dump of=/dev/sdzz1 -J own.bx
 
 def listed(*folders):
     """The files below folders, and of links where they lead."""
-    return sorted((str(path), os.readlink(path) if path.is_symlink() else "") for name in folders
-                  for path in pathlib.Path(name).rglob("*"))
+    return sorted((str(path), os.readlink(path) if path.is_symlink() else "") for name in folders for path in pathlib.Path(name).rglob("*"))
 
 
 def closed():
@@ -45,8 +42,7 @@ def test_two_names():
         fresh(STOPPED)
         remove("hard")
         os.link("img", "hard")
-        for words in (f"log -J {name} img", f"undo -J img {name}", f"revert -f dump -J {name} img",
-                      f"dd if=dump of={name} -J img"):
+        for words in (f"log -J {name} img", f"undo -J img {name}", f"revert -f dump -J {name} img", f"dd if=dump of={name} -J img"):
             expect(f"the image as the journal: {words}", words, OPEN)
     write("own", PATCHED)
     fresh(b"ABxyEFGH")
@@ -74,9 +70,8 @@ def test_other_kinds():
         for words in AS_REDO:
             expect(f"{name} as the redo file: {words}", words, OPEN)
         remove("kind.redo")
-    say(held("kind") == (b"",) and listed(".") == before
-        and not any(map(os.path.exists, ("/.bxj", "/.bxj.redo", "/dev/null.bxj"))),
-        "nothing was made beside them")
+    well = not any(map(os.path.exists, ("/.bxj", "/.bxj.redo", "/dev/null.bxj")))
+    say(well and held("kind") == (b"",) and listed(".") == before, "nothing was made beside them")
     os.mkdir("new.bxj.redo")
     expect("a folder as the redo file of a new image and journal", "dd if=dump of=new -J new.bxj", OPEN)
     say(not os.path.exists("new"), "and none is made")
@@ -106,12 +101,10 @@ def test_nothing_left():
         before = listed(".")
         for words in REFUSED:
             done = run(words, before=closed)
-            say(done.status == 1 and listed(".") == before, f"nothing is left{' behind links' * bool(links)} by {words}",
-                said(done))
+            say(done.status == 1 and listed(".") == before, f"nothing is left{' behind links' * bool(links)} by {words}", said(done))
     done = run("revert -f dump img", umask=0o22)
-    say(done.status == 0 and held("far/image") == (b"A",) and held("img.bxj")[0].count(b"\n") == 3
-        and os.path.exists("img.bxj.redo"),
-        "an image behind links is made", said(done))
+    well = held("far/image") == (b"A",) and held("img.bxj")[0].count(b"\n") == 3 and os.path.exists("img.bxj.redo")
+    say(done.status == 0 and well, "an image behind links is made", said(done))
     say(run("undo img").out == b"0\n" and held("far/image") == (b"",), "and undone")
     for words in ("undo img", "redo img"):
         write("new")

@@ -7,8 +7,7 @@ from common import OPEN, TRIO, bx, entry, expect, fresh, held, left_out, remove,
 
 OTHER = 65534
 EVIL = entry([(0, b"EVIL")], ended=False)  # of a change that was stopped, of an image of 8 bytes
-OPENING = ["revert -f dump IMG", "dd if=dump of=IMG", "undo IMG", "redo -k 0 IMG", "log IMG", "log -v IMG", "show IMG",
-           "show -r -k 0 IMG"]
+OPENING = ["revert -f dump IMG", "dd if=dump of=IMG", "undo IMG", "redo -k 0 IMG", "log IMG", "log -v IMG", "show IMG", "show -r -k 0 IMG"]
 
 
 def bits(*names):
@@ -143,8 +142,7 @@ def test_other_users():
     done = as_user("show -k 0 img", OTHER)
     say(done == (0, b"# change 1: unfinished, the next command takes it back\n", "") and held("img.bxj") == (text,), "show of it")
     done = run("log img")
-    say(done.err == "bx: recovered: change 1 was taken back\n" and held("img.bxj") == (b"",), "which root's log recovers",
-        said(done))
+    say(done.err == "bx: recovered: change 1 was taken back\n" and held("img.bxj") == (b"",), "which root's log recovers", said(done))
 
 
 def test_planted_links():

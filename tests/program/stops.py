@@ -24,8 +24,7 @@ def test_full_disk():
     fresh(before)
     run("revert -p -f digits img")
     after = held("img", "img.bxj")
-    for words, start, blocks in (("revert -p -f digits img", [before], (1, 2, 3, 4, 5, 6)),
-                                 ("undo img", after, (4, 8, 16, 18, 20))):
+    for words, start, blocks in (("revert -p -f digits img", [before], (1, 2, 3, 4, 5, 6)), ("undo img", after, (4, 8, 16, 18, 20))):
         for most in blocks:
             fresh(*start)
             done = run(words, limits=[(resource.RLIMIT_FSIZE, most * 1024)])

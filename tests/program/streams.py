@@ -14,10 +14,8 @@ CLOSED = [
     (STOPPED, b"", "", "dd if=dump of=img conv=notrunc"), (PATCHED, b"", "", "revert -f dump img"),
     (PATCHED, b"1: 41\n", "0", "revert img"), (PATCHED, b"1: 41\n", "0", "dd of=img"),
     (PATCHED, b"1: 41\n", "0", "dd of=img seek=1 obs=2 conv=ucase"), (PATCHED, b"", "", "dd if=dump of=img"),
-    (PATCHED, b"", "1", "undo img"), (PATCHED, b"", "1", "redo -k 0 img"), (PATCHED, b"", "1", "log img"),
-    (PATCHED, b"", "1", "show img"),
-    (PATCHED, b"", "1", "xxd img"), (PATCHED, b"", "12", "dd if=img"), (PATCHED, b"1: 41\n", "01", "xxd"),
-    (PATCHED, b"1: 41\n", "012", "dd"),
+    *((PATCHED, b"", "1", f"{words} img") for words in ("undo", "redo -k 0", "log", "show", "xxd")),
+    (PATCHED, b"", "12", "dd if=img"), (PATCHED, b"1: 41\n", "01", "xxd"), (PATCHED, b"1: 41\n", "012", "dd"),
     (PATCHED, b"41 4\n2", "0", "revert -p -s 1 img"),
 ]
 
@@ -65,5 +63,4 @@ def test_closed_streams():
             well = well and done.out == (b"" if hit & {"0", "1"} or "1" in closed else plain.out)
             well = well and (done.err == "" if "2" in closed else said(done) == fault if fault else done.err == plain.err)
             wrong += [] if well else [closed or "none"]
-        say(plain.status == 0 and not wrong, f"{words}, with each set of streams closed", f"wrong at {' '.join(wrong)}" if wrong
-            else "")
+        say(plain.status == 0 and not wrong, f"{words}, with each set of streams closed", f"wrong at {' '.join(wrong)}" if wrong else "")

@@ -23,24 +23,20 @@ EMPTY = b"change2 00000001 0000000000000000\nsave 00000001\ndone2 00000001 00000
 IMAGE = b"ABxyEFGH"
 # what the texts are, the image, the journal, the redo file, the command, and the fault: all three stay
 TEXTS = [
-    ("an image that begins with NUL bytes as a journal", IMAGE, bytes(1000) + b"\1", None, "undo img",
-     "journal line 1 is damaged"),
+    ("an image that begins with NUL bytes as a journal", IMAGE, bytes(1000) + b"\1", None, "undo img", "journal line 1 is damaged"),
     ("a blank image as a journal", IMAGE, bytes(MEGA), None, "undo img", "journal line 1 is damaged"),
     ("a journal of a line of a megabyte", IMAGE, b"s" * MEGA, None, "log img", "journal line 1 is damaged"),
-    ("a saved line of a megabyte", IMAGE, b"change 00000001 00000008\n" + b"a" * MEGA, None, "log img",
-     "journal line 2 is damaged"),
+    ("a saved line of a megabyte", IMAGE, b"change 00000001 00000008\n" + b"a" * MEGA, None, "log img", "journal line 2 is damaged"),
     ("an empty line behind an entry", IMAGE, PATCHED + b"\n", None, "undo img", "journal line 5 is damaged"),
     ("an entry twice", IMAGE, PATCHED * 2, None, "undo img", "journal line 5 is damaged"),
     ("a journal in capitals", IMAGE, PATCHED.replace(b"c", b"C"), None, "undo img", "journal line 1 is damaged"),
     ("a journal of a longer image", b"ABxyEFG", PATCHED, None, "undo img", "image should have 8 bytes"),
     ("a change on a full journal", b"", OLD, None, "revert -f /dev/null img", "journal is full"),
-    ("an entry above the greatest number", b"", OLD + b"change 00010000 00000000\n", None, "log img",
-     "journal line 196606 is damaged"),
+    ("an entry above the greatest number", b"", OLD + b"change 00010000 00000000\n", None, "log img", "journal line 196606 is damaged"),
     ("a redo file of a megabyte of NUL bytes", IMAGE, PATCHED, bytes(MEGA), "undo img", "redo line 1 is damaged"),
     ("a redo file of a line of a megabyte", IMAGE, PATCHED, b"s" * MEGA, "revert -f /dev/null img", "redo line 1 is damaged"),
     ("an undone entry twice", IMAGE, PATCHED, UNPATCHED * 2, "undo -k 0 img", "redo line 5 is damaged"),
-    ("an undone entry and half of one", IMAGE, PATCHED, UNPATCHED + b"change2 00000002 0000000000000008\n",
-     "dd if=/dev/null of=img",
+    ("an undone entry and half of one", IMAGE, PATCHED, UNPATCHED + b"change2 00000002 0000000000000008\n", "dd if=/dev/null of=img",
      "redo line 5 is damaged"),
     ("a redo file in the older form", IMAGE, PATCHED, OLD_REDO, "log img", "redo line 1 is damaged"),
     ("a redo file of a longer image", b"ABCDEFG", b"", UNPATCHED, "revert -f /dev/null img", "redo line 4 is damaged"),
@@ -59,9 +55,8 @@ KEPT = [
     ("revert -f new img", (b"AyxyEFGH", PATCHED + entry([(1, b"B")], 2), b"")),
 ]
 UNFINISHED = "# change 1: unfinished, the next command takes it back\n"
-LOOKS = [("-k 0", ""), ("", "only 0 changes to undo"), ("-k 3", "only 0 changes to undo"),
-         ("-d -k 65535", "only 0 changes to undo"),
-         ("-r", "only 0 changes to redo"), ("-r -k 0", "")]
+LOOKS = [("-k 0", ""), *((words, "only 0 changes to undo") for words in ("", "-k 3", "-d -k 65535")), ("-r", "only 0 changes to redo"),
+         ("-r -k 0", "")]
 
 
 def test_dumps():

@@ -35,13 +35,11 @@ def dd(at, data, keep):
 
 
 def undo(count):
-    return Command(f"undo -k {count} IMAGE", b"",
-                   lambda s: [State(s.stack[i:], s.stack[:i][::-1] + s.undone) for i in range(count + 1)])
+    return Command(f"undo -k {count} IMAGE", b"", lambda s: [State(s.stack[i:], s.stack[:i][::-1] + s.undone) for i in range(count + 1)])
 
 
 def redo(count):
-    return Command(f"redo -k {count} IMAGE", b"",
-                   lambda s: [State(s.undone[:i][::-1] + s.stack, s.undone[i:]) for i in range(count + 1)])
+    return Command(f"redo -k {count} IMAGE", b"", lambda s: [State(s.undone[:i][::-1] + s.stack, s.undone[i:]) for i in range(count + 1)])
 
 
 LOG = Command("log IMAGE", b"", lambda s: [s])

@@ -12,9 +12,8 @@ FILES = ("images/image", "texts/journal", "texts/journal.redo")
 LINE = re.compile(r"^(?:\d+ +)?(\w+)\((.*)\) += (\d+)(?:<(.*)>)?$")
 NAMED = ("openat", "unlink", "unlinkat")
 # What is replayed, and calls that would change a file in a way that isn't.
-TRACED = (*NAMED, "pwrite64", "ftruncate", "fsync", "fdatasync", "write", "writev", "pwritev", "pwritev2", "fallocate",
-          "truncate", "rename",
-          "renameat", "renameat2", "link", "linkat", "copy_file_range", "sendfile")
+TRACED = (*NAMED, "pwrite64", "ftruncate", "fsync", "fdatasync", "write", "writev", "pwritev", "pwritev2", "fallocate", "truncate",
+          "rename", "renameat", "renameat2", "link", "linkat", "copy_file_range", "sendfile")
 
 
 class Room:
@@ -48,8 +47,7 @@ class Room:
     def trace(self, words, given=b"", unsynced=False):
         """Runs a command under strace: what it answers, and its calls."""
         to = self.place("trace")
-        done = self.run(words, given, ("strace", "-f", "-y", "-xx", "-s", "1000000", "-o", to, "-e",
-                                       "trace=" + ",".join(TRACED)), unsynced)
+        done = self.run(words, given, ("strace", "-f", "-y", "-xx", "-s", "1000000", "-o", to, "-e", "trace=" + ",".join(TRACED)), unsynced)
         return done, list(calls_of(held(to)[0].decode("ascii").splitlines(), os.path.realpath(self.path)))
 
 

@@ -47,45 +47,29 @@ def public_names(crate, exports):
     called, said = set(), set()
     for path in sources.code(crate):
         text = sources.read(path)
-        known = sources.imports(text)
-        module = "mod " + str(path.relative_to(sources.folder(crate)).with_suffix(""))
+        known, module = sources.imports(text), "mod " + str(path.relative_to(sources.folder(crate)).with_suffix(""))
         for access, kind, rest, end in sources.items(text):
-            name = sources.NAME.search(re.sub(r"^<[^>]*>", "", rest.strip()))
-            shown = access == "pub " and name and (name.group() in exports or module in exports)
-            clauses = []
-            if kind in ("fn", "struct", "enum", "const") and shown:
-                clauses = sources.clauses(rest)
-            elif kind == "trait" and shown:
-                clauses = sources.clauses(rest)
-            elif kind == "impl":
+            name, shown = sources.NAME.search(re.sub(r"^<[^>]*>", "", rest.strip())), []
+            if kind == "impl":
                 header = rest.split("{")[0]
-                if any(word in exports for word in sources.NAME.findall(header)):
-                    of_trait = " for " in header
-                    for shape, body in sources.methods(rest):
-                        if shape == "pub" or shape == "head" or (of_trait and shape == "inner"):
-                            clauses += sources.clauses(body)
-            for clause in clauses:
-                for word in sources.NAME.findall(clause):
-                    if word in known:
-                        (said if is_law(kind, rest, end) else called).add(known[word])
+                shapes = ("pub", "head", "inner") if " for " in header else ("pub", "head")
+                if exports & set(sources.NAME.findall(header)):
+                    shown = [body for shape, body in sources.methods(rest) if shape in shapes]
+            elif access == "pub " and name and exports & {name.group(), module}:
+                shown = [rest]
+            words = {word for part in shown for clause in sources.clauses(part) for word in sources.NAME.findall(clause)}
+            (said if is_law(kind, rest, end) else called).update(known[word] for word in words & known.keys())
     return called, said
 
 
 def closure(definitions, imports, named):
-    seen, todo = {}, [key for key in named]
+    seen, todo = {}, list(named)
     while todo:
         key = todo.pop()
-        if key in seen or key not in definitions:
-            continue
-        definition = definitions[key]
-        seen[key] = definition
-        known = imports[(definition.crate, definition.file)]
-        for line in definition.lines:
-            for word in sources.NAME.findall(line):
-                if word in known:
-                    todo.append(known[word])
-                elif (definition.crate, definition.file, word) in definitions and word != definition.name:
-                    todo.append((definition.crate, definition.file, word))
+        if key in definitions and key not in seen:
+            seen[key], here = definitions[key], key[:2]
+            words = sources.NAME.findall("\n".join(seen[key].lines))
+            todo += [imports[here].get(word, (*here, word)) for word in words]
     return seen
 
 

@@ -40,8 +40,7 @@ def words(paths):
 
 def spans(page):
     """The spans of a page, with their lines."""
-    text = re.sub(r"^```.*?^```", lambda block: "\n" * block.group().count("\n"), page.read_text(encoding="utf-8"),
-                  flags=re.M | re.S)
+    text = re.sub(r"^```.*?^```", lambda block: "\n" * block.group().count("\n"), page.read_text(encoding="utf-8"), flags=re.M | re.S)
     return [(number, span) for number, line in enumerate(text.split("\n"), 1) for span in re.findall(r"`([^`\n]+)`", line)]
 
 

@@ -21,21 +21,14 @@ Written by `tools/docs.py --write` of `crates.txt`, `rooms.txt` and the sentence
 right below `src/`; behind it stand the rooms that it may import.
 """
 # circles of files that are to end, by their crate and one of their files; no other may be made
-CIRCLES = [
-    ("bx_image", "record"),
-    ("bx_journal_read", "scan/journal"),
-    ("bx_journal_protocol", "before/overwritten"),
-    ("bx_journal_protocol", "protocol/fill"),
-    ("bx_journal_protocol", "write/head"),
-    ("bx_journal", "recovery/finished_journal"),
-]
+CIRCLES = [("bx_image", "record"), ("bx_journal_read", "scan/journal"), ("bx_journal", "recovery/finished_journal"),
+           *(("bx_journal_protocol", file) for file in ("before/overwritten", "protocol/fill", "write/head"))]
 
 
 def rooms(found):
     """What each room imports of the others, by what each file does; what stands in the root of a crate is in none."""
     names = {module[0] for module in found if len(module) == 1 and module not in (("lib",), ("main",))}
-    return {name: {other[0] for module in found if module[0] == name for other in found[module]} & (names - {name})
-            for name in names}
+    return {name: {other[0] for module in found if module[0] == name for other in found[module]} & (names - {name}) for name in names}
 
 
 def module_of(source, path):
@@ -82,8 +75,7 @@ def circles(found):
 
 def families(name, line, named):
     """Which inner parts a crate above their family imports, where its line `inner` doesn't name them."""
-    paths = [path for path in (sources.ROOT / "crates" / name).rglob("*") if path.suffix in (".rt", ".antt")
-             and "out" not in path.parts]
+    paths = [path for path in (sources.ROOT / "crates" / name).rglob("*") if path.suffix in (".rt", ".antt") and "out" not in path.parts]
     text = "\n".join(sources.read(path) for path in paths)
     for family, parts in sources.families().items():
         for part in [] if name == family or name in parts else parts:
@@ -138,10 +130,8 @@ def wrong_rows(name, found, table):
         elif room not in found:
             yield f"{name}: a line for {room}, which is no room"
         else:
-            yield from (f"{name}: {room} imports {other}, which its line doesn't name"
-                        for other in sorted(found[room] - table[room]))
-            yield from (f"{name}: the line of {room} names {other}, which it doesn't import"
-                        for other in sorted(table[room] - found[room]))
+            yield from (f"{name}: {room} imports {other}, which its line doesn't name" for other in sorted(found[room] - table[room]))
+            yield from (f"{name}: the line of {room} names {other}, which it doesn't import" for other in sorted(table[room] - found[room]))
 
 
 def check(options):
@@ -159,5 +149,4 @@ def check(options):
             if not any((name, file) in CIRCLES for file in circle):
                 wrong.append(f"{name}: the files {', '.join(circle)} reach one another")
     wrong += [f"{name} stands in rooms.txt, and is no crate" for name in named if name not in sources.crates()]
-    return wrong or sources.generated(PAGE, page(named),
-                                      options.write), "rooms import one another in one direction, and as rooms.txt says"
+    return wrong or sources.generated(PAGE, page(named), options.write), "rooms import one another in one direction, and as rooms.txt says"

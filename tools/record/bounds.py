@@ -12,39 +12,36 @@ repeated), so a case says a length and a seed. Three files are written:
 The player makes the bytes of a seed and the lines of a dump by the definitions of docs/CASES.md. This script makes them
 too, and stops where the real xxd writes other lines.
 """
+import functools
 import hashlib
-import os
-import re
-import subprocess
 import sys
-import tempfile
 
 from record import form
-from record.real import ENV, told_count, told_records, versions
+from record.real import Tools, told_records, versions
 from record.words import Case
 
 KIB = 1024
+TOOLS = Tools()
 
 
-# Bytes and how a case file writes them: a list of parts, each (count, seed) or (count, digits of what is repeated).
+# Bytes and how a case file writes them: parts, each (count, seed) or (count, digits of what is repeated).
 
-KEPT = {}
+@functools.cache
+def made_of(parts):
+    return b"".join(form.seeded(n, what) if isinstance(what, int) else n * bytes.fromhex(what) for n, what in parts)
 
 
 class Given:
     """Bytes as parts of a case file."""
 
     def __init__(self, *parts):
-        self.parts = [part for part in parts if part[0]]
+        self.parts = tuple(part for part in parts if part[0])
 
     def text(self):
         return " ".join(f"{n}@{what}" if isinstance(what, int) else f"{n}*{what}" for n, what in self.parts) or '""'
 
     def data(self):
-        if self.text() not in KEPT:
-            KEPT[self.text()] = b"".join(form.seeded(n, what) if isinstance(what, int) else n * bytes.fromhex(what)
-                                         for n, what in self.parts)
-        return KEPT[self.text()]
+        return made_of(self.parts)
 
     def __len__(self):
         return sum(n if isinstance(what, int) else n * (len(what) // 2) for n, what in self.parts)
@@ -73,31 +70,14 @@ def around(size):
 
 # What the real tools write.
 
-def real(command, data):
-    """Output and messages of a tool that reads a file."""
-    with tempfile.TemporaryFile() as given:
-        given.write(data)
-        given.seek(0)
-        done = subprocess.run(command, stdin=given, capture_output=True, env=ENV, timeout=60, check=True)
-    return done.stdout, done.stderr.decode()
-
-
-def digest(data):
-    return f"{len(data)} {hashlib.md5(data).hexdigest()}"
-
-
 def dump_lines(number, tool, options, given, version):
     """A case of words."""
-    case = Case(tool, options, given.data(), "")
-    case.output, said = real([tool, *options], case.data)
-    if tool == "strings" and any(word.startswith("-t") for word in options):
-        case.output = re.sub(rb"^ +", b"", case.output, flags=re.M)
-    line = " ".join([tool, *options])
-    lines = ["", f"case: {number:03} {line}, {len(case.data)} bytes", f"from: {version}"]
-    lines += [f"words: {line}", f"input: {given.text()}", f"sum: {digest(case.output)}"]
-    count = told_count(case)
-    lines += [f"count: {count}"] if count is not None else []
-    return lines + ([f"records: {told_records(said)}"] if tool == "dd" else [])
+    case, line = Case(tool, options, given.data(), ""), " ".join([tool, *options])
+    TOOLS.record(case)
+    lines = ["", f"case: {number:03} {line}, {len(case.data)} bytes", f"from: {version}", f"words: {line}", f"input: {given.text()}",
+             f"sum: {len(case.output)} {hashlib.md5(case.output).hexdigest()}"]
+    lines += [f"count: {case.count}"] if case.count is not None else []
+    return lines + ([f"records: {case.records}"] if case.records else [])
 
 
 # The forms of each tool, and how many bytes it reads or puts at once in that form.
@@ -117,8 +97,7 @@ BLOCKS = [
 
 def block_cases():
     """Inputs of lengths around each block."""
-    return [(tool, line.split(), given_to(tool, size))
-            for tool, line, sizes in BLOCKS for block in sizes for size in around(block)]
+    return [(tool, line.split(), given_to(tool, size)) for tool, line, sizes in BLOCKS for block in sizes for size in around(block)]
 
 
 def given_to(tool, size):
@@ -128,8 +107,7 @@ def given_to(tool, size):
 
 def longer_cases():
     """Inputs of 70,000 bytes, whole, of one byte, skipped into, and cut."""
-    whole = ["xxd", "xxd -b", "xxd -p", "xxd -i", "od", "od -c", "hexdump -C", "strings", "strings -t x -n 2", "dd",
-             "dd bs=70000"]
+    whole = ["xxd", "xxd -b", "xxd -p", "xxd -i", "od", "od -c", "hexdump -C", "strings", "strings -t x -n 2", "dd", "dd bs=70000"]
     skips = ["od -j", "xxd -s", "hexdump -C -s", "od -N", "xxd -l", "hexdump -C -n"]
     cases = [(line.split(), given_to(line.split()[0], 70000)) for line in whole]
     cases += [(line.split(), same(size, 0x61)) for line in ("od", "hexdump -C", "xxd", "strings", "strings -t d")
@@ -154,24 +132,12 @@ def run_cases():
 BEFORE = some(300, 9)
 
 
-def onto(image, operands, given):
-    """The counts of the real dd and the image that it leaves."""
-    with tempfile.TemporaryDirectory() as folder:
-        path = os.path.join(folder, "image")
-        with open(path, "wb") as file:
-            file.write(image)
-        said = real(["dd", *operands, f"of={path}"], given)[1]
-        with open(path, "rb") as file:
-            return told_records(said), file.read()
-
-
 def dd_row(number, before, operands, given, left):
     """dd onto an image, which leaves these bytes."""
-    records, found = onto(before.data(), operands, given.data())
-    if found != left.data():
+    found, (_, said, status) = TOOLS.onto(before.data(), ["dd", *operands], given.data())
+    if status or found != left.data():
         sys.exit(f"dd {' '.join(operands)}, {len(given)} bytes: the tool left something else")
-    return [" ".join(["dd:", *operands]), f"input: {given.text()}", f"reply: copied {number} {records}",
-            f"image: {left.text()}"]
+    return [" ".join(["dd:", *operands]), f"input: {given.text()}", f"reply: copied {number} {told_records(said)}", f"image: {left.text()}"]
 
 
 def undone_row(left, before):
@@ -182,8 +148,7 @@ def length_cases(version):
     """Blocks of the default 512 bytes, and of 61, for each length from 0 to 600, each undone."""
     lines = []
     for operands in (["ibs=512"], ["bs=61"]):
-        lines += ["", f"case: dd {operands[0]}, 0 to 600 bytes", f"from: {version}; FORMATS.md, undoing",
-                  f"image: {BEFORE.text()}"]
+        lines += ["", f"case: dd {operands[0]}, 0 to 600 bytes", f"from: {version}; FORMATS.md, undoing", f"image: {BEFORE.text()}"]
         for size in range(601):
             lines += dd_row(1, BEFORE, operands, some(size), some(size)) + undone_row(0, BEFORE)
     return lines
@@ -195,22 +160,18 @@ def entry_lines(number, before, saved, after, ended=True):
     """The entry of a change: the saved runs are (address, bytes)."""
     lines = [f"| change2 {number:08x} {before:016x}"]
     for at, given in saved:
-        check_dump(at, given)
+        check_dump(at, given.parts)
         lines.append(f"> {at} {given.text()}")
     return lines + [f"| save {number:08x}"] + ([f"| done2 {number:08x} {after:016x}"] if ended else [])
 
 
-CHECKED = set()
-
-
-def check_dump(at, given):
+@functools.cache
+def check_dump(at, parts):
     """The real xxd writes the lines that the player makes."""
-    if (at, given.text()) in CHECKED:
-        return
-    CHECKED.add((at, given.text()))
-    made = b"".join(form.dump_line(at + i, given.data()[i:i + 16]).encode() + b"\n" for i in range(0, len(given), 16))
-    if real(["xxd", "-o", str(at)], given.data())[0] != made:
-        sys.exit(f"xxd of {given.text()}: the tool writes something else")
+    data = made_of(parts)
+    made = b"".join(form.dump_line(at + i, data[i:i + 16]).encode() + b"\n" for i in range(0, len(data), 16))
+    if TOOLS.run(["xxd", "-o", str(at)], data)[0] != made:
+        sys.exit(f"xxd of {parts}: the tool writes something else")
 
 
 def whole_case(size, about):
@@ -251,7 +212,7 @@ def pieces_case(last):
     after = Given(*parts, (62000 - at, "00"))
     dump = [(0, some(long, 2)), *short]
     for place, given in dump:
-        check_dump(place, given)
+        check_dump(place, given.parts)
     saved = [(place, Given((len(given), "00"))) for place, given in dump]
     lines = head(f"a revert whose entry has {262144 + last - 2} bytes up to its save line")
     lines += [f"image: {before.text()}", "revert:"]

@@ -31,14 +31,6 @@ class Images:
         self.undone.clear()
         return self.changes()
 
-    def undo(self, count):
-        for _ in range(count):
-            self.undone.append(self.standing.pop())
-
-    def redo(self, count):
-        for _ in range(count):
-            self.standing.append(self.undone.pop())
-
 
 def put(image, at, data):
     """The image with bytes at a place; what lies between is zeros. No bytes do nothing."""
@@ -120,21 +112,24 @@ def changed(images, image):
     return left(images, f"changed {images.change_to(image)}")
 
 
+def moved(images, word, count, have, source, to):
+    """An undo or a redo, refused where there are fewer."""
+    if count > have:
+        return [f"{word}: {count}"] + refusal(f"only {have} changes to {word}")
+    for _ in range(count):
+        to.append(source.pop())
+    return [f"{word}: {count}"] + left(images, f"{word}ne {images.changes()}")
+
+
 def an_undo(rng, images):
     count = rng.randrange(1, 4) if rng.randrange(8) else rng.randrange(images.changes() + 2)
-    if count > images.changes():
-        return [f"undo: {count}"] + refusal(f"only {images.changes()} changes to undo")
-    images.undo(count)
-    return [f"undo: {count}"] + left(images, f"undone {images.changes()}")
+    return moved(images, "undo", count, images.changes(), images.standing, images.undone)
 
 
 def a_redo(rng, images):
     have = len(images.undone)
     count = rng.randrange(1, have + 1) if have and rng.randrange(6) else rng.randrange(have + 2)
-    if count > have:
-        return [f"redo: {count}"] + refusal(f"only {have} changes to redo")
-    images.redo(count)
-    return [f"redo: {count}"] + left(images, f"redone {images.changes()}")
+    return moved(images, "redo", count, have, images.undone, images.standing)
 
 
 def opened_again(_, images):

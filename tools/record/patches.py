@@ -142,8 +142,7 @@ def differ(options):
         for old, new in pairs:
             check(Path(name), old.bytes, new.bytes)
             for rows in (False, True):
-                done = subprocess.run([options.bx, "diff", *["-v"] * rows, "old", "new"], cwd=name, capture_output=True,
-                                      check=False)
+                done = subprocess.run([options.bx, "diff", *["-v"] * rows, "old", "new"], cwd=name, capture_output=True, check=False)
                 lines, bytes_ = patch(old.bytes, new.bytes, rows)
                 is_same = (done.returncode, done.stderr, named(done.stdout)) == (0, b"", (lines[0] if lines else "", bytes_))
                 bad += not is_same

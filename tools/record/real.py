@@ -4,6 +4,7 @@ import pathlib
 import re
 import subprocess
 import sys
+import tempfile
 
 ENV = {**os.environ, "LC_ALL": "C"}
 NAMES = ["in.bin", "1a.bin", "folder/b-2.x", "two words", "_c.d.e"]
@@ -12,13 +13,14 @@ NAMES = ["in.bin", "1a.bin", "folder/b-2.x", "two words", "_c.d.e"]
 class Tools:
     """The real tools, in a folder of files."""
 
-    def __init__(self, folder):
-        self.folder = folder
-        os.mkdir(os.path.join(folder, "folder"))
+    def __init__(self):
+        self.kept = tempfile.TemporaryDirectory()
+        self.folder = self.kept.name
+        os.mkdir(os.path.join(self.folder, "folder"))
 
     def run(self, command, data):
-        """Output, messages and status. Each name has the input, and so has standard input, which is a file."""
-        for name in NAMES + ["stdin"]:
+        """Output, messages and status. Each name that the command has holds the input, and so does standard input, which is a file."""
+        for name in [*(name for name in NAMES if name in " ".join(command)), "stdin"]:
             with open(os.path.join(self.folder, name), "wb") as out:
                 out.write(data)
         with open(os.path.join(self.folder, "stdin"), "rb") as given:
@@ -28,24 +30,19 @@ class Tools:
     def record(self, case):
         """Fills in what the tool does. A tool that doesn't do what its list or its options say stops the recording."""
         if case.image is not None:
-            return self.record_onto(case)
+            case.made, (output, said, status) = self.onto(case.image, [case.tool, *case.words], case.data)
+            case.records = told_records(said)
+            return self.confirm(case, status == 0 and not output, said)
         output, said, status = self.run([case.tool, *case.words], case.data or b"")
-        if case.refused:
-            return self.confirm(case, status == 1 and not output, said)
-        case.output = output
         if case.tool == "od" and "cannot skip past end" in said:
             case.fault = "skip is past the end of the input"
+        if case.refused or case.fault:
             return self.confirm(case, status == 1 and not output, said)
+        case.output = output
         if case.tool == "strings" and any(word.startswith("-t") for word in case.words):
             case.output = re.sub(rb"^ +", b"", output, flags=re.M)
         case.count, case.records = told_count(case), told_records(said) if case.tool == "dd" else None
         return self.confirm(case, status == 0, said)
-
-    def record_onto(self, case):
-        """What dd makes of an image."""
-        case.made, (output, said, status) = self.onto(case.image, [case.tool, *case.words], case.data)
-        case.records = told_records(said)
-        return self.confirm(case, status == 0 and not output, said)
 
     def image(self):
         return pathlib.Path(self.folder, "image")

@@ -26,7 +26,6 @@ the fault's text and its status are those of docs/FORMATS.md, "Faults", which th
 """
 import itertools
 import random
-import tempfile
 
 from record import form
 from record.real import NAMES, Tools, told_records, versions
@@ -144,12 +143,7 @@ def strings_options(rng, _data):
 
 
 OPTIONS = {"xxd": xxd_options, "od": od_options, "hexdump": hexdump_options, "strings": strings_options}
-ALONE = {
-    "xxd": [{"-b", "-i", "-p"}, {"-i", "-u"}],
-    "od": [{"-t", "-b", "-c", "-d", "-o", "-s", "-x"}],
-    "hexdump": [],
-    "strings": [],
-}
+ALONE = {"xxd": [{"-b", "-i", "-p"}, {"-i", "-u"}], "od": [{"-t", "-b", "-c", "-d", "-o", "-s", "-x"}], "hexdump": [], "strings": []}
 # How often no option, one, two and three of them are drawn.
 DRAWS = {"xxd": [8, 5, 3, 3], "od": [6, 5, 3, 2], "hexdump": [14, 18, 18, 24], "strings": [16, 22, 22, 28]}
 
@@ -187,8 +181,7 @@ OF_EACH_LENGTH = {"xxd": ["", "-b", "-p", "-i"], "od": [""], "hexdump": ["-C"], 
 
 def length_cases(tool):
     """Few options, on an input of each length."""
-    return [Case(tool, line.split(), of_length(tool, size), line or "a length")
-            for line in OF_EACH_LENGTH[tool] for size in LENGTHS]
+    return [Case(tool, line.split(), of_length(tool, size), line or "a length") for line in OF_EACH_LENGTH[tool] for size in LENGTHS]
 
 
 def dump_cases(tool, rng):
@@ -211,8 +204,7 @@ def rows():
 
 def line_cases(tool):
     """A line and one of each length behind it, and many lines."""
-    return [Case(tool, line.split(), rows()[:size], f"lines, {line}")
-            for line in LINES.get(tool, []) for size in [*range(17, 33), 600]]
+    return [Case(tool, line.split(), rows()[:size], f"lines, {line}") for line in LINES.get(tool, []) for size in [*range(17, 33), 600]]
 
 
 # dd: operands, and words of one conv=.
@@ -252,13 +244,11 @@ def dd_case(chosen, rng):
 
 def dd_choices(most):
     """Each so many names at most that go together."""
-    return [c for n in range(most + 1) for c in itertools.combinations(DD_NAMES, n)
-            if all(len(group & set(c)) < 2 for group in DD_ALONE)]
+    return [c for n in range(most + 1) for c in itertools.combinations(DD_NAMES, n) if all(len(group & set(c)) < 2 for group in DD_ALONE)]
 
 
 TEXT = b"one\ntwo  \n\na longer Line with  spaces   \nq\xe9\xff\0\n\nlast"
-OF_EACH_FRONT = ["ibs=7 conv=sync,ucase", "ibs=1 cbs=5 conv=block", "ibs=16 cbs=5 conv=unblock,lcase",
-                 "ibs=2 cbs=3 conv=unblock,sync"]
+OF_EACH_FRONT = ["ibs=7 conv=sync,ucase", "ibs=1 cbs=5 conv=block", "ibs=16 cbs=5 conv=unblock,lcase", "ibs=2 cbs=3 conv=unblock,sync"]
 
 
 def front_cases():
@@ -286,8 +276,7 @@ def image_case(chosen, placed, rng):
 
 
 def image_cases(_tool, rng):
-    return [image_case(chosen, placed, rng) for chosen in dd_choices(2)
-            for placed in ([], ["seek"], ["notrunc"], ["seek", "notrunc"])]
+    return [image_case(chosen, placed, rng) for chosen in dd_choices(2) for placed in ([], ["seek"], ["notrunc"], ["seek", "notrunc"])]
 
 
 # Words that are refused: the words, and the fault of docs/FORMATS.md.
@@ -360,8 +349,7 @@ def case_lines(number, case, version):
 
 def file_lines(tool, kind, seed, cases):
     version, line, package = versions(tool)
-    head = [f"# What {tool} does, recorded by tools/cases.py with seed {seed}.",
-            f"# {line}", f"# Debian: {package}", "", f"kind: {kind}"]
+    head = [f"# What {tool} does, recorded by tools/cases.py with seed {seed}.", f"# {line}", f"# Debian: {package}", "", f"kind: {kind}"]
     return head + [line for number, case in enumerate(cases, 1) for line in case_lines(number, case, version)]
 
 
@@ -389,25 +377,17 @@ FILES = [("xxd", "words", "xxd", dump_cases), ("od", "words", "od", dump_cases),
          ("dd_images", "commands", "dd", image_cases)]
 
 
-def recorded(tools, name, tool, maker, seed):
-    """The cases of a file, with what the tool did."""
-    cases = maker(tool, random.Random(f"{name} {seed}"))
-    for case in cases:
-        tools.record(case)
-    return cases
-
-
 def run(options):
     """Writes the files, or compares what bx does; whether it does something else."""
-    bad = 0
-    with tempfile.TemporaryDirectory() as folder:
-        tools = Tools(folder)
-        for name, kind, tool, maker in FILES:
-            cases = recorded(tools, name, tool, maker, options.seed)
-            if options.bx:
-                found = [differs(tools, options.bx, case) for case in cases]
-                bad += sum(map(bool, found))
-                print(*filter(None, found), f"{name}: {len(cases)} cases", sep="\n")
-            else:
-                form.write(name, file_lines(tool, kind, options.seed, cases), options.out)
+    bad, tools = 0, Tools()
+    for name, kind, tool, maker in FILES:
+        cases = maker(tool, random.Random(f"{name} {options.seed}"))
+        for case in cases:
+            tools.record(case)
+        if options.bx:
+            found = [differs(tools, options.bx, case) for case in cases]
+            bad += sum(map(bool, found))
+            print(*filter(None, found), f"{name}: {len(cases)} cases", sep="\n")
+        else:
+            form.write(name, file_lines(tool, kind, options.seed, cases), options.out)
     return bad > 0

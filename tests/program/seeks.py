@@ -1,24 +1,24 @@
-#!/usr/bin/env python3
-"""Compares the seeks of bx with those of xxd, od, hexdump and dd.
+"""Seeks of dumps and dd beside those of xxd, od, hexdump and dd.
 
-Usage: tests/seeks.py [--bx PATH] [--rounds N] [--seed N]
-
-Each dump is of a sparse file of 2 TiB and more, of a small one, of a loop device where there may be one, of a pipe, of a fifo,
-and of a file on standard input that was read in part; there what is left for the next program is compared too. It runs outside
-the gate and exits 1 where an output, a status class, what is left or the time differs."""
+Each is of a sparse file of 2 TiB and more, of a small one, of a loop device where there may be one, of a pipe, of a fifo, and of a
+file on standard input that was read in part; there what is left for the next program is compared too. It is wrong where an output,
+a status class, what is left or the time differs."""
 import os
 import random
+import shutil
 import subprocess
 import threading
 import time
 
 import common
-from common import asked, bx, counts, finish, folder, held, say
+from common import bx, counts, held, left_out, say
+from program.devices import detach, loop_device
 
 # the greatest number that an operand of bx dd may have
 NUMBER = 2**40 - 1
 SMALL, HUGE, DISK = 5000, 2 * 2**40 + 5000, 64 * 2**20
 PLACES = [0, 512, SMALL - 1, SMALL, SMALL + 1, 5 * 10**9, 2**40 + 3, 2 * 2**40, HUGE - 16, HUGE - 1, HUGE, HUGE + 1]
+TOOLS, ROUNDS, SEED = ("xxd", "od", "hexdump", "dd"), 200, 1
 
 
 def run(program, words, source=subprocess.DEVNULL):
@@ -98,7 +98,7 @@ def same(what, words, mine, theirs):
 
 def compare(rng, files):
     """A seek in a file; and standard input, a pipe and a fifo, which are read."""
-    tool, name = rng.choice(["xxd", "od", "hexdump", "dd"]), rng.choice(list(files))
+    tool, name = rng.choice(TOOLS), rng.choice(list(files))
     length = files[name]
     place = rng.choice([p for p in PLACES if p <= 2 * length] + [rng.randrange(length + 3), rng.randrange(SMALL)])
     words = words_of(rng, tool, place)
@@ -116,25 +116,21 @@ def compare(rng, files):
             same("a fifo" if is_fifo else "a pipe", words, through(words, held("small")[0], is_fifo), want)
 
 
-def main():
-    options = asked(__doc__, ("--rounds", {"type": int, "default": 200}), ("--seed", {"type": int, "default": 1}))
-    rng, files = random.Random(options.seed), {"small": SMALL, "huge": HUGE}
-    with folder():
-        for name, length in [*files.items(), ("disk", DISK)]:
-            make(name, length, rng)
-        done = subprocess.run(["losetup", "-f", "--show", "disk"], capture_output=True, text=True, check=False)
-        loop = done.stdout.strip() if done.returncode == 0 else None
-        files |= {loop: DISK} if loop else {}
-        try:
-            for _ in range(options.rounds):
-                before = counts[False]
-                compare(rng, files)
-                counts[True] += counts[False] == before
-        finally:
-            if loop:
-                subprocess.run(["losetup", "-d", loop], check=True)
-    print(f"seeks {'with' if loop else 'without'} a loop device")
-    finish()
-
-
-main()
+def test_seeks():
+    if not all(map(shutil.which, TOOLS)):
+        left_out(f"seeks beside those of {', '.join(TOOLS)} (one isn't installed)")
+        return
+    rng, files = random.Random(SEED), {"small": SMALL, "huge": HUGE}
+    for name, length in [*files.items(), ("disk", DISK)]:
+        make(name, length, rng)
+    device = loop_device("disk")
+    files |= {device: DISK} if device else {}
+    try:
+        for _ in range(ROUNDS):
+            before = counts[False]
+            compare(rng, files)
+            counts[True] += counts[False] == before
+    finally:
+        if device:
+            detach(device)
+    print(f"seeks {'with' if device else 'without'} a loop device")
