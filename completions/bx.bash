@@ -7,12 +7,12 @@ _bx_files() {
     mapfile -t COMPREPLY < <(compgen -P "$lead" -f -- "$cur")
 }
 
-# The names of files that may be images: journals and redo files are none.
+# The names of files that may be images: journals and the texts beside them are none.
 _bx_images() {
     local name left=()
     _bx_files
     for name in "${COMPREPLY[@]}"; do
-        [[ $name == *.bxj || $name == *.redo ]] || left+=("$name")
+        [[ $name == *.bxj || $name == *.redo || $name == *.bxj.image ]] || left+=("$name")
     done
     COMPREPLY=("${left[@]}")
 }
@@ -75,7 +75,7 @@ _bx() {
     strings) options='-a -n -t' ;;
     dd) options='-J -U --fresh --mounted' ;;
     revert) options='-J -U -f -p -s --fresh --mounted' ;;
-    undo | redo) options='-J -U -k --mounted' ;;
+    undo | redo) options='-J -U -k --anyway --mounted' ;;
     log) options='-J -U -v --mounted' ;;
     show) options='-J -d -k -r' ;;
     diff) options='-v' ;;

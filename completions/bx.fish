@@ -1,8 +1,8 @@
 # Completion of bx for fish.
 
-# The names of files that may be images: journals and redo files are none.
+# The names of files that may be images: journals and the texts beside them are none.
 function __bx_image
-    __fish_complete_path $argv | string match -rv '^[^\t]*\.(bxj|redo)(\t|$)'
+    __fish_complete_path $argv | string match -rv '^[^\t]*\.(bxj|redo|bxj\.image)(\t|$)'
 end
 
 # An operand of dd: a name that wasn't given with its '=', or a value that can be known.
@@ -103,10 +103,12 @@ complete -c bx -n '__fish_seen_subcommand_from revert' -s s -x -d 'Bytes to add 
 
 complete -c bx -n '__fish_seen_subcommand_from undo' -s J -r -F -d 'Journal of the image'
 complete -c bx -n '__fish_seen_subcommand_from undo' -s U -d 'Do not wait for the disk'
+complete -c bx -n '__fish_seen_subcommand_from undo' -l anyway -d 'Go on where the image was changed since'
 complete -c bx -n '__fish_seen_subcommand_from undo' -l mounted -d 'Change a device that is mounted'
 complete -c bx -n '__fish_seen_subcommand_from undo' -s k -x -d 'Changes to take back, 0 to 65535'
 complete -c bx -n '__fish_seen_subcommand_from redo' -s J -r -F -d 'Journal of the image'
 complete -c bx -n '__fish_seen_subcommand_from redo' -s U -d 'Do not wait for the disk'
+complete -c bx -n '__fish_seen_subcommand_from redo' -l anyway -d 'Go on where the image was changed since'
 complete -c bx -n '__fish_seen_subcommand_from redo' -l mounted -d 'Change a device that is mounted'
 complete -c bx -n '__fish_seen_subcommand_from redo' -s k -x -d 'Changes to make again, 0 to 65535'
 

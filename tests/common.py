@@ -61,8 +61,8 @@ def trio():
 
 
 def fresh(*contents):
-    """Image, journal and redo file anew; what isn't given, or None, is missing."""
-    remove(*TRIO)
+    """Image, journal and redo file anew, without the text beside them; what isn't given, or None, is missing."""
+    remove(*TRIO, f"{TRIO[1]}.image")
     for name, content in zip(TRIO, contents):
         if content is not None:
             write(name, content)

@@ -70,14 +70,15 @@ CASES = [
 # Options, which zsh and fish list in their own way: of bash and fish alone. Those of one letter, and the longer ones.
 MOUNTED = ["--mounted"]
 FRESH = ["--fresh", "--mounted"]
+ANYWAY = ["--anyway", "--mounted"]
 OPTIONS = [
     ("bx xxd -", "bcgilopsu", []),
     ("bx od -", "ANbcdjostvx", []),
     ("bx hexdump -", "Cnsv", []),
     ("bx strings -", "ant", []),
     ("bx revert -", "JUfps", FRESH),
-    ("bx undo -", "JUk", MOUNTED),
-    ("bx redo -", "JUk", MOUNTED),
+    ("bx undo -", "JUk", ANYWAY),
+    ("bx redo -", "JUk", ANYWAY),
     ("bx log -", "JUv", MOUNTED),
     ("bx show -", "Jdkr", []),
     ("bx diff -", "v", []),

@@ -6,7 +6,7 @@ use Rattle.bx_dd.specs.declared.fault.DdFault.TheVariants as dd
 use Rattle.bx_patch.specs.declared.read.fault.PatchFault.TheVariants as patch
 use Rattle.bx_journal_read.specs.declared.fault.SessionFault.TheVariants as session
 use Rattle.bx_cli_commands.specs.declared.fault.Fault.{Fault}
-use Rattle.bx_cli_commands.specs.declared.fault.Fault.TheVariants.{Io, Read, Dd, Patch, Disagrees, Session}
+use Rattle.bx_cli_commands.specs.declared.fault.Fault.TheVariants.{Io, Read, Dd, Patch, Disagrees, Session, ChangedSince}
 use Rattle.bx_cli.specs.declared.hint.Known.{Known}
 
 -- two parts with a text between them, where neither is empty
@@ -53,6 +53,7 @@ advice_of (Session session.Interrupted) = codes "each command on the image but b
 advice_of (Session (session.LengthDiffers _)) = codes "it may have another journal; where its length alone was changed, truncate -s"
 advice_of (Session (session.NothingToRedo _)) = codes "a change that is no redo gives up what was undone, and a journal that is moved takes its redo file along"
 advice_of (Session (session.RedoDamaged _)) = codes "move the redo file away to go on (what was undone is lost)"
+advice_of ChangedSince = codes "--anyway goes on all the same, and --fresh of the command that writes it begins a new history; see bx show -d"
 advice_of _ = []
 
 -- what stands behind the words of the command that is given
@@ -60,6 +61,7 @@ abbrev pub hint_rest : Fault → List ℕ
 hint_rest (Session (session.TooFew _)) = codes " lists the changes"
 hint_rest (Session session.Interrupted) = codes ", which writes nothing"
 hint_rest (Session (session.LengthDiffers _)) = codes " gives that back; or bx forget accepts it as it is (the undo history is lost)"
+hint_rest ChangedSince = codes ", which writes nothing"
 hint_rest _ = []
 
 -- what is at fault and why, and what can be done

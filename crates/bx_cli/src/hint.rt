@@ -44,6 +44,9 @@ fn advice(fault: Fault) -> &'static str
         Fault::Patch(fault) => patch_advice(fault),
         Fault::Disagrees(_) => "the patch is of another image, or was applied before",
         Fault::Session(fault) => session_advice(fault),
+        Fault::ChangedSince => {
+            "--anyway goes on all the same, and --fresh of the command that writes it begins a new history; see bx show -d"
+        }
         Fault::Usage | Fault::OpenFailed => "",
     }
 }
@@ -159,6 +162,7 @@ fn rest(fault: Fault) -> &'static str
     match fault {
         Fault::Session(SessionFault::TooFew { .. }) => " lists the changes",
         Fault::Session(SessionFault::Interrupted) => ", which writes nothing",
+        Fault::ChangedSince => ", which writes nothing",
         Fault::Session(SessionFault::LengthDiffers { .. }) => {
             " gives that back; or bx forget accepts it as it is (the undo history is lost)"
         }

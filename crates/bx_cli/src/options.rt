@@ -403,6 +403,14 @@ fn fresh<'a>(alloc: Global) -> Arg<'a> {
         .help("Drop the image's history first: its changes are accepted")
 }
 
+/// For one who knows what the image is now.
+fn anyway<'a>(alloc: Global) -> Arg<'a> {
+    Arg::new(alloc, "anyway")
+        .long("anyway")
+        .action(ArgAction::SetTrue)
+        .help("Go on where the image was changed since")
+}
+
 fn mounted<'a>(alloc: Global, help: &'static str) -> Arg<'a> {
     Arg::new(alloc, "mounted")
         .long("mounted")
@@ -507,7 +515,7 @@ fn undo<'a>(alloc: Global) -> Result<Command<'a>, AllocError> {
         .after_help(
             "COUNT: decimal.\n\nEXAMPLES:\n  bx undo disk.img         the last change\n  bx undo -k 3 disk.img    the last three changes",
         );
-    changer(alloc, command, &UNDO)
+    changer(alloc, command, &UNDO)?.arg(anyway(alloc))
 }
 
 fn redo<'a>(alloc: Global) -> Result<Command<'a>, AllocError> {
@@ -516,7 +524,7 @@ fn redo<'a>(alloc: Global) -> Result<Command<'a>, AllocError> {
         .after_help(
             "COUNT: decimal. A change that another command makes gives up what was undone.\n\nEXAMPLES:\n  bx redo disk.img         the change that was undone last\n  bx redo -k 3 disk.img    the last three undone changes",
         );
-    changer(alloc, command, &REDO)
+    changer(alloc, command, &REDO)?.arg(anyway(alloc))
 }
 
 fn log<'a>(alloc: Global) -> Result<Command<'a>, AllocError> {

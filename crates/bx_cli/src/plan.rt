@@ -277,7 +277,11 @@ fn forget(alloc: Global, m: &ArgMatches<'_>) -> Result<ForgetJob, Fault> {
 fn steps(alloc: Global, m: &ArgMatches<'_>) -> Result<StepsJob, Fault> {
     let count = count_or(m.get_str("count"), 1, MOST_STEPS)? as u32;
     let target = target(alloc, m, access(m))?;
-    Ok(StepsJob { count, target })
+    Ok(StepsJob {
+        count,
+        target,
+        anyway: m.get_flag("anyway"),
+    })
 }
 
 fn log(alloc: Global, m: &ArgMatches<'_>) -> Result<LogJob, Fault> {

@@ -8,7 +8,7 @@ use Rattle.bx_patch.specs.declared.other.Other.TheVariants as other
 use Rattle.bx_patch.specs.declared.read.fault.PatchFault.TheVariants as patch
 use Rattle.bx_journal_read.specs.declared.fault.SessionFault.TheVariants as session
 use Rattle.bx_cli_commands.specs.declared.fault.Fault.{Fault}
-use Rattle.bx_cli_commands.specs.declared.fault.Fault.TheVariants.{Io, Read, Dd, Patch, Disagrees, Session, Usage, OpenFailed}
+use Rattle.bx_cli_commands.specs.declared.fault.Fault.TheVariants.{Io, Read, Dd, Patch, Disagrees, Session, ChangedSince, Usage, OpenFailed}
 
 -- the number of a fault of a dump's text; 1 is want of memory
 abbrev pub read_number_of : ReadFault → ℕ
@@ -54,6 +54,7 @@ fault_number (Session session.Broken) = 44
 fault_number (Session (session.LengthDiffers _)) = 45
 fault_number (Session (session.NothingToRedo _)) = 46
 fault_number (Session (session.RedoDamaged _)) = 47
+fault_number ChangedSince = 48
 fault_number Usage = 50
 fault_number OpenFailed = 51
 fault_number _ = 1

@@ -34,6 +34,9 @@ pub enum Fault {
     /// What stopped a call of a session, or its opening.
     #[error(transparent)]
     Session(SessionFault),
+    /// The image isn't the one that the last command on it left.
+    #[error("the image was changed since")]
+    ChangedSince,
     /// The words of the command line are wrong.
     #[error("bad arguments")]
     Usage,
@@ -54,6 +57,7 @@ impl Fault {
             Fault::Patch(fault) => patch_number(fault),
             Fault::Disagrees(other) => other_number(other),
             Fault::Session(fault) => session_number(fault),
+            Fault::ChangedSince => 48,
             Fault::Usage => 50,
             Fault::OpenFailed => 51,
         }

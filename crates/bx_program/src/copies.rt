@@ -1,6 +1,7 @@
 //! dd onto an image, and its report.
 ghost use Rattle.bx_cli_commands.specs.jobs.Passing.{CanPass, plan_skip};
 
+use crate::advice::Advice;
 use crate::files::look::is_device;
 use crate::fitting::Fitting;
 use crate::hints::remarks::Remarks;
@@ -28,7 +29,11 @@ where
     R: Files<File = File> + Input + Eprint + Clock + AllocGlobal,
 {
     let progress = remarks.progress_of_input(rt, None);
-    if let Some(counts) = copy_input(rt, job, &progress)? {
+    let advice = Advice::before(rt, &job.target, job.fresh);
+    let counts = copy_input(rt, job, &progress)?;
+    advice.keep_change(rt, &job.target);
+    remarks.look_at_advice(advice.is_changed());
+    if let Some(counts) = counts {
         remarks.look_at_counts(&counts);
         // One that can't be made or written is no fault: what it tells of is done.
         let _ = tell(rt, &counts, 0);

@@ -1,6 +1,6 @@
 //! The files of a session.
 mod dev;
-mod guard;
+pub mod guard;
 mod links;
 pub mod look;
 mod mounts;

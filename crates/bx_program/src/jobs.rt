@@ -1,6 +1,7 @@
 //! The jobs, and one run of the program.
 ghost use Rattle.bx_cli_commands.specs.jobs.Passing.{CanPass, skip_of};
 
+use crate::advice::Advice;
 use crate::copies::{copy_onto, most_of_dd, tell};
 use crate::diff::diff;
 use crate::hints::remarks::Remarks;
@@ -210,9 +211,26 @@ where
 {
     let progress = remarks.progress_of_input(rt, None);
     match job {
+        LookJob::Log(job) if job.verbose => {
+            let is_other = Advice::of(rt, &job.target).is_changed();
+            let session = open_to_look(rt, &job.target, &progress)?;
+            show_other(is_other, out)?;
+            log_places(rt, session, &job.target, out)
+        }
         LookJob::Log(job) => show_log(rt, job, &progress, out),
         LookJob::Show(job) => show_next(rt, job, &progress, out),
     }
+}
+
+/// What is shown of an image that isn't the one that the last command on it left.
+const OTHER: &str = "# the image was changed since\n";
+
+/// Says so, where it isn't.
+fn show_other<W: Write>(is_other: bool, out: &mut W) -> Result<(), Fault> {
+    if is_other {
+        return show(out, OTHER);
+    }
+    Ok(())
 }
 
 /// Shows what an undo or a redo would do.
@@ -231,6 +249,8 @@ where
         changes: 0,
         compares: job.compares,
     };
+    let advice = Advice::of(rt, &job.target);
+    show_other(advice.is_shown(job.way, job.count), out)?;
     show_changes(rt, steps, &job.target, progress, out)
 }
 
@@ -300,6 +320,7 @@ where
     R: Files<File = File> + Eprint + Clock + AllocGlobal,
 {
     let progress = remarks.progress_of_input(rt, None);
+    let advice = Advice::before(rt, &job.target, job.fresh);
     let session = if job.fresh && read.is_ok() {
         open_fresh(rt, &job.target, &progress)?
     } else {
@@ -308,7 +329,10 @@ where
     if let Ok(change) = &read {
         remarks.look_at_change(rt, &job.target, change);
     }
-    finish_read(rt, session, read, &job.target)
+    finish_read(rt, session, read, &job.target)?;
+    advice.keep_change(rt, &job.target);
+    remarks.look_at_advice(advice.is_changed());
+    Ok(())
 }
 
 /// The change of the dump that an input gives, or the dump's fault.
@@ -329,7 +353,7 @@ fn change_of<'a, R: Eprint + Clock, I: Read + Drop>(
     }
 }
 
-/// Shows the changes that stand.
+/// Shows the changes that stand, a short line each.
 fn show_log<'a, R, W: Write>(
     rt: &R,
     job: &'a LogJob,
@@ -340,9 +364,6 @@ where
     R: Files<File = File> + Eprint + Clock + AllocGlobal,
 {
     let session = open_to_look(rt, &job.target, progress)?;
-    if job.verbose {
-        return log_places(rt, session, &job.target, out);
-    }
     let text = log(rt, session, &job.target)?;
     Ok(show(out, text.as_str())?)
 }

@@ -1,6 +1,7 @@
 //! What the program does with files and the standard streams. The crate `bx` is its start and its exit status.
 #![tactic(auto)]
 
+mod advice;
 mod copies;
 mod devices;
 mod diff;

@@ -1,4 +1,5 @@
 //! A patch, read and applied to an image.
+use crate::advice::Advice;
 use crate::files::look::is_device;
 use crate::hints::remarks::Remarks;
 use crate::images::forget::open_agreeing;
@@ -28,6 +29,7 @@ where
         return Err(Stopped::fixed(image));
     }
     let progress = remarks.progress_of_input(rt, None);
+    let advice = Advice::before(rt, &job.target, job.fresh);
     let session = if job.fresh {
         open_agreeing(rt, &job.target, &patch, &progress)?
     } else {
@@ -35,6 +37,8 @@ where
     };
     let asked: Command<Empty> = Command::Patch { patch };
     finish(rt, session, asked, &job.target)?;
+    advice.keep_change(rt, &job.target);
+    remarks.look_at_advice(advice.is_changed());
     Ok(())
 }
 

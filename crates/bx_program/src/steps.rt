@@ -1,6 +1,7 @@
 //! The jobs that take changes back, and that make them again.
 ghost use Rattle.std.specs.Prelude.{◌≡◌, IfOk};
 
+use crate::advice::Advice;
 use crate::files::look::refuse_without_journal;
 use crate::files::unopened::not_opened;
 use crate::hints::remarks::Remarks;
@@ -50,6 +51,10 @@ where
     let target = &job.target;
     refuse_without_journal(rt, target)?;
     remarks.look_at_times(rt, target);
+    let advice = Advice::of(rt, target);
+    if !job.anyway && advice.refuses(way, job.count) {
+        return Err(Stopped::since(target.image.as_str(), advice.is_other(way)));
+    }
     let names = names_of(rt.alloc(), target)?;
     let progress = remarks.progress_of_input(rt, None);
     let waits = target.access.durability == Durability::Synced;
@@ -57,9 +62,20 @@ where
     let moved = moved_by(&mut world, rt.alloc(), way, &names, job);
     drop(names);
     remarks.look_at_recovered(moved.how);
+    if is_moved(&moved.outcome) {
+        advice.keep_steps(rt, target);
+    }
     match moved.outcome {
         Ok(()) => Ok(()),
         Err(fault) => Err(stopped(rt, target, &world, moved.unopened, fault)),
+    }
+}
+
+/// Whether changes were moved: the number that then stands may be unwritten.
+fn is_moved(outcome: &Result<(), Fault>) -> bool {
+    match outcome {
+        Ok(()) | Err(Fault::Io(IoFault::WriteFailed { .. })) => true,
+        Err(_) => false,
     }
 }
 

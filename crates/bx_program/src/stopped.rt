@@ -14,6 +14,12 @@ pub const STANDARD_INPUT: &str = "standard input";
 /// The same for the output.
 pub const STANDARD_OUTPUT: &str = "standard output";
 
+/// What is said of an image that isn't the one that the last command on it left.
+const OTHER: &str = "it hasn't the bytes that the last command left";
+
+/// What is said of an image whose older changes stand for another one.
+const OLDER: &str = "it was changed between these changes, by another program";
+
 /// What is said of a dump whose lines end in CR LF.
 const RETURNS: &str = "its lines end in CR LF; tr -d '\\r' takes the CR off";
 
@@ -205,6 +211,16 @@ impl<'a> Stopped<'a> {
                 ..self
             },
             _ => self,
+        }
+    }
+
+    /// By an image that isn't the one that the last command on it left, or whose older changes stand for another one.
+    pub fn since(file: &'a str, is_other: bool) -> Stopped<'a> {
+        let why = if is_other { OTHER } else { OLDER };
+        Stopped {
+            fault: Fault::ChangedSince,
+            file: Some(file),
+            reason: Reason::Told(why),
         }
     }
 

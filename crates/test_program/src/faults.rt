@@ -15,7 +15,7 @@ fn shows(alloc: Global, fault: Fault, text: &str) -> bool {
 }
 
 // What several crates have has one number and one text.
-static FAULTS: [(Fault, u8, &str); 44] = [
+static FAULTS: [(Fault, u8, &str); 45] = [
     (Fault::Io(IoFault::NoMemory), 1, "out of memory"),
     (Fault::Io(IoFault::ReadFailed), 2, "read failed"),
     (
@@ -182,6 +182,7 @@ static FAULTS: [(Fault, u8, &str); 44] = [
         47,
         "redo line 5 is damaged",
     ),
+    (Fault::ChangedSince, 48, "the image was changed since"),
     (Fault::Usage, 50, "bad arguments"),
     (Fault::OpenFailed, 51, "cannot open file"),
 ];

@@ -28,6 +28,8 @@ pub struct Remarks {
     was_undone: bool,
     // the image was modified later than its journal
     is_later: bool,
+    // the image wasn't the one that the last command on it left
+    is_other: bool,
     // the dump or dd's output has no byte
     is_empty: bool,
     // the image's length before, where it has one
@@ -47,6 +49,7 @@ impl Remarks {
             is_new: false,
             was_undone: false,
             is_later: false,
+            is_other: false,
             is_empty: false,
             length: None,
             unlike: None,
@@ -102,6 +105,11 @@ impl Remarks {
             None | Some(How::Clean) => {}
             Some(How::Dropped | How::Restored { .. }) => self.is_later = false,
         }
+    }
+
+    /// Takes whether the image was another one before a change.
+    pub fn look_at_advice(&mut self, is_other: bool) {
+        self.is_other = is_other;
     }
 
     /// What is to be seen of a dump while it is read.
@@ -170,6 +178,7 @@ impl Remarks {
             return;
         };
         let name = name.as_str();
+        self.tell_of_others(rt, name);
         match job {
             ChangeJob::Revert(_) => {
                 self.tell_of_dump(rt, operands);
@@ -257,6 +266,15 @@ impl Remarks {
             };
             let _ = eprintln!(rt;
                 "hint: {name}: it had these bytes already, so no byte was changed{given_up}"
+            );
+        }
+    }
+
+    /// That the changes before this one stand for another image.
+    fn tell_of_others<R: Eprint>(&self, rt: &R, name: &str) {
+        if self.is_other {
+            let _ = eprintln!(rt;
+                "hint: {name}: it was changed since, so the older changes stand for another image; --fresh begins a new history"
             );
         }
     }

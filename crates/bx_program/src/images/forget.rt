@@ -1,6 +1,7 @@
 //! An image whose history is dropped: all changes are accepted, and nothing can be undone then.
 ghost use Rattle.std.specs.Prelude.{◌≡◌, None, IfOk};
 
+use crate::advice::forget_line;
 use crate::devices::{FileDevices, Named};
 use crate::files::{Made, SessionFiles, only_texts, trio};
 use crate::folders::keep_names;
@@ -62,6 +63,7 @@ fn is_kept(fault: Fault) -> bool {
         | Fault::Dd(_)
         | Fault::Patch(_)
         | Fault::Disagrees(_)
+        | Fault::ChangedSince
         | Fault::Usage
         | Fault::OpenFailed => false,
     }
@@ -185,6 +187,7 @@ where
     match outcome {
         Ok(()) => {
             ready.progress.end();
+            forget_line(rt, target);
             Ok(())
         }
         Err(fault) => Err(ready.refused(rt, Fault::from(fault), target)),
@@ -211,6 +214,7 @@ where
     if let Err(fault) = outcome {
         return Err(ready.refused(rt, Fault::from(fault), target));
     }
+    forget_line(rt, target);
     let Ready {
         length,
         devices,

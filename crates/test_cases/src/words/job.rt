@@ -244,6 +244,7 @@ fn image_field<'a>(target: &'a Target, name: &str) -> Field<'a> {
 fn steps_field<'a>(job: &'a StepsJob, name: &str) -> Field<'a> {
     match name {
         "count" => Field::Number(job.count as u64),
+        "anyway" => flag(job.anyway),
         _ => target_field(&job.target, name),
     }
 }

@@ -1,0 +1,4 @@
+pub mod Line
+pub mod Digest
+pub mod Advice
+pub mod Laws

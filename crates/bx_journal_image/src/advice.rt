@@ -1,0 +1,92 @@
+//! When the line advises against an undo or a redo.
+ghost use Rattle.std.specs.Prelude.{◌≡◌};
+ghost use Rattle.bx_journal_image.specs.Advice.{fits, is_changed, is_redo_refused, is_undo_refused, others_after};
+
+use crate::digest::{Digest, is_same};
+use crate::line::ImageLine;
+
+/// What a command finds: how many changes stand and are undone, how long the image is, and the digests of what it has in the ranges
+/// of the last change and of the one that was undone last.
+#[derive(Clone, Copy, Debug, PartialEq, Eq)]
+pub struct Standing {
+    /// How many changes stand.
+    pub changes: u32,
+    /// How many are undone.
+    pub undone: u32,
+    /// How many bytes the image has.
+    pub length: u64,
+    /// The digest of what it has where the last change wrote.
+    pub last: Digest,
+    /// The same of the change that was undone last.
+    pub next: Digest,
+}
+
+impl Standing {
+    /// The line on it.
+    pub fn line(self, others: u32) -> ImageLine
+        ensures changes { result.changes ≡ self.changes }
+        ensures undone { result.undone ≡ self.undone }
+        ensures length { result.length ≡ self.length }
+        ensures last { result.last ≡ self.last }
+        ensures next { result.next ≡ self.next }
+        ensures others { result.others ≡ others }
+    {
+        ImageLine {
+            changes: self.changes,
+            undone: self.undone,
+            length: self.length,
+            last: self.last,
+            next: self.next,
+            others,
+        }
+    }
+}
+
+/// Whether the line is on these texts and an image of this length: one of others says nothing.
+pub fn fits(line: &ImageLine, now: &Standing) -> bool
+    ensures { result ≡ fits line.now now.now }
+{
+    line.changes == now.changes && line.undone == now.undone && line.length == now.length
+}
+
+/// Whether the image isn't the one that the last command left.
+pub fn is_changed(line: &ImageLine, now: &Standing) -> bool
+    ensures { result ≡ is_changed line.now now.now }
+{
+    fits(line, now) && !is_same(line.last, now.last)
+}
+
+/// Whether an undo of so many changes is refused: the image was changed since, or some of them stand for another image. One of none,
+/// or of more than stand, isn't.
+pub fn is_undo_refused(line: &ImageLine, now: &Standing, count: u32) -> bool
+    ensures { result ≡ is_undo_refused line.now now.now count }
+{
+    if count == 0 || count > now.changes {
+        return false;
+    }
+    if !fits(line, now) {
+        return false;
+    }
+    !is_same(line.last, now.last) || now.changes - count < line.others
+}
+
+/// Whether a redo of so many changes is refused.
+pub fn is_redo_refused(line: &ImageLine, now: &Standing, count: u32) -> bool
+    ensures { result ≡ is_redo_refused line.now now.now count }
+{
+    if count == 0 || count > now.undone {
+        return false;
+    }
+    fits(line, now) && !is_same(line.next, now.next)
+}
+
+/// How many of the oldest changes stand for another image, once a change is made on what was found: all that stood where the image was
+/// changed since, else as many as before.
+pub fn others_after(line: &ImageLine, now: &Standing) -> u32
+    ensures { result ≡ others_after line.now now.now }
+{
+    if is_changed(line, now) {
+        return now.changes;
+    }
+    if fits(line, now) { line.others } else { 0 }
+}

@@ -1,0 +1,150 @@
+//! What a journal knows of its image, in a third text beside it: advice and no more. A text that is missing, or anything else
+//! than the line of these files, says nothing, and nothing that fails here stops a command.
+mod finding;
+mod ranges;
+mod text;
+
+use crate::advice::finding::{Found, find};
+use crate::advice::text::{empty, line_in, put};
+use bx_cli::Target;
+use bx_journal::Way;
+use bx_journal_image::{
+    ImageLine, Standing, fits, is_changed, is_redo_refused, is_undo_refused, others_after,
+};
+use std::fs::File;
+use std::rt::Files;
+
+/// The line, and what a command finds before its first write.
+#[derive(Clone, Copy)]
+pub struct Advice {
+    known: Option<Known>,
+}
+
+/// A line on these files.
+#[derive(Clone, Copy)]
+struct Known {
+    line: ImageLine,
+    now: Standing,
+}
+
+impl Advice {
+    /// What is known of an image, whose files are only read. The locks on them are given up again.
+    pub fn of<R>(rt: &R, target: &Target) -> Advice
+    where
+        R: Files<File = File> + AllocGlobal,
+    {
+        Advice {
+            known: look_up(rt, target),
+        }
+    }
+
+    /// The same before a change; nothing where it begins a new history.
+    pub fn before<R>(rt: &R, target: &Target, fresh: bool) -> Advice
+    where
+        R: Files<File = File> + AllocGlobal,
+    {
+        if fresh {
+            return Advice { known: None };
+        }
+        Advice::of(rt, target)
+    }
+
+    /// Whether an undo or a redo of so many changes is refused.
+    pub fn refuses(&self, way: Way, count: u32) -> bool {
+        match (&self.known, way) {
+            (None, _) => false,
+            (Some(known), Way::Undo) => is_undo_refused(&known.line, &known.now, count),
+            (Some(known), Way::Redo) => is_redo_refused(&known.line, &known.now, count),
+        }
+    }
+
+    /// Whether the image isn't the one that the last command left.
+    pub fn is_changed(&self) -> bool {
+        match &self.known {
+            Some(known) => is_changed(&known.line, &known.now),
+            None => false,
+        }
+    }
+
+    /// Whether an undo or a redo of one change would find another image.
+    pub fn is_other(&self, way: Way) -> bool {
+        match way {
+            Way::Undo => self.is_changed(),
+            Way::Redo => self.refuses(way, 1),
+        }
+    }
+
+    /// The same of so many changes, as far as there are so many.
+    pub fn is_shown(&self, way: Way, count: u32) -> bool {
+        match &self.known {
+            Some(known) if way == Way::Undo => self.is_changed() && count <= known.now.changes,
+            _ => self.refuses(way, count),
+        }
+    }
+
+    /// How many of the oldest changes stand for another image, where that isn't the image's last change.
+    pub fn others(&self) -> u32 {
+        match &self.known {
+            Some(known) if fits(&known.line, &known.now) => known.line.others,
+            _ => 0,
+        }
+    }
+
+    /// How many do once a change is made.
+    fn others_then(&self) -> u32 {
+        match &self.known {
+            Some(known) => others_after(&known.line, &known.now),
+            None => 0,
+        }
+    }
+
+    /// Writes the line behind a change that was made on what was found.
+    pub fn keep_change<R>(&self, rt: &R, target: &Target)
+    where
+        R: Files<File = File> + AllocGlobal,
+    {
+        keep(rt, target, self.others_then());
+    }
+
+    /// Writes the line behind an undo or a redo.
+    pub fn keep_steps<R>(&self, rt: &R, target: &Target)
+    where
+        R: Files<File = File> + AllocGlobal,
+    {
+        keep(rt, target, self.others());
+    }
+}
+
+/// The line, where it is no older than the journal, beside what is found.
+fn look_up<R>(rt: &R, target: &Target) -> Option<Known>
+where
+    R: Files<File = File> + AllocGlobal,
+{
+    let line = line_in(rt, target)?;
+    let found = find(rt, target)?;
+    Some(Known {
+        line,
+        now: found.standing,
+    })
+}
+
+/// Writes the line anew. `others` of the oldest changes stand for another image.
+fn keep<R>(rt: &R, target: &Target, others: u32)
+where
+    R: Files<File = File> + AllocGlobal,
+{
+    let Some(found) = find(rt, target) else {
+        return;
+    };
+    let Found { standing, image } = found;
+    let line = standing.line(others.min(standing.changes));
+    let _ = put(rt, target, &image, &line);
+}
+
+/// Empties the line's text, where there is one.
+pub fn forget_line<R>(rt: &R, target: &Target)
+where
+    R: Files<File = File> + AllocGlobal,
+{
+    let _ = empty(rt, target);
+}
