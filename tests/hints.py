@@ -44,6 +44,9 @@ LATER = "it was modified later than its journal, perhaps by another program; bx 
 OTHER = "the patch is of another image, or was applied before"
 SIGNED = "a line is like '+00000002: 7879'"
 DIFFS = "bx patch reads what bx diff writes: 'length 8 to 10' before all other lines, and lines like '+00000002: 7879'"
+# MD5 of "xy", and of nothing
+DIGEST, EMPTY = "3e44107170a520582ade522fa73c1d15", "d41d8cd98f00b204e9800998ecf8427e"
+ANYWAY = "; --anyway goes on all the same, and --fresh of the command that writes it begins a new history; see bx show -d %s, which writes nothing"
 DD = "Usage: bx dd [OPTIONS] [OPERAND]..."
 XXD = "Usage: bx xxd [OPTIONS] [FILE]"
 OD = "Usage: bx od [OPTIONS] [FILE]"
@@ -83,6 +86,12 @@ FILES = {
     "begun": "ABxyEFGH",
     "begun.bxj": CHANGE[:-len("done2 00000001 0000000000000008\n")],
     "returns": "0: 41\r\n",
+    "other": "abcdefgh",
+    "other.bxj": CHANGE,
+    "other.bxj.image": f"image1 00000001 00000000 0000000000000008 {DIGEST} {EMPTY} 00000000\n",
+    "older": "ABxyEFGH",
+    "older.bxj": CHANGE,
+    "older.bxj.image": f"image1 00000001 00000000 0000000000000008 {DIGEST} {EMPTY} 00000001\n",
     "patch": "length 8 to 8\n-00000002: 4344\n+00000002: 7879\n",
     "-8": "ABxyEFGH",
     "-8.bxj": CHANGE,
@@ -266,6 +275,12 @@ CASES = [
     ("log later", "", None, None),
     ("undo img", "", None, None),
     ("redo undone", "", None, None),
+    ("undo other", "", "the image was changed since", "other: it hasn't the bytes that the last command left" + ANYWAY % "other"),
+    ("undo older", "", "the image was changed since", "older: it was changed between these changes, by another program" + ANYWAY % "older"),
+    ("undo --anyway other", "", None, None),
+    ("revert other", "0: 41\n", None, "other: it was changed since, so the older changes stand for another image; --fresh begins a new history"),
+    ("revert older", "0: 42\n", None, None),
+    ("revert --fresh other", "0: 41\n", None, None),
 ]
 
 # What stands before dd's report of an empty input.
