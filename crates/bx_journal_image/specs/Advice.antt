@@ -12,15 +12,15 @@ fits line now = (line.changes == now.changes) && (line.undone == now.undone) && 
 abbrev pub is_changed : ImageLine → Standing → Bool
 is_changed line now = fits line now && not (is_same line.last now.last)
 
--- so many changes, of those that there are
+-- a count of changes, of those that there are
 abbrev pub some_of : ℕ → ℕ → Bool
 some_of count most = nat_lt 0 count && nat_le count most
 
--- an undo of so many changes is refused: the image was changed since, or one of them stands for another image
+-- an undo of `count` changes is refused: the image was changed since, or one of them stands for another image
 abbrev pub is_undo_refused : ImageLine → Standing → ℕ → Bool
 is_undo_refused line now count = some_of count now.changes && (fits line now && (not (is_same line.last now.last) || nat_lt (now.changes - count) line.others))
 
--- a redo of so many changes is refused: the image was changed since
+-- a redo of `count` changes is refused: the image was changed since
 abbrev pub is_redo_refused : ImageLine → Standing → ℕ → Bool
 is_redo_refused line now count = some_of count now.undone && (fits line now && not (is_same line.next now.next))
 

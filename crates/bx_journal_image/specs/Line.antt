@@ -3,7 +3,7 @@ use Rattle.std.specs.Prelude.{ℕ, ◌^◌, ◌<◌, List, [], ◌++◌, codes}
 use Rattle.bx_journal_format.specs.Hex.{hex_digits}
 use Rattle.bx_journal_image.specs.declared.line.ImageLine.{ImageLine}
 
--- a word, and a number in so many lower-case digits
+-- a word, and a number in `width` lower-case digits
 abbrev pub field : List ℕ → ℕ → ℕ → List ℕ
 field word width n = word ++ hex_digits width n
 

@@ -56,7 +56,7 @@ pub fn is_changed(line: &ImageLine, now: &Standing) -> bool
     fits(line, now) && !is_same(line.last, now.last)
 }
 
-/// Whether an undo of so many changes is refused: the image was changed since, or some of them stand for another image. One of none,
+/// Whether an undo of `count` changes is refused: the image was changed since, or some of them stand for another image. One of none,
 /// or of more than stand, isn't.
 pub fn is_undo_refused(line: &ImageLine, now: &Standing, count: u32) -> bool
     ensures { result ≡ is_undo_refused line.now now.now count }
@@ -70,7 +70,7 @@ pub fn is_undo_refused(line: &ImageLine, now: &Standing, count: u32) -> bool
     !is_same(line.last, now.last) || now.changes - count < line.others
 }
 
-/// Whether a redo of so many changes is refused.
+/// Whether a redo of `count` changes is refused.
 pub fn is_redo_refused(line: &ImageLine, now: &Standing, count: u32) -> bool
     ensures { result ≡ is_redo_refused line.now now.now count }
 {

@@ -49,7 +49,7 @@ impl Advice {
         Advice::of(rt, target)
     }
 
-    /// Whether an undo or a redo of so many changes is refused.
+    /// Whether an undo or a redo of `count` changes is refused.
     pub fn refuses(&self, way: Way, count: u32) -> bool {
         match (&self.known, way) {
             (None, _) => false,
@@ -74,7 +74,7 @@ impl Advice {
         }
     }
 
-    /// The same of so many changes, as far as there are so many.
+    /// The same of `count` changes, as far as there are.
     pub fn is_shown(&self, way: Way, count: u32) -> bool {
         match &self.known {
             Some(known) if way == Way::Undo => self.is_changed() && count <= known.now.changes,
