@@ -54,11 +54,7 @@ fn push_line(ranges: &mut Vec<Range>, line: &[u8]) -> Result<(), NoMemory> {
 }
 
 /// Adds the ranges of the saved lines that stand whole in a window of a text; `is_first` says whether the window begins with a line.
-pub fn push_ranges(
-    ranges: &mut Vec<Range>,
-    window: &[u8],
-    is_first: bool,
-) -> Result<(), NoMemory> {
+pub fn push_ranges(ranges: &mut Vec<Range>, window: &[u8], is_first: bool) -> Result<(), NoMemory> {
     let mut begins = is_first;
     let mut rest = window;
     for _ in 0..window.len() {

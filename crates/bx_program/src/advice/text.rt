@@ -51,13 +51,7 @@ where
 }
 
 /// The text of this name, open, where it may be one of an image and its name still leads to it.
-fn opened<R>(
-    rt: &R,
-    target: &Target,
-    image: &Metadata,
-    name: &str,
-    writes: bool,
-) -> Option<File>
+fn opened<R>(rt: &R, target: &Target, image: &Metadata, name: &str, writes: bool) -> Option<File>
 where
     R: Files<File = File> + AllocGlobal,
 {
@@ -103,7 +97,7 @@ where
     }
     let mut room = [0u8; LINE];
     let length = bytes_of(&file, &mut room)?;
-    read_line(&room[..length])
+    read_line(room.get(..length)?)
 }
 
 /// Whether no file has this name, or one that may be replaced.
