@@ -57,12 +57,18 @@ def test_rebuilt():
     say(run("log -v img").out.startswith(NOTE) and run("show img").out.startswith(NOTE), "log -v and show say so")
     say(NOTE not in run("log img").out and NOTE not in run("show -k 3 img").out, "log doesn't, nor what is refused")
     done_as("--anyway goes on", "undo --anyway img", b"abcdEFgh", b"1\n")
+    refused("and no further without it", "undo img")
     begin("2: 7879")
     run("undo img")
     write("img", b"abcdefgh")
     refused("a redo of another image", "redo img")
     say(run("show -r img").out.startswith(NOTE) and NOTE not in run("log -v img").out, "show -r says so")
     done_as("--anyway goes on", "redo --anyway img", b"abxyefgh", b"1\n")
+    begin("2: 7879", "4: 7a7a")
+    run("undo img")
+    write("img", b"abcdEFgh")
+    done_as("a redo where other bytes were changed", "redo img", b"abcdzzgh", b"2\n")
+    refused("and an undo past it", "undo -k 2 img")
 
 
 def test_older():

@@ -24,6 +24,6 @@ is_undo_refused line now count = some_of count now.changes && (fits line now && 
 abbrev pub is_redo_refused : ImageLine → Standing → ℕ → Bool
 is_redo_refused line now count = some_of count now.undone && (fits line now && not (is_same line.next now.next))
 
--- how many of the oldest changes stand for another image, once a change is made on what was found
+-- how many of the oldest changes stand for another image, once a command is done on what was found
 abbrev pub others_after : ImageLine → Standing → ℕ
 others_after line now = if is_changed line now then now.changes else if fits line now then line.others else 0

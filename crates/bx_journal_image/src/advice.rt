@@ -80,7 +80,7 @@ pub fn is_redo_refused(line: &ImageLine, now: &Standing, count: u32) -> bool
     fits(line, now) && !is_same(line.next, now.next)
 }
 
-/// How many of the oldest changes stand for another image, once a change is made on what was found: all that stood where the image was
+/// How many of the oldest changes stand for another image, once a command is done on what was found: all that stood where the image was
 /// changed since, else as many as before.
 pub fn others_after(line: &ImageLine, now: &Standing) -> u32
     ensures { result ≡ others_after line.now now.now }

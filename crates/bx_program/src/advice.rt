@@ -9,7 +9,7 @@ use crate::advice::text::{empty, line_in, put};
 use bx_cli::Target;
 use bx_journal::Way;
 use bx_journal_image::{
-    ImageLine, Standing, fits, is_changed, is_redo_refused, is_undo_refused, others_after,
+    ImageLine, Standing, is_changed, is_redo_refused, is_undo_refused, others_after,
 };
 use std::fs::File;
 use std::rt::Files;
@@ -82,15 +82,7 @@ impl Advice {
         }
     }
 
-    /// How many of the oldest changes stand for another image, where that isn't the image's last change.
-    pub fn others(&self) -> u32 {
-        match &self.known {
-            Some(known) if fits(&known.line, &known.now) => known.line.others,
-            _ => 0,
-        }
-    }
-
-    /// How many do once a change is made.
+    /// How many of the oldest changes stand for another image once the command is done.
     fn others_then(&self) -> u32 {
         match &self.known {
             Some(known) => others_after(&known.line, &known.now),
@@ -98,20 +90,12 @@ impl Advice {
         }
     }
 
-    /// Writes the line behind a change that was made on what was found.
-    pub fn keep_change<R>(&self, rt: &R, target: &Target)
+    /// Writes the line behind a command that changed something.
+    pub fn keep<R>(&self, rt: &R, target: &Target)
     where
         R: Files<File = File> + AllocGlobal,
     {
-        keep(rt, target, self.others_then());
-    }
-
-    /// Writes the line behind an undo or a redo.
-    pub fn keep_steps<R>(&self, rt: &R, target: &Target)
-    where
-        R: Files<File = File> + AllocGlobal,
-    {
-        keep(rt, target, self.others());
+        write_anew(rt, target, self.others_then());
     }
 }
 
@@ -129,7 +113,7 @@ where
 }
 
 /// Writes the line anew. `others` of the oldest changes stand for another image.
-fn keep<R>(rt: &R, target: &Target, others: u32)
+fn write_anew<R>(rt: &R, target: &Target, others: u32)
 where
     R: Files<File = File> + AllocGlobal,
 {

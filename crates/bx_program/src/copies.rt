@@ -31,7 +31,7 @@ where
     let progress = remarks.progress_of_input(rt, None);
     let advice = Advice::before(rt, &job.target, job.fresh);
     let counts = copy_input(rt, job, &progress)?;
-    advice.keep_change(rt, &job.target);
+    advice.keep(rt, &job.target);
     remarks.look_at_advice(advice.is_changed());
     if let Some(counts) = counts {
         remarks.look_at_counts(&counts);

@@ -330,7 +330,7 @@ where
         remarks.look_at_change(rt, &job.target, change);
     }
     finish_read(rt, session, read, &job.target)?;
-    advice.keep_change(rt, &job.target);
+    advice.keep(rt, &job.target);
     remarks.look_at_advice(advice.is_changed());
     Ok(())
 }

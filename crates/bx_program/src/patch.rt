@@ -37,7 +37,7 @@ where
     };
     let asked: Command<Empty> = Command::Patch { patch };
     finish(rt, session, asked, &job.target)?;
-    advice.keep_change(rt, &job.target);
+    advice.keep(rt, &job.target);
     remarks.look_at_advice(advice.is_changed());
     Ok(())
 }

@@ -62,8 +62,8 @@ where
     let moved = moved_by(&mut world, rt.alloc(), way, &names, job);
     drop(names);
     remarks.look_at_recovered(moved.how);
-    if is_moved(&moved.outcome) {
-        advice.keep_steps(rt, target);
+    if job.count > 0 && is_moved(&moved.outcome) {
+        advice.keep(rt, target);
     }
     match moved.outcome {
         Ok(()) => Ok(()),
