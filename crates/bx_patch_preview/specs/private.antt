@@ -1,0 +1,2 @@
+-- What the functions of this crate need among themselves.
+pub mod Window
