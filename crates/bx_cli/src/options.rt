@@ -266,7 +266,7 @@ static LOG: [Row; 3] = [
     },
 ];
 
-static SHOW: [Row; 4] = [
+static SHOW: [Row; 5] = [
     JOURNAL,
     Row {
         id: "count",
@@ -286,7 +286,15 @@ static SHOW: [Row; 4] = [
         value: None,
         help: "Show beside each line what the image has there now",
     },
+    Row {
+        id: "patch",
+        short: 'p',
+        value: None,
+        help: "Show the changes as one patch, which bx patch applies",
+    },
 ];
+
+static SHOW_FORMS: [&str; 2] = ["difference", "patch"];
 
 static DIFF: [Row; 1] = [Row {
     id: "rows",
@@ -411,6 +419,26 @@ fn anyway<'a>(alloc: Global) -> Arg<'a> {
         .help("Go on where the image was changed since")
 }
 
+/// For a look at what a change would be.
+fn dry_run<'a>(alloc: Global) -> Arg<'a> {
+    Arg::new(alloc, "dry-run")
+        .short('n')
+        .long("dry-run")
+        .action(ArgAction::SetTrue)
+        .help("Change nothing, and write the patch that it would be")
+}
+
+/// A command that changes IMAGE by what it reads.
+fn writer<'a>(
+    alloc: Global,
+    command: Command<'a>,
+    rows: &[Row],
+) -> Result<Command<'a>, AllocError> {
+    changer(alloc, command, rows)?
+        .arg(fresh(alloc))?
+        .arg(dry_run(alloc))
+}
+
 fn mounted<'a>(alloc: Global, help: &'static str) -> Arg<'a> {
     Arg::new(alloc, "mounted")
         .long("mounted")
@@ -489,6 +517,7 @@ fn dd<'a>(alloc: Global) -> Result<Command<'a>, AllocError> {
         "Change a block device even while it is mounted",
     )?
     .arg(fresh(alloc))?
+    .arg(dry_run(alloc))?
     .arg(operands(alloc))
 }
 
@@ -504,9 +533,9 @@ fn revert<'a>(alloc: Global) -> Result<Command<'a>, AllocError> {
     let command = Command::new(alloc, "revert")
         .about("Write the bytes of a dump onto an image")
         .after_help(
-            "OFFSET: decimal, 0x and hexadecimal, or 0 and octal.\nImage, journal and redo file are made where they are missing.\n\nA line: an address in hexadecimal, a colon, a space, pairs of hexadecimal digits\nwith at most one space between two. From two spaces on nothing is read, so edit\nthe digits and not the characters beside them. Lines end in a newline alone.\n\nRead, but not as they are meant: dumps of xxd -b (binary digits), of xxd -e\n(bytes in another order) and of xxd -d (decimal addresses), and pairs behind a\ngap of two spaces, as in lines of hexdump -C.\n\nEXAMPLES:\n  echo '00000002: 7879' | bx revert disk.img     two bytes at place 2\n  bx revert -f edited.txt disk.img               a dump of xxd that was edited\n  echo 7879 | bx revert -p -s 0x200 disk.img     two bytes at place 512",
+            "OFFSET: decimal, 0x and hexadecimal, or 0 and octal.\nImage, journal and redo file are made where they are missing.\n\nA line: an address in hexadecimal, a colon, a space, pairs of hexadecimal digits\nwith at most one space between two. From two spaces on nothing is read, so edit\nthe digits and not the characters beside them. Lines end in a newline alone.\n\nRead, but not as they are meant: dumps of xxd -b (binary digits), of xxd -e\n(bytes in another order) and of xxd -d (decimal addresses), and pairs behind a\ngap of two spaces, as in lines of hexdump -C.\n\nEXAMPLES:\n  echo '00000002: 7879' | bx revert disk.img     two bytes at place 2\n  bx revert -f edited.txt disk.img               a dump of xxd that was edited\n  echo 7879 | bx revert -p -s 0x200 disk.img     two bytes at place 512\n  bx revert -n -f edited.txt disk.img            what it would change, as a patch",
         );
-    changer(alloc, command, &REVERT)?.arg(fresh(alloc))
+    writer(alloc, command, &REVERT)
 }
 
 fn undo<'a>(alloc: Global) -> Result<Command<'a>, AllocError> {
@@ -546,9 +575,15 @@ fn show<'a>(alloc: Global) -> Result<Command<'a>, AllocError> {
     let command = Command::new(alloc, "show")
         .about("Show what an undo or a redo would do; nothing is written")
         .after_help(
-            "COUNT: decimal. Each change has a heading that begins with #, and the lines that\nwould be written onto the image; without the headings they are a dump that\nrevert takes. A change that was stopped is told first, whatever COUNT is.\n\nEXAMPLES:\n  bx show disk.img            what an undo of the last change would do\n  bx show -d disk.img         the same, beside what the image has there now\n  bx show -r -k 2 disk.img    what a redo of two changes would do",
+            "COUNT: decimal. Each change has a heading that begins with #, and the lines that\nwould be written onto the image; without the headings they are a dump that\nrevert takes. A change that was stopped is told first, whatever COUNT is.\n\nEXAMPLES:\n  bx show disk.img            what an undo of the last change would do\n  bx show -d disk.img         the same, beside what the image has there now\n  bx show -r -k 2 disk.img    what a redo of two changes would do\n  bx show -p -k 2 disk.img    the last two changes, as one patch",
         );
-    with_rows(alloc, command, &SHOW)?.arg(image(alloc))
+    let formed = one_form(alloc, command)?;
+    with_rows(alloc, formed, &SHOW)?.arg(image(alloc))
+}
+
+/// Lines beside the image, or a patch.
+fn one_form<'a>(alloc: Global, command: Command<'a>) -> Result<Command<'a>, AllocError> {
+    with_group(alloc, command, "form", &SHOW_FORMS)
 }
 
 fn diff<'a>(alloc: Global) -> Result<Command<'a>, AllocError> {
@@ -566,9 +601,9 @@ fn patch<'a>(alloc: Global) -> Result<Command<'a>, AllocError> {
     let command = Command::new(alloc, "patch")
         .about("Apply a patch of bx diff to an image, as one change")
         .after_help(
-            "The patch is read whole, and found right before anything is opened. The image\nhas to have the length that it states and the bytes behind each -; else nothing\nis changed. Image, journal and redo file are made where they are missing.\n\nEXAMPLES:\n  bx diff old.bin new.bin | bx patch disk.img    what makes new.bin of old.bin\n  bx patch -f fix.patch disk.img                 a patch that was kept\n  bx patch -R -f fix.patch disk.img              the same, the other way round",
+            "The patch is read whole, and found right before anything is opened. The image\nhas to have the length that it states and the bytes behind each -; else nothing\nis changed. Image, journal and redo file are made where they are missing.\n\nEXAMPLES:\n  bx diff old.bin new.bin | bx patch disk.img    what makes new.bin of old.bin\n  bx patch -f fix.patch disk.img                 a patch that was kept\n  bx patch -R -f fix.patch disk.img              the same, the other way round\n  bx patch -n -f fix.patch disk.img              what it would change, as a patch",
         );
-    changer(alloc, command, &PATCH)?.arg(fresh(alloc))
+    writer(alloc, command, &PATCH)
 }
 
 fn forget<'a>(alloc: Global) -> Result<Command<'a>, AllocError> {

@@ -244,6 +244,7 @@ fn dd(alloc: Global, m: &ArgMatches<'_>) -> Result<Job, Fault> {
         operands,
         target,
         fresh: m.get_flag("fresh"),
+        dry_run: m.get_flag("dry-run"),
     })))
 }
 
@@ -256,6 +257,7 @@ fn revert(alloc: Global, m: &ArgMatches<'_>) -> Result<RevertJob, Fault> {
         at,
         target,
         fresh: m.get_flag("fresh"),
+        dry_run: m.get_flag("dry-run"),
     })
 }
 
@@ -266,6 +268,7 @@ fn patch(alloc: Global, m: &ArgMatches<'_>) -> Result<PatchJob, Fault> {
         reverse: m.get_flag("reverse"),
         target,
         fresh: m.get_flag("fresh"),
+        dry_run: m.get_flag("dry-run"),
     })
 }
 
@@ -309,6 +312,7 @@ fn show(alloc: Global, m: &ArgMatches<'_>) -> Result<ShowJob, Fault> {
         way,
         count,
         compares: m.get_flag("difference"),
+        as_patch: m.get_flag("patch"),
         target,
     })
 }

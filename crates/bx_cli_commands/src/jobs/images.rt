@@ -18,6 +18,8 @@ pub struct DdImageJob {
     pub target: Target,
     /// Whether the image's history is dropped before the change.
     pub fresh: bool,
+    /// Whether nothing is changed, and the patch that the change would be is written.
+    pub dry_run: bool,
     ghost planned: { IsPlanOf operands plan },
     ghost named: { plan.output ≡ Some target.image },
 }
@@ -50,6 +52,8 @@ pub struct RevertJob {
     pub target: Target,
     /// Whether the image's history is dropped before the change.
     pub fresh: bool,
+    /// Whether nothing is changed, and the patch that the change would be is written.
+    pub dry_run: bool,
     ghost near: { at ≤ 2 ^ 62 },
 }
 
@@ -64,6 +68,8 @@ pub struct PatchJob {
     pub target: Target,
     /// Whether the image's history is dropped before the change.
     pub fresh: bool,
+    /// Whether nothing is changed, and the patch that the change would be is written.
+    pub dry_run: bool,
 }
 
 /// `forget`: the image whose changes are accepted.
@@ -103,6 +109,9 @@ pub struct ShowJob {
     pub count: u32,
     /// Whether what the image has stands beside each saved line.
     pub compares: bool,
+    /// Whether the changes are shown as one patch: of an undo from the image before them to the one that is there, of a redo from that to
+    /// the one behind them.
+    pub as_patch: bool,
     /// The image, which is only read.
     pub target: Target,
     ghost few: { count ≤ 65535 },
