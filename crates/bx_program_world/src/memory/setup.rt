@@ -1,5 +1,5 @@
 //! What cases do with a world in memory between runs.
-ghost use Rattle.std.specs.Prelude.{◌≡◌, ◌<◌, List, ℕ, length, false, IfOk, OnOk};
+ghost use Rattle.std.specs.Prelude.{◌≡◌, ◌<◌, List, ℕ, length, false, None, IfOk, OnOk};
 ghost use Rattle.bx_program_world.specs.Loss.{HasLost};
 ghost use Rattle.bx_program_world.specs.MemoryFiles.{bytes_at, synced_at};
 
@@ -87,13 +87,15 @@ impl MemoryWorld {
         }
     }
 
-    /// Begins a run, with nothing written yet.
+    /// Begins a run, with nothing lent or written yet.
     pub fn begin(&mut self, plan: Plan)
+        ensures free { (⟦<MemoryWorld as World>⟧.sight self.new).lent ≡ None }
         ensures begun { (⟦<MemoryWorld as World>⟧.sight self.new).before ≡ (⟦<MemoryWorld as World>⟧.sight self.new).there }
         ensures calm { ⟦<MemoryWorld as World>⟧.is_refused self.new ≡ false }
         ensures named { (m : List ℕ) → (⟦<MemoryWorld as World>⟧.sight self.new).named m ≡ (⟦<MemoryWorld as World>⟧.sight self.old).named m }
         ensures bytes { (i : ℕ) → (⟦<MemoryWorld as World>⟧.sight self.new).bytes i ≡ (⟦<MemoryWorld as World>⟧.sight self.old).bytes i }
     {
+        self.run.lent = None;
         self.run.before = self.files.len();
         self.run.output = Vec::new(self.alloc);
         self.run.errors = Vec::new(self.alloc);
@@ -125,6 +127,20 @@ impl MemoryWorld {
         ensures { result.now ≡ (⟦<MemoryWorld as World>⟧.sight self.now).output }
     {
         self.run.output.as_slice()
+    }
+
+    /// What was written to standard error.
+    pub fn errors(&self) -> &[u8]
+        ensures { result.now ≡ (⟦<MemoryWorld as World>⟧.sight self.now).errors }
+    {
+        self.run.errors.as_slice()
+    }
+
+    /// How many files a call didn't take away since the run began.
+    pub fn stuck(&self) -> u64
+        ensures { result ≡ (⟦<MemoryWorld as World>⟧.sight self.now).stuck }
+    {
+        self.run.stuck
     }
 
     /// Whether a call was refused since the run began.
