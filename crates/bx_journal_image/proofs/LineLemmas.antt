@@ -43,7 +43,10 @@ assoc_of a b c d e f g h i =
     ∙ append_assoc (a ++ b) c (d ++ (e ++ (f ++ (g ++ (h ++ i)))))
     ∙ append_assoc a b (c ++ (d ++ (e ++ (f ++ (g ++ (h ++ i))))))
 
+power_at : (i j : ℕ) → i ≤ j → 16 ^ i ≤ 16 ^ j
+power_at i j h = pow-le-pow_right (omega arith) h
+
 pub power_some : (width : ℕ) → 0 < 16 ^ width
 power_some width =
-    let least : 16 ^ 0 ≤ 16 ^ width = pow-le-pow_right (omega arith) (omega arith) in
+    let least : 16 ^ 0 ≤ 16 ^ width = power_at 0 width (omega arith) in
     omega (arith, least)
