@@ -116,6 +116,6 @@ pub changed_window : {A : Type 0} (c : Change A) (x window : List ℕ) (kept at 
     → IsWindow window at (placed c.writes (take kept x)) → window ≡ take n (drop at (effect c x))
 changed_window c x window kept at n kept_is long fits win =
     let same : (i : ℕ) → slice_index (placed c.writes (take kept x)) i ≡ slice_index (effect c x) i =
-      λ i. rw (kept_is, ← placed_effect c x) (placed_same c.writes (take (kept_of c.base (length x)) x) (cut_to c.base x) (kept_same c.base x) i) in
+    λ i. rw (kept_is, ← placed_effect c x) (placed_same c.writes (take (kept_of c.base (length x)) x) (cut_to c.base x) (kept_same c.base x) i) in
     let is = window_is window (effect c x) at (omega (arith, long, fits)) (λ j inside. win j inside ∙ same (at + j)) in
     rw (← long) is
