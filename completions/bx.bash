@@ -73,13 +73,13 @@ _bx() {
     od) options='-A -N -b -c -d -j -o -s -t -v -x' ;;
     hexdump) options='-C -n -s -v' ;;
     strings) options='-a -n -t' ;;
-    dd) options='-J -U --fresh --mounted' ;;
-    revert) options='-J -U -f -p -s --fresh --mounted' ;;
+    dd) options='-J -U -n --dry-run --fresh --mounted' ;;
+    revert) options='-J -U -f -n -p -s --dry-run --fresh --mounted' ;;
     undo | redo) options='-J -U -k --anyway --mounted' ;;
     log) options='-J -U -v --mounted' ;;
-    show) options='-J -d -k -r' ;;
+    show) options='-J -d -k -p -r' ;;
     diff) options='-v' ;;
-    patch) options='-J -R -U -f --fresh --mounted' ;;
+    patch) options='-J -R -U -f -n --dry-run --fresh --mounted' ;;
     forget) options='-J -U --mounted' ;;
     *) return ;;
     esac

@@ -89,12 +89,14 @@ complete -c bx -n '__fish_seen_subcommand_from strings' -s t -x -a 'd o x' -d 'S
 
 complete -c bx -n '__fish_seen_subcommand_from dd' -s J -r -F -d 'Journal of the image'
 complete -c bx -n '__fish_seen_subcommand_from dd' -s U -d 'Do not wait for the disk'
+complete -c bx -n '__fish_seen_subcommand_from dd' -s n -l dry-run -d 'Change nothing, write the patch of it'
 complete -c bx -n '__fish_seen_subcommand_from dd' -l fresh -d 'Drop the history of the image first'
 complete -c bx -n '__fish_seen_subcommand_from dd' -l mounted -d 'Change a device that is mounted'
 complete -c bx -n '__fish_seen_subcommand_from dd' -a '(__bx_operand)'
 
 complete -c bx -n '__fish_seen_subcommand_from revert' -s J -r -F -d 'Journal of the image'
 complete -c bx -n '__fish_seen_subcommand_from revert' -s U -d 'Do not wait for the disk'
+complete -c bx -n '__fish_seen_subcommand_from revert' -s n -l dry-run -d 'Change nothing, write the patch of it'
 complete -c bx -n '__fish_seen_subcommand_from revert' -l fresh -d 'Drop the history of the image first'
 complete -c bx -n '__fish_seen_subcommand_from revert' -l mounted -d 'Change a device that is mounted'
 complete -c bx -n '__fish_seen_subcommand_from revert' -s f -r -F -d 'File to read the dump from'
@@ -120,6 +122,7 @@ complete -c bx -n '__fish_seen_subcommand_from log' -l mounted -d 'Take a change
 complete -c bx -n '__fish_seen_subcommand_from show' -s J -r -F -d 'Journal of the image'
 complete -c bx -n '__fish_seen_subcommand_from show' -s d -d 'Show what the image has there too'
 complete -c bx -n '__fish_seen_subcommand_from show' -s k -x -d 'Changes to show, 0 to 65535'
+complete -c bx -n '__fish_seen_subcommand_from show' -s p -d 'Show the changes as one patch'
 complete -c bx -n '__fish_seen_subcommand_from show' -s r -d 'Show what a redo would do'
 
 complete -c bx -n '__fish_seen_subcommand_from diff' -s v -d 'Write whole rows where a byte differs'
@@ -127,6 +130,7 @@ complete -c bx -n '__fish_seen_subcommand_from diff' -s v -d 'Write whole rows w
 complete -c bx -n '__fish_seen_subcommand_from patch' -s J -r -F -d 'Journal of the image'
 complete -c bx -n '__fish_seen_subcommand_from patch' -s R -d 'Apply the patch the other way round'
 complete -c bx -n '__fish_seen_subcommand_from patch' -s U -d 'Do not wait for the disk'
+complete -c bx -n '__fish_seen_subcommand_from patch' -s n -l dry-run -d 'Change nothing, write the patch of it'
 complete -c bx -n '__fish_seen_subcommand_from patch' -l fresh -d 'Drop the history of the image first'
 complete -c bx -n '__fish_seen_subcommand_from patch' -l mounted -d 'Change a device that is mounted'
 complete -c bx -n '__fish_seen_subcommand_from patch' -s f -r -F -d 'File to read the patch from'

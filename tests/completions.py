@@ -69,22 +69,22 @@ CASES = [
 ]
 # Options, which zsh and fish list in their own way: of bash and fish alone. Those of one letter, and the longer ones.
 MOUNTED = ["--mounted"]
-FRESH = ["--fresh", "--mounted"]
+FRESH = ["--dry-run", "--fresh", "--mounted"]
 ANYWAY = ["--anyway", "--mounted"]
 OPTIONS = [
     ("bx xxd -", "bcgilopsu", []),
     ("bx od -", "ANbcdjostvx", []),
     ("bx hexdump -", "Cnsv", []),
     ("bx strings -", "ant", []),
-    ("bx revert -", "JUfps", FRESH),
+    ("bx revert -", "JUfnps", FRESH),
     ("bx undo -", "JUk", ANYWAY),
     ("bx redo -", "JUk", ANYWAY),
     ("bx log -", "JUv", MOUNTED),
-    ("bx show -", "Jdkr", []),
+    ("bx show -", "Jdkpr", []),
     ("bx diff -", "v", []),
-    ("bx patch -", "JRUf", FRESH),
+    ("bx patch -", "JRUfn", FRESH),
     ("bx forget -", "JU", MOUNTED),
-    ("bx dd -", "JU", FRESH),
+    ("bx dd -", "JUn", FRESH),
 ]
 
 

@@ -158,14 +158,17 @@ def long_options(bx, command, synopsis, section, readme, zsh, fish):
     bash = subprocess.run(["bash", "-c", script], capture_output=True, text=True, check=True).stdout
     block = re.search(rf"^    {command}\)\n(.*?)^      ;;", zsh, re.M | re.S)
     line = next((line for line in readme.splitlines() if line.startswith(f"bx {command} ")), "")
+    shown = bx.run(command, "--help").stdout
+    # README and the synopsis name an option that has a letter by it alone
+    lettered = re.findall(r"^ +-\w, --([a-z][\w-]+)", shown, re.M)
     found = {
-        f"bx {command} --help": re.findall(r"^ +(?:-\w, )?--([a-z]\w+)", bx.run(command, "--help").stdout, re.M),
-        f"{command} in the man page's synopsis": re.findall(r"Fl -(\w+)", synopsis),
-        f"{command} in the man page": re.findall(r"^\.It Fl -(\w+)", section, re.M),
-        f"{command} in README.md": re.findall(r"\[--(\w+)\]", line),
-        f"{command} in bx.bash": re.findall(r"--(\w+)", bash),
-        f"{command} in _bx": re.findall(r"'--(\w+)\[", block.group(1) if block else ""),
-        f"{command} in bx.fish": re.findall(rf"^complete -c bx -n '__fish_seen_subcommand_from {command}' -l (\w+)", fish, re.M),
+        f"bx {command} --help": re.findall(r"^ +(?:-\w, )?--([a-z][\w-]+)", shown, re.M),
+        f"{command} in the man page's synopsis": lettered + re.findall(r"Fl -([\w-]+)", synopsis),
+        f"{command} in the man page": re.findall(r"^\.It Fl (?:\w , )?-([\w-]+)", section, re.M),
+        f"{command} in README.md": lettered + re.findall(r"\[--([\w-]+)\]", line),
+        f"{command} in bx.bash": re.findall(r"--([\w-]+)", bash),
+        f"{command} in _bx": re.findall(r"'(?:\([^)]*\))?--([\w-]+)\[", block.group(1) if block else ""),
+        f"{command} in bx.fish": re.findall(rf"^complete -c bx -n '__fish_seen_subcommand_from {command}' (?:-s \w )?-l ([\w-]+)", fish, re.M),
     }
     return {name: set(options) - {"help"} for name, options in found.items()}
 

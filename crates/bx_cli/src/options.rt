@@ -533,7 +533,7 @@ fn revert<'a>(alloc: Global) -> Result<Command<'a>, AllocError> {
     let command = Command::new(alloc, "revert")
         .about("Write the bytes of a dump onto an image")
         .after_help(
-            "OFFSET: decimal, 0x and hexadecimal, or 0 and octal.\nImage, journal and redo file are made where they are missing.\n\nA line: an address in hexadecimal, a colon, a space, pairs of hexadecimal digits\nwith at most one space between two. From two spaces on nothing is read, so edit\nthe digits and not the characters beside them. Lines end in a newline alone.\n\nRead, but not as they are meant: dumps of xxd -b (binary digits), of xxd -e\n(bytes in another order) and of xxd -d (decimal addresses), and pairs behind a\ngap of two spaces, as in lines of hexdump -C.\n\nEXAMPLES:\n  echo '00000002: 7879' | bx revert disk.img     two bytes at place 2\n  bx revert -f edited.txt disk.img               a dump of xxd that was edited\n  echo 7879 | bx revert -p -s 0x200 disk.img     two bytes at place 512\n  bx revert -n -f edited.txt disk.img            what it would change, as a patch",
+            "OFFSET: decimal, 0x and hexadecimal, or 0 and octal.\nImage, journal and redo file are made where they are missing.\n\nA line: an address in hexadecimal, a colon, a space, pairs of hexadecimal digits\nwith at most one space between two. From two spaces on nothing is read, so edit\nthe digits and not the characters beside them. Lines end in a newline alone.\n\nRead, but not as they are meant: dumps of xxd -b (binary digits), of xxd -e\n(bytes in another order) and of xxd -d (decimal addresses), and pairs behind a\ngap of two spaces, as in lines of hexdump -C.\n\nEXAMPLES:\n  echo '00000002: 7879' | bx revert disk.img     two bytes at place 2\n  bx revert -f edited.txt disk.img               a dump of xxd that was edited\n  echo 7879 | bx revert -p -s 0x200 disk.img     two bytes at place 512\n  bx revert -n -f edited.txt disk.img            what it would change",
         );
     writer(alloc, command, &REVERT)
 }
@@ -601,7 +601,7 @@ fn patch<'a>(alloc: Global) -> Result<Command<'a>, AllocError> {
     let command = Command::new(alloc, "patch")
         .about("Apply a patch of bx diff to an image, as one change")
         .after_help(
-            "The patch is read whole, and found right before anything is opened. The image\nhas to have the length that it states and the bytes behind each -; else nothing\nis changed. Image, journal and redo file are made where they are missing.\n\nEXAMPLES:\n  bx diff old.bin new.bin | bx patch disk.img    what makes new.bin of old.bin\n  bx patch -f fix.patch disk.img                 a patch that was kept\n  bx patch -R -f fix.patch disk.img              the same, the other way round\n  bx patch -n -f fix.patch disk.img              what it would change, as a patch",
+            "The patch is read whole, and found right before anything is opened. The image\nhas to have the length that it states and the bytes behind each -; else nothing\nis changed. Image, journal and redo file are made where they are missing.\n\nEXAMPLES:\n  bx diff old.bin new.bin | bx patch disk.img    what makes new.bin of old.bin\n  bx patch -f fix.patch disk.img                 a patch that was kept\n  bx patch -R -f fix.patch disk.img              the same, the other way round\n  bx patch -n -f fix.patch disk.img              what it would change",
         );
     writer(alloc, command, &PATCH)
 }

@@ -59,7 +59,7 @@ where
 
 /// The plan for what stands behind passed bytes. On a block device, whose length stays, it has `conv=notrunc`, as the real dd
 /// takes it.
-fn plan_for(plan: &Plan, passed: u64, keeps_length: bool) -> Plan
+pub fn plan_for(plan: &Plan, passed: u64, keeps_length: bool) -> Plan
     requires { CanPass passed (plan_skip plan.now) }
 {
     let mut rest = plan_rest(plan, passed);

@@ -87,7 +87,7 @@ impl<'a, 'p, 'r, R: Clock + Eprint> Named<'a, CountedFile<'p, 'r, R>> {
 }
 
 /// The image, which has other bytes than a patch expects.
-fn has_others<'a>(name: &'a str, file: &File, fault: Fault, at: u64) -> Stopped<'a> {
+pub fn has_others<'a>(name: &'a str, file: &File, fault: Fault, at: u64) -> Stopped<'a> {
     let mut bytes = [0u8; 16];
     let room = 16 - (at % 16) as usize;
     match file.read_at(&mut bytes[..room], at) {

@@ -2,7 +2,9 @@
 ghost use Rattle.std.specs.Prelude.{◌≡◌, ◌<◌, IfOk};
 ghost use Rattle.bx_cli_commands.specs.Command.{IsNear};
 
+pub mod as_patch;
 pub mod forget;
+mod lines;
 
 use crate::devices::{FileDevices, ImageFile, Named, TextFile};
 use crate::files::look::{Makes, Use, look_at_all};

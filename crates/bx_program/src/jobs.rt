@@ -7,16 +7,18 @@ use crate::diff::diff;
 use crate::hints::remarks::Remarks;
 use crate::hints::seen::{Seen, Watched};
 use crate::hints::show_fault;
+use crate::images::as_patch::show_patch;
 use crate::images::forget::{forget, open_fresh, open_to_forget};
 use crate::images::{finish_read, log, log_places, open_session, open_to_look, show_changes};
 use crate::input::{MOST_INPUT, Placed, file, open, size_of, standard};
 use crate::patch::patch;
+use crate::previews::{preview_copy, preview_read};
 use crate::steps::take_steps;
 use crate::stopped::{Noted, STANDARD_INPUT, Stopped};
 use crate::streams::Held;
 use bx_cli::{
-    ChangeJob, Done, DumpJob, Fault, ForgetJob, Form, Job, LogJob, LookJob, RevertJob, ShowJob,
-    change_from, plan_words, run_dump,
+    ChangeJob, DdImageJob, Done, DumpJob, Fault, ForgetJob, Form, Job, LogJob, LookJob, RevertJob,
+    ShowJob, change_from, plan_words, run_dump,
 };
 use bx_dd::Counts;
 use bx_image::Change;
@@ -155,10 +157,7 @@ where
 {
     match job {
         Job::Dump(job) => dump(rt, job, out, remarks),
-        Job::Change(job) => {
-            change(rt, job, remarks)?;
-            Ok(None)
-        }
+        Job::Change(job) => change(rt, job, out, remarks),
         Job::Look(job) => {
             look(rt, job, out, remarks)?;
             Ok(None)
@@ -174,19 +173,51 @@ where
     }
 }
 
-/// Runs a job that changes an image.
-fn change<'a, R>(rt: &R, job: &'a ChangeJob, remarks: &mut Remarks) -> Result<(), Stopped<'a>>
+/// Runs a job that changes an image, and answers what dd counted, unless that is reported.
+fn change<'a, R, W: Write>(
+    rt: &R,
+    job: &'a ChangeJob,
+    out: &mut W,
+    remarks: &mut Remarks,
+) -> Result<Option<Counts>, Stopped<'a>>
 where
     R: Files<File = File> + Input + Print + Eprint + Clock + AllocGlobal,
 {
     match job {
-        ChangeJob::Dd(job) => copy_onto(rt, job, remarks),
-        ChangeJob::Revert(job) => revert(rt, job, remarks),
-        ChangeJob::Patch(job) => patch(rt, job, remarks),
-        ChangeJob::Forget(job) => forget_changes(rt, job, remarks),
-        ChangeJob::Undo(job) => take_steps(rt, Way::Undo, job, remarks),
-        ChangeJob::Redo(job) => take_steps(rt, Way::Redo, job, remarks),
+        ChangeJob::Dd(job) => copy(rt, job, out, remarks),
+        ChangeJob::Revert(job) => uncounted(revert(rt, job, out, remarks)),
+        ChangeJob::Patch(job) => uncounted(patch(rt, job, out, remarks)),
+        ChangeJob::Forget(job) => uncounted(forget_changes(rt, job, remarks)),
+        ChangeJob::Undo(job) => uncounted(take_steps(rt, Way::Undo, job, remarks)),
+        ChangeJob::Redo(job) => uncounted(take_steps(rt, Way::Redo, job, remarks)),
     }
+}
+
+/// What a job answers that counts nothing.
+fn uncounted<'a>(outcome: Result<(), Stopped<'a>>) -> Result<Option<Counts>, Stopped<'a>> {
+    match outcome {
+        Ok(()) => Ok(None),
+        Err(stopped) => Err(stopped),
+    }
+}
+
+/// Copies onto an image, or writes the patch that this would be, and answers what dd counted, unless that is reported.
+fn copy<'a, R, W: Write>(
+    rt: &R,
+    job: &'a DdImageJob,
+    out: &mut W,
+    remarks: &mut Remarks,
+) -> Result<Option<Counts>, Stopped<'a>>
+where
+    R: Files<File = File> + Input + Eprint + Clock + AllocGlobal,
+{
+    if job.dry_run {
+        return match preview_copy(rt, job, remarks, out) {
+            Ok(counts) => Ok(Some(counts)),
+            Err(stopped) => Err(stopped),
+        };
+    }
+    uncounted(copy_onto(rt, job, remarks))
 }
 
 /// Accepts all changes of an image, and drops their history.
@@ -251,6 +282,9 @@ where
     };
     let advice = Advice::of(rt, &job.target);
     show_other(advice.is_shown(job.way, job.count), out)?;
+    if job.as_patch {
+        return show_patch(rt, steps, &job.target, progress, out);
+    }
     show_changes(rt, steps, &job.target, progress, out)
 }
 
@@ -259,7 +293,12 @@ fn show<W: Write>(out: &mut W, text: &str) -> Result<(), Fault> {
 }
 
 /// Puts the bytes of a dump onto the image: the whole dump is read first.
-fn revert<'a, R>(rt: &R, job: &'a RevertJob, remarks: &mut Remarks) -> Result<(), Stopped<'a>>
+fn revert<'a, R, W: Write>(
+    rt: &R,
+    job: &'a RevertJob,
+    out: &mut W,
+    remarks: &mut Remarks,
+) -> Result<(), Stopped<'a>>
 where
     R: Files<File = File> + Input + Eprint + Clock + AllocGlobal,
 {
@@ -267,7 +306,7 @@ where
     let read = read_dump(rt, job, &mut seen, remarks)?;
     let has_returns = seen.has_returns;
     remarks.look_at_dump(seen);
-    match put_dump(rt, job, read, remarks) {
+    match put_dump(rt, job, read, out, remarks) {
         Err(stopped) if has_returns => Err(stopped.on_returns(dump_name(job))),
         outcome => outcome,
     }
@@ -309,16 +348,20 @@ where
     }
 }
 
-/// Makes the change of a dump that was read on the job's image.
-fn put_dump<'a, R>(
+/// Makes the change of a dump that was read on the job's image, or writes the patch that it would be.
+fn put_dump<'a, R, W: Write>(
     rt: &R,
     job: &'a RevertJob,
     read: Result<Change, ReadFault>,
+    out: &mut W,
     remarks: &mut Remarks,
 ) -> Result<(), Stopped<'a>>
 where
     R: Files<File = File> + Eprint + Clock + AllocGlobal,
 {
+    if job.dry_run {
+        return preview_read(rt, &job.target, read, remarks, out);
+    }
     let progress = remarks.progress_of_input(rt, None);
     let advice = Advice::before(rt, &job.target, job.fresh);
     let session = if job.fresh && read.is_ok() {

@@ -5,6 +5,7 @@ use crate::hints::remarks::Remarks;
 use crate::images::forget::open_agreeing;
 use crate::images::{finish, open_session};
 use crate::input::{MOST_INPUT, open, size_of};
+use crate::previews::preview_patch;
 use crate::stopped::{Noted, STANDARD_INPUT, Stopped};
 use bx_cli::{Command, Fault, PatchJob};
 use bx_patch::{Patch, read_patch};
@@ -12,12 +13,17 @@ use bx_program_system::{Counted, Progress};
 use bx_text::Source;
 use std::alloc::Global;
 use std::fs::File;
-use std::io::{Empty, Read};
+use std::io::{Empty, Read, Write};
 use std::rt::Files;
 use std::time::Clock;
 
-/// Applies a patch to an image. It is read to its end, and found right, before anything is opened.
-pub fn patch<'a, R>(rt: &R, job: &'a PatchJob, remarks: &mut Remarks) -> Result<(), Stopped<'a>>
+/// Applies a patch to an image, or writes the patch that this would be. It is read to its end, and found right, before anything is opened.
+pub fn patch<'a, R, W: Write>(
+    rt: &R,
+    job: &'a PatchJob,
+    out: &mut W,
+    remarks: &mut Remarks,
+) -> Result<(), Stopped<'a>>
 where
     R: Files<File = File> + Input + Eprint + Clock + AllocGlobal,
 {
@@ -29,6 +35,9 @@ where
         return Err(Stopped::fixed(image));
     }
     let progress = remarks.progress_of_input(rt, None);
+    if job.dry_run {
+        return preview_patch(rt, &job.target, patch, &progress, out);
+    }
     let advice = Advice::before(rt, &job.target, job.fresh);
     let session = if job.fresh {
         open_agreeing(rt, &job.target, &patch, &progress)?

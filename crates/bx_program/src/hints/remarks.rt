@@ -151,7 +151,7 @@ impl Remarks {
     where
         R: Files<File = File> + Eprint + AllocGlobal,
     {
-        if !self.person {
+        if !self.person || is_dry_run(job) {
             return;
         }
         let Some(target) = job.target() else {
@@ -294,6 +294,20 @@ impl Remarks {
                 "hint: {name}: it was modified later than its journal, perhaps by another program; bx {back} -k {count}{operands} goes back"
             );
         }
+    }
+}
+
+/// Whether a job only writes what it would change.
+fn is_dry_run(job: &Job) -> bool {
+    match job {
+        Job::Change(ChangeJob::Dd(job)) => job.dry_run,
+        Job::Change(ChangeJob::Revert(job)) => job.dry_run,
+        Job::Change(ChangeJob::Patch(job)) => job.dry_run,
+        Job::Change(ChangeJob::Forget(_) | ChangeJob::Undo(_) | ChangeJob::Redo(_))
+        | Job::Dump(_)
+        | Job::Look(_)
+        | Job::Diff(_)
+        | Job::Help { .. } => false,
     }
 }
 

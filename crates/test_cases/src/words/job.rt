@@ -169,6 +169,7 @@ fn dd_image_field<'a>(job: &'a DdImageJob, name: &str) -> Field<'a> {
         "operands" => Field::Joined(&job.operands),
         "journal" | "redo" | "unsynced" | "mounted" => target_field(&job.target, name),
         "fresh" => flag(job.fresh),
+        "dry_run" => flag(job.dry_run),
         _ => plan_field(&job.plan, name),
     }
 }
@@ -206,6 +207,7 @@ fn revert_field<'a>(job: &'a RevertJob, name: &str) -> Field<'a> {
         "plain" => flag(job.plain),
         "at" => Field::Number(job.at),
         "fresh" => flag(job.fresh),
+        "dry_run" => flag(job.dry_run),
         _ => target_field(&job.target, name),
     }
 }
@@ -215,6 +217,7 @@ fn patch_field<'a>(job: &'a PatchJob, name: &str) -> Field<'a> {
         "patch" => file(&job.patch),
         "reverse" => flag(job.reverse),
         "fresh" => flag(job.fresh),
+        "dry_run" => flag(job.dry_run),
         _ => target_field(&job.target, name),
     }
 }
@@ -261,6 +264,7 @@ fn show_field<'a>(job: &'a ShowJob, name: &str) -> Field<'a> {
         "way" => Field::Text(if job.way == Way::Redo { "redo" } else { "undo" }),
         "count" => Field::Number(job.count as u64),
         "compares" => flag(job.compares),
+        "as_patch" => flag(job.as_patch),
         _ => image_field(&job.target, name),
     }
 }
