@@ -1,0 +1,123 @@
+//! The ways in which a case is played: which calls fail.
+use crate::left::{Reach, finds, is_as_told, judge};
+use crate::plays::Play;
+use crate::report::{Failure, Wrong};
+use crate::setting::{Held, Kept, held_by, run, world_of};
+use bx_image::{Fuse, Part};
+use bx_program_world::{Fails, MemoryWorld, Plan};
+
+/// More calls than a case makes.
+const MOST_CALLS: u64 = 200;
+
+/// What fails: calls of the world, or those of a device that write.
+#[derive(Clone, Copy)]
+pub enum Failing {
+    World,
+    Image,
+    Journal,
+    Redo,
+}
+
+impl Failing {
+    pub fn name(self) -> &'static str {
+        match self {
+            Failing::World => "world",
+            Failing::Image => "image",
+            Failing::Journal => "journal",
+            Failing::Redo => "redo text",
+        }
+    }
+
+    /// In how many ways a call of it fails.
+    fn ways(self) -> u32 {
+        match self {
+            Failing::World => 2,
+            _ => 6,
+        }
+    }
+
+    /// The plan by which `pass` calls are passed first: in an even way one call fails, in an odd one all from it on; and of a write
+    /// nothing takes effect, or half, or all.
+    fn plan(self, way: u32, pass: u64) -> Plan {
+        let once = way & 1 == 0;
+        let part = match way {
+            0 | 1 => Part::Nothing,
+            2 | 3 => Part::Half,
+            _ => Part::All,
+        };
+        let fails = Fails { pass, part, once };
+        let mut plan = Plan::NOTHING;
+        match self {
+            Failing::World => plan.calls = Fuse::new(pass, once),
+            Failing::Image => plan.image = fails,
+            Failing::Journal => plan.journal = fails,
+            Failing::Redo => plan.redo = fails,
+        }
+        plan
+    }
+}
+
+/// The first or the second.
+fn either<'a>(is_first: bool, first: &'a [u8], second: &'a [u8]) -> &'a [u8] {
+    if is_first { first } else { second }
+}
+
+/// Of each file the first or the second of two contents is left, in all combinations; and opening finds an image that it may.
+fn finds_each(play: &Play<'_>, kept: &Kept, disk: Held<'_>, reach: Reach) -> Result<(), Wrong> {
+    for loss in 0..8u32 {
+        let left = Held {
+            image: either(loss & 1 == 0, kept.image.as_slice(), disk.image),
+            journal: either(loss & 2 == 0, kept.journal.as_slice(), disk.journal),
+            redo: either(loss & 4 == 0, kept.redo.as_slice(), disk.redo),
+        };
+        finds(play, left, reach)?;
+    }
+    Ok(())
+}
+
+/// The power is lost: of each file what it has is left, or what is on its disk.
+fn lose(play: &Play<'_>, world: &mut MemoryWorld, reach: Reach) -> Result<(), Wrong> {
+    let kept = Kept::of(play.alloc, held_by(world))?;
+    world.lose_power()?;
+    finds_each(play, &kept, held_by(world), reach)
+}
+
+/// Plays a case in a world with a plan. Tells whether no call failed.
+fn play_in(play: &Play<'_>, world: &mut MemoryWorld, plan: Plan) -> Result<bool, Wrong> {
+    let moved = run(world, play.alloc, &play.names, plan, play.way, play.count);
+    let reach = judge(play, world, &moved)?;
+    let is_passed = is_as_told(play, world, &moved)?;
+    lose(play, world, reach)?;
+    Ok(is_passed)
+}
+
+/// Plays a case with a plan. Tells whether no call failed.
+fn play_planned(play: &Play<'_>, plan: Plan) -> Result<bool, Wrong> {
+    let mut world = world_of(play.alloc, play.first())?;
+    play_in(play, &mut world, plan)
+}
+
+/// Plays a case in one way: one call after another fails, until none does. Tells how often.
+fn play_way(play: &Play<'_>, failing: Failing, way: u32) -> Result<u64, Failure> {
+    for call in 0..MOST_CALLS {
+        match play_planned(play, failing.plan(way, call)) {
+            Ok(false) => {}
+            Ok(true) => return Ok(call.saturating_add(1)),
+            Err(wrong) => return Err(Failure { way, call, wrong }),
+        }
+    }
+    Err(Failure {
+        way,
+        call: MOST_CALLS,
+        wrong: Wrong::Calls,
+    })
+}
+
+/// Plays a case where one thing fails, in each way. Tells how often.
+pub fn play_sweep(play: &Play<'_>, failing: Failing) -> Result<u64, Failure> {
+    let mut plays = 0u64;
+    for way in 0..failing.ways() {
+        plays = plays.saturating_add(play_way(play, failing, way)?);
+    }
+    Ok(plays)
+}
