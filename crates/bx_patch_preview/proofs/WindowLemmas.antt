@@ -1,5 +1,5 @@
 -- Windows of an image behind a change.
-use Rattle.std.proofs.Common.{◌≡◌, ℕ, ◌+◌, ◌-◌, ◌<◌, ◌≤◌, inl, inr, min, Option, None, Some, List, [], ◌∷◌, ◌++◌, length, take, drop, get_or, slice_index, refl, sym, ap, ◌∙◌, arith, rules}
+use Rattle.std.proofs.Common.{◌≡◌, ◌⊎◌, ℕ, ◌+◌, ◌-◌, ◌<◌, ◌≤◌, inl, inr, min, Option, None, Some, List, [], ◌∷◌, length, take, drop, slice_index, sym, ap, ◌∙◌, arith}
 use Rattle.std.proofs.lemmas.Bool.{cases_lt}
 use Rattle.std.proofs.lemmas.List.{places, length-take, length-drop}
 use Rattle.bx_text.specs.declared.owned.pieces.Piece.{Piece}
@@ -49,26 +49,6 @@ front_same bytes n k inside = grind (arith, places)
 pub mid_same : (bytes : List ℕ) (skip n k : ℕ) → k < length (take n (drop skip bytes)) → slice_index (take n (drop skip bytes)) k ≡ slice_index bytes (skip + k)
 mid_same bytes skip n k inside = grind (arith, places)
 
--- zeros are a window behind the end
-pub window_past : (window x : List ℕ) (kept at : ℕ) → kept ≤ at → IsWindow window 0 [] → IsWindow window at (take kept x)
-window_past window x kept at past zeros j inside =
-    zeros j inside ∙ sym (slice_index_past (take kept x) (at + j) (omega (arith, length-take {A = ℕ} kept x)))
-
--- bytes of an image, and zeros behind its end
-pub window_joined : (x front rest : List ℕ) (kept at n : ℕ) → at < kept → kept ≤ length x → length front ≡ min n (kept - at) → length front + length rest ≡ n
-    → front ≡ take (length front) (drop at x) → IsWindow rest 0 [] → IsWindow (front ++ rest) at (take kept x)
-window_joined x front rest kept at n inside_kept fits count whole is zeros j inside = elim (cases_lt j (length front)) [
-  | inl below ↦
-      let in_front : slice_index (front ++ rest) j ≡ slice_index front j = grind (arith, places) in
-      let of_image : slice_index (take (length front) (drop at x)) j ≡ slice_index x (at + j) = grind (arith, places) in
-      let of_kept : slice_index (take kept x) (at + j) ≡ slice_index x (at + j) = grind (arith, places) in
-      in_front ∙ ap (λ l. slice_index l j) is ∙ of_image ∙ sym of_kept
-  | inr behind ↦
-      let in_rest : slice_index (front ++ rest) j ≡ slice_index rest (j - length front) = grind (arith, places) in
-      let more : j - length front < length rest = omega (arith, inside, places) in
-      in_rest ∙ zeros (j - length front) more ∙ sym (slice_index_past (take kept x) (at + j) (omega (arith, length-take {A = ℕ} kept x)))
-]
-
 place_same : (y z bytes : List ℕ) (at : ℕ) → ((i : ℕ) → slice_index y i ≡ slice_index z i) → (i : ℕ) → slice_index (place y at bytes) i ≡ slice_index (place z at bytes) i
 place_same y z bytes at same i = elim (cases_lt i at) [
   | inl below ↦ slice_index-place_below y at bytes i below ∙ same i ∙ sym (slice_index-place_below z at bytes i below)
@@ -95,12 +75,12 @@ kept_same (Some n) x i = elim (cases_lt i (min n (length x))) [
   | inl inside ↦
       let front : slice_index (take (min n (length x)) x) i ≡ slice_index x i = grind (arith, places) in
       front ∙ sym (slice_index-cut x n i (omega arith))
-  | inr past ↦ slice_index_past (take (min n (length x)) x) i (omega (arith, length-take {A = ℕ} (min n (length x)) x)) ∙ sym (cut_past (cases_lt i n))
+  | inr past ↦ slice_index_past (take (min n (length x)) x) i (omega (arith, length-take {A = ℕ} (min n (length x)) x)) ∙ sym (cut_past past (cases_lt i n))
 ]
   where
-    cut_past : (i < n) ⊎ (n ≤ i) → slice_index (cut x n) i ≡ 0
-    cut_past (inl inside) = slice_index-cut x n i inside ∙ slice_index_past x i (omega arith)
-    cut_past (inr behind) = slice_index_past (cut x n) i (omega (arith, length-cut x n))
+    cut_past : min n (length x) ≤ i → (i < n) ⊎ (n ≤ i) → slice_index (cut x n) i ≡ 0
+    cut_past past (inl inside) = slice_index-cut x n i inside ∙ slice_index_past x i (omega arith)
+    cut_past past (inr behind) = slice_index_past (cut x n) i (omega (arith, length-cut x n))
 
 -- a window within an image
 window_is : (window z : List ℕ) (at : ℕ) → at + length window ≤ length z → IsWindow window at z → window ≡ take (length window) (drop at z)

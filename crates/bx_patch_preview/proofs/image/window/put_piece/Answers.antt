@@ -1,4 +1,4 @@
-use Rattle.std.proofs.Common.{◌≡◌, ◌+◌, ◌<◌, ◌≤◌, ◌-◌, ℕ, length, take, drop, ap, arith}
+use Rattle.std.proofs.Common.{◌+◌, ◌-◌, ℕ, length, take, drop, ap, arith}
 use Rattle.std.proofs.lemmas.List.{length-take, length-drop}
 use Rattle.bx_patch_preview.proofs.WindowLemmas.{piece_before, piece_behind, put_part, front_same, mid_same}
 use Rattle.bx_patch_preview.proofs.image.window.put_piece.Goals as goal

@@ -1,7 +1,6 @@
-use Rattle.std.proofs.Common.{◌≡◌, ◌<◌, length, get_or, refl, sym, ap, subst, ◌∙◌, arith}
+use Rattle.std.proofs.Common.{◌≡◌, ◌<◌, length, get_or, refl, sym, subst, ◌∙◌, arith}
 use Rattle.std.specs.Prelude.{List, ℕ}
 use Rattle.std.proofs.lemmas.Grind.{common_steps}
-use Rattle.bx_image.specs.Change.{placed}
 use Rattle.bx_image.specs.Image.{place}
 use Rattle.bx_image.proofs.Changes.{placed_more, placed_all}
 use Rattle.bx_patch_preview.specs.private.Window.{IsWindow}
