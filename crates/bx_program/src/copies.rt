@@ -11,7 +11,7 @@ use crate::input::{Placed, file, standard};
 use crate::stopped::{Noted, Stopped};
 use bx_cli::{Command, DdImageJob, Fault, change_of_plan, plan_rest};
 use bx_dd::{Counts, Plan, report};
-use bx_program_system::{Counted, Progress};
+use bx_program_system::Progress;
 use bx_text::IoFault;
 use std::fs::File;
 use std::io::Read;
@@ -86,8 +86,7 @@ where
     let session = open_session(rt, &job.target, true, progress)?;
     let (from, passed) = (input.name, input.passed);
     let plan = plan_for(&job.plan, passed, keeps_length);
-    progress.begin_reading(input.most(most_of_dd(&job.plan)));
-    let input = Noted::new(Counted::new(input.reader, progress));
+    let input = Noted::new(input.reader);
     let mut fitting = Fitting::new(input, &job.plan, passed, session.length);
     let asked = Command::Copy {
         plan,
@@ -115,8 +114,7 @@ where
     let ready = open_to_renew(rt, &job.target, progress)?;
     let (from, passed) = (input.name, input.passed);
     let plan = plan_for(&job.plan, passed, keeps_length);
-    progress.begin_reading(input.most(most_of_dd(&job.plan)));
-    let input = Noted::new(Counted::new(input.reader, progress));
+    let input = Noted::new(input.reader);
     let mut fitting = Fitting::new(input, &job.plan, passed, ready.length);
     let made = match change_of_plan(&rt.alloc(), &plan, &mut fitting) {
         Ok(made) => made,

@@ -117,13 +117,20 @@ fn disagreeing<'a, R: Clock + Eprint>(
     other: Other,
 ) -> Stopped<'a> {
     let fault = Fault::Disagrees(other);
-    match (other, image.file().file()) {
-        (Other::Length { expected }, Some(file)) => {
-            differs(name, length_of(&file.file), fault, expected)
-        }
-        (Other::Length { expected }, None) => differs(name, Ok(0), fault, expected),
-        (Other::Bytes { at }, Some(file)) => has_others(name, &file.file, fault, at),
-        (Other::Bytes { .. }, None) => Stopped::from(fault),
+    let Some(file) = image.file().file() else {
+        return missing(name, fault, other);
+    };
+    match other {
+        Other::Length { expected } => differs(name, length_of(&file.file), fault, expected),
+        Other::Bytes { at } => has_others(name, &file.file, fault, at),
+    }
+}
+
+/// The same of an image that is missing, which has no byte.
+fn missing<'a>(name: &'a str, fault: Fault, other: Other) -> Stopped<'a> {
+    match other {
+        Other::Length { expected } => differs(name, Ok(0), fault, expected),
+        Other::Bytes { .. } => Stopped::from(fault),
     }
 }
 
