@@ -1,12 +1,13 @@
-"""Counts the parameters of definitions, the arguments of functions and the `ensures` of public calls, and fails above the limits.
+"""Counts what definitions, functions and calls take and promise, and names that two crates define.
 
 A definition of `specs/` has at most 8 parameters: those in braces don't count, nor do those of a `module _` around it. A function
 of a product crate or of test_cache has at most 6 arguments, `self` left out. A public call of a library has at most 12 `ensures`:
 a function that its `lib.rt` exports, or a method of a type or trait that it exports; of an inner part, of what another crate
-exports. --list prints what is above its limit, and each NAME the counts of all that has the name."""
+exports. Another function has at most 16. No two crates of the product define the same name in `specs/`. --list prints what is
+above its limit, and each NAME the counts of all that has the name."""
 import sources
 
-LIMITS = {"parameters": 8, "arguments": 6, "ensures": 12}
+LIMITS = {"parameters": 8, "arguments": 6, "ensures": 12, "inner ensures": 16, "crates": 1}
 
 
 def arguments(parser):
@@ -44,13 +45,22 @@ def counted():
                 word = f"{function.owner}::{function.name}" if function.owner else function.name
                 at = f"{name}: {word} ({path.relative_to(sources.ROOT / 'crates' / name)})"
                 yield "arguments", function.takes(), at
-                if is_public(function, () if module == ("lib",) else module, items, modules):
-                    yield "ensures", function.ensures(), at
+                public = is_public(function, () if module == ("lib",) else module, items, modules)
+                yield "ensures" if public else "inner ensures", function.ensures(), at
+
+
+def homes():
+    """How many crates of the product define each name: its kind, its number, and the name with the crates."""
+    found = {}
+    for d in sources.definitions(sources.product())[0].values():
+        found.setdefault(d.name, set()).add(d.crate)
+    for name, crates in found.items():
+        yield "crates", len(crates), f"{' '.join(sorted(crates))}: {name}"
 
 
 def check(options):
     wrong = []
-    for kind, count, at in sorted(counted(), key=lambda row: (-row[1], row[2])):
+    for kind, count, at in sorted([*counted(), *homes()], key=lambda row: (-row[1], row[2])):
         above = f"{count} {kind} (at most {LIMITS[kind]}): {at}"
         if options.list and count > LIMITS[kind] or at.split(" (")[0].replace("::", " ").split()[-1] in options.names:
             print(above)

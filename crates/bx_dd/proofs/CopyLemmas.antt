@@ -21,7 +21,7 @@ use Rattle.bx_dd.specs.private.Transfer.{IsReadOut, ReadsNoMore, selected}
 use Rattle.bx_dd.specs.declared.form.Form.{Form}
 use Rattle.bx_dd.specs.declared.form.Shape.{Shape}
 use Rattle.bx_dd.specs.declared.form.Shape.TheVariants.{Flat, Block, Unblock}
-use Rattle.bx_dd.specs.Output.{converted, cut_records, joined, shaped}
+use Rattle.bx_dd.specs.Output.{converted, cut_records, turned_blocks, shaped}
 use Rattle.bx_dd.specs.private.Output.{fitted, line_of}
 use Rattle.bx_dd.specs.private.Standing.{HasSizes, last_of}
 use Rattle.bx_dd.specs.Streaming.{IsCopy, IsCopyAhead, IsCopyFault, StopsCopy}
@@ -112,7 +112,7 @@ module _ {form : Form} {s : Option (List ℕ)} {input pending : List ℕ} {out :
   stage_near sizes near room =
       let goes = stage.flows.goes in
       let end = last_of form.shape form.cbs out.kept in
-      let last = Stands_last form.shape form.cbs (joined form stage.done) stage.flows.text out.kept tail.over tail.cut sizes.some_cbs stage.flows.stands in
+      let last = Stands_last form.shape form.cbs (turned_blocks form stage.done) stage.flows.text out.kept tail.over tail.cut sizes.some_cbs stage.flows.stands in
       omega (arith, ap length last.0, length-append stage.flows.text end, ap length goes.all, length-append goes.out out.waits, goes.count, last_few form.shape form.cbs out.kept room, sizes.few_cbs)
 
   -- what waited went out
@@ -126,13 +126,13 @@ module _ {form : Form} {s : Option (List ℕ)} {input pending : List ℕ} {out :
   }
 
   -- all that follows, converted
-  joined_all : (more : List ℕ) → 0 < form.ibs → joined form (input ++ more) ≡ joined form stage.done ++ joined form (pending ++ more)
+  joined_all : (more : List ℕ) → 0 < form.ibs → turned_blocks form (input ++ more) ≡ turned_blocks form stage.done ++ turned_blocks form (pending ++ more)
   joined_all more pos =
-      ap (joined form) (ap (λ l. l ++ more) stage.parts ∙ append_assoc stage.done pending more) ∙ joined_units form stage.done (pending ++ more) pos stage.whole
+      ap (turned_blocks form) (ap (λ l. l ++ more) stage.parts ∙ append_assoc stage.done pending more) ∙ joined_units form stage.done (pending ++ more) pos stage.whole
 
   pub stage_front : (more : List ℕ) → HasSizes form → (rest : List ℕ) × (converted form (input ++ more) ≡ stage.flows.text ++ rest)
   stage_front more sizes =
-      let front = stands_front form.shape form.cbs (joined form stage.done) stage.flows.text out.kept tail.over tail.cut sizes.some_cbs stage.flows.stands (joined form (pending ++ more)) in
+      let front = stands_front form.shape form.cbs (turned_blocks form stage.done) stage.flows.text out.kept tail.over tail.cut sizes.some_cbs stage.flows.stands (turned_blocks form (pending ++ more)) in
       (front.0, ap (shaped form.shape form.cbs) (joined_all more sizes.some_ibs) ∙ front.1)
 
   -- a write of what waits failed
@@ -149,25 +149,25 @@ module _ {form : Form} {s : Option (List ℕ)} {input pending : List ℕ} {out :
     both : length (stage.done ++ units) % unit_of form ≡ 0
     both = ap (λ j. j % unit_of form) (length-append stage.done units) ∙ sum_whole (length stage.done) (length units) (unit_of form) (unit_some form sizes.some_ibs) stage.whole whole
 
-    joined_both : joined form (stage.done ++ units) ≡ joined form stage.done ++ joined form units
+    joined_both : turned_blocks form (stage.done ++ units) ≡ turned_blocks form stage.done ++ turned_blocks form units
     joined_both = joined_units form stage.done units sizes.some_ibs stage.whole
 
     -- units were converted
-    pub stage_pass : {next : Output} {after : Tail} (put : List ℕ) → put ≡ joined form units → Flows form.shape form.cbs s (joined form stage.done ++ put) next after →
+    pub stage_pass : {next : Output} {after : Tail} (put : List ℕ) → put ≡ turned_blocks form units → Flows form.shape form.cbs s (turned_blocks form stage.done ++ put) next after →
         Staged form s input rest next after
     stage_pass {next} {after} put same flows = record {
       done = stage.done ++ units;
       parts = done_units;
       whole = both;
-      flows = subst (λ (z : List ℕ). Flows form.shape form.cbs s z next after) (ap (λ l. joined form stage.done ++ l) same ∙ sym joined_both) flows;
+      flows = subst (λ (z : List ℕ). Flows form.shape form.cbs s z next after) (ap (λ l. turned_blocks form stage.done ++ l) same ∙ sym joined_both) flows;
     }
 
-    pub stage_stops : (m : Option (List ℕ)) (put : List ℕ) (e : IoFault) → put ≡ joined form units → StopsFlow form.shape form.cbs s m (joined form stage.done ++ put) e → StopsStage form s m input e
+    pub stage_stops : (m : Option (List ℕ)) (put : List ℕ) (e : IoFault) → put ≡ turned_blocks form units → StopsFlow form.shape form.cbs s m (turned_blocks form stage.done ++ put) e → StopsStage form s m input e
     stage_stops m put e same stop more =
-        let all : joined form (input ++ more) ≡ (joined form stage.done ++ put) ++ joined form (rest ++ more) =
-        ap (joined form) (ap (λ l. l ++ more) done_units ∙ append_assoc (stage.done ++ units) rest more) ∙ joined_units form (stage.done ++ units) (rest ++ more) sizes.some_ibs both
-        ∙ ap (λ l. l ++ joined form (rest ++ more)) (joined_both ∙ ap (λ l. joined form stage.done ++ l) (sym same)) in
-        subst (λ (l : List ℕ). WritesFront 0 s m (shaped form.shape form.cbs l) e) (sym all) (stop (joined form (rest ++ more)))
+        let all : turned_blocks form (input ++ more) ≡ (turned_blocks form stage.done ++ put) ++ turned_blocks form (rest ++ more) =
+        ap (turned_blocks form) (ap (λ l. l ++ more) done_units ∙ append_assoc (stage.done ++ units) rest more) ∙ joined_units form (stage.done ++ units) (rest ++ more) sizes.some_ibs both
+        ∙ ap (λ l. l ++ turned_blocks form (rest ++ more)) (joined_both ∙ ap (λ l. turned_blocks form stage.done ++ l) (sym same)) in
+        subst (λ (l : List ℕ). WritesFront 0 s m (shaped form.shape form.cbs l) e) (sym all) (stop (turned_blocks form (rest ++ more)))
 
 read_cause : (e : IoFault) (wanted room total n w size : ℕ) → total + room ≡ 2 ^ 40 → IsReadCause e wanted room n → IsCopyFault e (total + n) w size
 read_cause ReadFailed wanted room total n w size is p = omega (arith, p.1)
@@ -225,16 +225,16 @@ write_stops form r0 r1 s n input most before InputTooLong reads within few ahead
 write_stops form r0 r1 s n input most before SkipPastEnd reads within few ahead stop = absurd stop
 
 -- the input ended
-module _ {form : Form} {s : Option (List ℕ)} {input pending : List ℕ} {out : Output} {tail : Tail} (stage : Staged form s input pending out tail) (sizes : HasSizes form) (put : List ℕ) (is : put ≡ joined form pending) where
-  joined_input : joined form stage.done ++ put ≡ joined form input
-  joined_input = ap (λ l. joined form stage.done ++ l) is ∙ sym (ap (joined form) stage.parts ∙ joined_units form stage.done pending sizes.some_ibs stage.whole)
+module _ {form : Form} {s : Option (List ℕ)} {input pending : List ℕ} {out : Output} {tail : Tail} (stage : Staged form s input pending out tail) (sizes : HasSizes form) (put : List ℕ) (is : put ≡ turned_blocks form pending) where
+  joined_input : turned_blocks form stage.done ++ put ≡ turned_blocks form input
+  joined_input = ap (λ l. turned_blocks form stage.done ++ l) is ∙ sym (ap (turned_blocks form) stage.parts ∙ joined_units form stage.done pending sizes.some_ibs stage.whole)
 
-  pub stage_end : {next : Output} {after : Tail} → Flows form.shape form.cbs s (joined form stage.done ++ put) next after → Flows form.shape form.cbs s (joined form input) next after
+  pub stage_end : {next : Output} {after : Tail} → Flows form.shape form.cbs s (turned_blocks form stage.done ++ put) next after → Flows form.shape form.cbs s (turned_blocks form input) next after
   stage_end {next} {after} flows = subst (λ (z : List ℕ). Flows form.shape form.cbs s z next after) joined_input flows
 
-  pub stage_end_stops : (m : Option (List ℕ)) (e : IoFault) → StopsFlow form.shape form.cbs s m (joined form stage.done ++ put) e → WritesFront 0 s m (converted form input) e
+  pub stage_end_stops : (m : Option (List ℕ)) (e : IoFault) → StopsFlow form.shape form.cbs s m (turned_blocks form stage.done ++ put) e → WritesFront 0 s m (converted form input) e
   stage_end_stops m e stop =
-      subst (λ (z : List ℕ). WritesFront 0 s m (shaped form.shape form.cbs z) e) (append-nil (joined form stage.done ++ put) ∙ joined_input) (stop [])
+      subst (λ (z : List ℕ). WritesFront 0 s m (shaped form.shape form.cbs z) e) (append-nil (turned_blocks form stage.done ++ put) ∙ joined_input) (stop [])
 
 -- all went out
 pub goes_all : (s n : Option (List ℕ)) (waits text whole : List ℕ) (k : ℕ) → waits ≡ [] → text ≡ whole → Goes s n waits k text → Appends s n whole × (k ≡ length whole)
@@ -314,7 +314,7 @@ module _ {A : Type 0} (plan : Plan A) (skipped input : List ℕ) (len : length s
 pub converted_none : (form : Form) → HasSizes form → converted form [] ≡ []
 converted_none form sizes = ap (shaped form.shape form.cbs) (joined_none form sizes.some_ibs) ∙ shaped_nil form.shape form.cbs sizes.some_cbs
 
-pub cut_none : (form : Form) → 0 < form.ibs → cut_records form.shape form.cbs (joined form []) ≡ 0
+pub cut_none : (form : Form) → 0 < form.ibs → cut_records form.shape form.cbs (turned_blocks form []) ≡ 0
 cut_none form pos = ap (cut_records form.shape form.cbs) (joined_none form pos) ∙ cut_nil form.shape form.cbs
 
 module _ {A : Type 0} (plan : Plan A) (input : List ℕ) (few : length input ≤ plan.skip * plan.ibs) where

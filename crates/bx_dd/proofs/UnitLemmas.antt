@@ -8,7 +8,7 @@ use borrow.Rule.Slice.PartMut.{put_mid, post_of}
 use Rattle.bx_text.specs.InPieces.{in_pieces}
 use Rattle.bx_text.proofs.PiecesLemmas.{in_pieces-append, in_pieces-none, in_pieces-one}
 use Rattle.bx_dd.specs.declared.form.Form.{Form}
-use Rattle.bx_dd.specs.Output.{cased, filler, joined, swapped}
+use Rattle.bx_dd.specs.Output.{cased, filler, turned_blocks, swapped}
 use Rattle.bx_dd.specs.private.Output.{block_of}
 use Rattle.bx_dd.specs.private.Streaming.{unit_of}
 
@@ -44,8 +44,8 @@ pub block_letters : (form : Form) (b : List ℕ) → (form.swab || form.sync) �
 unfolding block_of
 block_letters form b e = let none = neither form e in rw (none.0, none.1) refl
 
-letters_all : (form : Form) (k : ℕ) (xs : List ℕ) → (form.swab || form.sync) ≡ false → 0 < form.ibs → length xs ≤ k → joined form xs ≡ map (cased form.letters) xs
-unfolding joined block_of
+letters_all : (form : Form) (k : ℕ) (xs : List ℕ) → (form.swab || form.sync) ≡ false → 0 < form.ibs → length xs ≤ k → turned_blocks form xs ≡ map (cased form.letters) xs
+unfolding turned_blocks block_of
 letters_all form k [] e pos few = in_pieces-none (block_of form) form.ibs pos
 letters_all form zero (x ∷ xs) e pos few = absurd (omega arith)
 letters_all form (suc k) (x ∷ xs) e pos few =
@@ -66,23 +66,23 @@ letters_all form (suc k) (x ∷ xs) e pos few =
           ∙ sym (map-append (cased form.letters) front back) ∙ ap (map (cased form.letters)) split
     ]
 
-pub joined_letters : (form : Form) (xs : List ℕ) → (form.swab || form.sync) ≡ false → 0 < form.ibs → joined form xs ≡ map (cased form.letters) xs
+pub joined_letters : (form : Form) (xs : List ℕ) → (form.swab || form.sync) ≡ false → 0 < form.ibs → turned_blocks form xs ≡ map (cased form.letters) xs
 joined_letters form xs e pos = letters_all form (length xs) xs e pos (omega arith)
 
-blocks_joined : (form : Form) (a b : List ℕ) → 0 < form.ibs → length a % form.ibs ≡ 0 → joined form (a ++ b) ≡ joined form a ++ joined form b
-unfolding joined block_of
+blocks_joined : (form : Form) (a b : List ℕ) → 0 < form.ibs → length a % form.ibs ≡ 0 → turned_blocks form (a ++ b) ≡ turned_blocks form a ++ turned_blocks form b
+unfolding turned_blocks block_of
 blocks_joined form a b pos whole =
     let count : length a ≡ form.ibs * (length a / form.ibs) = omega (arith, div-add-mod (length a) form.ibs) in
     in_pieces-append (block_of form) form.ibs (length a / form.ibs) a b pos count
 
-units_by : (form : Form) (w : Bool) (a b : List ℕ) → (form.swab || form.sync) ≡ w → 0 < form.ibs → length a % cond w form.ibs 1 ≡ 0 → joined form (a ++ b) ≡ joined form a ++ joined form b
+units_by : (form : Form) (w : Bool) (a b : List ℕ) → (form.swab || form.sync) ≡ w → 0 < form.ibs → length a % cond w form.ibs 1 ≡ 0 → turned_blocks form (a ++ b) ≡ turned_blocks form a ++ turned_blocks form b
 units_by form true a b e pos whole = blocks_joined form a b pos whole
 units_by form false a b e pos whole =
     joined_letters form (a ++ b) e pos ∙ map-append (cased form.letters) a b ∙ ap (λ l. l ++ map (cased form.letters) b) (sym (joined_letters form a e pos))
-    ∙ ap (λ l. joined form a ++ l) (sym (joined_letters form b e pos))
+    ∙ ap (λ l. turned_blocks form a ++ l) (sym (joined_letters form b e pos))
 
 -- whole units, and more
-pub joined_units : (form : Form) (a b : List ℕ) → 0 < form.ibs → length a % unit_of form ≡ 0 → joined form (a ++ b) ≡ joined form a ++ joined form b
+pub joined_units : (form : Form) (a b : List ℕ) → 0 < form.ibs → length a % unit_of form ≡ 0 → turned_blocks form (a ++ b) ≡ turned_blocks form a ++ turned_blocks form b
 joined_units form a b pos whole = units_by form (form.swab || form.sync) a b refl pos whole
 
 -- the next of whole blocks fits
@@ -107,12 +107,12 @@ drop_behind buf part d k n within len same =
     ∙ drop-drop k d buf ∙ ap (λ j. drop (d + j) buf) same
 
 -- one block
-pub joined_one : (form : Form) (b : List ℕ) → 0 < length b → length b ≤ form.ibs → joined form b ≡ block_of form b
-unfolding joined block_of
+pub joined_one : (form : Form) (b : List ℕ) → 0 < length b → length b ≤ form.ibs → turned_blocks form b ≡ block_of form b
+unfolding turned_blocks block_of
 joined_one form b some fits = in_pieces-one (block_of form) form.ibs b some fits
 
 -- letters alone
-pub letters_turned : (form : Form) (b : List ℕ) → (form.swab || form.sync) ≡ false → 0 < form.ibs → map (cased form.letters) (cond form.swab (swapped b) b) ≡ joined form b
+pub letters_turned : (form : Form) (b : List ℕ) → (form.swab || form.sync) ≡ false → 0 < form.ibs → map (cased form.letters) (cond form.swab (swapped b) b) ≡ turned_blocks form b
 letters_turned form b e pos = ap (λ w. map (cased form.letters) (cond w (swapped b) b)) (neither form e).0 ∙ sym (joined_letters form b e pos)
 
 unit_by : (w : Bool) (ibs h : ℕ) → h < cond w ibs 1 → (h ≡ 0 → ⊥) → h < ibs

@@ -3,7 +3,7 @@ use Rattle.std.specs.Prelude.{ℕ, ◌/◌, ◌%◌, min, ◌==◌, if◌then◌
 use Rattle.std.specs.Fmt.{decimal}
 use Rattle.bx_dd.specs.declared.form.Form.{Form}
 use Rattle.bx_dd.specs.declared.counts.Counts.{Counts}
-use Rattle.bx_dd.specs.Output.{converted, cut_records, joined}
+use Rattle.bx_dd.specs.Output.{converted, cut_records, turned_blocks}
 
 -- blocks of the selected input and of the output, those that are short apart, and the records that were cut
 abbrev pub counts_of : Form → List ℕ → Counts
@@ -12,7 +12,7 @@ counts_of form input = let output = converted form input in record {
   part_in = min (length input % form.ibs) 1;
   whole_out = length output / form.obs;
   part_out = min (length output % form.obs) 1;
-  cut = cut_records form.shape form.cbs (joined form input);
+  cut = cut_records form.shape form.cbs (turned_blocks form input);
 }
 
 -- dd's report; it tells how many records were cut, if any were

@@ -26,9 +26,9 @@ cased Keep b = b
 cased Upper b = to_ascii_uppercase b
 cased Lower b = to_ascii_lowercase b
 
--- the blocks, joined: each is filled up, then swapped, then in one case
-unfoldable pub joined : Form → List ℕ → List ℕ
-joined form input = in_pieces (λ block. let full = if form.sync then block ++ replicate (form.ibs - length block) (filler form.shape) else block in
+-- the blocks, turned_blocks: each is filled up, then swapped, then in one case
+unfoldable pub turned_blocks : Form → List ℕ → List ℕ
+turned_blocks form input = in_pieces (λ block. let full = if form.sync then block ++ replicate (form.ibs - length block) (filler form.shape) else block in
     map (cased form.letters) (if form.swab then swapped full else full)) form.ibs input
 
 -- the parts at newlines; after the last newline there is one only if bytes follow
@@ -49,7 +49,7 @@ cut_records shape size bytes = 0
 
 -- what is written for the selected input
 abbrev pub converted : Form → List ℕ → List ℕ
-converted form input = shaped form.shape form.cbs (joined form input)
+converted form input = shaped form.shape form.cbs (turned_blocks form input)
 
 -- how many bytes at the end are a record that may go on
 unfoldable pub unfinished : Shape → ℕ → List ℕ → ℕ

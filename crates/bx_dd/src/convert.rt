@@ -1,7 +1,7 @@
 //! Blocks converted one by one.
 ghost use Rattle.std.specs.Prelude.{◌≡◌, ◌≢◌, ℕ, ◌+◌, ◌-◌, ◌%◌, ◌^◌, ◌<◌, ◌≤◌, List, [], ◌++◌, length, min, vec_capacity, IfOk, OnOk, IsOkUnless};
 ghost use Rattle.bx_dd.specs.Counting.{counts_of};
-ghost use Rattle.bx_dd.specs.Output.{converted, joined, unfinished};
+ghost use Rattle.bx_dd.specs.Output.{converted, turned_blocks, unfinished};
 ghost use Rattle.bx_dd.specs.private.Output.{block_of};
 ghost use Rattle.bx_dd.specs.Plan.{plan_form};
 ghost use Rattle.bx_dd.specs.Standing.{IsAfter};
@@ -145,7 +145,7 @@ impl<A: Allocator> Convert<A> {
     pub fn held(&self) -> u64
         ensures held { result ≡ length self.now.held }
         ensures kept { (x : List ℕ) → IsAfter x self.now →
-            let form = self.now.form in result ≡ min form.cbs (unfinished form.shape form.cbs (joined form x)) }
+            let form = self.now.form in result ≡ min form.cbs (unfinished form.shape form.cbs (turned_blocks form x)) }
     {
         self.held.len() as u64
     }

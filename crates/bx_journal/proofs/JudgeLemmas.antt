@@ -17,7 +17,7 @@ use Rattle.bx_journal_read.specs.model.Judging.{RefusesRedo, AllTold, IsBeyondAt
 use Rattle.bx_journal_read.specs.scan.Looking.{FaultCounts}
 use Rattle.bx_journal_read.specs.model.Fault.{redo_fault}
 use Rattle.bx_journal_format.specs.count.Mark.{IsMark, HasMarks}
-use Rattle.bx_journal_format.specs.Parsed.{entry_of, entries_onto, entries_of, stage_of, reading_of, AreMarked, IsMarked}
+use Rattle.bx_journal_format.specs.Parsed.{entry_of, entries_onto, entries_of, stage_of, reading_of, AreMarked, IsStageMarked}
 use Rattle.bx_journal_format.specs.Finished.{AllTell, IsFinished}
 use Rattle.bx_journal_read.specs.model.Redo.{IsRedoOf, DamagedLine, Tail, FirstForm, IsRefusedAt, NoRedo, TooMany, Off}
 use Rattle.bx_journal_read.specs.model.Stack.{stack_of}
@@ -141,7 +141,7 @@ module _ {A : Type 0} (text : List ℕ) (changes : ℕ) (j : JournalRead A) (rea
   }
 
   marked_read : j.stage ≡ BetweenRead → AreMarked text [] 0 j.entries.items j.whole
-  marked_read is = (subst (λ s. IsMarked text [] j.entries.items s j.whole) is read.places.marked).0
+  marked_read is = (subst (λ s. IsStageMarked text [] j.entries.items s j.whole) is read.places.marked).0
 
   -- an entry that is unfit
   pub entry_unfit : (at : ℕ) → j.stage ≡ BetweenRead → j.whole ≡ length text → IsUntoldAt j.entries.items at ⊎ IsBeyondAt j.entries.items changes at → IsUnfitFrom text changes at

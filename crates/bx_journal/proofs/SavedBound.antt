@@ -6,7 +6,7 @@ use Rattle.std.proofs.lemmas.List.Elements.{All-nil, All-cons, All-weaker}
 use Rattle.bx_journal_format.specs.Kept.{Run, with_run, kept_of}
 use Rattle.bx_journal_format.proofs.Gathered.{with_run-sum}
 use Rattle.bx_journal_format.specs.declared.read.types.EntryRead.{EntryRead}
-use Rattle.bx_journal_format.specs.DumpLine.{piece_of}
+use Rattle.bx_journal_format.specs.DumpLine.{run_of_line}
 use Rattle.bx_journal_format.specs.Line.{save_line, saved_in}
 use Rattle.bx_journal_format.specs.Text.{Entry, Stage, Between, Saving, Ending, Reading, Reads, next_at, start, after_lines, split, text_of_lines, ended, next}
 use Rattle.bx_journal_format.specs.count.Rows.{saved_length}
@@ -34,7 +34,7 @@ held_in r = held r.entries + held_at r.stage
 saved_short : (len : ℕ) (line : List ℕ) (p : Run) → saved_in len line ≡ Some p → length p.bytes ≤ length line
 unfolding saved_in
 saved_short len line p e =
-    let found = bind_some (λ piece. if nat_le (length piece.bytes) 16 && nat_le (piece.at + length piece.bytes) len then Some piece else None) (piece_of line) p e in
+    let found = bind_some (λ piece. if nat_le (length piece.bytes) 16 && nat_le (piece.at + length piece.bytes) len then Some piece else None) (run_of_line line) p e in
     let test = test_some (nat_le (length found.0.bytes) 16 && nat_le (found.0.at + length found.0.bytes) len) found.0 p found.2 in
     subst (λ (q : Run). length q.bytes ≤ length line) test.1 (piece_short line found.0 found.1)
 

@@ -19,7 +19,7 @@ use Rattle.bx_journal_read.specs.show.Differences.{line_made, made_text, signed_
 use Rattle.bx_journal_read.proofs.OpenLemmas.{some_same}
 use Rattle.bx_journal_read.proofs.Phases.{length-stack_of}
 use Rattle.bx_journal_protocol.proofs.Ready.{top_of}
-use Rattle.bx_journal.specs.ShowLaws.{ShownIsWritten, ShowsRuns, dump_of, run_then, shown_runs, step_onto, steps_onto}
+use Rattle.bx_journal.specs.ShowLaws.{ShownIsWritten, ShowsAsDump, dump_of, run_then, shown_runs, step_onto, steps_onto}
 
 -- the byte that runs give at an address is that of the lines' own runs, however these go on with one another
 behind_byte : (len : ℕ) (lines : List (List ℕ)) (runs : List Run) (i : ℕ) → byte_in (runs_behind len runs lines) i ≡ option_or (byte_in (shown_runs len lines) i) (byte_in runs i)
@@ -80,7 +80,7 @@ shown_is_written text x old new cs k left stands spelled step =
     ap top step.2 ∙ ap (λ s. top (drop k s)) stack ∙ undone_top cs k x spelled.runs (omega (arith, count, step.0))
 
 -- what is shown of lines
-pub shows_runs : ShowsRuns
+pub shows_runs : ShowsAsDump
 shows_runs len [] = refl
 shows_runs len (line ∷ lines) = by (saved_in len line) (shows_runs len lines)
   where

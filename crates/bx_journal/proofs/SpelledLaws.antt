@@ -5,7 +5,7 @@ use Rattle.bx_journal_format.specs.Finished.{IsFinished}
 use Rattle.bx_journal_format.specs.Grammar.{AddRuns, AreEntries}
 use Rattle.bx_journal_format.specs.Kept.{Run, with_run}
 use Rattle.bx_journal_format.specs.Line.{save_line, saved_in}
-use Rattle.bx_journal_format.specs.Spelled.{EntryLines, GiveRuns, entry_in, lines_of, runs_behind, with_found}
+use Rattle.bx_journal_format.specs.Spelled.{EntryLines, GiveRuns, entry_in, entry_lines, runs_behind, with_found}
 use Rattle.bx_journal_format.specs.Text.{Between, Entry, split}
 use Rattle.bx_journal_format.proofs.GrammarLemmas.{journal_has_form, piece_only}
 use Rattle.bx_journal_format.proofs.SavedLines.{saved_reads}
@@ -23,11 +23,11 @@ added len (line ∷ lines) old new (run, is, rest) =
 record Spelling (lines : List (List ℕ)) (es : List Entry) : Type 0 where
   entries : List EntryLines
   are : map entry_in entries ≡ es
-  lines_are : lines ≡ lines_of entries
+  lines_are : lines ≡ entry_lines entries
   give : GiveRuns entries
 
 spelling : (lines : List (List ℕ)) (es : List Entry) → AreEntries lines es → Spelling lines es
-unfolding lines_of
+unfolding entry_lines
 spelling lines [] is = record { entries = []; are = refl; lines_are = is; give = tt }
 spelling lines (e ∷ older) (before, own, parts, rest, entry) =
     let more = spelling before older rest in
@@ -39,8 +39,8 @@ spelling lines (e ∷ older) (before, own, parts, rest, entry) =
     record {
       entries = c ∷ more.entries;
       are = ap (λ es. e ∷ es) more.are;
-      lines_are = parts ∙ ap (λ ls. ls ++ own) more.lines_are ∙ ap (λ ls. lines_of more.entries ++ ls) own_is
-          ∙ ap (λ n. lines_of more.entries ++ head.first ∷ (head.saved ++ save_line (suc n) ∷ entry.last ∷ [])) count;
+      lines_are = parts ∙ ap (λ ls. ls ++ own) more.lines_are ∙ ap (λ ls. entry_lines more.entries ++ ls) own_is
+          ∙ ap (λ n. entry_lines more.entries ++ head.first ∷ (head.saved ++ save_line (suc n) ∷ entry.last ∷ [])) count;
       give = (added e.saved.len head.saved [] e.saved.runs head.saves, more.give);
     }
 

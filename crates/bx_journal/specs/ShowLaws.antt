@@ -35,8 +35,8 @@ steps_onto [] x = x
 steps_onto (c ∷ older) x = steps_onto older (step_onto c x)
 
 -- What is shown of an entry's saved lines is xxd's default line for each of the runs
-abbrev pub ShowsRuns : Type 0
-ShowsRuns = (len : ℕ) (lines : List (List ℕ)) → made_text len lines ≡ dump_of (shown_runs len lines)
+abbrev pub ShowsAsDump : Type 0
+ShowsAsDump = (len : ℕ) (lines : List (List ℕ)) → made_text len lines ≡ dump_of (shown_runs len lines)
 
 -- and an undo of k makes of the image what those of the newest k entries make of it
 abbrev pub ShownIsWritten : Type 0

@@ -1,6 +1,6 @@
 //! Laws over the definitions alone.
 ghost use Rattle.bx_journal.specs.Losses.{FindsIsFound, OpeningFinds, OpeningsFind};
-ghost use Rattle.bx_journal.specs.ShowLaws.{FinishedIsSpelled, ShownIsWritten, ShowsRuns};
+ghost use Rattle.bx_journal.specs.ShowLaws.{FinishedIsSpelled, ShownIsWritten, ShowsAsDump};
 ghost use Rattle.bx_journal_protocol.specs.model.Laws.{WrittenIsRead, StandsForOne, DamagedAtOne, EmptyIsSound};
 ghost use Rattle.bx_journal_protocol.specs.model.RedoLaws.{EmptyIsRedo, IsWrittenAgain, RedoIsOne, RedoLineOne};
 
@@ -68,7 +68,7 @@ pub fn openings_find<D: Device, T: TextStore>()
 /// An undo writes what is shown of it. `show` writes a line of a dump for each run that an entry's saved lines give, and an undo of k makes
 /// of the image exactly what the runs of the newest k entries make of it, each entry's placed onto the image cut, or filled up, to its length.
 pub fn shown_is_written()
-    ensures shown { ShowsRuns }
+    ensures shown { ShowsAsDump }
     ensures written { ShownIsWritten }
 {}
 

@@ -9,7 +9,7 @@ use Rattle.std.proofs.lemmas.Bool.{and_parts, and_from, and_left, or_right, or_f
 use Rattle.bx_text.specs.Ascii.{is_printable}
 use Rattle.bx_image.specs.declared.change.TheConstants.{MAX_LEN}
 use Rattle.bx_journal_format.specs.Kept.{Run, Kept, with_run}
-use Rattle.bx_journal_format.specs.DumpLine.{dump_line, piece_of}
+use Rattle.bx_journal_format.specs.DumpLine.{saved_run_line, run_of_line}
 use Rattle.bx_journal_format.specs.Entry.{rows, head_lines, head_text, end_text}
 use Rattle.bx_journal_format.specs.Line.{start_line, start_head, save_line, end_line, saved_in}
 use Rattle.bx_journal_format.specs.Text.{ended, text_of_lines, split, Split, is_short, Entry, Stage, Between, Saving, Ending, Reading, start, after_lines, next_at, next}
@@ -61,8 +61,8 @@ lines_calm (l ∷ ls) plain none =
     or_from (begins_with word (text_of_lines (l ∷ ls)) && ends_line (text_of_lines (l ∷ ls))) (has_end (text_of_lines (l ∷ ls))) (and_left (begins_with word (text_of_lines (l ∷ ls))) (ends_line (text_of_lines (l ∷ ls))) first) later
 
 -- a line that gives a piece doesn't begin with the word
-piece_unended : (line : List ℕ) (p : Run) → piece_of line ≡ Some p → begins_with word line ≡ false
-unfolding piece_of begins_with
+piece_unended : (line : List ℕ) (p : Run) → run_of_line line ≡ Some p → begins_with word line ≡ false
+unfolding run_of_line begins_with
 piece_unended [] p is = refl
 piece_unended (b ∷ []) p is = grind rules
 piece_unended (b ∷ d ∷ line) p is = by (eqb b 100) (eqb d 111) refl refl
@@ -77,17 +77,17 @@ unfolding save_line begins_with
 save_unended n = refl
 
 rows_calm : (n len : ℕ) → len ≤ MAX_LEN → (ps : List Run) → AreRows len ps
-    → AllPlain (map (λ p. dump_line p.at p.bytes) ps ++ save_line n ∷ []) × AllUnended (map (λ p. dump_line p.at p.bytes) ps ++ save_line n ∷ [])
+    → AllPlain (map (λ p. saved_run_line p.at p.bytes) ps ++ save_line n ∷ []) × AllUnended (map (λ p. saved_run_line p.at p.bytes) ps ++ save_line n ∷ [])
 rows_calm n len most [] are = ((plain_save n, tt), (save_unended n, tt))
 rows_calm n len most (p ∷ ps) are =
-    let line : IsSavedLine (dump_line p.at p.bytes) p = saved_line p are.3 are.0 are.1 (omega (arith, are.2)) in
+    let line : IsSavedLine (saved_run_line p.at p.bytes) p = saved_line p are.3 are.0 are.1 (omega (arith, are.2)) in
     let more = rows_calm n len most ps are.4 in
-    ((line.plain, more.0), (piece_unended (dump_line p.at p.bytes) p line.reads, more.1))
+    ((line.plain, more.0), (piece_unended (saved_run_line p.at p.bytes) p line.reads, more.1))
 
 pub head_calm : (n : ℕ) (s : Kept) → s.len ≤ MAX_LEN → AreRows s.len (flat_map rows s.runs) → has_end (head_text n s) ≡ false
 unfolding head_lines
 head_calm n s most are =
-    let ls : List (List ℕ) = map (λ p. dump_line p.at p.bytes) (flat_map rows s.runs) ++ save_line n ∷ [] in
+    let ls : List (List ℕ) = map (λ p. saved_run_line p.at p.bytes) (flat_map rows s.runs) ++ save_line n ∷ [] in
     let calm = rows_calm n s.len most (flat_map rows s.runs) are in
     let whole : text_of_lines (start_line Second n s.len ∷ ls) ≡ start_line Second n s.len ++ 10 ∷ text_of_lines ls = append_assoc (start_line Second n s.len) (10 ∷ []) (text_of_lines ls) in
     ap has_end whole ∙ calm_line (start_line Second n s.len) (text_of_lines ls) (plain_start n s.len) ∙ lines_calm ls calm.0 calm.1
@@ -125,7 +125,7 @@ start_unended Second n len = refl
 saved_unended : (len : ℕ) (line : List ℕ) (p : Run) → saved_in len line ≡ Some p → begins_with word line ≡ false
 unfolding saved_in
 saved_unended len line p e =
-    let found = bind_some (λ piece. if nat_le (length piece.bytes) 16 && nat_le (piece.at + length piece.bytes) len then Some piece else None) (piece_of line) p e in
+    let found = bind_some (λ piece. if nat_le (length piece.bytes) 16 && nat_le (piece.at + length piece.bytes) len then Some piece else None) (run_of_line line) p e in
     piece_unended line found.0 found.1
 
 saving_unended : (es : List Entry) (v : Version) (s : Kept) (line : List ℕ) (q : Reading) → next_at es (Saving v s) line ≡ Some q → begins_with word line ≡ false

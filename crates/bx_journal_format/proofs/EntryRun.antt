@@ -10,7 +10,7 @@ use Rattle.bx_journal_format.specs.Kept.{Run, with_run, Kept, with_runs}
 use Rattle.bx_journal_format.specs.declared.format.version.Version.{Version}
 use Rattle.bx_journal_format.specs.declared.format.version.Version.TheVariants.{Second}
 use Rattle.bx_journal_format.specs.Hex.{hex_digits}
-use Rattle.bx_journal_format.specs.DumpLine.{dump_line}
+use Rattle.bx_journal_format.specs.DumpLine.{saved_run_line}
 use Rattle.bx_journal_format.specs.Line.{start_line, save_line, end_line, saved_in}
 use Rattle.bx_journal_format.specs.Entry.{rows, head_lines}
 use Rattle.bx_text.specs.Ascii.{is_printable}
@@ -66,7 +66,7 @@ next_saved es v len done line p apart is = rw (not_save line (97 ∷ 118 ∷ 101
 -- the saved lines and the save line, behind rows that were read before
 saving_run : (Q E : Reading → Type 0) (es : List Entry) (v : Version) (len : ℕ) → len ≤ MAX_LEN → ((runs : List Run) → Q (saving es v len runs))
     → (more : List (List ℕ)) (ps done : List Run) → AreRows len ps → SafeRun Q E (ending es v len (with_runs done ps)) more
-    → SafeRun Q E (saving es v len done) (map (λ p. dump_line p.at p.bytes) ps ++ save_line (suc (length es)) ∷ more)
+    → SafeRun Q E (saving es v len done) (map (λ p. saved_run_line p.at p.bytes) ps ++ save_line (suc (length es)) ∷ more)
 unfolding with_runs
 saving_run Q E es v len most q more [] done are run = (
   q done,
@@ -76,14 +76,14 @@ saving_run Q E es v len most q more [] done are run = (
   (ending es v len done, next_save es v (record { len = len; runs = done }), run),
 )
 saving_run Q E es v len most q more (p ∷ ps) done are run =
-    let line : IsSavedLine (dump_line p.at p.bytes) p = saved_line p are.3 are.0 are.1 (omega (arith, are.2)) in (
+    let line : IsSavedLine (saved_run_line p.at p.bytes) p = saved_line p are.3 are.0 are.1 (omega (arith, are.2)) in (
       q done,
-      (λ t front. inr (line.front t front, short_front t front.0 (dump_line p.at p.bytes) front.1 line.short)),
+      (λ t front. inr (line.front t front, short_front t front.0 (saved_run_line p.at p.bytes) front.1 line.short)),
       line.plain,
       line.short,
       (
         saving es v len (with_run done p),
-        next_saved es v len done (dump_line p.at p.bytes) p (line.front (dump_line p.at p.bytes) ([], sym (append-nil (dump_line p.at p.bytes)))) (saved_reads len (dump_line p.at p.bytes) p line.reads are.1 are.2),
+        next_saved es v len done (saved_run_line p.at p.bytes) p (line.front (saved_run_line p.at p.bytes) ([], sym (append-nil (saved_run_line p.at p.bytes)))) (saved_reads len (saved_run_line p.at p.bytes) p line.reads are.1 are.2),
         saving_run Q E es v len most q more ps (with_run done p) are.4 run,
       ),
     )
@@ -107,7 +107,7 @@ head_run Q E es s room most may are at_rest q more run = (
   (
     saving es Second s.len [],
     next_start es s.len room most may,
-    subst (SafeRun Q E (saving es Second s.len [])) (sym (append_assoc (map (λ p. dump_line p.at p.bytes) (flat_map rows s.runs)) (save_line (suc (length es)) ∷ []) more))
+    subst (SafeRun Q E (saving es Second s.len [])) (sym (append_assoc (map (λ p. saved_run_line p.at p.bytes) (flat_map rows s.runs)) (save_line (suc (length es)) ∷ []) more))
         (saving_run Q E es Second s.len most q more (flat_map rows s.runs) [] are run),
   ),
 )

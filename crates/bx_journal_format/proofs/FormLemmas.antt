@@ -15,7 +15,7 @@ use Rattle.bx_read.specs.private.Lanes.{group_places}
 use Rattle.bx_read.proofs.FullLemmas.{full_gives, in_parts, joined, two_of}
 use Rattle.bx_read.proofs.GrammarLemmas.{and_true}
 use Rattle.bx_read.proofs.LaneLemmas.{columns_are}
-use Rattle.bx_journal_format.specs.DumpLine.{piece_of}
+use Rattle.bx_journal_format.specs.DumpLine.{run_of_line}
 use Rattle.bx_journal_format.specs.Form.{fits, full_form, HasColumns, HasForm, IsFullAt}
 use Rattle.bx_journal_format.specs.read.Plain.{HasNoNewline}
 use Rattle.bx_journal_format.proofs.ReadLoop.{parts_at, plain_to}
@@ -119,8 +119,8 @@ module _ (text : List ℕ) (long : 68 ≤ length text) (has : HasColumns text) w
       let clash : true ≡ false = sym one ∙ none in
       absurd (cc)
 
-  piece_from : (at : ℕ) (bytes : List ℕ) → line_piece line ≡ Some (at, bytes) → piece_of line ≡ Some (record { at = at; bytes = bytes })
-  unfolding piece_of
+  piece_from : (at : ℕ) (bytes : List ℕ) → line_piece line ≡ Some (at, bytes) → run_of_line line ≡ Some (record { at = at; bytes = bytes })
+  unfolding run_of_line
   piece_from at bytes is = rw is refl
 
   pub full_at : (at : ℕ) → get_or text 67 0 ≡ 10 → HasNoNewline (take 16 (drop 51 text)) → at ≡ digits_value 16 (take 8 text) → at < 2 ^ 32

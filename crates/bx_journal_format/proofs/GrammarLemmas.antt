@@ -10,11 +10,11 @@ use Rattle.bx_read.specs.Grammar.{IsLine}
 use Rattle.bx_read.specs.Line.{line_piece, read_line}
 use Rattle.bx_read.specs.declared.fault.ReadFault.{ReadFault}
 use Rattle.bx_read.proofs.GrammarLemmas.{and_true, read_line-found}
-use Rattle.bx_read.proofs.PieceLemmas.{piece_of as line_gives}
+use Rattle.bx_read.proofs.PieceLemmas.{run_of_line as line_gives}
 use Rattle.bx_journal_format.specs.Kept.{Run, Kept, with_run}
 use Rattle.bx_journal_format.specs.declared.format.version.Version.{Version}
 use Rattle.bx_journal_format.specs.declared.format.version.Version.TheVariants.{First, Second}
-use Rattle.bx_journal_format.specs.DumpLine.{piece_of}
+use Rattle.bx_journal_format.specs.DumpLine.{run_of_line}
 use Rattle.bx_journal_format.specs.Grammar.{IsSaved, AddRuns, IsEnd, IsHead, IsEntry, AreEntries, IsTail, AreLines, IsJournal, StopsBehind}
 use Rattle.bx_journal_format.specs.Line.{address_width, start_line, save_line, end_line, after_in, saved_in}
 use Rattle.bx_journal_format.specs.Text.{Entry, Stage, Between, Saving, Ending, Reading, Reads, Split, IsAccepted, IsDamagedAt, IsRest, after_lines, begins, begins_with_s, first_lines, text_of_lines, may_begin, next_at, split, start, next}
@@ -44,20 +44,20 @@ line_found line read e =
     one_list : {a b : List ℕ} → Some a ≡ Some b → a ≡ b
     one_list e = cc
 
-piece_found : (line : List ℕ) (run : Run) → piece_of line ≡ Some run → (hex : List ℕ) × IsLine line run.at hex run.bytes
-unfolding piece_of
+piece_found : (line : List ℕ) (run : Run) → run_of_line line ≡ Some run → (hex : List ℕ) × IsLine line run.at hex run.bytes
+unfolding run_of_line
 piece_found line run e =
     let found = map_some (λ (read : ℕ × List ℕ). (record { at = read.0; bytes = read.1 })) (line_piece line) run e in
     subst (λ (p : Run). (hex : List ℕ) × IsLine line p.at hex p.bytes) found.2 (line_found line found.0 found.1)
 
-pub piece_only : (line hex : List ℕ) (run : Run) → IsLine line run.at hex run.bytes → piece_of line ≡ Some run
-unfolding piece_of
+pub piece_only : (line hex : List ℕ) (run : Run) → IsLine line run.at hex run.bytes → run_of_line line ≡ Some run
+unfolding run_of_line
 piece_only line hex run is = rw (line_gives line run.at hex run.bytes is) refl
 
 pub saved_found : (len : ℕ) (line : List ℕ) (run : Run) → saved_in len line ≡ Some run → IsSaved len line run
 unfolding saved_in
 saved_found len line run e =
-    let found = bind_some (λ (piece : Run). if nat_le (length piece.bytes) 16 && nat_le (piece.at + length piece.bytes) len then Some piece else None) (piece_of line) run e in
+    let found = bind_some (λ (piece : Run). if nat_le (length piece.bytes) 16 && nat_le (piece.at + length piece.bytes) len then Some piece else None) (run_of_line line) run e in
     let tests = test_some (nat_le (length found.0.bytes) 16 && nat_le (found.0.at + length found.0.bytes) len) found.0 run found.2 in
     let both = and_true (nat_le (length found.0.bytes) 16) (nat_le (found.0.at + length found.0.bytes) len) tests.0 in
     subst (IsSaved len line) tests.1 (piece_found line found.0 found.1, below (length found.0.bytes) 16 both.0, below (found.0.at + length found.0.bytes) len both.1)
@@ -75,7 +75,7 @@ add_last : (len : ℕ) (old : List Run) (lines : List (List ℕ)) (new : List Ru
 add_last len old [] new line run add is = (run, is, ap (λ runs. with_run runs run) add)
 add_last len old (l ∷ lines) new line run add is = (add.0, add.1, add_last len (with_run old add.0) lines new line run add.2 is)
 
-pub not_save : (line : List ℕ) (run : Run) (n : ℕ) → piece_of line ≡ Some run → bytes_eq line (save_line n) ≡ false
+pub not_save : (line : List ℕ) (run : Run) (n : ℕ) → run_of_line line ≡ Some run → bytes_eq line (save_line n) ≡ false
 unfolding save_line
 not_save line run n is = by_test (bytes_eq line (save_line n)) refl
   where

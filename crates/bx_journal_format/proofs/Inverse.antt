@@ -13,7 +13,7 @@ use Rattle.bx_journal_format.specs.Kept.{Run, Kept, with_run}
 use Rattle.bx_journal_format.specs.declared.format.version.Version.{Version}
 use Rattle.bx_journal_format.specs.declared.format.version.Version.TheVariants.{First, Second}
 use Rattle.bx_journal_format.specs.Hex.{hex_digits, hex_nibble, number_after, number_of}
-use Rattle.bx_journal_format.specs.DumpLine.{piece_of}
+use Rattle.bx_journal_format.specs.DumpLine.{run_of_line}
 use Rattle.bx_journal_format.specs.Line.{address_width, start_head, start_line, save_line, end_head, end_line, after_prefix, at_most, length_in, after_in, saved_in}
 use Rattle.bx_journal_format.specs.Text.{IsPrefix, Reading, Entry, Stage, Between, Saving, Ending, IsRest, next_at, begins, may_begin, is_short, begins_with_s}
 use Rattle.bx_journal_format.proofs.EntryRun.{save_rest, short_front}
@@ -130,8 +130,8 @@ end_back First n line told e =
 end_back Second n line told e = second_back n line told e
 
 -- a line that gives a piece doesn't begin with an s
-pub piece_apart : (line : List ℕ) (p : Run) → piece_of line ≡ Some p → begins_with_s line ≡ false
-unfolding piece_of
+pub piece_apart : (line : List ℕ) (p : Run) → run_of_line line ≡ Some p → begins_with_s line ≡ false
+unfolding run_of_line
 piece_apart [] p e = refl
 piece_apart (b ∷ bytes) p e = apart (eqb b 115) refl
   where
@@ -178,7 +178,7 @@ Continues es v s line q = ((line ≡ save_line (suc (length es))) × (q ≡ reco
 saved_apart : (len : ℕ) (line : List ℕ) (p : Run) → saved_in len line ≡ Some p → begins_with_s line ≡ false
 unfolding saved_in
 saved_apart len line p e =
-    let found = bind_some (λ piece. if nat_le (length piece.bytes) 16 && nat_le (piece.at + length piece.bytes) len then Some piece else None) (piece_of line) p e in
+    let found = bind_some (λ piece. if nat_le (length piece.bytes) 16 && nat_le (piece.at + length piece.bytes) len then Some piece else None) (run_of_line line) p e in
     piece_apart line found.0 found.1
 
 pub next_saving : (es : List Entry) (v : Version) (s : Kept) (line : List ℕ) (q : Reading) → next_at es (Saving v s) line ≡ Some q → Continues es v s line q

@@ -10,7 +10,7 @@ use Rattle.bx_journal_format.specs.declared.read.types.StageRead.TheVariants.{Be
 use Rattle.bx_journal_format.specs.Text.{Entry, Reading, split, start, after_lines}
 use Rattle.bx_journal_format.specs.count.Mark.{IsMark}
 use Rattle.bx_journal_format.specs.read.Lines.{IsFront, IsReadAt, IsReadUpTo}
-use Rattle.bx_journal_format.specs.Parsed.{entry_of, entries_onto, reading_onto, AreMarked, IsMarked, IsReadTo, Leads, KeepsMarks}
+use Rattle.bx_journal_format.specs.Parsed.{entry_of, entries_onto, reading_onto, AreMarked, IsStageMarked, IsReadTo, Leads, KeepsMarks}
 use Rattle.bx_journal_format.proofs.ReadLoop.{IsFound, read_on, drop_twice}
 use Rattle.bx_journal_format.proofs.TallyLemmas.{take_less, take_sum}
 
@@ -59,7 +59,7 @@ module _ (text other : List ℕ) (at : ℕ) (within : at ≤ length other) (same
         are_other (entry_of e ∷ done) e.saved to es below are.2,
       )
 
-  marked_other : {A : Type 0} → (older : List Entry) (es : List (EntryRead A)) (stage : StageRead A) (n : ℕ) → n ≤ at → IsMarked text older es stage n → IsMarked other older es stage n
+  marked_other : {A : Type 0} → (older : List Entry) (es : List (EntryRead A)) (stage : StageRead A) (n : ℕ) → n ≤ at → IsStageMarked text older es stage n → IsStageMarked other older es stage n
   marked_other older es BetweenRead n below m = (are_other older 0 n es below m.0, m.1)
   marked_other older es (SavingRead v len runs begins) n below m =
       let first : begins ≤ at = omega (arith, m.2, below) in

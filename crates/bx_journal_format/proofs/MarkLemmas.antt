@@ -9,7 +9,7 @@ use Rattle.bx_journal_format.specs.declared.read.marks.Marking.{Marking}
 use Rattle.bx_journal_format.specs.declared.read.rows.Summed.{Summed}
 use Rattle.bx_journal_format.specs.Kept.{Run, Kept, with_run}
 use Rattle.bx_journal_format.specs.Line.{save_line, saved_in}
-use Rattle.bx_journal_format.specs.Spelled.{EntryLines, GiveRuns, entry_in, lines_of, runs_behind}
+use Rattle.bx_journal_format.specs.Spelled.{EntryLines, GiveRuns, entry_in, entry_lines, runs_behind}
 use Rattle.bx_journal_format.specs.Text.{Entry, Stage, Between, Saving, Ending, Reading, Split, ended, text_of_lines, split, start, after_lines}
 use Rattle.bx_journal_format.specs.read.Event.{kept_with}
 use Rattle.bx_journal_format.specs.read.Followed.{AreFullSaved, BeginsFull}
@@ -26,7 +26,7 @@ use Rattle.bx_journal_format.proofs.TallyLemmas.{HasForm, IsFirstLine, has_form,
 
 -- nothing was read
 pub marked_none : (s : Summed) → s ≡ summed_of start → IsMarked [] (record { sums = s; from = 0; to = 0 }) []
-unfolding split after_lines lines_of marks_of
+unfolding split after_lines entry_lines marks_of
 marked_none s none = record {
   reading = start;
   reads = refl;
@@ -62,7 +62,7 @@ module _ (text line : List ℕ) (marks : List Mark) (now : Marking) (sums : Summ
       let all : text_of_lines ls ≡ text ++ ended line = ap text_of_lines (sym (lines_are ∙ is)) ∙ joined_lines (text ++ ended line) whole_is in
       omega (arith, long, ap length all, length-append text (ended line), length-append line (10 ∷ []))
 
-  marked : (from to : ℕ) (es : List EntryLines) (behind : List (List ℕ)) (new : List Mark) → map entry_in es ≡ q.entries → (split text).lines ++ line ∷ [] ≡ lines_of es ++ behind
+  marked : (from to : ℕ) (es : List EntryLines) (behind : List (List ℕ)) (new : List Mark) → map entry_in es ≡ q.entries → (split text).lines ++ line ∷ [] ≡ entry_lines es ++ behind
       → GoOnWith es q.stage behind from to → GiveRuns es → new ≡ marks_of es → IsMarked (text ++ ended line) (record { sums = sums; from = from; to = to }) new
   marked from to es behind new are lines goes_on runs marks_are = record {
     reading = q;
@@ -91,8 +91,8 @@ module _ (text line : List ℕ) (marks : List Mark) (now : Marking) (sums : Summ
   were : (stage : Stage) → h.reading.stage ≡ stage → GoOnWith h.entries stage h.behind now.from now.to
   were stage is = subst (λ s. GoOnWith h.entries s h.behind now.from now.to) is h.goes_on
 
-  lines_more : (behind : List (List ℕ)) → h.behind ++ line ∷ [] ≡ behind → (split text).lines ++ line ∷ [] ≡ lines_of h.entries ++ behind
-  lines_more behind is = ap (λ ls. ls ++ line ∷ []) h.lines ∙ append_assoc (lines_of h.entries) h.behind (line ∷ []) ∙ ap (λ ls. lines_of h.entries ++ ls) is
+  lines_more : (behind : List (List ℕ)) → h.behind ++ line ∷ [] ≡ behind → (split text).lines ++ line ∷ [] ≡ entry_lines h.entries ++ behind
+  lines_more behind is = ap (λ ls. ls ++ line ∷ []) h.lines ∙ append_assoc (entry_lines h.entries) h.behind (line ∷ []) ∙ ap (λ ls. entry_lines h.entries ++ ls) is
 
   abbrev Goes : ℕ → ℕ → Type 0
   Goes from to = IsMarked (text ++ ended line) (record { sums = sums; from = from; to = to }) (marks ++ ended_mark sums.tally.place (record { sums = sums; from = from; to = to }))
@@ -111,8 +111,8 @@ module _ (text line : List ℕ) (marks : List Mark) (now : Marking) (sums : Summ
         first = line;
         saved = [];
         is = refl;
-        begins = size_is (lines_of h.entries ++ line ∷ []) after all long;
-        ends = size_is (lines_of h.entries ++ line ∷ []) after all long;
+        begins = size_is (entry_lines h.entries ++ line ∷ []) after all long;
+        ends = size_is (entry_lines h.entries ++ line ∷ []) after all long;
         runs = refl;
       } in
       marked after after h.entries (line ∷ []) (marks ++ ended_mark sums.tally.place (record { sums = sums; from = after; to = after }))
@@ -146,13 +146,13 @@ module _ (text line : List ℕ) (marks : List Mark) (now : Marking) (sums : Summ
       let behind : h.behind ++ line ∷ [] ≡ lines =
       ap (λ ls. ls ++ line ∷ []) b.is ∙ ap (λ ls. b.first ∷ (ls ++ line ∷ [])) (append-nil b.saved) ∙ ap (λ ls. b.first ∷ ls) (sym (append-nil saved)) in
       let all = lines_more lines behind in
-      let bare : lines_of h.entries ++ lines ≡ lines_of h.entries ++ b.first ∷ saved = ap (λ ls. lines_of h.entries ++ b.first ∷ ls) (append-nil saved) in
+      let bare : entry_lines h.entries ++ lines ≡ entry_lines h.entries ++ b.first ∷ saved = ap (λ ls. entry_lines h.entries ++ b.first ∷ ls) (append-nil saved) in
       let begun : IsBegun h.entries t.len t.runs [] lines now.from after = record {
         first = b.first;
         saved = saved;
         is = refl;
         begins = b.begins;
-        ends = size_is (lines_of h.entries ++ b.first ∷ saved) after (all ∙ bare) long;
+        ends = size_is (entry_lines h.entries ++ b.first ∷ saved) after (all ∙ bare) long;
         runs = ap (λ rs. with_run rs p) b.runs ∙ sym (behind_some s.len (runs_behind s.len [] b.saved) line p gives) ∙ sym (runs_behind-append s.len [] b.saved (line ∷ []));
       } in
       marked now.from after h.entries lines (marks ++ ended_mark sums.tally.place (record { sums = sums; from = now.from; to = after }))
@@ -161,7 +161,7 @@ module _ (text line : List ℕ) (marks : List Mark) (now : Marking) (sums : Summ
 
   -- a line that ends an entry
   pub marked_end : (v : Version) (s : Kept) (told : Option ℕ) → h.reading.stage ≡ Ending v s → q ≡ record { entries = record { saved = s; after = told } ∷ h.reading.entries; stage = Between } → Goes now.from now.to
-  unfolding lines_of marks_of
+  unfolding entry_lines marks_of
   marked_end v s told was q_is =
       let b : IsBegun h.entries s.len s.runs (save_line (suc (length h.entries)) ∷ []) h.behind now.from now.to = were (Ending v s) was in
       let entry : Entry = record { saved = s; after = told } in
@@ -171,7 +171,7 @@ module _ (text line : List ℕ) (marks : List Mark) (now : Marking) (sums : Summ
       let behind : h.behind ++ line ∷ [] ≡ b.first ∷ (b.saved ++ save_line (suc (length h.entries)) ∷ line ∷ []) =
       ap (λ ls. ls ++ line ∷ []) b.is ∙ ap (λ ls. b.first ∷ ls) (append_assoc b.saved (save_line (suc (length h.entries)) ∷ []) (line ∷ [])) in
       let mark : mark_of h.entries c ≡ record { from = now.from; to = now.to; len = sums.len; after = sums.tally.told; saved = sums.saved } =
-      ap (λ n. record { from = n; to = lines_size (lines_of h.entries ++ b.first ∷ b.saved); len = s.len; after = told; saved = (summed_of (record { entries = entry ∷ h.reading.entries; stage = Between })).saved }) (sym b.begins)
+      ap (λ n. record { from = n; to = lines_size (entry_lines h.entries ++ b.first ∷ b.saved); len = s.len; after = told; saved = (summed_of (record { entries = entry ∷ h.reading.entries; stage = Between })).saved }) (sym b.begins)
       ∙ ap (λ n. record { from = now.from; to = n; len = s.len; after = told; saved = (summed_of (record { entries = entry ∷ h.reading.entries; stage = Between })).saved }) (sym b.ends)
       ∙ ap (λ (z : Summed). record { from = now.from; to = now.to; len = z.len; after = z.tally.told; saved = z.saved }) sums_are in
       let pushed : marks ++ ended_mark sums.tally.place (record { sums = sums; from = now.from; to = now.to }) ≡ marks_of h.entries ++ mark_of h.entries c ∷ [] =
@@ -180,7 +180,7 @@ module _ (text line : List ℕ) (marks : List Mark) (now : Marking) (sums : Summ
       ∙ ap (λ m. marks_of h.entries ++ m ∷ []) (sym mark) in
       marked now.from now.to (c ∷ h.entries) [] (marks ++ ended_mark sums.tally.place (record { sums = sums; from = now.from; to = now.to }))
       (ap (λ es. entry ∷ es) h.are ∙ sym (ap (λ (r : Reading). r.entries) q_is))
-      (lines_more (b.first ∷ (b.saved ++ save_line (suc (length h.entries)) ∷ line ∷ [])) behind ∙ sym (append-nil (lines_of (c ∷ h.entries))))
+      (lines_more (b.first ∷ (b.saved ++ save_line (suc (length h.entries)) ∷ line ∷ [])) behind ∙ sym (append-nil (entry_lines (c ∷ h.entries))))
       (subst (λ z. GoOnWith (c ∷ h.entries) z [] now.from now.to) (sym stage_is) refl) (b.runs, h.runs) pushed
 
 -- one line more of a window
@@ -204,7 +204,7 @@ to_is text marks m v n at h =
     let was : HasForm h.reading.stage (SavingPlace v n) = has_form h.reading.stage (SavingPlace v n) (ap (λ (s : Summed). s.tally.place) h.is ∙ at) in
     let s : Kept = was.0 in
     let b : IsBegun h.entries s.len s.runs [] h.behind m.from m.to = subst (λ z. GoOnWith h.entries z h.behind m.from m.to) was.1 h.goes_on in
-    let lines : (split text).lines ≡ lines_of h.entries ++ b.first ∷ b.saved = h.lines ∙ ap (λ ls. lines_of h.entries ++ ls) (b.is ∙ ap (λ ls. b.first ∷ ls) (append-nil b.saved)) in
+    let lines : (split text).lines ≡ entry_lines h.entries ++ b.first ∷ b.saved = h.lines ∙ ap (λ ls. entry_lines h.entries ++ ls) (b.is ∙ ap (λ ls. b.first ∷ ls) (append-nil b.saved)) in
     b.ends ∙ ap length (ap text_of_lines (sym lines) ∙ joined_lines text h.whole)
 
 -- k full lines more

@@ -6,9 +6,9 @@ use Rattle.bx_read.specs.Grammar.{IsLine}
 use Rattle.bx_read.specs.Line.{read_line, line_piece}
 use Rattle.bx_read.specs.declared.fault.ReadFault.{ReadFault}
 use Rattle.bx_read.proofs.GrammarLemmas.{guard_some, read_line-found}
-use Rattle.bx_read.proofs.PieceLemmas.{piece_err, piece_of as line_gives}
+use Rattle.bx_read.proofs.PieceLemmas.{piece_err, run_of_line as line_gives}
 use Rattle.bx_journal_format.specs.Kept.{Run}
-use Rattle.bx_journal_format.specs.DumpLine.{piece_of}
+use Rattle.bx_journal_format.specs.DumpLine.{run_of_line}
 use Rattle.bx_journal_format.proofs.Inverse.{map_some}
 
 some_long : (a b : List ℕ) → Some a ≡ Some b → length b ≡ length a
@@ -42,8 +42,8 @@ read_short text read is = by (read_line 1 text) refl
         let same : (v.0, found.0) ≡ read = cc in
         omega (arith, line_short text v.1 found.0 v.0 found.1, ap (λ (p : ℕ × List ℕ). length p.1) same)
 
-pub piece_short : (line : List ℕ) (p : Run) → piece_of line ≡ Some p → length p.bytes ≤ length line
-unfolding piece_of
+pub piece_short : (line : List ℕ) (p : Run) → run_of_line line ≡ Some p → length p.bytes ≤ length line
+unfolding run_of_line
 piece_short line p e =
     let read = map_some (λ (r : ℕ × List ℕ). record { at = r.0; bytes = r.1 }) (line_piece line) p e in
     omega (arith, read_short line read.0 read.1, ap (λ (q : Run). length q.bytes) read.2)

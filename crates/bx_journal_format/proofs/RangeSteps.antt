@@ -2,7 +2,7 @@
 use Rattle.std.proofs.Common.{◌≡◌, ℕ, ◌+◌, ◌≤◌, ◌<◌, Bool, true, false, List, [], ◌∷◌, ◌++◌, length, length-append, length-take, take, drop, refl, ap, sym, ◌∙◌, subst, arith, append_assoc, append-nil, inl, inr, Some, None}
 use Rattle.std.specs.Prelude.{◌&&◌, ◌==◌, nat_le, if◌then◌else◌, flat_map}
 use Rattle.std.proofs.lemmas.Grind.{common_steps, flat_map-append}
-use Rattle.bx_journal_format.specs.DumpLine.{piece_of}
+use Rattle.bx_journal_format.specs.DumpLine.{run_of_line}
 use Rattle.bx_journal_format.specs.Kept.{Run, with_run}
 use Rattle.bx_journal_format.specs.Line.{saved_in}
 use Rattle.bx_journal_format.specs.Ranges.{range_text, ranges_text, AreRanged, ArePut, EndIn, PutsRange, RangesOn}
@@ -22,7 +22,7 @@ both false b e = absurd (cc)
 pub saved_fits : (len : ℕ) (line : List ℕ) (p : Run) → saved_in len line ≡ Some p → p.at + length p.bytes ≤ len
 unfolding saved_in
 saved_fits len line p e =
-    let found = bind_some (λ piece. if nat_le (length piece.bytes) 16 && nat_le (piece.at + length piece.bytes) len then Some piece else None) (piece_of line) p e in
+    let found = bind_some (λ piece. if nat_le (length piece.bytes) 16 && nat_le (piece.at + length piece.bytes) len then Some piece else None) (run_of_line line) p e in
     let test = test_some (nat_le (length found.0.bytes) 16 && nat_le (found.0.at + length found.0.bytes) len) found.0 p found.2 in
     let fits : nat_le (found.0.at + length found.0.bytes) len ≡ true = both (nat_le (length found.0.bytes) 16) (nat_le (found.0.at + length found.0.bytes) len) test.0 in
     let below : found.0.at + length found.0.bytes ≤ len = grind (arith, common_steps, fits) in

@@ -13,7 +13,7 @@ use Rattle.bx_journal_format.specs.Kept.{kept_of, run_of}
 use Rattle.bx_journal_format.specs.Text.{Entry, Between, Saving}
 use Rattle.bx_journal_format.specs.read.Event.{LeadsAs}
 use Rattle.bx_journal_format.specs.count.Mark.{HasMarks, IsMark}
-use Rattle.bx_journal_format.specs.Parsed.{told_by, entry_of, entries_onto, entries_of, reading_onto, stage_of, AreMarked, IsMarked, KeepsMarks}
+use Rattle.bx_journal_format.specs.Parsed.{told_by, entry_of, entries_onto, entries_of, reading_onto, stage_of, AreMarked, IsStageMarked, KeepsMarks}
 use Rattle.bx_journal_format.specs.count.Tally.{place_of, tally_of}
 use Rattle.bx_journal_format.specs.read.TakeLine.{IsCompleted, IsFinishedBy, IsSavedOn, TakesLine}
 
@@ -46,8 +46,8 @@ pub marked-below : {A : Type 0} → (text : List ℕ) (done : List Entry) (from 
 marked-below text done from to more [] are le = omega (arith, are, le)
 marked-below text done from to more (e ∷ es) are le = (are.0, are.1, marked-below text (entry_of e ∷ done) e.saved to more es are.2 le)
 
-pub entry_marked : {A : Type 0} → (text : List ℕ) (older : List Entry) (es : List (EntryRead A)) (e : EntryRead A) (at after : ℕ) → IsMarked text older es (EndingRead e.version e.kept e.begins e.saved) at → at ≤ after
-    → IsMarked text older (es ++ e ∷ []) BetweenRead after
+pub entry_marked : {A : Type 0} → (text : List ℕ) (older : List Entry) (es : List (EntryRead A)) (e : EntryRead A) (at after : ℕ) → IsStageMarked text older es (EndingRead e.version e.kept e.begins e.saved) at → at ≤ after
+    → IsStageMarked text older (es ++ e ∷ []) BetweenRead after
 entry_marked text older es e at after m le = (
   marked-push text older 0 at after es e m.0 (record { beginning = m.1; saving = m.2; order = m.3 }) (omega (arith, m.4, le)),
   omega (arith, m.5, length-append es (e ∷ [])),
@@ -65,12 +65,12 @@ pub entry_finished : {A : Type 0} → (es news : List (EntryRead A)) (e : EntryR
 entry_finished es news e is v s ending =
     let same : kept_of e.kept ≡ s = cc in (
       λ older. ap (entries_onto older) is ∙ onto-push older es e ∙ ap (λ k. record { saved = k; after = e.after } ∷ entries_onto older es) same,
-      λ text older at to marked le. subst (λ fs. IsMarked text older fs BetweenRead to) (sym is) (entry_marked text older es e at to marked le),
+      λ text older at to marked le. subst (λ fs. IsStageMarked text older fs BetweenRead to) (sym is) (entry_marked text older es e at to marked le),
     )
 
 -- one more line: it begins an entry, is among its saved lines, is its save line, or ends it
 module _ {A : Type 0} (older : List Entry) (es : List (EntryRead A)) (stage : StageRead A) (at : ℕ) (line : List ℕ) where
-  between : (text : List ℕ) (stage : StageRead A) → stage_of stage ≡ Between → IsMarked text older es stage at → AreMarked text older 0 es at
+  between : (text : List ℕ) (stage : StageRead A) → stage_of stage ≡ Between → IsStageMarked text older es stage at → AreMarked text older 0 es at
   between text BetweenRead is m = m.0
   between text (SavingRead v len runs begins) is m = absurd (cc)
   between text (EndingRead v kept begins saved) is m = absurd (cc)

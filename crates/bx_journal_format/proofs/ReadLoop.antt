@@ -13,7 +13,7 @@ use Rattle.bx_journal_format.specs.read.Plain.{HasNoNewline}
 use Rattle.bx_journal_format.specs.Text.{Entry, Split, split, after_lines, IsRest, Reads, IsDamagedAt}
 use Rattle.bx_journal_format.specs.read.Journal.{HasRead, HasReadBehind, IsBehind}
 use Rattle.bx_journal_format.specs.count.Mark.{IsMark}
-use Rattle.bx_journal_format.specs.Parsed.{entries_onto, stage_of, reading_of, reading_onto, IsMarked, Leads, KeepsMarks, IsReadTo}
+use Rattle.bx_journal_format.specs.Parsed.{entries_onto, stage_of, reading_of, reading_onto, IsStageMarked, Leads, KeepsMarks, IsReadTo}
 use Rattle.bx_journal_format.proofs.LineLoop.{IsLine}
 use Rattle.bx_journal_format.proofs.Damage.{mark_on, counted_on, stops_at, reads_at, rest_stops, lines_done}
 
@@ -49,7 +49,7 @@ pub reads_all : {A E : Type 0} → (text : List ℕ) (r : Result (JournalRead A)
 reads_all text (Ok j) h = h.reads
 reads_all text (Err e) h = tt
 
-pub marked_few : {A : Type 0} → (text : List ℕ) (older : List Entry) (es : List (EntryRead A)) (stage : StageRead A) (at : ℕ) → IsMarked text older es stage at → length older + length es ≤ 65535
+pub marked_few : {A : Type 0} → (text : List ℕ) (older : List Entry) (es : List (EntryRead A)) (stage : StageRead A) (at : ℕ) → IsStageMarked text older es stage at → length older + length es ≤ 65535
 marked_few text older es BetweenRead at m = m.1
 marked_few text older es (SavingRead v len runs begins) at m = omega (arith, m.3)
 marked_few text older es (EndingRead v kept begins saved) at m = omega (arith, m.5)

@@ -12,7 +12,7 @@ use Rattle.bx_journal_format.specs.Hex.{hex_digits}
 use Rattle.bx_journal_format.specs.Kept.{Run, with_run}
 use Rattle.bx_journal_format.specs.declared.format.version.Version.{Version}
 use Rattle.bx_journal_format.specs.declared.format.version.Version.TheVariants.{First, Second}
-use Rattle.bx_journal_format.specs.DumpLine.{piece_of}
+use Rattle.bx_journal_format.specs.DumpLine.{run_of_line}
 use Rattle.bx_journal_format.specs.Line.{start_head, start_line, save_line, end_head, end_line, saved_in}
 use Rattle.bx_journal_format.specs.Text.{Entry, Stage, Between, Saving, Ending, Reading, IsRest, IsDamagedAt, is_short, next, next_at, split}
 use Rattle.bx_journal_format.specs.count.Mark.{IsMark}
@@ -93,11 +93,11 @@ read_front front more got long e =
               })
         ]
 
-piece_front : (front more : List ℕ) (p : Run) → 1024 ≤ length front → piece_of (front ++ more) ≡ Some p → piece_of front ≡ Some p
-unfolding piece_of
+piece_front : (front more : List ℕ) (p : Run) → 1024 ≤ length front → run_of_line (front ++ more) ≡ Some p → run_of_line front ≡ Some p
+unfolding run_of_line
 piece_front front more p long e = by (read_line 1 (front ++ more)) refl
   where
-    by : (read : Result (ℕ × List ℕ) ReadFault) → read_line 1 (front ++ more) ≡ read → piece_of front ≡ Some p
+    by : (read : Result (ℕ × List ℕ) ReadFault) → read_line 1 (front ++ more) ≡ read → run_of_line front ≡ Some p
     by (Ok got) is = rw (read_front front more got long is) (rw is at e)
     by (Err fault) is = absurd (let none = rw is at e in cc)
 
@@ -119,7 +119,7 @@ next_front es (Saving v s) front more q long e none = by (bytes_eq (front ++ mor
     by false false is same =
         let read = rw is at e in
         let some = map_some (λ (piece : Run). (record { entries = es; stage = Saving v (record { len = s.len; runs = with_run s.runs piece }) })) (saved_in s.len (front ++ more)) q read in
-        let found = bind_some (λ (piece : Run). if nat_le (length piece.bytes) 16 && nat_le (piece.at + length piece.bytes) s.len then Some piece else None) (piece_of (front ++ more)) some.0 some.1 in
+        let found = bind_some (λ (piece : Run). if nat_le (length piece.bytes) 16 && nat_le (piece.at + length piece.bytes) s.len then Some piece else None) (run_of_line (front ++ more)) some.0 some.1 in
         let here = piece_front front more found.0 long found.1 in
         let clash = rw (same, here, found.2) at none in
         cc

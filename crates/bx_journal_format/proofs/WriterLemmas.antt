@@ -16,7 +16,7 @@ use Rattle.bx_journal_format.specs.Kept.{Run, Kept, run_of}
 use Rattle.bx_journal_format.specs.declared.format.version.Version.TheVariants.{Second}
 use Rattle.bx_journal_format.specs.Line.{start_head, start_line, save_line}
 use Rattle.bx_journal_format.specs.Hex.{hex_digits}
-use Rattle.bx_journal_format.specs.DumpLine.{dump_line}
+use Rattle.bx_journal_format.specs.DumpLine.{saved_run_line}
 use Rattle.bx_journal_format.specs.Entry.{rows, head_lines, head_text, rows_text, row}
 use Rattle.bx_journal_format.specs.Text.{ended, text_of_lines}
 use Rattle.bx_journal_format.proofs.HexLemmas.{length-hex_digits}
@@ -29,10 +29,10 @@ range_more a (suc n) =
     ap (range_with_len a) count ∙ ap (λ xs. a ∷ xs) (range_more (a + 1) n ∙ ap (λ k. range_with_len (a + 1) n ++ k ∷ []) same)
 
 abbrev pub lines_of : List Run → List (List ℕ)
-lines_of rows = map (λ (p : Run). dump_line p.at p.bytes) rows
+lines_of rows = map (λ (p : Run). saved_run_line p.at p.bytes) rows
 
 pub lines_more : (rows more : List Run) → text_of_lines (lines_of (rows ++ more)) ≡ text_of_lines (lines_of rows) ++ text_of_lines (lines_of more)
-lines_more rows more = ap text_of_lines (map-append (λ (p : Run). dump_line p.at p.bytes) rows more) ∙ flat_map-append ended (lines_of rows) (lines_of more)
+lines_more rows more = ap text_of_lines (map-append (λ (p : Run). saved_run_line p.at p.bytes) rows more) ∙ flat_map-append ended (lines_of rows) (lines_of more)
 
 range_split : (a m n : ℕ) → range_with_len a (m + n) ≡ range_with_len a m ++ range_with_len (a + m) n
 range_split a zero n =
@@ -45,18 +45,18 @@ range_split a (suc m) n =
     ap (range_with_len a) count ∙ ap (λ xs. a ∷ xs) (range_split (a + 1) m n ∙ ap (λ b. range_with_len (a + 1) m ++ range_with_len b n) same)
 
 -- rows of a run from a place on, and one more
-pub row_more_at : (run : Run) (a k : ℕ) → rows_text (map (row run) (range_with_len a (k + 1))) ≡ rows_text (map (row run) (range_with_len a k)) ++ ended (dump_line (row run (a + k)).at (row run (a + k)).bytes)
+pub row_more_at : (run : Run) (a k : ℕ) → rows_text (map (row run) (range_with_len a (k + 1))) ≡ rows_text (map (row run) (range_with_len a k)) ++ ended (saved_run_line (row run (a + k)).at (row run (a + k)).bytes)
 row_more_at run a k =
     ap (λ ks. text_of_lines (lines_of (map (row run) ks))) (range_more a k)
     ∙ ap (λ ps. text_of_lines (lines_of ps)) (map-append (row run) (range_with_len a k) ((a + k) ∷ []))
     ∙ lines_more (map (row run) (range_with_len a k)) (map (row run) ((a + k) ∷ []))
-    ∙ ap (λ t. text_of_lines (lines_of (map (row run) (range_with_len a k))) ++ t) (append-nil (ended (dump_line (row run (a + k)).at (row run (a + k)).bytes)))
+    ∙ ap (λ t. text_of_lines (lines_of (map (row run) (range_with_len a k))) ++ t) (append-nil (ended (saved_run_line (row run (a + k)).at (row run (a + k)).bytes)))
 
 -- the rows of a run before a place, and one more
-pub row_more : (run : Run) (k : ℕ) → text_of_lines (lines_of (map (row run) (range_with_len 0 (k + 1)))) ≡ text_of_lines (lines_of (map (row run) (range_with_len 0 k))) ++ ended (dump_line (row run k).at (row run k).bytes)
+pub row_more : (run : Run) (k : ℕ) → text_of_lines (lines_of (map (row run) (range_with_len 0 (k + 1)))) ≡ text_of_lines (lines_of (map (row run) (range_with_len 0 k))) ++ ended (saved_run_line (row run k).at (row run k).bytes)
 row_more run k =
     row_more_at run 0 k
-    ∙ ap (λ j. text_of_lines (lines_of (map (row run) (range_with_len 0 k))) ++ ended (dump_line (row run j).at (row run j).bytes)) (let none : 0 + k ≡ k = omega arith in none)
+    ∙ ap (λ j. text_of_lines (lines_of (map (row run) (range_with_len 0 k))) ++ ended (saved_run_line (row run j).at (row run j).bytes)) (let none : 0 + k ≡ k = omega arith in none)
 
 -- the rows before a place, and those from there on
 pub rows_split : (run : Run) (k n : ℕ) → rows_text (map (row run) (range_with_len 0 (k + n))) ≡ rows_text (map (row run) (range_with_len 0 k)) ++ rows_text (map (row run) (range_with_len k n))
@@ -77,12 +77,12 @@ row_slice bytes k to is =
     ]
 
 pub row_written : (text old new bytes : List ℕ) (run : Run) (k to : ℕ) → bytes ≡ run.bytes → to ≡ min (16 * k + 16) (length bytes)
-    → new ≡ old ++ ended (dump_line (run.at + 16 * k) (take (to - 16 * k) (drop (16 * k) bytes))) → old ≡ text ++ text_of_lines (lines_of (map (row run) (range_with_len 0 k)))
+    → new ≡ old ++ ended (saved_run_line (run.at + 16 * k) (take (to - 16 * k) (drop (16 * k) bytes))) → old ≡ text ++ text_of_lines (lines_of (map (row run) (range_with_len 0 k)))
     → new ≡ text ++ text_of_lines (lines_of (map (row run) (range_with_len 0 (k + 1))))
 row_written text old new bytes run k to same is added before =
     let slice : take (to - 16 * k) (drop (16 * k) bytes) ≡ (row run k).bytes = row_slice bytes k to is ∙ ap (λ b. take 16 (drop (16 * k) b)) same in
-    added ∙ ap (λ b. old ++ ended (dump_line (run.at + 16 * k) b)) slice ∙ ap (λ t. t ++ ended (dump_line (run.at + 16 * k) (row run k).bytes)) before
-    ∙ append_assoc text (text_of_lines (lines_of (map (row run) (range_with_len 0 k)))) (ended (dump_line (row run k).at (row run k).bytes))
+    added ∙ ap (λ b. old ++ ended (saved_run_line (run.at + 16 * k) b)) slice ∙ ap (λ t. t ++ ended (saved_run_line (run.at + 16 * k) (row run k).bytes)) before
+    ∙ append_assoc text (text_of_lines (lines_of (map (row run) (range_with_len 0 k)))) (ended (saved_run_line (row run k).at (row run k).bytes))
     ∙ ap (λ t. text ++ t) (sym (row_more run k))
 
 pub within_at : {A : Type 0} → (len : ℕ) (runs : List (Piece A)) (run : Piece A) (k : ℕ) → AllWithin len runs → k < length runs → run ≡ get_or runs k run → end_of run.at run.bytes ≤ len
@@ -121,7 +121,7 @@ take_whole runs k all = take_all k runs all
 
 -- what the rows of a run before a place, and the row there, make of the text
 pub row_step : (text bytes : List ℕ) (run : Run) (k to : ℕ) → bytes ≡ run.bytes → to ≡ min (16 * k + 16) (length bytes)
-    → (text ++ rows_text (map (row run) (range_with_len 0 k))) ++ ended (dump_line (run.at + 16 * k) (take (to - 16 * k) (drop (16 * k) bytes)))
+    → (text ++ rows_text (map (row run) (range_with_len 0 k))) ++ ended (saved_run_line (run.at + 16 * k) (take (to - 16 * k) (drop (16 * k) bytes)))
     ≡ text ++ rows_text (map (row run) (range_with_len 0 (k + 1)))
 row_step text bytes run k to same is = row_written text _ _ bytes run k to same is refl refl
 
@@ -132,7 +132,7 @@ rows_front_by run k zero =
 rows_front_by run k (suc d) =
     let more : k + suc d ≡ (k + d) + 1 = omega arith in
     let before = rows_front_by run k d in
-    let last : List ℕ = ended (dump_line (row run (k + d)).at (row run (k + d)).bytes) in (
+    let last : List ℕ = ended (saved_run_line (row run (k + d)).at (row run (k + d)).bytes) in (
       before.0 ++ last,
       ap (λ n. rows_text (map (row run) (range_with_len 0 n))) more ∙ row_more run (k + d) ∙ ap (λ t. t ++ last) before.1
           ∙ append_assoc (rows_text (map (row run) (range_with_len 0 k))) before.0 last,
@@ -203,7 +203,7 @@ parts_long a c s =
       length-append a (codes ": "),
     )
 
-pub row_long : (at : ℕ) (bytes : List ℕ) → length (ended (dump_line at bytes)) ≡ length (hex_text false 8 at) + 44 + length bytes
-unfolding dump_line
+pub row_long : (at : ℕ) (bytes : List ℕ) → length (ended (saved_run_line at bytes)) ≡ length (hex_text false 8 at) + 44 + length bytes
+unfolding saved_run_line
 row_long at bytes =
     omega (arith, parts_long (hex_text false 8 at) (hex_columns false 2 bytes 40) (map shown_byte bytes), columns_long bytes, length-map bytes shown_byte)

@@ -9,12 +9,12 @@ use Rattle.bx_image.specs.Change.{AreBytes}
 use Rattle.bx_read.specs.Laws.{dump_line_text, IsWritten}
 use Rattle.bx_journal_format.specs.Kept.{Run}
 use Rattle.bx_journal_format.specs.read.Plain.{HasNoNewline}
-use Rattle.bx_journal_format.specs.DumpLine.{dump_line, piece_of}
+use Rattle.bx_journal_format.specs.DumpLine.{saved_run_line, run_of_line}
 use Rattle.bx_text.specs.Ascii.{is_printable}
 use Rattle.bx_journal_format.specs.Text.{IsPrefix, is_short, begins_with_s}
 
 pub record IsSavedLine (line : List ℕ) (piece : Run) : Type 0 where
-  pub reads : piece_of line ≡ Some piece
+  pub reads : run_of_line line ≡ Some piece
   pub plain : HasNoNewline line
   pub short : is_short line ≡ true
   pub front : (t : List ℕ) → IsPrefix t line → begins_with_s t ≡ false
@@ -51,8 +51,8 @@ front_of line [] h front = refl
 front_of line (b ∷ t) h front = apart b 115 (h (b ∷ t) front.0 front.1)
 
 -- a line that is written gives back what it was made of
-pub saved_line : (p : Run) → AreBytes p.bytes → 0 < length p.bytes → length p.bytes ≤ 16 → p.at + length p.bytes ≤ MAX_LEN → IsSavedLine (dump_line p.at p.bytes) p
-unfolding dump_line piece_of
+pub saved_line : (p : Run) → AreBytes p.bytes → 0 < length p.bytes → length p.bytes ≤ 16 → p.at + length p.bytes ≤ MAX_LEN → IsSavedLine (saved_run_line p.at p.bytes) p
+unfolding saved_run_line run_of_line
 saved_line p are some few within =
     let w : IsWritten (dump_line_text p.at p.bytes) p.at p.bytes = (written p.at p.bytes some few (bytes_all p.bytes are) within).1 in
     record {

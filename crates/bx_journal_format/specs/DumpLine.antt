@@ -6,9 +6,9 @@ use Rattle.bx_read.specs.Laws.{dump_line_text}
 use Rattle.bx_journal_format.specs.Kept.{Run}
 
 -- xxd's default line for at most 16 bytes
-unfoldable pub dump_line : ℕ → List ℕ → List ℕ
-dump_line at bytes = dump_line_text at bytes
+unfoldable pub saved_run_line : ℕ → List ℕ → List ℕ
+saved_run_line at bytes = dump_line_text at bytes
 
 -- what a line gives, if it is a line of a dump
-unfoldable pub piece_of : List ℕ → Option Run
-piece_of line = option_map (λ read. record { at = read.0; bytes = read.1 }) (line_piece line)
+unfoldable pub run_of_line : List ℕ → Option Run
+run_of_line line = option_map (λ read. record { at = read.0; bytes = read.1 }) (line_piece line)

@@ -3,7 +3,7 @@ use Rattle.std.specs.Prelude.{ℕ, ◌+◌, ◌*◌, ◌/◌, List, [], ◌∷�
 use Rattle.std.specs.List.{range_with_len}
 use Rattle.bx_journal_format.specs.Kept.{Run, Kept}
 use Rattle.bx_journal_format.specs.declared.format.version.Version.TheVariants.{Second}
-use Rattle.bx_journal_format.specs.DumpLine.{dump_line}
+use Rattle.bx_journal_format.specs.DumpLine.{saved_run_line}
 use Rattle.bx_journal_format.specs.Line.{start_line, save_line, end_line}
 use Rattle.bx_journal_format.specs.Text.{text_of_lines}
 
@@ -13,7 +13,7 @@ rows run = map (λ j. record { at = run.at + 16 * j; bytes = take 16 (drop (16 *
 
 -- the lines of entry n up to its save line
 unfoldable pub head_lines : ℕ → Kept → List (List ℕ)
-head_lines n s = start_line Second n s.len ∷ (map (λ p. dump_line p.at p.bytes) (flat_map rows s.runs) ++ save_line n ∷ [])
+head_lines n s = start_line Second n s.len ∷ (map (λ p. saved_run_line p.at p.bytes) (flat_map rows s.runs) ++ save_line n ∷ [])
 
 -- the lines of an entry up to `save`
 abbrev pub head_text : ℕ → Kept → List ℕ
@@ -33,4 +33,4 @@ row run j = record { at = run.at + 16 * j; bytes = take 16 (drop (16 * j) run.by
 
 -- the saved lines of these rows
 abbrev pub rows_text : List Run → List ℕ
-rows_text ps = text_of_lines (map (λ p. dump_line p.at p.bytes) ps)
+rows_text ps = text_of_lines (map (λ p. saved_run_line p.at p.bytes) ps)

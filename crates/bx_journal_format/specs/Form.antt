@@ -1,7 +1,7 @@
 -- Bytes that have a form, each at its place.
 use Rattle.std.specs.Prelude.{◌≡◌, ◌<◌, ◌≤◌, ◌==◌, ℕ, Bool, true, nat_lt, if◌then◌else◌, Some, List, [], ◌∷◌, ◌++◌, length, take, drop, slice_index}
 use Rattle.bx_read.specs.Digits.{is_hex}
-use Rattle.bx_journal_format.specs.DumpLine.{piece_of}
+use Rattle.bx_journal_format.specs.DumpLine.{run_of_line}
 use Rattle.bx_journal_format.specs.read.Plain.{HasNoNewline}
 
 -- whether a byte is that of a form; where the form has 0 it is to be a digit
@@ -32,4 +32,4 @@ pub record IsFullAt (at : ℕ) (text : List ℕ) : Type 0 where
   pub long : 68 ≤ length text
   pub plain : HasNoNewline (take 67 text)
   pub ended : text ≡ take 67 text ++ 10 ∷ drop 68 text
-  pub gives : piece_of (take 67 text) ≡ Some (record { at = at; bytes = bytes })
+  pub gives : run_of_line (take 67 text) ≡ Some (record { at = at; bytes = bytes })

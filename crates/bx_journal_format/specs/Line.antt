@@ -7,7 +7,7 @@ use Rattle.bx_journal_format.specs.Kept.{Run}
 use Rattle.bx_journal_format.specs.declared.format.version.Version.{Version}
 use Rattle.bx_journal_format.specs.declared.format.version.Version.TheVariants.{First, Second}
 use Rattle.bx_journal_format.specs.Hex.{hex_digits, number_of}
-use Rattle.bx_journal_format.specs.DumpLine.{piece_of}
+use Rattle.bx_journal_format.specs.DumpLine.{run_of_line}
 
 -- how many digits a length has
 abbrev pub address_width : Version → ℕ
@@ -57,7 +57,7 @@ after_in Second n line = option_map Some (at_most MAX_LEN (option_and_then (numb
 -- what a saved line gives in an entry of an image of this length
 unfoldable pub saved_in : ℕ → List ℕ → Option Run
 saved_in len line = option_and_then
-    (λ piece. if nat_le (length piece.bytes) 16 && nat_le (piece.at + length piece.bytes) len then Some piece else None) (piece_of line)
+    (λ piece. if nat_le (length piece.bytes) 16 && nat_le (piece.at + length piece.bytes) len then Some piece else None) (run_of_line line)
 
 -- how long the line is that begins an entry
 abbrev pub start_size : Version → ℕ

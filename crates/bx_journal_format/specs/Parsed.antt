@@ -43,12 +43,12 @@ AreMarked text done from (e ∷ es) to =
     (from ≤ e.begins) × HasMarks text done e.version (entry_of e) e.begins e.saved × AreMarked text (entry_of e ∷ done) e.saved es to
 
 -- what was read up to a place behind older entries, with the places where its entries begin and where their save lines end
-abbrev pub IsMarked : {A : Type 0} → List ℕ → List Entry → List (EntryRead A) → StageRead A → ℕ → Type 0
-IsMarked text older es BetweenRead at = AreMarked text older 0 es at × (length older + length es ≤ 65535)
-IsMarked text older es (SavingRead v len runs begins) at =
+abbrev pub IsStageMarked : {A : Type 0} → List ℕ → List Entry → List (EntryRead A) → StageRead A → ℕ → Type 0
+IsStageMarked text older es BetweenRead at = AreMarked text older 0 es at × (length older + length es ≤ 65535)
+IsStageMarked text older es (SavingRead v len runs begins) at =
     AreMarked text older 0 es begins × IsMark text begins (record { entries = entries_onto older es; stage = Between }) × (begins ≤ at)
     × (length older + length es < 65535)
-IsMarked text older es (EndingRead v kept begins saved) at =
+IsStageMarked text older es (EndingRead v kept begins saved) at =
     AreMarked text older 0 es begins × IsMark text begins (record { entries = entries_onto older es; stage = Between })
     × IsMark text saved (record { entries = entries_onto older es; stage = Ending v (kept_of kept) }) × (begins ≤ saved) × (saved ≤ at)
     × (length older + length es < 65535)
@@ -61,12 +61,12 @@ Leads r line es (Some s) = next r line ≡ Some (record { entries = es; stage = 
 -- what was read up to a place, if anything, has its places
 abbrev pub KeepsMarks : {A : Type 0} → List ℕ → List Entry → List (EntryRead A) → ℕ → Option (StageRead A) → Type 0
 KeepsMarks text older es after None = Unit {0}
-KeepsMarks text older es after (Some s) = IsMark text after (reading_onto older es s) → IsMarked text older es s after
+KeepsMarks text older es after (Some s) = IsMark text after (reading_onto older es s) → IsStageMarked text older es s after
 
 -- the text is read up to a place behind a whole line; `line` is the number of the next one, and the entries are those behind `older`
 pub record IsReadTo {A : Type 0} (text : List ℕ) (older : List Entry) (es : List (EntryRead A)) (stage : StageRead A) (at line : ℕ) : Type 0 where
   pub mark : IsMark text at (reading_onto older es stage)
-  pub marked : IsMarked text older es stage at
+  pub marked : IsStageMarked text older es stage at
   pub counted : line ≡ suc (length (split (take at text)).lines)
 
 -- `count` full lines, with which a text goes on, lead from one stage to another and count among its lines, whatever entries are

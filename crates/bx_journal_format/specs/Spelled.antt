@@ -17,9 +17,9 @@ abbrev pub entry_in : EntryLines → Entry
 entry_in c = c.entry
 
 -- all lines of entries, which are given the newest first
-unfoldable pub lines_of : List EntryLines → List (List ℕ)
-lines_of [] = []
-lines_of (c ∷ older) = lines_of older ++ c.first ∷ (c.saved ++ save_line (suc (length older)) ∷ c.last ∷ [])
+unfoldable pub entry_lines : List EntryLines → List (List ℕ)
+entry_lines [] = []
+entry_lines (c ∷ older) = entry_lines older ++ c.first ∷ (c.saved ++ save_line (suc (length older)) ∷ c.last ∷ [])
 
 -- runs with another behind them, if there is one
 abbrev pub with_found : List Run → Option Run → List Run
@@ -43,5 +43,5 @@ GiveRuns (c ∷ older) = (c.entry.saved.runs ≡ runs_behind c.entry.saved.len [
 -- the text is these finished entries alone, and their lines are these
 pub record IsSpelled (text : List ℕ) (entries : List EntryLines) : Type 0 where
   pub finished : IsFinished text (map entry_in entries)
-  pub lines : (split text).lines ≡ lines_of entries
+  pub lines : (split text).lines ≡ entry_lines entries
   pub runs : GiveRuns entries

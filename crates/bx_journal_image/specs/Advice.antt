@@ -5,12 +5,12 @@ use Rattle.bx_journal_image.specs.declared.advice.Standing.{Standing}
 use Rattle.bx_journal_image.specs.Digest.{is_same}
 
 -- the line is on these texts and an image of this length
-abbrev pub fits : ImageLine → Standing → Bool
-fits line now = (line.changes == now.changes) && (line.undone == now.undone) && (line.length == now.length)
+abbrev pub is_about : ImageLine → Standing → Bool
+is_about line now = (line.changes == now.changes) && (line.undone == now.undone) && (line.length == now.length)
 
 -- the image isn't the one that the last command left
 abbrev pub is_changed : ImageLine → Standing → Bool
-is_changed line now = fits line now && not (is_same line.last now.last)
+is_changed line now = is_about line now && not (is_same line.last now.last)
 
 -- a count of changes, of those that there are
 abbrev pub some_of : ℕ → ℕ → Bool
@@ -18,12 +18,12 @@ some_of count most = nat_lt 0 count && nat_le count most
 
 -- an undo of `count` changes is refused: the image was changed since, or one of them stands for another image
 abbrev pub is_undo_refused : ImageLine → Standing → ℕ → Bool
-is_undo_refused line now count = some_of count now.changes && (fits line now && (not (is_same line.last now.last) || nat_lt (now.changes - count) line.others))
+is_undo_refused line now count = some_of count now.changes && (is_about line now && (not (is_same line.last now.last) || nat_lt (now.changes - count) line.others))
 
 -- a redo of `count` changes is refused: the image was changed since
 abbrev pub is_redo_refused : ImageLine → Standing → ℕ → Bool
-is_redo_refused line now count = some_of count now.undone && (fits line now && not (is_same line.next now.next))
+is_redo_refused line now count = some_of count now.undone && (is_about line now && not (is_same line.next now.next))
 
 -- how many of the oldest changes stand for another image, once a command is done on what was found
 abbrev pub others_after : ImageLine → Standing → ℕ
-others_after line now = if is_changed line now then now.changes else if fits line now then line.others else 0
+others_after line now = if is_changed line now then now.changes else if is_about line now then line.others else 0

@@ -14,7 +14,7 @@ image_line l = field (codes "image1 ") 8 l.changes ++ field (codes " ") 8 l.undo
     ++ field (codes " ") 8 l.others ++ codes "\n"
 
 -- its numbers have places enough
-pub record Fits (l : ImageLine) : Type 0 where
+pub record FitsPlaces (l : ImageLine) : Type 0 where
   pub changes : l.changes < 16 ^ 8
   pub undone : l.undone < 16 ^ 8
   pub length : l.length < 16 ^ 16

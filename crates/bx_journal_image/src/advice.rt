@@ -1,6 +1,6 @@
 //! When the line advises against an undo or a redo.
 ghost use Rattle.std.specs.Prelude.{◌≡◌};
-ghost use Rattle.bx_journal_image.specs.Advice.{fits, is_changed, is_redo_refused, is_undo_refused, others_after};
+ghost use Rattle.bx_journal_image.specs.Advice.{is_about, is_changed, is_redo_refused, is_undo_refused, others_after};
 
 use crate::digest::{Digest, is_same};
 use crate::line::ImageLine;
@@ -43,8 +43,8 @@ impl Standing {
 }
 
 /// Whether the line is on these texts and an image of this length: one of others says nothing.
-pub fn fits(line: &ImageLine, now: &Standing) -> bool
-    ensures { result ≡ fits line.now now.now }
+pub fn is_about(line: &ImageLine, now: &Standing) -> bool
+    ensures { result ≡ is_about line.now now.now }
 {
     line.changes == now.changes && line.undone == now.undone && line.length == now.length
 }
@@ -53,7 +53,7 @@ pub fn fits(line: &ImageLine, now: &Standing) -> bool
 pub fn is_changed(line: &ImageLine, now: &Standing) -> bool
     ensures { result ≡ is_changed line.now now.now }
 {
-    fits(line, now) && !is_same(line.last, now.last)
+    is_about(line, now) && !is_same(line.last, now.last)
 }
 
 /// Whether an undo of `count` changes is refused: the image was changed since, or some of them stand for another image. One of none,
@@ -64,7 +64,7 @@ pub fn is_undo_refused(line: &ImageLine, now: &Standing, count: u32) -> bool
     if count == 0 || count > now.changes {
         return false;
     }
-    if !fits(line, now) {
+    if !is_about(line, now) {
         return false;
     }
     !is_same(line.last, now.last) || now.changes - count < line.others
@@ -77,7 +77,7 @@ pub fn is_redo_refused(line: &ImageLine, now: &Standing, count: u32) -> bool
     if count == 0 || count > now.undone {
         return false;
     }
-    fits(line, now) && !is_same(line.next, now.next)
+    is_about(line, now) && !is_same(line.next, now.next)
 }
 
 /// How many of the oldest changes stand for another image, once a command is done on what was found: all that stood where the image was
@@ -88,5 +88,5 @@ pub fn others_after(line: &ImageLine, now: &Standing) -> u32
     if is_changed(line, now) {
         return now.changes;
     }
-    if fits(line, now) { line.others } else { 0 }
+    if is_about(line, now) { line.others } else { 0 }
 }

@@ -1,7 +1,7 @@
 //! The line that a journal's third text has.
 ghost use Rattle.std.specs.Prelude.{◌≡◌, ◌+◌, ◌<◌, ◌≤◌, ◌^◌, ◌++◌, ℕ, List, length, IfSome, IfNone};
 ghost use Rattle.bx_journal_format.specs.Hex.{hex_digits, hex_nibble, number_after};
-ghost use Rattle.bx_journal_image.specs.Line.{Fits, field, image_line};
+ghost use Rattle.bx_journal_image.specs.Line.{FitsPlaces, field, image_line};
 
 use crate::digest::Digest;
 use bx_text::{ShortText, hex_field};
@@ -116,7 +116,7 @@ fn number_behind<'a>(text: &'a [u8], word: usize, width: usize) -> Numbered<'a>
 
 /// What a text says that is the line; of another text what stands in its places.
 fn fields_of(text: &[u8]) -> ImageLine
-    ensures { (l : ImageLine) → Fits l → text.now ≡ image_line l → result ≡ l }
+    ensures { (l : ImageLine) → FitsPlaces l → text.now ≡ image_line l → result ≡ l }
 {
     let changes = number_behind(text, 7, 8);
     let undone = number_behind(changes.rest, 1, 8);
@@ -145,7 +145,7 @@ fn fields_of(text: &[u8]) -> ImageLine
 /// What a text says, where it is the line as it is written, to the byte; none for any other text.
 pub fn read_line(text: &[u8]) -> Option<ImageLine>
     ensures some { IfSome result (λ l. text.now ≡ image_line l) }
-    ensures none { IfNone result ((l : ImageLine) → Fits l → text.now ≡ image_line l → ⊥) }
+    ensures none { IfNone result ((l : ImageLine) → FitsPlaces l → text.now ≡ image_line l → ⊥) }
 {
     let line = fields_of(text);
     let written = write_line(line);

@@ -8,7 +8,7 @@ use Rattle.bx_image.proofs.FillLemmas.{length-zeros}
 use Rattle.bx_journal_format.specs.Kept.{Run, run_of, kept_of}
 use Rattle.bx_journal_format.proofs.ReadLoop.{drop_twice}
 use Rattle.bx_journal_format.specs.Entry.{rows, rows_text, row, head_text}
-use Rattle.bx_journal_format.specs.DumpLine.{dump_line}
+use Rattle.bx_journal_format.specs.DumpLine.{saved_run_line}
 use Rattle.bx_journal_format.specs.Text.{ended}
 use Rattle.std.proofs.lemmas.Bool.{cases_lt}
 use Rattle.bx_journal_format.proofs.WriterLemmas.{rows_split, rows_all, row_long, head_is}
@@ -152,7 +152,7 @@ len_some at n some =
     let r : Run = run_at at (zeros ((at + n) - at)) in
     let count : (length r.bytes + 15) / 16 ≡ suc ((length r.bytes - 1) / 16) = omega (arith, length-zeros ((at + n) - at), some) in
     let k : ℕ = (length r.bytes - 1) / 16 in
-    let first : List ℕ = ended (dump_line (row r 0).at (row r 0).bytes) in
+    let first : List ℕ = ended (saved_run_line (row r 0).at (row r 0).bytes) in
     omega (
       arith,
       ap (λ m. length (rows_text (map (row r) (range_with_len 0 m)))) count,
@@ -280,7 +280,7 @@ kept_as {A = A} x spans s is = sym (ap kept_of is) ∙ ap (λ runs. record { len
 pub range_some : (len : ℕ) (ranges rest : List Span) (i : ℕ) (r : Span) → AreRanges len ranges → drop i ranges ≡ r ∷ rest → r.at < r.end
 range_some len ranges rest i r all here = (subst (AreRanges len) here (ranges_at len ranges i all)).0
 
-pub line_same : (at : ℕ) (a b : List ℕ) → length a ≡ length b → length (ended (dump_line at a)) ≡ length (ended (dump_line at b))
+pub line_same : (at : ℕ) (a b : List ℕ) → length a ≡ length b → length (ended (saved_run_line at a)) ≡ length (ended (saved_run_line at b))
 line_same at a b same = omega (arith, row_long at a, row_long at b, same)
 
 pub left_len_more : (ranges : List Span) (k : ℕ) (d : Span) → k < length ranges

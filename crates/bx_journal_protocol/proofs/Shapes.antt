@@ -6,7 +6,7 @@ use Rattle.bx_text.specs.declared.owned.pieces.Piece.{Piece}
 use Rattle.bx_text.specs.Field.{hex_text}
 use Rattle.bx_image.specs.Runs.{HaveShape}
 use Rattle.bx_journal_format.specs.Kept.{Run, Kept, run_of}
-use Rattle.bx_journal_format.specs.DumpLine.{dump_line}
+use Rattle.bx_journal_format.specs.DumpLine.{saved_run_line}
 use Rattle.bx_journal_format.specs.Line.{end_head, end_line}
 use Rattle.bx_journal_format.specs.Hex.{hex_digits}
 use Rattle.bx_journal_format.specs.Entry.{rows, head_text, end_text, entry_text, rows_text, row}
@@ -34,8 +34,8 @@ end_long n after =
 rows_same : (r s : Run) (ks : List ℕ) → r.at ≡ s.at → length r.bytes ≡ length s.bytes → length (rows_text (map (row r) ks)) ≡ length (rows_text (map (row s) ks))
 rows_same r s [] at len = refl
 rows_same r s (k ∷ ks) at len =
-    let a : List ℕ = ended (dump_line (row r k).at (row r k).bytes) in
-    let b : List ℕ = ended (dump_line (row s k).at (row s k).bytes) in
+    let a : List ℕ = ended (saved_run_line (row r k).at (row r k).bytes) in
+    let b : List ℕ = ended (saved_run_line (row s k).at (row s k).bytes) in
     let one : length a ≡ length b = row_long (row r k).at (row r k).bytes ∙ grow at ∙ sym (row_long (row s k).at (row s k).bytes) in
     length-append a (rows_text (map (row r) ks)) ∙ omega (arith, one, rows_same r s ks at len) ∙ sym (length-append b (rows_text (map (row s) ks)))
   where
@@ -51,7 +51,7 @@ run_same r s at len = rows_same r s (range_with_len 0 ((length r.bytes + 15) / 1
 
 pub text-append : (ps qs : List Run) → rows_text (ps ++ qs) ≡ rows_text ps ++ rows_text qs
 text-append ps qs =
-    ap text_of_lines (map-append (λ (p : Run). dump_line p.at p.bytes) ps qs) ∙ joined-append (map (λ (p : Run). dump_line p.at p.bytes) ps) (map (λ (p : Run). dump_line p.at p.bytes) qs)
+    ap text_of_lines (map-append (λ (p : Run). saved_run_line p.at p.bytes) ps qs) ∙ joined-append (map (λ (p : Run). saved_run_line p.at p.bytes) ps) (map (λ (p : Run). saved_run_line p.at p.bytes) qs)
 
 pub runs_same : {A : Type 0} (olds news : List (Piece A)) → HaveShape olds news → length (rows_text (flat_map rows (map run_of news))) ≡ length (rows_text (flat_map rows (map run_of olds)))
 runs_same [] [] shape = refl

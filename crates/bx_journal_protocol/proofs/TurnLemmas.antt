@@ -16,7 +16,7 @@ use Rattle.bx_journal_read.proofs.Phases.{rest_recovers}
 use Rattle.bx_journal_read.specs.model.Images.{Images, with_undone, undo_of, redo_of}
 use Rattle.bx_journal_read.specs.model.Redo.{IsRedoOf, Finds}
 use Rattle.bx_journal_protocol.specs.model.RedoLaws.{RestoresKept}
-use Rattle.bx_journal_protocol.specs.protocol.Turns.{kept_text, IsTakenByUndo, UndoesOne, RedoesOne, UndoStops, RedoStops, ChangeStops, RestIsFound}
+use Rattle.bx_journal_protocol.specs.protocol.Turns.{kept_text, IsTakenByUndo, UndoesOne, RedoesOne, UndoFinds, RedoStops, ChangeStops, RestIsFound}
 use Rattle.bx_journal_protocol.proofs.RedoText.{empty_is_redo, popped_is_redo}
 use Rattle.bx_journal_protocol.proofs.UndoAppends.{pushed_by_undo}
 use Rattle.bx_journal_protocol.proofs.StepFound.{step_is_found}
@@ -52,7 +52,7 @@ redo_part c entry x redo y redo_new s e taken below undone one restored is =
     let r : IsRedoOf redo x (suc (changes_of below)) s.undone = subst (λ n. IsRedoOf redo x n s.undone) (changes_below s.stack below x one.stack_is one.some) undone in
     kept_is_redo c entry redo redo_new x y (changes_of below) s.undone e taken r one.restores one.fits one.taken_is restored is
 
-pub undo_stops : {A : Type 0} → UndoStops A
+pub undo_stops : {A : Type 0} → UndoFinds A
 undo_stops c entry text x redo new x_new redo_new s e taken below rest one leaves =
     let kept : List ℕ = kept_text redo taken (suc (length s.undone)) e.saved.len in
     let old : IsRedoOf redo x (changes_of (x ∷ below)) s.undone = subst (λ t. IsRedoOf redo x (changes_of t) s.undone) one.stack_is rest.undone in

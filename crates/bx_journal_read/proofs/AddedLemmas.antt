@@ -4,7 +4,7 @@ use Rattle.std.proofs.KnownBytes.{Appends-nil, Appends-trans}
 use Rattle.std.proofs.lemmas.Grind.{flat_map-append}
 use Rattle.std.specs.Prelude.{flat_map}
 use Rattle.std.specs.Io.KnownBytes.{Appends}
-use Rattle.bx_journal_format.specs.Spelled.{EntryLines, lines_of}
+use Rattle.bx_journal_format.specs.Spelled.{EntryLines, entry_lines}
 use Rattle.bx_journal_format.specs.Text.{Split, ended, text_of_lines, split}
 use Rattle.bx_journal_format.specs.count.Marks.{mark_of}
 use Rattle.bx_journal_format.proofs.Damage.{split_joined}
@@ -85,7 +85,7 @@ pub written_from : (show : List ℕ → List ℕ) (stored text : List ℕ) (from
 written_from show stored text from to w0 w1 same written = subst (λ t. AreWritten show t from to w0 w1) same written
 
 -- the lines of an entry's mark are its saved lines
-pub shown_there : (show : List ℕ → List ℕ) (older : List EntryLines) (c : EntryLines) (rest text : List ℕ) → text ≡ text_of_lines (lines_of (c ∷ older)) ++ rest → AllPlain c.saved
+pub shown_there : (show : List ℕ → List ℕ) (older : List EntryLines) (c : EntryLines) (rest text : List ℕ) → text ≡ text_of_lines (entry_lines (c ∷ older)) ++ rest → AllPlain c.saved
     → flat_map show (split (lines_at text (mark_of older c))).lines ≡ flat_map show c.saved
 shown_there show older c rest text is plain =
     ap (λ t. flat_map show (split t).lines) (lines_there older c rest text is) ∙ ap (λ (s : Split). flat_map show s.lines) (split_joined c.saved plain)

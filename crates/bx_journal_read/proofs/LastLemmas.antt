@@ -8,7 +8,7 @@ use Rattle.bx_journal_format.specs.Text.{Entry, Between, split, start, after_lin
 use Rattle.bx_journal_format.specs.declared.read.types.StageRead.TheVariants.{Between as BetweenRead}
 use Rattle.bx_journal_format.specs.declared.read.lines.LinesRead.{LinesRead}
 use Rattle.bx_journal_format.specs.read.Lines.{IsFront, IsReadUpTo}
-use Rattle.bx_journal_format.specs.Parsed.{entries_onto, reading_onto, AreMarked, IsMarked}
+use Rattle.bx_journal_format.specs.Parsed.{entries_onto, reading_onto, AreMarked, IsStageMarked}
 use Rattle.bx_journal_format.specs.count.Mark.{IsMark}
 use Rattle.bx_journal_format.specs.count.Tally.{IsCounted}
 use Rattle.bx_journal_read.specs.declared.scan.entries.FinishedRead.{FinishedRead}
@@ -61,7 +61,7 @@ last_read text older f r first count read is before many =
         whole = rest;
       };
       mark = mark;
-      marked = subst (AreMarked text older 0 es) long (subst (λ s. IsMarked text older es s r.at) is read.read.marked).0;
+      marked = subst (AreMarked text older 0 es) long (subst (λ s. IsStageMarked text older es s r.at) is read.read.marked).0;
       counted = omega (arith, many, before, read.count);
     }
 

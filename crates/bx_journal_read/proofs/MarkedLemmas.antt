@@ -11,7 +11,7 @@ use Rattle.bx_journal_read.proofs.WindowLemmas.{fault_is, looks_before}
 use Rattle.bx_journal_format.specs.declared.read.count.Place.TheVariants.{Between as BetweenPlace}
 use Rattle.bx_journal_format.specs.declared.read.marks.Mark.{Mark}
 use Rattle.bx_journal_format.specs.declared.read.rows.Summed.{Summed}
-use Rattle.bx_journal_format.specs.Spelled.{entry_in, lines_of}
+use Rattle.bx_journal_format.specs.Spelled.{entry_in, entry_lines}
 use Rattle.bx_journal_format.specs.Text.{Between, split, start, after_lines}
 use Rattle.bx_journal_format.specs.count.Marks.{GoOnWith, IsMarked}
 use Rattle.bx_journal_format.proofs.TallyLemmas.{HasForm, has_form}
@@ -36,7 +36,7 @@ marked_all honest stored size len r reached all place =
       entries = h.entries;
       spelled = record {
         finished = record { reads = record { lines = lines; rest = inl h.whole }; whole = h.whole };
-        lines = h.lines ∙ ap (λ ls. lines_of h.entries ++ ls) none ∙ append-nil (lines_of h.entries);
+        lines = h.lines ∙ ap (λ ls. entry_lines h.entries ++ ls) none ∙ append-nil (entry_lines h.entries);
         runs = h.runs;
       };
       marks_are = h.marks_are;

@@ -9,7 +9,7 @@ use Rattle.bx_image.specs.Image.{image_of, end_of}
 use Rattle.bx_image.specs.Change.{AllWithin, restore, byte_in}
 use Rattle.std.proofs.lemmas.List.FromFn.{length-map-range_with_len}
 use Rattle.bx_journal_format.specs.declared.format.version.Version.{Version}
-use Rattle.bx_journal_format.specs.DumpLine.{piece_of}
+use Rattle.bx_journal_format.specs.DumpLine.{run_of_line}
 use Rattle.bx_journal_format.specs.Line.{save_line, saved_in}
 use Rattle.bx_journal_format.specs.Text.{Entry, Stage, Between, Saving, Ending, Reading, next_at, start, after_lines, may_begin, next}
 use Rattle.bx_journal_read.specs.model.Stack.{HaveLengths}
@@ -35,7 +35,7 @@ within_end at (b ∷ bytes) len h = h
 saved_within : (len : ℕ) (line : List ℕ) (p : Run) → saved_in len line ≡ Some p → end_of p.at p.bytes ≤ len
 unfolding saved_in
 saved_within len line p e =
-    let found = bind_some (λ piece. if nat_le (length piece.bytes) 16 && nat_le (piece.at + length piece.bytes) len then Some piece else None) (piece_of line) p e in
+    let found = bind_some (λ piece. if nat_le (length piece.bytes) 16 && nat_le (piece.at + length piece.bytes) len then Some piece else None) (run_of_line line) p e in
     let test = test_some (nat_le (length found.0.bytes) 16 && nat_le (found.0.at + length found.0.bytes) len) found.0 p found.2 in
     let both = and_true (nat_le (length found.0.bytes) 16) (nat_le (found.0.at + length found.0.bytes) len) test.0 in
     subst (λ (q : Run). end_of q.at q.bytes ≤ len) test.1 (within_end found.0.at found.0.bytes len (le_of (found.0.at + length found.0.bytes) len both.1))

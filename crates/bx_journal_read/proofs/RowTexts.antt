@@ -10,7 +10,7 @@ use lib.Seq.{drop-append_seam, take-append_seam}
 use Rattle.bx_journal_format.specs.declared.read.marks.Mark.{Mark}
 use Rattle.bx_journal_format.specs.Line.{save_line}
 use Rattle.bx_journal_format.specs.Ranges.{ranges_text}
-use Rattle.bx_journal_format.specs.Spelled.{EntryLines, GiveRuns, IsSpelled, entry_in, lines_of, runs_behind}
+use Rattle.bx_journal_format.specs.Spelled.{EntryLines, GiveRuns, IsSpelled, entry_in, entry_lines, runs_behind}
 use Rattle.bx_journal_format.specs.Text.{Between, Entry, Reading, Split, ended, text_of_lines, split}
 use Rattle.bx_journal_format.specs.count.Marks.{mark_of, marks_of, lines_size}
 use Rattle.bx_journal_format.specs.Finished.{IsFinished}
@@ -28,22 +28,22 @@ abbrev pub tail_of : List EntryLines → EntryLines → List (List ℕ)
 tail_of older c = save_line (suc (length older)) ∷ c.last ∷ []
 
 abbrev begin_of : List EntryLines → EntryLines → List ℕ
-begin_of older c = text_of_lines (lines_of older ++ c.first ∷ [])
+begin_of older c = text_of_lines (entry_lines older ++ c.first ∷ [])
 
-lines_parts : (older : List EntryLines) (c : EntryLines) → text_of_lines (lines_of (c ∷ older)) ≡ begin_of older c ++ (text_of_lines c.saved ++ text_of_lines (tail_of older c))
-unfolding lines_of
+lines_parts : (older : List EntryLines) (c : EntryLines) → text_of_lines (entry_lines (c ∷ older)) ≡ begin_of older c ++ (text_of_lines c.saved ++ text_of_lines (tail_of older c))
+unfolding entry_lines
 lines_parts older c =
-    ap text_of_lines (sym (append_assoc (lines_of older) (c.first ∷ []) (c.saved ++ tail_of older c)))
-    ∙ joined-append (lines_of older ++ c.first ∷ []) (c.saved ++ tail_of older c)
+    ap text_of_lines (sym (append_assoc (entry_lines older) (c.first ∷ []) (c.saved ++ tail_of older c)))
+    ∙ joined-append (entry_lines older ++ c.first ∷ []) (c.saved ++ tail_of older c)
     ∙ ap (λ t. begin_of older c ++ t) (joined-append c.saved (tail_of older c))
 
 mark_end : (older : List EntryLines) (c : EntryLines) → (mark_of older c).to ≡ (mark_of older c).from + length (text_of_lines c.saved)
 mark_end older c =
-    ap lines_size (sym (append_assoc (lines_of older) (c.first ∷ []) c.saved)) ∙ ap length (joined-append (lines_of older ++ c.first ∷ []) c.saved)
+    ap lines_size (sym (append_assoc (entry_lines older) (c.first ∷ []) c.saved)) ∙ ap length (joined-append (entry_lines older ++ c.first ∷ []) c.saved)
     ∙ length-append (begin_of older c) (text_of_lines c.saved)
 
 -- the text between the places of a mark is that of the saved lines
-pub lines_there : (older : List EntryLines) (c : EntryLines) (rest text : List ℕ) → text ≡ text_of_lines (lines_of (c ∷ older)) ++ rest → lines_at text (mark_of older c) ≡ text_of_lines c.saved
+pub lines_there : (older : List EntryLines) (c : EntryLines) (rest text : List ℕ) → text ≡ text_of_lines (entry_lines (c ∷ older)) ++ rest → lines_at text (mark_of older c) ≡ text_of_lines c.saved
 lines_there older c rest text is =
     let mark = mark_of older c in
     let size : mark.to - mark.from ≡ length (text_of_lines c.saved) = omega (arith, mark_end older c) in
@@ -55,14 +55,14 @@ lines_there older c rest text is =
     ∙ take-append_seam (text_of_lines c.saved) (text_of_lines (tail_of older c) ++ rest)
 
 -- its ranges are those of the entry's runs
-pub ranges_there : (older : List EntryLines) (c : EntryLines) (rest text : List ℕ) → text ≡ text_of_lines (lines_of (c ∷ older)) ++ rest → AllPlain c.saved → c.entry.saved.runs ≡ runs_behind c.entry.saved.len [] c.saved
+pub ranges_there : (older : List EntryLines) (c : EntryLines) (rest text : List ℕ) → text ≡ text_of_lines (entry_lines (c ∷ older)) ++ rest → AllPlain c.saved → c.entry.saved.runs ≡ runs_behind c.entry.saved.len [] c.saved
     → ranges_at text (mark_of older c) ≡ ranges_text c.entry.saved.runs
 ranges_there older c rest text is plain runs =
     ap (λ t. ranges_text (runs_behind c.entry.saved.len [] (split t).lines)) (lines_there older c rest text is)
     ∙ ap (λ (s : Split). ranges_text (runs_behind c.entry.saved.len [] s.lines)) (split_joined c.saved plain)
     ∙ ap ranges_text (sym runs)
 
-row_there : (older : List EntryLines) (c : EntryLines) (rest text : List ℕ) → text ≡ text_of_lines (lines_of (c ∷ older)) ++ rest → AllPlain c.saved → c.entry.saved.runs ≡ runs_behind c.entry.saved.len [] c.saved
+row_there : (older : List EntryLines) (c : EntryLines) (rest text : List ℕ) → text ≡ text_of_lines (entry_lines (c ∷ older)) ++ rest → AllPlain c.saved → c.entry.saved.runs ≡ runs_behind c.entry.saved.len [] c.saved
     → mark_row text (suc (length older)) (mark_of older c) ≡ ranges_row (suc (length older)) c.entry
 row_there older c rest text is plain runs =
     ap (λ t. decimal (suc (length older)) ++ codes " " ++ decimal c.entry.saved.len ++ codes " " ++ after_text c.entry.after ++ codes " " ++ decimal (mark_of older c).saved ++ codes " "
@@ -96,14 +96,14 @@ plain_front [] b plain = (tt, plain)
 plain_front (l ∷ a) b plain = let more = plain_front a b plain.1 in ((plain.0, more.0), more.1)
 
 -- the rows of all marks are those of the entries
-pub rows_there : (cs : List EntryLines) (rest text : List ℕ) → text ≡ text_of_lines (lines_of cs) ++ rest → AllPlain (lines_of cs) → GiveRuns cs → mark_rows text 1 (marks_of cs) ≡ ranges_rows (map entry_in cs)
-unfolding lines_of marks_of mark_rows ranges_rows
+pub rows_there : (cs : List EntryLines) (rest text : List ℕ) → text ≡ text_of_lines (entry_lines cs) ++ rest → AllPlain (entry_lines cs) → GiveRuns cs → mark_rows text 1 (marks_of cs) ≡ ranges_rows (map entry_in cs)
+unfolding entry_lines marks_of mark_rows ranges_rows
 rows_there [] rest text is plain runs = refl
 rows_there (c ∷ older) rest text is plain runs =
     let own : List (List ℕ) = c.first ∷ (c.saved ++ tail_of older c) in
-    let parts = plain_front (lines_of older) own plain in
+    let parts = plain_front (entry_lines older) own plain in
     let saved = plain_front c.saved (tail_of older c) parts.1.1 in
-    let before : text ≡ text_of_lines (lines_of older) ++ (text_of_lines own ++ rest) = is ∙ ap (λ t. t ++ rest) (joined-append (lines_of older) own) ∙ append_assoc (text_of_lines (lines_of older)) (text_of_lines own) rest in
+    let before : text ≡ text_of_lines (entry_lines older) ++ (text_of_lines own ++ rest) = is ∙ ap (λ t. t ++ rest) (joined-append (entry_lines older) own) ∙ append_assoc (text_of_lines (entry_lines older)) (text_of_lines own) rest in
     let number : length (marks_of older) + 1 ≡ suc (length older) = omega (arith, marks_many older) in
     let entries : suc (length older) ≡ suc (length (map entry_in older)) = omega (arith, length-map older entry_in) in
     rows_pushed text (marks_of older) (mark_of older c)
@@ -113,15 +113,15 @@ rows_there (c ∷ older) rest text is plain runs =
     ∙ ap (λ n. ranges_rows (map entry_in older) ++ ranges_row n c.entry) entries
 
 -- the places of all marks lie within the lines
-pub marks_lie : (cs : List EntryLines) (len : ℕ) → lines_size (lines_of cs) ≤ len → All (LiesWithin len) (marks_of cs)
-unfolding lines_of marks_of
+pub marks_lie : (cs : List EntryLines) (len : ℕ) → lines_size (entry_lines cs) ≤ len → All (LiesWithin len) (marks_of cs)
+unfolding entry_lines marks_of
 marks_lie [] len within = All-nil (LiesWithin len)
 marks_lie (c ∷ older) len within =
     let mark = mark_of older c in
-    let all : lines_size (lines_of (c ∷ older)) ≡ mark.from + (length (text_of_lines c.saved) + length (text_of_lines (tail_of older c))) =
+    let all : lines_size (entry_lines (c ∷ older)) ≡ mark.from + (length (text_of_lines c.saved) + length (text_of_lines (tail_of older c))) =
     ap length (lines_parts older c) ∙ length-append (begin_of older c) (text_of_lines c.saved ++ text_of_lines (tail_of older c))
     ∙ ap (λ n. mark.from + n) (length-append (text_of_lines c.saved) (text_of_lines (tail_of older c))) in
-    let first : mark.from ≡ lines_size (lines_of older) + length (text_of_lines (c.first ∷ [])) = ap length (joined-append (lines_of older) (c.first ∷ [])) ∙ length-append (text_of_lines (lines_of older)) (text_of_lines (c.first ∷ [])) in
+    let first : mark.from ≡ lines_size (entry_lines older) + length (text_of_lines (c.first ∷ [])) = ap length (joined-append (entry_lines older) (c.first ∷ [])) ∙ length-append (text_of_lines (entry_lines older)) (text_of_lines (c.first ∷ [])) in
     let end = mark_end older c in
     All-append (LiesWithin len) (marks_of older) (mark ∷ []) (marks_lie older len (omega (arith, within, all, first)))
     (All-cons (LiesWithin len) mark [] (omega (arith, end), omega (arith, end, all, within)) (All-nil (LiesWithin len)))
@@ -134,8 +134,8 @@ row_written w0 w1 w2 w3 text n mark front places end =
 -- what is written for a text of finished entries alone
 pub log_rows : (text : List ℕ) (cs : List EntryLines) (es : List Entry) → IsSpelled text cs → IsFinished text es → mark_rows text 1 (marks_of cs) ≡ ranges_rows es
 log_rows text cs es s f =
-    let whole : text ≡ text_of_lines (lines_of cs) ++ [] = sym (joined_lines text f.whole) ∙ ap text_of_lines s.lines ∙ sym (append-nil (text_of_lines (lines_of cs))) in
-    let plain : AllPlain (lines_of cs) = subst AllPlain s.lines (lines_plain text) in
+    let whole : text ≡ text_of_lines (entry_lines cs) ++ [] = sym (joined_lines text f.whole) ∙ ap text_of_lines s.lines ∙ sym (append-nil (text_of_lines (entry_lines cs))) in
+    let plain : AllPlain (entry_lines cs) = subst AllPlain s.lines (lines_plain text) in
     let same : record { entries = map entry_in cs; stage = Between } ≡ record { entries = es; stage = Between } =
     some_same (record { entries = map entry_in cs; stage = Between }) (record { entries = es; stage = Between }) (sym s.finished.reads.lines ∙ f.reads.lines) in
     rows_there cs [] text whole plain s.runs ∙ ap (λ (r : Reading). ranges_rows r.entries) same
@@ -143,7 +143,7 @@ log_rows text cs es s f =
 -- the places of all marks lie within the text
 pub all_lie : (text : List ℕ) (cs : List EntryLines) (marks : List Mark) → IsSpelled text cs → marks ≡ marks_of cs → All (LiesWithin (length text)) marks
 all_lie text cs marks s is =
-    let size : lines_size (lines_of cs) ≡ length text = ap lines_size (sym s.lines) ∙ ap length (joined_lines text s.finished.whole) in
+    let size : lines_size (entry_lines cs) ≡ length text = ap lines_size (sym s.lines) ∙ ap length (joined_lines text s.finished.whole) in
     subst (All (LiesWithin (length text))) (sym is) (marks_lie cs (length text) (omega (arith, size)))
 
 pub rows_none : (text : List ℕ) (n : ℕ) → mark_rows text n [] ≡ []

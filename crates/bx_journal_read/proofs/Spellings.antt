@@ -6,7 +6,7 @@ use Rattle.bx_journal_format.specs.Kept.{Kept}
 use Rattle.bx_journal_format.specs.Line.{end_head, end_line, save_line, start_head, start_line}
 use Rattle.bx_journal_format.specs.declared.format.version.Version.{Version}
 use Rattle.bx_journal_format.specs.declared.format.version.Version.TheVariants.{First, Second}
-use Rattle.bx_journal_format.specs.Spelled.{EntryLines, IsSpelled, entry_in, lines_of}
+use Rattle.bx_journal_format.specs.Spelled.{EntryLines, IsSpelled, entry_in, entry_lines}
 use Rattle.bx_journal_format.specs.Text.{Entry, Stage, Between, Saving, Ending, Reading, Split, IsPrefix, after_lines, begins_with_s, text_of_lines, next_at, split, start, next}
 use Rattle.bx_journal_format.proofs.CalmLemmas.{lines_count}
 use Rattle.bx_journal_format.proofs.Foreign.{joined_lines}
@@ -82,11 +82,11 @@ entry_ends k first last saved r q e =
     record { between = ap (λ (p : Reading). p.stage) all; more = omega (arith, grows, ap (λ (p : Reading). length p.entries) all) }
 
 -- the lines of entries lead to between two, and end as many at least
-grown : (cs : List EntryLines) (q : Reading) → after_lines start (lines_of cs) ≡ Some q → (q.stage ≡ Between) × (length cs ≤ length q.entries)
-unfolding lines_of
+grown : (cs : List EntryLines) (q : Reading) → after_lines start (entry_lines cs) ≡ Some q → (q.stage ≡ Between) × (length cs ≤ length q.entries)
+unfolding entry_lines
 grown [] q e = (ap (λ (p : Reading). p.stage) (sym (none_read start q e)), omega arith)
 grown (c ∷ older) q e =
-    let two = read_by (lines_of older) (c.first ∷ (c.saved ++ save_line (suc (length older)) ∷ c.last ∷ [])) start q e in
+    let two = read_by (entry_lines older) (c.first ∷ (c.saved ++ save_line (suc (length older)) ∷ c.last ∷ [])) start q e in
     let ends = entry_ends (suc (length older)) c.first c.last c.saved two.at q two.then in
     (ends.between, omega (arith, (grown older two.at two.first).1, ends.more))
 
@@ -174,8 +174,8 @@ parts_same c d entry first saved last =
     ∙ ap (λ ls. record { entry = d.entry; first = d.first; saved = ls; last = c.last }) saved
     ∙ ap (λ l. record { entry = d.entry; first = d.first; saved = d.saved; last = l }) last
 
-one_spelling : (cs ds : List EntryLines) (q : Reading) → lines_of cs ≡ lines_of ds → after_lines start (lines_of cs) ≡ Some q → length q.entries ≡ length cs → map entry_in cs ≡ map entry_in ds → cs ≡ ds
-unfolding lines_of
+one_spelling : (cs ds : List EntryLines) (q : Reading) → entry_lines cs ≡ entry_lines ds → after_lines start (entry_lines cs) ≡ Some q → length q.entries ≡ length cs → map entry_in cs ≡ map entry_in ds → cs ≡ ds
+unfolding entry_lines
 one_spelling [] [] q lines read count same = refl
 one_spelling [] (d ∷ ds) q lines read count same = absurd (omega (arith, ap length same))
 one_spelling (c ∷ cs) [] q lines read count same = absurd (omega (arith, ap length same))
@@ -184,16 +184,16 @@ one_spelling (c ∷ older) (d ∷ elder) q lines read count same =
     let other : List (List ℕ) = d.first ∷ (d.saved ++ save_line (suc (length elder)) ∷ d.last ∷ []) in
     let entries = cons_same c.entry d.entry (map entry_in older) (map entry_in elder) same in
     let many : length older ≡ length elder = omega (arith, length-map older entry_in, length-map elder entry_in, ap length entries.1) in
-    let a = read_by (lines_of older) own start q read in
-    let b = read_by (lines_of elder) other start q (subst (λ ls. after_lines start ls ≡ Some q) lines read) in
+    let a = read_by (entry_lines older) own start q read in
+    let b = read_by (entry_lines elder) other start q (subst (λ ls. after_lines start ls ≡ Some q) lines read) in
     let up = grown older a.at a.first in
     let down = grown elder b.at b.first in
     let one = entry_ends (suc (length older)) c.first c.last c.saved a.at q a.then in
     let two = entry_ends (suc (length elder)) d.first d.last d.saved b.at q b.then in
     let before : length a.at.entries ≡ length older = omega (arith, up.1, one.more, count) in
     let beside : length b.at.entries ≡ length elder = omega (arith, down.1, two.more, count, many) in
-    let fronts : lines_of older ≡ lines_of elder = fronts_same (lines_of older) (lines_of elder) own other a.at b.at lines a.first b.first up.0 down.0 (omega (arith, before, beside, many)) in
-    let tails : own ≡ other = append_cancel_left (lines_of older) own other (lines ∙ ap (λ ls. ls ++ other) (sym fronts)) in
+    let fronts : entry_lines older ≡ entry_lines elder = fronts_same (entry_lines older) (entry_lines elder) own other a.at b.at lines a.first b.first up.0 down.0 (omega (arith, before, beside, many)) in
+    let tails : own ≡ other = append_cancel_left (entry_lines older) own other (lines ∙ ap (λ ls. ls ++ other) (sym fronts)) in
     let first = cons_same c.first d.first (c.saved ++ save_line (suc (length older)) ∷ c.last ∷ []) (d.saved ++ save_line (suc (length elder)) ∷ d.last ∷ []) tails in
     let last = last_two c.saved d.saved (save_line (suc (length older))) (save_line (suc (length elder))) c.last d.last first.1 in
     ap (λ x. x ∷ older) (parts_same c d entries.0 first.0 last.0 last.1) ∙ ap (λ xs. d ∷ xs) (one_spelling older elder a.at fronts a.first before entries.1)

@@ -6,7 +6,7 @@ use Rattle.bx_image.specs.declared.record.Saved.{Saved}
 use Rattle.bx_journal_format.specs.Kept.{Kept, kept_of, with_run}
 use Rattle.bx_journal_format.specs.declared.read.types.EntryRead.{EntryRead}
 use Rattle.bx_journal_format.specs.declared.read.types.StageRead.TheVariants.{Ending as EndingRead}
-use Rattle.bx_journal_format.specs.Parsed.{IsMarked, entries_of}
+use Rattle.bx_journal_format.specs.Parsed.{IsStageMarked, entries_of}
 use Rattle.bx_journal_format.specs.Line.{address_width, start_head, start_line, start_size}
 use Rattle.bx_journal_format.specs.Text.{Entry, Between, Saving, Ending, Reading, ended, text_of_lines, split, start, next_at, after_lines}
 use Rattle.bx_journal_format.specs.declared.format.version.Version.{Version}
@@ -160,14 +160,14 @@ stands_of text es v s from saved longest mark ends le short =
     take_within n a b le = take-append-le n a b le
 
 -- the record of an entry that was read up to its save line
-pub ending_stands : {A : Type 0} → (text : List ℕ) (es : List (EntryRead A)) (v : Version) (kept : Saved A) (begins saved at : ℕ) → IsMarked text [] es (EndingRead v kept begins saved) at
+pub ending_stands : {A : Type 0} → (text : List ℕ) (es : List (EntryRead A)) (v : Version) (kept : Saved A) (begins saved at : ℕ) → IsStageMarked text [] es (EndingRead v kept begins saved) at
     → StandsAt text (record { lines = begins + start_size v + 1; saved = saved; len = kept.len; longest = saved }) (kept_of kept)
 ending_stands text es v kept begins saved at marked =
     stands_of text (entries_of es) v (kept_of kept) begins saved saved marked.1 marked.2 marked.3
     (lines_shorter (take saved text) saved marked.2.whole (omega (arith, length-take saved text)))
 
 -- whose saved lines begin within the text
-pub ending_fits : {A : Type 0} → (text : List ℕ) (es : List (EntryRead A)) (v : Version) (kept : Saved A) (begins saved at : ℕ) → IsMarked text [] es (EndingRead v kept begins saved) at
+pub ending_fits : {A : Type 0} → (text : List ℕ) (es : List (EntryRead A)) (v : Version) (kept : Saved A) (begins saved at : ℕ) → IsStageMarked text [] es (EndingRead v kept begins saved) at
     → begins + start_size v + 1 ≤ length text
 ending_fits text es v kept begins saved at marked =
     let st = ending_stands text es v kept begins saved at marked in

@@ -6,7 +6,7 @@ use Rattle.std.proofs.KnownBytes.{Appends-nil, Appends-trans}
 use Rattle.std.specs.Io.KnownBytes.{Appends}
 use Rattle.bx_journal_format.specs.declared.read.marks.Mark.{Mark}
 use Rattle.bx_journal_format.specs.Ranges.{ranges_text}
-use Rattle.bx_journal_format.specs.Spelled.{EntryLines, GiveRuns, lines_of, runs_behind}
+use Rattle.bx_journal_format.specs.Spelled.{EntryLines, GiveRuns, entry_lines, runs_behind}
 use Rattle.bx_journal_format.specs.Text.{Split, text_of_lines, split}
 use Rattle.bx_journal_format.specs.count.Marks.{mark_of, marks_of}
 use Rattle.bx_journal_format.proofs.Damage.{split_joined}
@@ -85,7 +85,7 @@ heading_parts front amount places writes end is =
     ∙ ap (λ t. t ++ codes "\n") (sym (append_assoc (front ++ writes) (codes ", ") end))
 
 -- what there is of an entry at the place of its mark
-module _ (older : List EntryLines) (c : EntryLines) (rest text : List ℕ) (is : text ≡ text_of_lines (lines_of (c ∷ older)) ++ rest) (plain : AllPlain c.saved) (runs : c.entry.saved.runs ≡ runs_behind c.entry.saved.len [] c.saved) where
+module _ (older : List EntryLines) (c : EntryLines) (rest text : List ℕ) (is : text ≡ text_of_lines (entry_lines (c ∷ older)) ++ rest) (plain : AllPlain c.saved) (runs : c.entry.saved.runs ≡ runs_behind c.entry.saved.len [] c.saved) where
   heading_there : (way : Way) (n : ℕ) → heading_at text way n (mark_of older c) ≡ heading way n c.entry
   heading_there way n =
       let mark = mark_of older c in
@@ -123,16 +123,16 @@ newest_last s image text n (x ∷ marks) m =
     ∙ append_assoc (mark_step s image text n m) (newest_first s image text (next_number s.way n) marks) (mark_step s image text (number_at s.way (next_number s.way n) (length marks)) x)
 
 -- the steps over the newest marks are those over the newest entries
-pub steps_there : (s : Steps) (image : List ℕ) (cs : List EntryLines) (n k : ℕ) (rest text : List ℕ) → text ≡ text_of_lines (lines_of cs) ++ rest → AllPlain (lines_of cs) → GiveRuns cs → k ≤ length cs
+pub steps_there : (s : Steps) (image : List ℕ) (cs : List EntryLines) (n k : ℕ) (rest text : List ℕ) → text ≡ text_of_lines (entry_lines cs) ++ rest → AllPlain (entry_lines cs) → GiveRuns cs → k ≤ length cs
     → newest_first s image text n (drop (length (marks_of cs) - k) (marks_of cs)) ≡ steps_text s image n (take k cs)
-unfolding lines_of marks_of newest_first steps_text
+unfolding entry_lines marks_of newest_first steps_text
 steps_there s image cs n zero rest text is plain runs enough = ap (newest_first s image text n) (drop_all (length (marks_of cs) - 0) (marks_of cs) (omega arith))
 steps_there s image [] n (suc k) rest text is plain runs enough = absurd (omega (arith, enough))
 steps_there s image (c ∷ older) n (suc k) rest text is plain runs enough =
     let own : List (List ℕ) = c.first ∷ (c.saved ++ tail_of older c) in
-    let parts = plain_front (lines_of older) own plain in
+    let parts = plain_front (entry_lines older) own plain in
     let saved = plain_front c.saved (tail_of older c) parts.1.1 in
-    let before : text ≡ text_of_lines (lines_of older) ++ (text_of_lines own ++ rest) = is ∙ ap (λ t. t ++ rest) (joined-append (lines_of older) own) ∙ append_assoc (text_of_lines (lines_of older)) (text_of_lines own) rest in
+    let before : text ≡ text_of_lines (entry_lines older) ++ (text_of_lines own ++ rest) = is ∙ ap (λ t. t ++ rest) (joined-append (entry_lines older) own) ∙ append_assoc (text_of_lines (entry_lines older)) (text_of_lines own) rest in
     let m : Mark = mark_of older c in
     let many = marks_many older in
     let count : length (marks_of older ++ m ∷ []) - suc k ≡ length (marks_of older) - k = omega (arith, length-append (marks_of older) (m ∷ [])) in

@@ -8,7 +8,7 @@ use Rattle.std.specs.Io.KnownBytes.{Appends}
 use Rattle.bx_journal_format.specs.declared.read.marks.Mark.{Mark}
 use Rattle.bx_journal_format.specs.Finished.{IsFinished}
 use Rattle.bx_journal_format.specs.Shown.{shown}
-use Rattle.bx_journal_format.specs.Spelled.{EntryLines, IsSpelled, entry_in, lines_of}
+use Rattle.bx_journal_format.specs.Spelled.{EntryLines, IsSpelled, entry_in, entry_lines}
 use Rattle.bx_journal_format.specs.Text.{Stage, Between, Saving, Ending, IsPrefix, Reading, Reads, after_lines, text_of_lines, split, start}
 use Rattle.bx_journal_format.specs.count.Marks.{marks_of}
 use Rattle.bx_journal_format.proofs.CleanLemmas.{clean_shown}
@@ -323,8 +323,8 @@ undo_only Redo torn none = absurd (let h : Some torn ≡ None = none refl in cc)
 module _ (text now image : List ℕ) (s : Steps) (slice marks : List Mark) (w0 w1 w2 : Option (List ℕ)) (enough : s.count ≤ length marks) (same : now ≡ text) (is : slice ≡ marks) (put : AreStepsPut s image now s.count slice w1 w2) where
   entries_shown : (front line : List ℕ) (cs : List EntryLines) → IsPrefix front text → IsSpelled front cs → marks ≡ marks_of cs → Appends w0 w1 line → HasShown s image cs line w0 w2
   entries_shown front line cs prefix spelled marks_are before =
-      let whole : text ≡ text_of_lines (lines_of cs) ++ prefix.0 = prefix.1 ∙ ap (λ t. t ++ prefix.0) (sym (joined_lines front spelled.finished.whole) ∙ ap text_of_lines spelled.lines) in
-      let plain : AllPlain (lines_of cs) = subst AllPlain spelled.lines (lines_plain front) in
+      let whole : text ≡ text_of_lines (entry_lines cs) ++ prefix.0 = prefix.1 ∙ ap (λ t. t ++ prefix.0) (sym (joined_lines front spelled.finished.whole) ∙ ap text_of_lines spelled.lines) in
+      let plain : AllPlain (entry_lines cs) = subst AllPlain spelled.lines (lines_plain front) in
       let many : length (marks_of cs) ≡ length cs = marks_many cs in
       let fits : s.count ≤ length cs = omega (arith, enough, ap length marks_are, many) in
       let steps : newest_first s image now (first_number s.way s.changes (length slice)) (drop (length slice - s.count) slice) ≡ shown_steps s image cs =

@@ -8,7 +8,7 @@ use Rattle.bx_journal_format.specs.Text.{Entry, Between, Split, split, start, af
 use Rattle.bx_journal_format.proofs.Damage.{split_at_mark}
 use Rattle.bx_journal_read.specs.model.Redo.{BeginsAt}
 use Rattle.bx_journal_format.specs.count.Mark.{IsMark}
-use Rattle.bx_journal_format.specs.Parsed.{entries_of, reading_of, stage_of, told_by, IsMarked}
+use Rattle.bx_journal_format.specs.Parsed.{entries_of, reading_of, stage_of, told_by, IsStageMarked}
 use Rattle.bx_journal_format.specs.read.Journal.{HasRead}
 use Rattle.bx_journal_format.proofs.ReadLemmas.{length-entries_of}
 use Rattle.bx_journal_format.proofs.ReadLoop.{marked_few}
@@ -21,7 +21,7 @@ begins_at BetweenRead at = at
 begins_at (SavingRead v len runs begins) at = begins
 begins_at (EndingRead v kept begins saved) at = begins
 
-pub begin_mark : {A : Type 0} → (text : List ℕ) (es : List (EntryRead A)) (stage : StageRead A) (at : ℕ) → IsMark text at (reading_of es stage) → IsMarked text [] es stage at → IsMark text (begins_at stage at) (record { entries = entries_of es; stage = Between })
+pub begin_mark : {A : Type 0} → (text : List ℕ) (es : List (EntryRead A)) (stage : StageRead A) (at : ℕ) → IsMark text at (reading_of es stage) → IsStageMarked text [] es stage at → IsMark text (begins_at stage at) (record { entries = entries_of es; stage = Between })
 begin_mark text es BetweenRead at mark m = mark
 begin_mark text es (SavingRead v len runs begins) at mark m = m.1
 begin_mark text es (EndingRead v kept begins saved) at mark m = m.1

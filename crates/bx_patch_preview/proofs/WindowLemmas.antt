@@ -9,7 +9,7 @@ use Rattle.bx_image.specs.Image.{cut, place}
 use Rattle.bx_image.specs.private.Change.{cut_to}
 use Rattle.bx_image.proofs.Changes.{placed_effect}
 use Rattle.bx_image.proofs.Images.{same_image, length-cut, slice_index-cut, length-place, end_of_le, slice_index-place_within, slice_index-place_below, slice_index-place_above, slice_index_past}
-use Rattle.bx_patch_preview.specs.Changed.{kept_of}
+use Rattle.bx_patch_preview.specs.Changed.{kept_length}
 use Rattle.bx_patch_preview.specs.private.Window.{IsWindow}
 
 -- a piece behind a window
@@ -66,7 +66,7 @@ placed_same [] y z same i = same i
 placed_same (w ∷ ws) y z same i = placed_same ws (place y w.at w.bytes) (place z w.at w.bytes) (place_same y z w.bytes w.at same) i
 
 -- what is kept of an image has the bytes that it has where it is brought to a base
-kept_same : (base : Option ℕ) (x : List ℕ) (i : ℕ) → slice_index (take (kept_of base (length x)) x) i ≡ slice_index (cut_to base x) i
+kept_same : (base : Option ℕ) (x : List ℕ) (i : ℕ) → slice_index (take (kept_length base (length x)) x) i ≡ slice_index (cut_to base x) i
 kept_same None x i = elim (cases_lt i (length x)) [
   | inl inside ↦ grind (arith, places)
   | inr past ↦ slice_index_past (take (length x) x) i (omega (arith, length-take {A = ℕ} (length x) x)) ∙ sym (slice_index_past x i past)
@@ -92,10 +92,10 @@ window_is window z at fits win =
     there i inside = grind (arith, places)
 
 -- the window that pieces make of what is kept is one of the image behind the change
-pub changed_window : {A : Type 0} (c : Change A) (x window : List ℕ) (kept at n : ℕ) → kept ≡ kept_of c.base (length x) → length window ≡ n → at + n ≤ length (effect c x)
+pub changed_window : {A : Type 0} (c : Change A) (x window : List ℕ) (kept at n : ℕ) → kept ≡ kept_length c.base (length x) → length window ≡ n → at + n ≤ length (effect c x)
     → IsWindow window at (placed c.writes (take kept x)) → window ≡ take n (drop at (effect c x))
 changed_window c x window kept at n kept_is long fits win =
     let same : (i : ℕ) → slice_index (placed c.writes (take kept x)) i ≡ slice_index (effect c x) i =
-    λ i. rw (kept_is, ← placed_effect c x) (placed_same c.writes (take (kept_of c.base (length x)) x) (cut_to c.base x) (kept_same c.base x) i) in
+    λ i. rw (kept_is, ← placed_effect c x) (placed_same c.writes (take (kept_length c.base (length x)) x) (cut_to c.base x) (kept_same c.base x) i) in
     let is = window_is window (effect c x) at (omega (arith, long, fits)) (λ j inside. win j inside ∙ same (at + j)) in
     rw (← long) is

@@ -14,11 +14,11 @@ pub record Changed (D A : Type 0) : Type 0 where
   pub failures : ℕ
 
 -- how many of an image's first bytes stay where it is brought to a base
-abbrev pub kept_of : Option ℕ → ℕ → ℕ
-kept_of base len = option_map_or (λ n. min n len) base len
+abbrev pub kept_length : Option ℕ → ℕ → ℕ
+kept_length base len = option_map_or (λ n. min n len) base len
 
 -- the lengths are those of an image behind a change
 pub record AreLengthsOf {A : Type 0} (c : Change A) (x : List ℕ) (kept len : ℕ) : Type 0 where
-  pub kept_is : kept ≡ kept_of c.base (length x)
+  pub kept_is : kept ≡ kept_length c.base (length x)
   pub len_is : len ≡ length (effect c x)
   pub within : length (effect c x) ≤ len

@@ -3,7 +3,7 @@ ghost use Rattle.std.specs.Prelude.{◌≡◌, ◌⊎◌, ◌+◌, ◌<◌, ◌�
 ghost use Rattle.bx_image.specs.Change.{effect, Fits};
 ghost use Rattle.bx_image.specs.declared.change.TheConstants.{MAX_LEN};
 ghost use Rattle.bx_patch.specs.Diff.{OnlyReads};
-ghost use Rattle.bx_patch_preview.specs.Changed.{AreLengthsOf, kept_of};
+ghost use Rattle.bx_patch_preview.specs.Changed.{AreLengthsOf, kept_length};
 
 mod window;
 
@@ -56,7 +56,7 @@ impl<D: Device, A: Allocator> ChangedImage<D, A> {
         };
         match check(&change, before) {
             Ok(len) => {
-                let kept = kept_of(change.base, before);
+                let kept = kept_length(change.base, before);
                 Ok(ChangedImage {
                     device,
                     change,
@@ -71,8 +71,8 @@ impl<D: Device, A: Allocator> ChangedImage<D, A> {
 }
 
 /// How many of an image's first bytes stay where it is brought to a base.
-fn kept_of(base: Option<u64>, len: u64) -> u64
-    ensures { result ≡ kept_of base len }
+fn kept_length(base: Option<u64>, len: u64) -> u64
+    ensures { result ≡ kept_length base len }
 {
     match base {
         Some(base) => base.min(len),
@@ -98,7 +98,7 @@ fn read_changed<D: Device, A: Allocator>(
     buf: &mut [u8],
 ) -> Result<(), DeviceFailed>
     requires countable { D.failures device.old < u64.MAX }
-    requires kept { D.honest device.old → kept ≡ kept_of change.now.base (length (D.image device.old)) }
+    requires kept { D.honest device.old → kept ≡ kept_length change.now.base (length (D.image device.old)) }
     ensures bytes { D.honest device.old → at + length buf.old ≤ length (effect change.now (D.image device.old))
         → OnOk result (buf.new ≡ take (length buf.old) (drop at (effect change.now (D.image device.old)))) }
     ensures reads { OnlyReads D.honest D.image D.room D.failures D.survives (is_err result) device.old device.new }

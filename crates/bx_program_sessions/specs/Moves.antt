@@ -1,7 +1,7 @@
 -- What a person sees of an undo and of a redo: files and standard output.
 use Rattle.std.specs.Prelude.{◌≡◌, ◌⊎◌, ◌<◌, ◌≤◌, ◌+◌, ◌-◌, ◌++◌, ℕ, List, [], Option, None, Some, Err, codes, decimal, length, take}
 use Rattle.bx_text.specs.declared.fault.IoFault.TheVariants.{WriteFailed}
-use Rattle.bx_program_world.specs.World.{Sight, WritesPart}
+use Rattle.bx_program_world.specs.World.{Sight, AddsFront}
 use Rattle.bx_program_files.specs.Files.{LeavesFiles}
 use Rattle.bx_program_files.specs.declared.names.Names.{Names}
 use Rattle.bx_journal.specs.Images.{Images, redo_of, undo_of}
@@ -79,7 +79,7 @@ RefusesMove names k course old new e = MayNotMove k course e × LeavesFiles old 
 
 -- a part of a line couldn't be written, behind `before` bytes of the line
 abbrev pub StopsPart : ℕ → List ℕ → List ℕ → List ℕ → Fault → Type 0
-StopsPart before part old new e = (told : ℕ) × (e ≡ Io (WriteFailed (before + told))) × WritesPart told old new part
+StopsPart before part old new e = (told : ℕ) × (e ≡ Io (WriteFailed (before + told))) × AddsFront told old new part
 
 -- A line couldn't be written: a front of it is behind what was written, and the fault tells no more bytes than that has
 pub record StopsLine (line old new : List ℕ) (e : Fault) : Type 0 where

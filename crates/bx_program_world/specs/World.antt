@@ -139,7 +139,7 @@ pub record KeepsFiles (old new : Sight) : Type 0 where
   pub stuck : new.stuck ≡ old.stuck
 
 -- a front of the bytes is behind what was written, and has at least `count` of them
-pub record WritesPart (count : ℕ) (old new bytes : List ℕ) : Type 0 where
+pub record AddsFront (count : ℕ) (old new bytes : List ℕ) : Type 0 where
   pub front : List ℕ
   pub rest : List ℕ
   pub whole : bytes ≡ front ++ rest

@@ -1,7 +1,7 @@
 //! The world that a program runs in.
 ghost use Rattle.std.specs.Prelude.{◌≡◌, ◌↔◌, ◌⊎◌, ◌+◌, ◌<◌, ◌≤◌, ◌^◌, ◌++◌, ℕ, List, Bool, true, Err, None, Some, IfOk, IfErr, OnOk, OnErr, length, take};
 ghost use Rattle.bx_program_world.specs.declared.world.Refusal.TheVariants.{Locked, Missing};
-ghost use Rattle.bx_program_world.specs.World.{AreThreeFiles, ChangesOnly, NotesRefusal, GivesBack, IsEmptyUnder, IsOwnText, IsStuck, KeepsFiles, LeavesTrio, Lends, Makes, MayBeImage, MayBeText, NothingNewFound, NothingNewBelow, NothingNewOf, Sight, TakesAtMost, TakesAway, Trio, WritesPart, stat_named};
+ghost use Rattle.bx_program_world.specs.World.{AreThreeFiles, ChangesOnly, NotesRefusal, GivesBack, IsEmptyUnder, IsOwnText, IsStuck, KeepsFiles, LeavesTrio, Lends, Makes, MayBeImage, MayBeText, NothingNewFound, NothingNewBelow, NothingNewOf, Sight, TakesAtMost, TakesAway, Trio, AddsFront, stat_named};
 ghost use Rattle.bx_image.specs.Power.{NoMore};
 
 use crate::stat::{Look, Stat};
@@ -200,7 +200,7 @@ pub trait World {
         ensures few { IfErr result (λ e. e.written ≤ length bytes.now) }
         ensures ok { honest self.old → OnOk result ((sight self.new).output ≡ (sight self.old).output ++ bytes.now) }
         ensures err { honest self.old
-            → IfErr result (λ e. WritesPart e.written (sight self.old).output (sight self.new).output bytes.now) }
+            → IfErr result (λ e. AddsFront e.written (sight self.old).output (sight self.new).output bytes.now) }
         ensures errors { honest self.old → (sight self.new).errors ≡ (sight self.old).errors }
         ensures files { honest self.old → KeepsFiles (sight self.old) (sight self.new) }
         ensures survives { honest self.old → NothingNewFound (survives self.old) (survives self.new) }

@@ -14,7 +14,7 @@ use Rattle.bx_dd.specs.declared.stream.copy.Waiting.{Waiting}
 use Rattle.bx_dd.specs.declared.counts.Counts.{Counts}
 use Rattle.bx_dd.specs.declared.page.Page.{Page}
 use Rattle.bx_dd.specs.Counting.{counts_of}
-use Rattle.bx_dd.specs.Output.{converted, cut_records, joined}
+use Rattle.bx_dd.specs.Output.{converted, cut_records, turned_blocks}
 use Rattle.bx_dd.specs.Standing.{Stands}
 use Rattle.bx_dd.specs.private.Standing.{HasSizes}
 use Rattle.bx_dd.specs.private.Streaming.{Flows, Goes, Output, Staged, StopsFlow, StopsStage, unit_of}
@@ -65,8 +65,8 @@ abbrev pub StopsPieces : {V : Type 0} → Shape → ℕ → Output → Option (L
 StopsPieces shape size out0 now bytes outcome = (tail : Tail) → StopsPush shape size out0 now tail bytes outcome
 
 -- the output of a copy by its writer's contents and what waits
-abbrev pub output_of : {A : Type 0} → Option (List ℕ) → Waiting A → Output
-output_of now waiting = output now waiting.page waiting.held
+abbrev pub output_with : {A : Type 0} → Option (List ℕ) → Waiting A → Output
+output_with now waiting = output now waiting.page waiting.held
 
 -- A copy may begin: a unit has room in the buffer, a record in what is kept, and nothing is kept or waits.
 pub record IsFresh {A : Type 0} (form : Form) (limit : ℕ) (buf : List ℕ) (waiting : Waiting A) : Type 0 where
@@ -102,7 +102,7 @@ abbrev pub Finishes : {E : Type 0} → Form → Output → Output → List ℕ �
 Finishes form out0 out1 pending tail outcome =
     (input : List ℕ) (start : Option (List ℕ)) → Staged form start input pending out0 tail →
     IfOk outcome (λ t. Appends start out1.now (converted form input) × (out1.written ≡ length (converted form input))
-    × ((if t.over then t.cut + 1 else t.cut) ≡ cut_records form.shape form.cbs (joined form input)))
+    × ((if t.over then t.cut + 1 else t.cut) ≡ cut_records form.shape form.cbs (turned_blocks form input)))
 
 -- A front of it went out.
 abbrev pub StopsFinish : {V : Type 0} → Form → Output → Option (List ℕ) → List ℕ → Tail → Result V IoFault → Type 0
@@ -113,7 +113,7 @@ StopsFinish form out0 now pending tail outcome = (input : List ℕ) (start : Opt
 abbrev pub CountsAll : Form → ℕ → ℕ → Tail → Counts → Type 0
 CountsAll form read written tail counts =
     (input : List ℕ) → read ≡ length input → written ≡ length (converted form input) →
-    (if tail.over then tail.cut + 1 else tail.cut) ≡ cut_records form.shape form.cbs (joined form input) →
+    (if tail.over then tail.cut + 1 else tail.cut) ≡ cut_records form.shape form.cbs (turned_blocks form input) →
     counts ≡ counts_of form input
 
 -- Bytes are put into records behind whatever bytes stand so.

@@ -10,7 +10,7 @@ use Rattle.bx_dd.specs.declared.counts.Counts.{Counts}
 use Rattle.bx_dd.specs.declared.form.Form.{Form}
 use Rattle.bx_dd.specs.declared.form.Shape.{Shape}
 use Rattle.bx_dd.specs.Counting.{counts_of}
-use Rattle.bx_dd.specs.Output.{converted, joined, shaped}
+use Rattle.bx_dd.specs.Output.{converted, turned_blocks, shaped}
 use Rattle.bx_dd.specs.Standing.{Stands}
 use Rattle.bx_dd.specs.Streaming.{IsCopyAhead, IsCopyFault}
 
@@ -59,7 +59,7 @@ pub record Staged (form : Form) (start : Option (List ℕ)) (input pending : Lis
   pub done : List ℕ
   pub parts : input ≡ done ++ pending
   pub whole : length done % unit_of form ≡ 0
-  pub flows : Flows form.shape form.cbs start (joined form done) out tail
+  pub flows : Flows form.shape form.cbs start (turned_blocks form done) out tail
 
 -- whatever is read behind this input, a front of what is written of it all went out, as the fault says
 abbrev pub StopsStage : Form → Option (List ℕ) → Option (List ℕ) → List ℕ → IoFault → Type 0

@@ -1,6 +1,6 @@
 //! Blocks converted where they were read.
 ghost use Rattle.std.specs.Prelude.{◌≡◌, ◌≢◌, ℕ, ◌+◌, ◌-◌, ◌%◌, ◌<◌, ◌≤◌, ◌++◌, length, take, drop, replicate, ◌||◌};
-ghost use Rattle.bx_dd.specs.Output.{joined};
+ghost use Rattle.bx_dd.specs.Output.{turned_blocks};
 ghost use Rattle.bx_dd.specs.private.Standing.{HasSizes};
 ghost use Rattle.bx_dd.specs.private.Streaming.{unit_of};
 
@@ -30,7 +30,7 @@ fn by_blocks(form: Form) -> bool
 pub fn turn_units(bytes: &mut [u8], form: Form)
     requires sizes { HasSizes form }
     requires whole { length bytes.old % unit_of form ≡ 0 }
-    ensures { bytes.new ≡ joined form bytes.old }
+    ensures { bytes.new ≡ turned_blocks form bytes.old }
 {
     if by_blocks(form) {
         turn_blocks(bytes, form);
@@ -43,7 +43,7 @@ pub fn turn_units(bytes: &mut [u8], form: Form)
 fn turn_blocks(bytes: &mut [u8], form: Form)
     requires sizes { HasSizes form }
     requires whole { length bytes.old % form.ibs ≡ 0 }
-    ensures { bytes.new ≡ joined form bytes.old }
+    ensures { bytes.new ≡ turned_blocks form bytes.old }
 {
     let size = form.ibs as usize;
     let mut done = 0;
@@ -59,7 +59,7 @@ pub fn turn_last(buf: &mut [u8], have: usize, form: Form) -> usize
     requires few { have < unit_of form }
     requires room { unit_of form ≤ length buf.old }
     ensures most { (result ≤ length buf.new) × (result ≤ form.ibs) }
-    ensures bytes { take result buf.new ≡ joined form (take have buf.old) }
+    ensures bytes { take result buf.new ≡ turned_blocks form (take have buf.old) }
 {
     if have == 0 {
         return 0;

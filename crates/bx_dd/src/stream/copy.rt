@@ -4,7 +4,7 @@ ghost use Rattle.std.specs.Option.{ForSome};
 ghost use Rattle.bx_dd.specs.Plan.{plan_form};
 ghost use Rattle.bx_dd.specs.private.Standing.{HasSizes};
 ghost use Rattle.bx_dd.specs.Streaming.{IsCopy, StopsCopy};
-ghost use Rattle.bx_dd.specs.private.Paged.{CountsAll, Finishes, Flushes, TakesTurn, IsFresh, Passes, StopsFinish, StopsFlush, StopsStageOf, output_of};
+ghost use Rattle.bx_dd.specs.private.Paged.{CountsAll, Finishes, Flushes, TakesTurn, IsFresh, Passes, StopsFinish, StopsFlush, StopsStageOf, output_with};
 ghost use Rattle.bx_dd.specs.private.Streaming.{CopiesRest, Grows, StopsPass, most_of, unit_of};
 ghost use Rattle.bx_dd.specs.declared.form.Shape.TheVariants.{Flat, Unblock};
 
@@ -203,8 +203,8 @@ fn pass<W: Write, A: Allocator>(
     ensures part { IfOk result (λ t. form.shape ≡ Unblock → length waiting.new.held.items < form.cbs) }
     ensures space { vec_capacity waiting.old.held ≤ vec_capacity waiting.new.held }
     ensures read { IfOk result (λ t. t.read ≡ turn.read) }
-    ensures ok { TakesTurn form (output_of (W.contents w.old) waiting.old) (output_of (W.contents w.new) waiting.new) buf.old buf.new turn result }
-    ensures err { StopsStageOf form (output_of (W.contents w.old) waiting.old) (W.contents w.new) (take turn.have buf.old) turn.tail result }
+    ensures ok { TakesTurn form (output_with (W.contents w.old) waiting.old) (output_with (W.contents w.new) waiting.new) buf.old buf.new turn result }
+    ensures err { StopsStageOf form (output_with (W.contents w.old) waiting.old) (W.contents w.new) (take turn.have buf.old) turn.tail result }
     ensures grows { Grows waiting.old.page.written waiting.new.page.written result }
 {
     let whole = turn.have - turn.have % unit_len(form);
@@ -259,8 +259,8 @@ fn finish<W: Write, A: Allocator>(
     requires part { form.shape ≡ Unblock → length waiting.old.held.items < form.cbs }
     requires cut { turn.tail.cut ≤ 2 ^ 41 }
     ensures cut { IfOk result (λ t. t.cut ≤ 2 ^ 42) }
-    ensures ok { Finishes form (output_of (W.contents w.old) waiting.old) (output_of (W.contents w.new) waiting.new) (take turn.have buf.old) turn.tail result }
-    ensures err { StopsFinish form (output_of (W.contents w.old) waiting.old) (W.contents w.new) (take turn.have buf.old) turn.tail result }
+    ensures ok { Finishes form (output_with (W.contents w.old) waiting.old) (output_with (W.contents w.new) waiting.new) (take turn.have buf.old) turn.tail result }
+    ensures err { StopsFinish form (output_with (W.contents w.old) waiting.old) (W.contents w.new) (take turn.have buf.old) turn.tail result }
     ensures grows { Grows waiting.old.page.written waiting.new.page.written result }
 {
     let n = turn_last(buf, turn.have, form);
@@ -302,7 +302,7 @@ fn copy_units<R: Read, W: Write, A: Allocator>(
     ensures space { vec_capacity waiting.old.held ≤ vec_capacity waiting.new.held }
     ensures limit { meter.new.limit ≡ 2 ^ 40 }
     ensures taken { IfOk result (λ t. meter.new.taken ≡ meter.old.taken + t.read) }
-    ensures ok { IfOk result (Passes task (R.remaining r.old) (R.remaining r.new) (W.contents w.old) buf.new (output_of (W.contents w.new) waiting.new)) }
+    ensures ok { IfOk result (Passes task (R.remaining r.old) (R.remaining r.new) (W.contents w.old) buf.new (output_with (W.contents w.new) waiting.new)) }
     ensures err { IfErr result (StopsPass task.form task.most meter.old.taken (R.remaining r.old) (R.remaining r.new) (W.contents w.old) (W.contents w.new)) }
 {
     let mut turn = Turn {

@@ -7,7 +7,7 @@ use Rattle.bx_journal_format.specs.declared.read.marks.Marking.{Marking}
 use Rattle.bx_journal_format.specs.declared.read.marks.MarkedLines.{MarkedLines}
 use Rattle.bx_journal_format.specs.Kept.{Run}
 use Rattle.bx_journal_format.specs.Line.{save_line}
-use Rattle.bx_journal_format.specs.Spelled.{EntryLines, GiveRuns, entry_in, lines_of, runs_behind}
+use Rattle.bx_journal_format.specs.Spelled.{EntryLines, GiveRuns, entry_in, entry_lines, runs_behind}
 use Rattle.bx_journal_format.specs.Text.{Stage, Between, Saving, Ending, Reading, text_of_lines, split, start, after_lines}
 use Rattle.bx_journal_format.specs.count.Rows.{saved_length, summed_of, with_more}
 
@@ -18,8 +18,8 @@ lines_size lines = length (text_of_lines lines)
 -- the mark of an entry behind older ones
 abbrev pub mark_of : List EntryLines → EntryLines → Mark
 mark_of older c = record {
-  from = lines_size (lines_of older ++ c.first ∷ []);
-  to = lines_size (lines_of older ++ c.first ∷ c.saved);
+  from = lines_size (entry_lines older ++ c.first ∷ []);
+  to = lines_size (entry_lines older ++ c.first ∷ c.saved);
   len = c.entry.saved.len;
   after = c.entry.after;
   saved = saved_length c.entry.saved;
@@ -35,8 +35,8 @@ pub record IsBegun (older : List EntryLines) (len : ℕ) (given : List Run) (tai
   pub first : List ℕ
   pub saved : List (List ℕ)
   pub is : lines ≡ first ∷ (saved ++ tail)
-  pub begins : from ≡ lines_size (lines_of older ++ first ∷ [])
-  pub ends : to ≡ lines_size (lines_of older ++ first ∷ saved)
+  pub begins : from ≡ lines_size (entry_lines older ++ first ∷ [])
+  pub ends : to ≡ lines_size (entry_lines older ++ first ∷ saved)
   pub runs : given ≡ runs_behind len [] saved
 
 -- the lines behind finished entries are those of the unfinished one
@@ -54,7 +54,7 @@ pub record IsMarked (text : List ℕ) (m : Marking) (marks : List Mark) : Type 0
   pub entries : List EntryLines
   pub are : map entry_in entries ≡ reading.entries
   pub behind : List (List ℕ)
-  pub lines : (split text).lines ≡ lines_of entries ++ behind
+  pub lines : (split text).lines ≡ entry_lines entries ++ behind
   pub goes_on : GoOnWith entries reading.stage behind m.from m.to
   pub runs : GiveRuns entries
   pub marks_are : marks ≡ marks_of entries

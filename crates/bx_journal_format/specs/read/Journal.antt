@@ -3,12 +3,12 @@ use Rattle.std.specs.Prelude.{◌≡◌, ◌+◌, ◌<◌, ◌≤◌, ◌^◌, �
 use Rattle.bx_journal_format.specs.declared.read.types.Front.{Front}
 use Rattle.bx_journal_format.specs.declared.read.whole.JournalRead.{JournalRead}
 use Rattle.bx_journal_format.specs.count.Mark.{IsMark}
-use Rattle.bx_journal_format.specs.Parsed.{told_by, IsMarked, reading_of, reading_onto}
+use Rattle.bx_journal_format.specs.Parsed.{told_by, IsStageMarked, reading_of, reading_onto}
 use Rattle.bx_journal_format.specs.Text.{Between, Entry, Reads, split}
 
 pub record HasPlaces {A : Type 0} (text : List ℕ) (older : List Entry) (j : JournalRead A) : Type 0 where
   pub mark : IsMark text j.whole (reading_onto older j.entries.items j.stage)
-  pub marked : IsMarked text older j.entries.items j.stage j.whole
+  pub marked : IsStageMarked text older j.entries.items j.stage j.whole
   pub rest : drop j.whole text ≡ (split text).rest
 
 -- the text was read from behind its older entries on, which are the newest first, and its places are known

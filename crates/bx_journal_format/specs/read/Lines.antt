@@ -4,7 +4,7 @@ use Rattle.bx_journal_format.specs.declared.read.lines.LinesRead.{LinesRead}
 use Rattle.bx_journal_format.specs.declared.read.types.EntryRead.{EntryRead}
 use Rattle.bx_journal_format.specs.declared.read.types.Front.{Front}
 use Rattle.bx_journal_format.specs.declared.read.types.StageRead.{StageRead}
-use Rattle.bx_journal_format.specs.Parsed.{told_by, IsMarked, reading_onto}
+use Rattle.bx_journal_format.specs.Parsed.{told_by, IsStageMarked, reading_onto}
 use Rattle.bx_journal_format.specs.Text.{Between, Entry}
 use Rattle.bx_journal_format.specs.count.Mark.{IsMark}
 
@@ -19,7 +19,7 @@ pub record IsFront (text : List ℕ) (older : List Entry) (front : Front) : Type
 -- the text is read up to a place behind a whole line, and of the entries those behind `older`
 pub record IsReadAt {A : Type 0} (text : List ℕ) (older : List Entry) (es : List (EntryRead A)) (stage : StageRead A) (at : ℕ) : Type 0 where
   pub mark : IsMark text at (reading_onto older es stage)
-  pub marked : IsMarked text older es stage at
+  pub marked : IsStageMarked text older es stage at
 
 -- where a text is read up to a place with the one stage, it is so with the other
 abbrev pub IsReadAlike : {A : Type 0} → StageRead A → StageRead A → Type 0

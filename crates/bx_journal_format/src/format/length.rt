@@ -4,7 +4,7 @@ ghost use Rattle.bx_image.specs.Change.{AllWithin};
 ghost use Rattle.bx_image.specs.Image.{end_of};
 ghost use Rattle.bx_text.specs.Field.{hex_text};
 ghost use Rattle.bx_journal_format.specs.Kept.{run_of, kept_of};
-ghost use Rattle.bx_journal_format.specs.DumpLine.{dump_line};
+ghost use Rattle.bx_journal_format.specs.DumpLine.{saved_run_line};
 ghost use Rattle.bx_journal_format.specs.Entry.{rows, head_text, rows_text};
 ghost use Rattle.bx_journal_format.specs.Text.{ended};
 
@@ -29,7 +29,7 @@ fn address_len(at: u64) -> u64
 /// How long a saved line of `count` bytes is, with its newline.
 fn row_len(at: u64, count: usize) -> u64
     requires { count ≤ 16 }
-    ensures { (bytes : List ℕ) → length bytes ≡ count → result ≡ length (ended (dump_line at bytes)) }
+    ensures { (bytes : List ℕ) → length bytes ≡ count → result ≡ length (ended (saved_run_line at bytes)) }
 {
     address_len(at) + 44 + count as u64
 }

@@ -1,7 +1,7 @@
 //! One line of a journal's text.
 ghost use Rattle.std.specs.Prelude.{◌≡◌, ◌+◌, ◌<◌, ◌≤◌, ◌==◌, [], ◌∷◌, ◌++◌, length, map, take, IfOk, IfSome, OnOk, MatchOption, Some, None};
 ghost use Rattle.std.specs.Str.{bytes_eq};
-ghost use Rattle.bx_journal_format.specs.DumpLine.{piece_of};
+ghost use Rattle.bx_journal_format.specs.DumpLine.{run_of_line};
 ghost use Rattle.bx_journal_format.specs.Kept.{run_of, with_run};
 ghost use Rattle.bx_journal_format.specs.Line.{at_most as most, length_in as length_read, after_in as after_read, saved_in as saved_read, save_line, start_size};
 
@@ -86,10 +86,10 @@ pub struct SavedLine {
 }
 
 /// What a line in xxd's default form gives that has 16 bytes at an address of 8 digits, as most have.
-#[tactic(auto, unfolding(crate::specs::DumpLine::piece_of))]
+#[tactic(auto, unfolding(crate::specs::DumpLine::run_of_line))]
 #[inline(always)]
 pub fn full_in(line: &[u8]) -> Option<FullLine>
-    ensures { IfSome result (λ l. piece_of line.now ≡ Some (record { at = l.at; bytes = l.bytes })) }
+    ensures { IfSome result (λ l. run_of_line line.now ≡ Some (record { at = l.at; bytes = l.bytes })) }
 {
     if line.len() == 67 {
         full_text(line)

@@ -1,7 +1,7 @@
 //! Saved lines, put into a page.
 ghost use Rattle.std.specs.Prelude.{◌≡◌, ◌+◌, ◌*◌, ◌<◌, ◌≤◌, ◌^◌, ◌++◌, length, map, vec_capacity};
 ghost use Rattle.std.specs.List.{range_with_len};
-ghost use Rattle.bx_journal_format.specs.DumpLine.{dump_line};
+ghost use Rattle.bx_journal_format.specs.DumpLine.{saved_run_line};
 ghost use Rattle.bx_journal_format.specs.Entry.{rows_text, row};
 ghost use Rattle.bx_journal_format.specs.Text.{ended};
 
@@ -76,7 +76,7 @@ fn full_rows(lines: &mut [u8], at: u32, bytes: &[u8], first: usize, count: usize
 fn whole_row(line: &mut [u8], at: u32, bytes: &[u8])
     requires line { length line.old ≡ 68 }
     requires bytes { length bytes.now ≡ 16 }
-    ensures { line.new ≡ ended (dump_line at bytes.now) }
+    ensures { line.new ≡ ended (saved_run_line at bytes.now) }
 {
     let mut all = [0; 16];
     all.copy_from_slice(bytes);
@@ -84,11 +84,11 @@ fn whole_row(line: &mut [u8], at: u32, bytes: &[u8])
 }
 
 /// A saved line of 1 to 16 bytes, with its newline.
-#[tactic(auto, unfolding(crate::specs::DumpLine::dump_line))]
+#[tactic(auto, unfolding(crate::specs::DumpLine::saved_run_line))]
 pub fn row_of(at: u64, bytes: &[u8]) -> LineText
     requires some { 0 < length bytes.now }
     requires few { length bytes.now ≤ 16 }
-    ensures { result ≡ ended (dump_line at bytes.now) }
+    ensures { result ≡ ended (saved_run_line at bytes.now) }
 {
     xxd_line(at, bytes)
 }
@@ -96,7 +96,7 @@ pub fn row_of(at: u64, bytes: &[u8]) -> LineText
 /// Writes the line into the page, behind what waits there.
 pub fn push_full_row<A: Allocator>(page: &mut Vec<u8, A>, at: u32, bytes: &[u8; 16])
     requires { length page.old.items + 68 ≤ vec_capacity page.old }
-    ensures line { page.new.items ≡ page.old.items ++ ended (dump_line at bytes.now) }
+    ensures line { page.new.items ≡ page.old.items ++ ended (saved_run_line at bytes.now) }
     ensures room { vec_capacity page.old ≤ vec_capacity page.new }
 {
     let from = page.len();
@@ -107,10 +107,10 @@ pub fn push_full_row<A: Allocator>(page: &mut Vec<u8, A>, at: u32, bytes: &[u8; 
 
 /// The line at its place.
 #[inline]
-#[tactic(auto, unfolding(crate::specs::DumpLine::dump_line))]
+#[tactic(auto, unfolding(crate::specs::DumpLine::saved_run_line))]
 fn full_row(line: &mut [u8], at: u32, bytes: &[u8; 16])
     requires { length line.old ≡ 68 }
-    ensures { line.new ≡ ended (dump_line at bytes.now) }
+    ensures { line.new ≡ ended (saved_run_line at bytes.now) }
 {
     put_full_line(line, at, bytes);
 }

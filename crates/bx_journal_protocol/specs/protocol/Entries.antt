@@ -80,8 +80,8 @@ RestsOnTop d t old new count takens result =
     → OnOk result (OnTop (length takens) stack (IsAtRest (t.text new.journal) (d.image new.image)))
 
 -- and so is one that stands for it
-abbrev pub StandsOnTop : {D T B V E : Type 0} → DeviceViews D → StoreViews T → Devices D T → Devices D T → ℕ → List B → Result V E → Type 0
-StandsOnTop d t old new count takens result =
+abbrev pub RedoStands : {D T B V E : Type 0} → DeviceViews D → StoreViews T → Devices D T → Devices D T → ℕ → List B → Result V E → Type 0
+RedoStands d t old new count takens result =
     d.honest old.image → t.honest old.journal → (stack : List (List ℕ)) → StandsFor (t.text old.journal) (d.image old.image) stack → count ≡ changes_of stack
     → OnOk result (OnTop (length takens) stack (StandsFor (t.text new.journal) (d.image new.image)))
 

@@ -53,8 +53,8 @@ pub record RedoesOne {A : Type 0} (c : Change A) (entry : Saved A) (redo : List 
   pub finished : IsFinished redo (e ∷ entries)
   pub marks : HasMarks redo entries version e begins saved_at
 
-abbrev pub UndoStops : Type 0 → Type 0
-UndoStops A = (c : Change A) (entry : Saved A) (text x redo new x_new redo_new : List ℕ) (s : Images) (e : Entry) (taken : Kept) (below : List (List ℕ))
+abbrev pub UndoFinds : Type 0 → Type 0
+UndoFinds A = (c : Change A) (entry : Saved A) (text x redo new x_new redo_new : List ℕ) (s : Images) (e : Entry) (taken : Kept) (below : List (List ℕ))
     → AreAtRest text x redo s → UndoesOne c entry x s e taken below
     → LeavesEither new x_new redo_new (record { stack = x ∷ below; image = x; redo = redo })
     (record { stack = below; image = restore e.saved x; redo = kept_text redo taken (suc (length s.undone)) e.saved.len })

@@ -3,7 +3,7 @@ use Rattle.std.specs.Prelude.{◌≡◌, ℕ, List, ◌++◌, Result, OnOk, flat
 use Rattle.bx_image.specs.Power.{FadesBehind}
 use Rattle.bx_journal_store.specs.declared.store.TextStore.{Ghosts as StoreViews}
 use Rattle.bx_text.specs.declared.owned.pieces.Piece.{Piece}
-use Rattle.bx_journal_format.specs.DumpLine.{dump_line}
+use Rattle.bx_journal_format.specs.DumpLine.{saved_run_line}
 use Rattle.bx_journal_format.specs.Entry.{rows, rows_text}
 use Rattle.bx_journal_format.specs.Kept.{run_of}
 use Rattle.bx_journal_format.specs.Text.{ended}
@@ -24,7 +24,7 @@ FadesWith t old bytes new = t.honest old → FadesBehind (t.text old) bytes (t.s
 
 -- a saved line with its newline
 abbrev pub row_text : ℕ → List ℕ → List ℕ
-row_text at bytes = ended (dump_line at bytes)
+row_text at bytes = ended (saved_run_line at bytes)
 
 -- the saved lines of a run
 abbrev pub run_text : {A : Type 0} → Piece A → List ℕ

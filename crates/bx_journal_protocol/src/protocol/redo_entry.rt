@@ -5,7 +5,7 @@ ghost use Rattle.bx_image.specs.Power.{NoMore};
 ghost use Rattle.bx_journal_format.specs.Parsed.{AllKept};
 ghost use Rattle.bx_journal_protocol.specs.Devices.{AreBelow, StepsOn};
 ghost use Rattle.bx_journal_read.specs.model.Undoing.{LeavesFront, AreReadFrom};
-ghost use Rattle.bx_journal_protocol.specs.protocol.Entries.{RedoAll, RedoRests, RedoSome, RedoSomeSurvives, RedoTakes, RestsOnTop, StandsOnTop, StaySettled, StopsOnTop};
+ghost use Rattle.bx_journal_protocol.specs.protocol.Entries.{RedoAll, RedoRests, RedoSome, RedoSomeSurvives, RedoTakes, RestsOnTop, RedoStands, StaySettled, StopsOnTop};
 ghost use Rattle.bx_journal_protocol.specs.write.Touched.{AreTouchedFrom, IsFirstBegun, IsFirstHead, IsFirstWithin, entries_over};
 ghost use Rattle.bx_journal_format.specs.Text.{IsPrefix};
 
@@ -86,7 +86,7 @@ pub fn redo_entries<D: Device, T: TextStore, A: Allocator>(
     ensures found { RedoRests D.Device T.TextStore devices.old devices.new count takens.old.items result }
     ensures images { RedoAll D.Device T.TextStore devices.old devices.new count takens.old.items result }
     ensures rests { RestsOnTop D.Device T.TextStore devices.old devices.new count takens.old.items result }
-    ensures stands { StandsOnTop D.Device T.TextStore devices.old devices.new count takens.old.items result }
+    ensures stands { RedoStands D.Device T.TextStore devices.old devices.new count takens.old.items result }
     ensures fault { StopsOnTop D.Device T.TextStore devices.old devices.new count takens.old.items result }
     ensures taken { RedoTakes D.Device T.TextStore devices.old devices.new count takens.old.items result }
     ensures number { IfOk result (λ n. n ≡ count + length takens.old.items) }

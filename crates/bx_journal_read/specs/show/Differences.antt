@@ -1,6 +1,6 @@
 -- What a look at a change writes of its saved lines: each made from the bytes that it gives, and beside an image what that has there now before it.
 use Rattle.std.specs.Prelude.{ℕ, Option, None, Some, List, [], ◌∷◌, ◌++◌, length, take, drop, flat_map, codes, ◌≡◌, ◌+◌, ◌-◌, ◌<◌, ◌≤◌}
-use Rattle.bx_journal_format.specs.DumpLine.{dump_line}
+use Rattle.bx_journal_format.specs.DumpLine.{saved_run_line}
 use Rattle.bx_journal_format.specs.Kept.{Run}
 use Rattle.bx_journal_format.specs.Line.{saved_in}
 use Rattle.bx_journal_format.specs.Text.{ended, split}
@@ -11,7 +11,7 @@ use Rattle.bx_journal_read.specs.declared.show.differences.Compared.{Compared}
 -- xxd's default line for bytes at an address behind a sign; nothing where there are no bytes
 abbrev pub signed_line : List ℕ → ℕ → List ℕ → List ℕ
 signed_line sign at [] = []
-signed_line sign at (b ∷ bytes) = sign ++ ended (dump_line at (b ∷ bytes))
+signed_line sign at (b ∷ bytes) = sign ++ ended (saved_run_line at (b ∷ bytes))
 
 -- the line of a run; nothing without one
 abbrev pub line_made : Option Run → List ℕ

@@ -1,7 +1,7 @@
 use Rattle.std.proofs.Common.{◌≡◌, ◌≤◌, ◌%◌, ◌+◌, length, subst, ◌∙◌, sym, ap, arith, ◌^◌, inl, inr}
 use Rattle.std.proofs.lemmas.Bool.{cases_lt}
 use Rattle.std.proofs.lemmas.List.{length-append}
-use Rattle.bx_dd.specs.Output.{joined}
+use Rattle.bx_dd.specs.Output.{turned_blocks}
 use Rattle.bx_dd.specs.Standing.{Progress, IsAfter}
 use Rattle.bx_dd.proofs.ConvertLemmas.{joined_more}
 use Rattle.bx_dd.proofs.RecordsLemmas.{mod_more}
@@ -45,5 +45,5 @@ returns-clause-after g c input after =
     let fits = subst F (sym c.next.view_is) c.requires.fits in
     let so_far : length input % i.form.ibs ≡ 0 = ap (λ n. n % i.form.ibs) (sym was.0) ∙ whole in (
       ap (λ n. n + length b) was.0 ∙ sym (length-append input b),
-      rw (joined_more i.form input b inv.0.some_ibs so_far c.requires.some fits) (c.in_ok-tail.ensures.next (joined i.form input) was.1),
+      rw (joined_more i.form input b inv.0.some_ibs so_far c.requires.some fits) (c.in_ok-tail.ensures.next (turned_blocks i.form input) was.1),
     )

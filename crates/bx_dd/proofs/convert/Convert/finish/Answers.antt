@@ -1,6 +1,6 @@
 use Rattle.std.proofs.Common.{◌≡◌, arith, length, ◌/◌, ◌%◌, min, ◌+◌, ◌++◌, cond, subst, ◌∙◌, sym, ap, add-zero}
 use Rattle.bx_dd.specs.Counting.{counts_of}
-use Rattle.bx_dd.specs.Output.{joined, converted}
+use Rattle.bx_dd.specs.Output.{turned_blocks, converted}
 use Rattle.bx_dd.specs.Standing.{Progress, IsAfter}
 use Rattle.bx_dd.specs.private.Standing.{last_of}
 use Rattle.bx_dd.proofs.RecordsLemmas.{Stands_last}
@@ -15,14 +15,14 @@ returns-clause-bytes g c input after =
     let was = subst P (sym c.self.view_is) after in
     let Q : Progress → Type 0 = λ p. c.from_vec.result ≡ converted p.form input in
     subst Q c.self.view_is (c.from_vec.ensures ∙ c.in_ok-end_output.ensures.ok ∙ ap (λ l. i.out.items ++ last_of i.form.shape i.form.cbs l) c.as_slice.ensures.value
-    ∙ (Stands_last i.form.shape i.form.cbs (joined i.form input) i.out.items i.held.items i.over i.cut c.self.invariant.0.some_cbs was.1).0)
+    ∙ (Stands_last i.form.shape i.form.cbs (turned_blocks i.form input) i.out.items i.held.items i.over i.cut c.self.invariant.0.some_cbs was.1).0)
 
 pub returns-clause-counts : goal.returns-clause-counts
 returns-clause-counts g c input after =
     let i = c.self.inside in
     let P : Progress → Type 0 = λ p. IsAfter input p in
     let was = subst P (sym c.self.view_is) after in
-    let last = Stands_last i.form.shape i.form.cbs (joined i.form input) i.out.items i.held.items i.over i.cut c.self.invariant.0.some_cbs was.1 in
+    let last = Stands_last i.form.shape i.form.cbs (turned_blocks i.form input) i.out.items i.held.items i.over i.cut c.self.invariant.0.some_cbs was.1 in
     let bytes : c.end_output.new.out.items ≡ converted i.form input = c.in_ok-end_output.ensures.ok ∙ ap (λ l. i.out.items ++ last_of i.form.shape i.form.cbs l) c.as_slice.ensures.value ∙ last.0 in
     let cut : c.if-over.counts ≡ i.cut + cond i.over 1 0 = elim c.if-over.branch [
       | then-over w ↦ w.counts-is ∙ ap (λ b. i.cut + cond b 1 0) (sym w.if-over.true)

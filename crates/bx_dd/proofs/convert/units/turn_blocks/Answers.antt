@@ -3,7 +3,7 @@ use Rattle.std.proofs.Math.Nat.{mod-eq_of_lt}
 use Rattle.std.proofs.Math.Seq.{take-add}
 use Rattle.std.proofs.lemmas.List.{length-take-le, length-drop, take_all, drop-drop}
 use Rattle.bx_text.proofs.KnownLemmas.{take-put_mid_more}
-use Rattle.bx_dd.specs.Output.{joined}
+use Rattle.bx_dd.specs.Output.{turned_blocks}
 use Rattle.bx_dd.specs.private.Output.{block_of}
 use Rattle.bx_dd.proofs.ConvertLemmas.{joined_more, joined_none}
 use Rattle.bx_dd.proofs.RecordsLemmas.{mod_full}
@@ -45,6 +45,6 @@ loop-done-preserved c =
       whole = mod_full d size size pos (omega (arith, before.whole));
       front = take-put_mid_more buf next d m size (omega arith) (omega (arith, next_len)) ∙ ap (λ l. take d buf ++ l) (take_all size next (omega (arith, next_len)) ∙ turned)
           ∙ ap (λ l. l ++ block_of form part) before.front ∙ sym (joined_more form (take d xs) part pos front_whole (omega (arith, part_len)) (omega (arith, part_len)))
-          ∙ ap (joined form) (sym (take-add d size xs));
+          ∙ ap (turned_blocks form) (sym (take-add d size xs));
       back = drop_behind buf next d m size (omega arith) next_len same ∙ sym (drop-drop size d buf) ∙ ap (drop size) before.back ∙ drop-drop size d xs;
     }

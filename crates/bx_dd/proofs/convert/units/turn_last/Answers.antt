@@ -1,6 +1,6 @@
 use Rattle.std.proofs.Common.{◌≡◌, ◌-◌, ◌<◌, ◌≤◌, ◌++◌, cond, length, take, drop, map, replicate, sym, ap, ◌∙◌, arith}
 use Rattle.std.proofs.lemmas.List.{length-take-le}
-use Rattle.bx_dd.specs.Output.{cased, filler, joined, swapped}
+use Rattle.bx_dd.specs.Output.{cased, filler, turned_blocks, swapped}
 use Rattle.bx_dd.specs.private.Output.{block_of}
 use Rattle.bx_dd.proofs.ConvertLemmas.{joined_none}
 use Rattle.bx_dd.proofs.UnitLemmas.{below_block, block_full, block_plain, joined_one, take_front, unit_sync}
@@ -9,7 +9,7 @@ use Rattle.bx_dd.proofs.convert.units.turn_last.Goals.{then-form, else-form}
 
 pub returns-then-have-eq0-clause-bytes : goal.returns-then-have-eq0-clause-bytes
 returns-then-have-eq0-clause-bytes c =
-    sym (ap (λ k. joined c.args.form (take k c.args.buf.now)) c.if-have-eq0.true ∙ joined_none c.args.form c.requires.sizes.some_ibs)
+    sym (ap (λ k. turned_blocks c.args.form (take k c.args.buf.now)) c.if-have-eq0.true ∙ joined_none c.args.form c.requires.sizes.some_ibs)
 
 pub returns-clause-bytes : goal.returns-clause-bytes
 returns-clause-bytes c =

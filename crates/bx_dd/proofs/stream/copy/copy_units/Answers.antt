@@ -9,7 +9,7 @@ use Rattle.bx_text.specs.declared.stream.State.TheVariants.{Open, Ended}
 use Rattle.bx_dd.specs.declared.form.Shape.TheVariants.{Flat, Unblock}
 use Rattle.bx_dd.specs.Output.{converted}
 use Rattle.bx_dd.specs.Streaming.{IsCopyAhead}
-use Rattle.bx_dd.specs.private.Paged.{output_of}
+use Rattle.bx_dd.specs.private.Paged.{output_with}
 use Rattle.bx_dd.specs.private.Streaming.{StopsPass, written_by}
 use Rattle.bx_dd.proofs.CopyLemmas.{ahead_of, read_sizes, read_stops, stage_near, stage_read, stage_sent, stage_start, stage_unsent, unit_some, write_stops}
 use Rattle.bx_dd.proofs.stream.copy.copy_units.Goals as goal
@@ -30,7 +30,7 @@ loop-turn-init g c = record {
     omega arith,
     omega arith,
     Consumes-nil (g.R.Read.remaining c.args.r.now),
-    stage_start c.args.task.form (output_of (g.W.Write.contents c.args.w.now) c.args.waiting.now) c.requires.fresh.sizes c.requires.fresh.none.1 c.requires.fresh.none.0 c.requires.fresh.none.2,
+    stage_start c.args.task.form (output_with (g.W.Write.contents c.args.w.now) c.args.waiting.now) c.requires.fresh.sizes c.requires.fresh.none.1 c.requires.fresh.none.0 c.requires.fresh.none.2,
   );
 }
 

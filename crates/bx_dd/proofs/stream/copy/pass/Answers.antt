@@ -2,7 +2,7 @@ use Rattle.std.proofs.Common.{◌≡◌, ℕ, List, ◌+◌, ◌-◌, ◌%◌, �
 use Rattle.std.proofs.Math.Seq.{take-add}
 use Rattle.std.proofs.lemmas.List.{length-take-le}
 use Rattle.bx_dd.specs.declared.form.Form.{Form}
-use Rattle.bx_dd.specs.Output.{joined}
+use Rattle.bx_dd.specs.Output.{turned_blocks}
 use Rattle.bx_dd.specs.private.Streaming.{unit_of}
 use Rattle.bx_dd.proofs.UnitLemmas.{take_front}
 use Rattle.bx_dd.proofs.CopyLemmas.{drop_front, less_whole, stage_pass, stage_stops}
@@ -20,7 +20,7 @@ record AreTurned (form : Form) (buf turned : List ℕ) (got w : ℕ) : Type 0 wh
   pub whole : length (take w buf) % unit_of form ≡ 0
   pub long : length turned ≡ w
   pub split : take got buf ≡ take w buf ++ take (got - w) (drop w buf)
-  pub put : take w (turned ++ drop w buf) ≡ joined form (take w buf)
+  pub put : take w (turned ++ drop w buf) ≡ turned_blocks form (take w buf)
 
 turned_units : (g : _) (c : After-turn_units g) → AreTurned c.args.form c.args.buf.now c.turn_units.new.bytes c.args.turn.have (c.args.turn.have - c.args.turn.have % c.unit_len.result)
 turned_units g c =
@@ -47,7 +47,7 @@ returns-in-Ok-clause-ok g c input start stage =
     let turned = c.turn_units.new.bytes in
     let rest = take (got - w) (drop w buf) in
     let left : take (got - w) c.move_front.new.buf ≡ rest = c.move_front.ensures ∙ ap (take (got - w)) (drop_front w turned (drop w buf) units.long) in
-    rw left (stage_pass stage (take w buf) rest units.split units.whole c.requires.sizes (take w (turned ++ drop w buf)) units.put (c.in-Ok.ensures.ok (joined c.args.form stage.done) start stage.flows))
+    rw left (stage_pass stage (take w buf) rest units.split units.whole c.requires.sizes (take w (turned ++ drop w buf)) units.put (c.in-Ok.ensures.ok (turned_blocks c.args.form stage.done) start stage.flows))
 
 pub returns-in-Err-clause-err : goal.returns-in-Err-clause-err
 returns-in-Err-clause-err g c input start stage =
@@ -56,4 +56,4 @@ returns-in-Err-clause-err g c input start stage =
     let got = c.args.turn.have in
     let w = got - got % c.unit_len.result in
     stage_stops stage (take w buf) (take (got - w) (drop w buf)) units.split units.whole c.requires.sizes _ (take w (c.turn_units.new.bytes ++ drop w buf)) c.in-Err.fault units.put
-    (c.in-Err.ensures.err (joined c.args.form stage.done) start stage.flows)
+    (c.in-Err.ensures.err (turned_blocks c.args.form stage.done) start stage.flows)

@@ -1,7 +1,7 @@
 use Rattle.std.proofs.Common.{◌≡◌, ℕ, ◌-◌, ◌*◌, ◌^◌, min, List, length, map, drop, ap, ◌∙◌, arith, length-append, length-take, length-drop}
 use Rattle.std.specs.List.{range_with_len}
 use Rattle.bx_journal_format.specs.Kept.{Run, run_of}
-use Rattle.bx_journal_format.specs.DumpLine.{dump_line}
+use Rattle.bx_journal_format.specs.DumpLine.{saved_run_line}
 use Rattle.bx_journal_format.specs.Entry.{rows_text, row}
 use Rattle.bx_journal_format.specs.Text.{ended}
 use Rattle.bx_journal_format.proofs.WriterLemmas.{row_more, rows_all}
@@ -16,7 +16,7 @@ loop-k-preserved g c =
     let count : length bytes ≡ c.min-to.result - 16 * k =
     omega (arith, length-take 16 (drop (16 * k) run.bytes), length-drop (16 * k) run.bytes, c.min-to.ensures, ap length c.as_slice-len.ensures) in
     let line = c.row_len.ensures bytes count in
-    omega (arith, line, c.saturating_add-total.ensures, c.loop-k.invariant, ap length (row_more run k), length-append done (ended (dump_line (row run k).at bytes)))
+    omega (arith, line, c.saturating_add-total.ensures, c.loop-k.invariant, ap length (row_more run k), length-append done (ended (saved_run_line (row run k).at bytes)))
 
 pub returns : goal.returns
 returns g c =

@@ -3,7 +3,7 @@ use Rattle.std.specs.List.{range_with_len}
 use Rattle.std.proofs.lemmas.Slice.{take-put_mid}
 use Rattle.std.proofs.lemmas.List.{length-take-le, length-drop}
 use Rattle.bx_journal_format.specs.Kept.{Run}
-use Rattle.bx_journal_format.specs.DumpLine.{dump_line}
+use Rattle.bx_journal_format.specs.DumpLine.{saved_run_line}
 use Rattle.bx_journal_format.specs.Entry.{rows_text, row}
 use Rattle.bx_journal_format.specs.Text.{ended}
 use Rattle.bx_journal_format.proofs.WriterLemmas.{row_more_at, take_whole}
@@ -21,8 +21,8 @@ loop-k-preserved c =
     let len : length line ≡ 68 = c.whole_row.auto.line ∙ length-take-le (a + 68 - a) (drop a c.loop-k.lines) (omega (arith, length-drop a c.loop-k.lines)) ∙ same in
     let more = take-put_mid a (a + 68 - a) c.loop-k.lines line (68 * (k + 1)) (omega arith) (omega arith) in
     let cut : from + 16 - from ≡ 16 = omega arith in
-    let after : line ≡ ended (dump_line (c.args.at + from) (take 16 (drop from c.args.bytes.now))) =
-    c.whole_row.ensures ∙ ap (λ m. ended (dump_line (c.args.at + from) (take m (drop from c.args.bytes.now)))) cut in
+    let after : line ≡ ended (saved_run_line (c.args.at + from) (take 16 (drop from c.args.bytes.now))) =
+    c.whole_row.ensures ∙ ap (λ m. ended (saved_run_line (c.args.at + from) (take m (drop from c.args.bytes.now)))) cut in
     more ∙ ap (λ t. t ++ line) c.loop-k.invariant ∙ ap (λ t. rows_text (map (row run) (range_with_len c.args.first k)) ++ t) after ∙ sym (row_more_at run c.args.first k)
 
 pub returns : goal.returns

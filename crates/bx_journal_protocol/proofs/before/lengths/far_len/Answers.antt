@@ -3,7 +3,7 @@ use Rattle.std.specs.List.{range_with_len}
 use Rattle.bx_image.specs.Image.{zeros}
 use Rattle.bx_image.proofs.FillLemmas.{length-zeros}
 use Rattle.bx_journal_format.specs.Kept.{Run}
-use Rattle.bx_journal_format.specs.DumpLine.{dump_line}
+use Rattle.bx_journal_format.specs.DumpLine.{saved_run_line}
 use Rattle.bx_journal_format.specs.Entry.{rows_text, row}
 use Rattle.bx_journal_format.specs.Text.{ended}
 use Rattle.bx_journal_format.proofs.WriterLemmas.{row_more, rows_all}
@@ -19,7 +19,7 @@ loop-k-preserved c =
     let count : length bytes ≡ c.min-size.result =
     omega (arith, length-take 16 (drop (16 * k) run.bytes), length-drop (16 * k) run.bytes, length-zeros n, c.min-size.ensures) in
     let line = c.line_len.ensures bytes count in
-    omega (arith, line, c.saturating_add-total.ensures, c.loop-k.invariant, ap length (row_more run k), length-append done (ended (dump_line (row run k).at bytes)))
+    omega (arith, line, c.saturating_add-total.ensures, c.loop-k.invariant, ap length (row_more run k), length-append done (ended (saved_run_line (row run k).at bytes)))
 
 pub returns : goal.returns
 returns c =
