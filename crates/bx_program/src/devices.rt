@@ -1,6 +1,9 @@
 //! The devices of a session, and which of them stopped it.
+pub mod left;
+pub mod pairs;
+
+use crate::devices::left::{differs, length_of, stopped_by};
 use crate::files::Made;
-use crate::left::{differs, length_of, stopped_by};
 use crate::stopped::{Reason, Row, Stopped};
 use bx_cli::{Fault, Target};
 use bx_image::{FileImage, RandomAccess};

@@ -1,5 +1,6 @@
 //! The files of a session.
 mod dev;
+pub mod folders;
 pub mod guard;
 mod links;
 pub mod look;

@@ -1,21 +1,25 @@
 //! The jobs, and one run of the program.
 ghost use Rattle.bx_cli_commands.specs.jobs.Passing.{CanPass, skip_of};
 
+mod copies;
+mod diff;
+mod patch;
+mod previews;
+mod steps;
+
 use crate::advice::Advice;
-use crate::copies::{copy_onto, most_of_dd, tell};
-use crate::diff::diff;
 use crate::hints::remarks::Remarks;
 use crate::hints::seen::{Seen, Watched};
 use crate::hints::show_fault;
-use crate::images::as_patch::show_patch;
 use crate::images::forget::{forget, open_fresh, open_to_forget};
-use crate::images::{finish_read, log, log_places, open_session, open_to_look, show_changes};
-use crate::input::{MOST_INPUT, Placed, file, open, size_of, standard};
-use crate::patch::patch;
-use crate::previews::{preview_copy, preview_read};
-use crate::steps::take_steps;
+use crate::images::shown::show_changes;
+use crate::images::{finish_read, log, log_places, open_session, open_to_look};
+use crate::jobs::copies::{copy_onto, most_of_dd, tell};
+use crate::jobs::previews::{preview_copy, preview_read};
+use crate::jobs::steps::take_steps;
 use crate::stopped::{Noted, STANDARD_INPUT, Stopped};
-use crate::streams::Held;
+use crate::streams::closed::Held;
+use crate::streams::input::{MOST_INPUT, Placed, file, open, size_of, standard};
 use bx_cli::{
     ChangeJob, DdImageJob, Done, DumpJob, Fault, ForgetJob, Form, Job, LogJob, LookJob, RevertJob,
     ShowJob, change_from, plan_words, run_dump,
@@ -163,7 +167,7 @@ where
             Ok(None)
         }
         Job::Diff(job) => {
-            diff(rt, job, out)?;
+            diff::diff(rt, job, out)?;
             Ok(None)
         }
         Job::Help { text } => {
@@ -186,7 +190,7 @@ where
     match job {
         ChangeJob::Dd(job) => copy(rt, job, out, remarks),
         ChangeJob::Revert(job) => uncounted(revert(rt, job, out, remarks)),
-        ChangeJob::Patch(job) => uncounted(patch(rt, job, out, remarks)),
+        ChangeJob::Patch(job) => uncounted(patch::patch(rt, job, out, remarks)),
         ChangeJob::Forget(job) => uncounted(forget_changes(rt, job, remarks)),
         ChangeJob::Undo(job) => uncounted(take_steps(rt, Way::Undo, job, remarks)),
         ChangeJob::Redo(job) => uncounted(take_steps(rt, Way::Redo, job, remarks)),
@@ -282,10 +286,7 @@ where
     };
     let advice = Advice::of(rt, &job.target);
     show_other(advice.is_shown(job.way, job.count), out)?;
-    if job.as_patch {
-        return show_patch(rt, steps, &job.target, progress, out);
-    }
-    show_changes(rt, steps, &job.target, progress, out)
+    show_changes(rt, steps, job.as_patch, &job.target, progress, out)
 }
 
 fn show<W: Write>(out: &mut W, text: &str) -> Result<(), Fault> {

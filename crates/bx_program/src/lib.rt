@@ -2,22 +2,11 @@
 #![tactic(auto)]
 
 mod advice;
-mod copies;
 mod devices;
-mod diff;
 mod files;
-mod fitting;
-mod folders;
 mod hints;
 mod images;
-mod input;
 mod jobs;
-mod left;
-mod paged;
-mod pairs;
-mod patch;
-mod previews;
-mod steps;
 mod stopped;
 mod streams;
 

@@ -1,9 +1,9 @@
 //! What a command finds of an image and its texts, which are opened to be read alone.
 use crate::advice::ranges::{Ranged, fill, ranges_of};
+use crate::devices::left::length_of;
 use crate::files::look::{Makes, Use, look_at_all};
 use crate::files::open::Purpose;
 use crate::files::{SessionFiles, existing};
-use crate::left::length_of;
 use bx_cli::Target;
 use bx_journal_image::{Digest, Range, Standing, digest_of};
 use std::alloc::Global;

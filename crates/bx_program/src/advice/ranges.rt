@@ -1,6 +1,6 @@
 //! The ranges of a text's last entry, by windows of the text: whole towards its end, and before that one at each doubling of the
 //! distance from there, so that a long text costs no more than a short one.
-use crate::left::length_of;
+use crate::devices::left::length_of;
 use bx_journal_image::{Range, end_of, push_ranges};
 use std::alloc::Global;
 use std::fs::File;

@@ -1,8 +1,8 @@
 //! The third text: read, written anew in a file that takes its place, and emptied. It is judged as a journal is, and what isn't
 //! the line stays.
 use crate::advice::ranges::fill;
+use crate::devices::left::length_of;
 use crate::files::guard::Guard;
-use crate::left::length_of;
 use bx_cli::{Durability, Target};
 use bx_journal_image::{ImageLine, LINE, read_line, write_line};
 use bx_program_system::{Permits, folder_of, is_among_devices, is_same, open_there};

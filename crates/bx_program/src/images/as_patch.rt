@@ -2,16 +2,13 @@
 ghost use Rattle.std.specs.Prelude.{◌<◌};
 
 use crate::devices::Named;
-use crate::files::existing;
-use crate::files::look::{Makes, Use, look_at_all};
-use crate::files::open::Purpose;
+use crate::devices::pairs::{Cut, open_pair};
 use crate::images::lines::ShownLines;
-use crate::images::{closed, devices_of, size_of, stop};
-use crate::pairs::{Cut, open_pair};
+use crate::images::stop;
 use crate::stopped::Stopped;
-use bx_cli::{Fault, Target, list_steps};
+use bx_cli::list_steps;
 use bx_image::{Device, FileImage};
-use bx_journal::{Devices, Session, SessionFault, Steps, Way};
+use bx_journal::{Devices, Steps, Way};
 use bx_journal_store::{FileText, TextStore};
 use bx_program_system::{CountedFile, Progress};
 use std::fs::File;
@@ -20,43 +17,8 @@ use std::rt::Files;
 use std::time::Clock;
 
 /// Writes the changes that an undo or a redo would step over as one patch: of an undo from the image before them to the one that is there,
-/// of a redo from that to the one behind them. The files are opened for reading alone. Where something is unfinished, the image is none
-/// that a change left, and nothing is written.
-pub fn show_patch<'a, R, W: Write>(
-    rt: &R,
-    steps: Steps,
-    target: &'a Target,
-    progress: &Progress<'_, R>,
-    out: &mut W,
-) -> Result<(), Stopped<'a>>
-where
-    R: Files<File = File> + Eprint + Clock + AllocGlobal,
-{
-    look_at_all(rt, target, Makes::Nothing, Use::Read)?;
-    let files = existing(rt, target, Purpose::Read)?;
-    progress.begin(size_of(&files, progress));
-    let devices = devices_of(files, target.access.durability, progress);
-    let opened = Session::open_devices(rt.alloc(), devices);
-    progress.end();
-    match opened {
-        Ok((session, found)) => {
-            let devices = closed(session);
-            let changes = found.changes;
-            let steps = Steps { changes, ..steps };
-            put_patch(rt, steps, Named { devices, target }, progress, out)
-        }
-        Err((devices, fault)) => {
-            if fault == SessionFault::Interrupted {
-                return Err(Stopped::by(Fault::from(fault), target.image.as_str(), None));
-            }
-            let named = Named { devices, target };
-            Err(named.stopped(Fault::from(fault)))
-        }
-    }
-}
-
-/// Writes the patch of the steps over the changes of texts that are open.
-fn put_patch<'a, 'p, 'r, R, W: Write>(
+/// of a redo from that to the one behind them.
+pub fn put_patch<'a, 'p, 'r, R, W: Write>(
     rt: &R,
     steps: Steps,
     named: Named<'a, CountedFile<'p, 'r, R>>,

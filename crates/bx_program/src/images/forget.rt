@@ -3,8 +3,8 @@ ghost use Rattle.std.specs.Prelude.{◌≡◌, None, IfOk};
 
 use crate::advice::forget_line;
 use crate::devices::{FileDevices, Named};
+use crate::files::folders::keep_names;
 use crate::files::{Made, SessionFiles, only_texts, trio};
-use crate::folders::keep_names;
 use crate::images::{
     OpenSession, SessionOn, closed, devices_of, open_to_look, refusal, size_of, tell_recovered,
 };

@@ -1,13 +1,13 @@
 //! What a change would be: the image is only read, and the patch of the change is written.
 ghost use Rattle.bx_cli_commands.specs.jobs.Passing.{CanPass, plan_skip};
 
-use crate::copies::plan_for;
+use crate::devices::pairs::open_pair;
 use crate::files::look::is_device;
-use crate::fitting::Fitting;
 use crate::hints::remarks::Remarks;
-use crate::input::{Placed, file, standard};
-use crate::pairs::open_pair;
+use crate::jobs::copies::plan_for;
 use crate::stopped::{Noted, Stopped};
+use crate::streams::fitting::Fitting;
+use crate::streams::input::{Placed, file, standard};
 use bx_cli::{DdImageJob, Fault, Target, change_of_plan};
 use bx_dd::Counts;
 use bx_image::Change;

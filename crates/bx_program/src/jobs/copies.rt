@@ -3,12 +3,12 @@ ghost use Rattle.bx_cli_commands.specs.jobs.Passing.{CanPass, plan_skip};
 
 use crate::advice::Advice;
 use crate::files::look::is_device;
-use crate::fitting::Fitting;
 use crate::hints::remarks::Remarks;
 use crate::images::forget::{finish_copy, open_to_renew, renewed};
 use crate::images::{finish, open_session};
-use crate::input::{Placed, file, standard};
 use crate::stopped::{Noted, Stopped};
+use crate::streams::fitting::Fitting;
+use crate::streams::input::{Placed, file, standard};
 use bx_cli::{Command, DdImageJob, Fault, change_of_plan, plan_rest};
 use bx_dd::{Counts, Plan, report};
 use bx_program_system::Progress;

@@ -2,10 +2,10 @@
 ghost use Rattle.std.specs.Prelude.{◌≡◌, IfOk};
 
 use crate::advice::Advice;
+use crate::devices::left::{differs_by_name, stopped_by};
 use crate::files::look::refuse_without_journal;
 use crate::files::unopened::not_opened;
 use crate::hints::remarks::Remarks;
-use crate::left::{differs_by_name, stopped_by};
 use crate::stopped::{STANDARD_OUTPUT, Stopped};
 use bx_cli::{Durability, Fault, StepsJob, Target};
 use bx_journal::{SessionFault, Way};

@@ -1,9 +1,9 @@
 //! An image that two devices read at once, as the patch of a change that isn't made wants it.
 ghost use Rattle.std.specs.Prelude.{◌≡◌, None, IfOk};
 
+use crate::devices::left::{differs, length_of};
 use crate::devices::{ImageFile, has_others};
 use crate::files::look::{Holds, look};
-use crate::left::{differs, length_of};
 use crate::stopped::{Reason, Stopped};
 use bx_cli::Fault;
 use bx_image::{Change, Device, FileImage, ImageFault, RandomAccess, SystemFile, check};
@@ -159,7 +159,8 @@ impl<'p, 'r, R: Clock + Eprint> Pair<CountedFile<'p, 'r, R>> {
                 file: Some(name),
                 reason: Reason::Fixed { has, wanted },
             }),
-            _ => Ok(()),
+            Ok(_) => Ok(()),
+            Err(_) => Err(Stopped::from(Fault::from(SessionFault::TooLarge))),
         }
     }
 
