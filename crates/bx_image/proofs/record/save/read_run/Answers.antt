@@ -2,7 +2,7 @@ use Rattle.std.proofs.Common.{◌≡◌, ◌-◌, ◌∙◌, refl, arith}
 use Rattle.std.specs.Prelude.{vec_len}
 use Rattle.std.proofs.lemmas.Grind.{common_steps}
 use Rattle.bx_image.proofs.Runs.{IsRunOf-read}
-use Rattle.bx_image.proofs.record.read_run.Goals as goal
+use Rattle.bx_image.proofs.record.save.read_run.Goals as goal
 
 pub returns-clause-run : goal.returns-clause-run
 returns-clause-run g c honest =

@@ -5,7 +5,7 @@ use Rattle.bx_image.proofs.Devices.{GoesOn_then}
 use Rattle.bx_image.proofs.Runs.{AreRunsOf-push, HaveBytes-push}
 use Rattle.bx_image.proofs.SpanLemmas.{StandOver-push}
 use Rattle.bx_image.proofs.Survivors.{NoMore_then}
-use Rattle.bx_image.proofs.record.read_runs.Goals as goal
+use Rattle.bx_image.proofs.record.save.read_runs.Goals as goal
 
 pub loop-span-preserved : goal.loop-span-preserved
 loop-span-preserved g c =

@@ -2,7 +2,7 @@ use Rattle.std.proofs.Common.{◌≡◌, ◌≤◌, ◌-◌, false, take, drop}
 use Rattle.std.specs.Prelude.{vec_len}
 use Rattle.bx_image.specs.Device.{GoesOn}
 use Rattle.bx_image.specs.Power.{NoMore}
-use Rattle.bx_image.proofs.record.read_run.Given as goal
+use Rattle.bx_image.proofs.record.save.read_run.Given as goal
 
 -- a front was read
 abbrev pub invariant-loop-bytes : goal.invariant-loop-bytes

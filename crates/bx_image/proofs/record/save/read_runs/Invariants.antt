@@ -4,7 +4,7 @@ use Rattle.bx_image.specs.Device.{GoesOn}
 use Rattle.bx_image.specs.Power.{NoMore}
 use Rattle.bx_image.specs.Runs.{AreRunsOf}
 use Rattle.bx_image.specs.private.Spans.{StandOver}
-use Rattle.bx_image.proofs.record.read_runs.Given as goal
+use Rattle.bx_image.proofs.record.save.read_runs.Given as goal
 
 -- the runs stand over the ranges so far, and have the image's bytes
 abbrev pub invariant-loop-span : goal.invariant-loop-span
