@@ -21,8 +21,7 @@ Written by `tools/docs.py --write` of `crates.txt`, `rooms.txt` and the sentence
 right below `src/`; behind it stand the rooms that it may import.
 """
 # circles of files that are to end, by their crate and one of their files; no other may be made
-CIRCLES = [("bx_journal_read", "scan/journal"), ("bx_journal", "recovery/finished_journal"),
-           *(("bx_journal_protocol", file) for file in ("before/overwritten", "protocol/fill", "write/head"))]
+CIRCLES = [("bx_journal_read", "scan/journal")]
 
 
 def rooms(found):

@@ -7,7 +7,7 @@ use Rattle.bx_journal_store.specs.Store.{IsPartlyAppended, IsCutInPart}
 use Rattle.bx_journal_format.specs.read.Faded.{HasFirst}
 use Rattle.bx_journal_format.specs.Line.{save_line}
 use Rattle.bx_journal_format.specs.Text.{ended}
-use Rattle.bx_journal_protocol.specs.declared.write.ranges.Place.{Place}
+use Rattle.bx_journal_protocol.specs.declared.write.head.Place.{Place}
 use Rattle.bx_journal_protocol.specs.write.First.{AllHaveFirst, AllKeptOrShort, AllLeft}
 use Rattle.bx_journal_protocol.specs.write.Page.{IsPaged}
 use Rattle.bx_journal_protocol.specs.write.Ranges.{head_from, rest_text}

@@ -13,7 +13,7 @@ use Rattle.bx_journal_format.specs.Text.{ended}
 use Rattle.std.proofs.lemmas.Bool.{cases_lt}
 use Rattle.bx_journal_format.proofs.WriterLemmas.{rows_split, rows_all, row_long, head_is}
 use Rattle.bx_image.specs.declared.record.spans.Span.{Span}
-use Rattle.bx_journal_protocol.specs.declared.write.ranges.Place.{Place}
+use Rattle.bx_journal_protocol.specs.declared.write.head.Place.{Place}
 use Rattle.bx_journal_protocol.specs.write.Ranges.{saved_lines_text, range_len, left_text, left_len, rest_text, rest_len, AreRanges, IsLeft, IsPlace, IsPlaceBehind, head_from, kept_over}
 use Rattle.std.specs.Prelude.{flat_map, IfOk}
 use Rattle.bx_image.specs.declared.record.Saved.{Saved}

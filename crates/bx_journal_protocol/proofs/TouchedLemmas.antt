@@ -10,7 +10,7 @@ use Rattle.bx_image.specs.Over.{LieWithin}
 use Rattle.bx_journal_format.specs.Entry.{head_text}
 use Rattle.bx_journal_format.specs.Kept.{Kept, kept_of}
 use Rattle.bx_journal_format.specs.declared.read.types.EntryRead.{EntryRead}
-use Rattle.bx_journal_protocol.specs.declared.write.ranges.Place.{Place}
+use Rattle.bx_journal_protocol.specs.declared.write.head.Place.{Place}
 use Rattle.bx_journal_protocol.specs.write.Ranges.{head_from, kept_over, left_len, rest_len, AreRanges, IsPlace}
 use Rattle.bx_journal_protocol.specs.protocol.Takens.{length_at}
 use Rattle.bx_journal_protocol.specs.write.Touched.{AreTouched, AreToldRanges, IsHeadBegun, IsFirstBegun, IsFirstWithin, IsTouched, entries_over}

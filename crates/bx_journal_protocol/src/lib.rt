@@ -20,6 +20,5 @@ pub use protocol::redo_text::{RedoCut, cut_redo};
 pub use protocol::restore::{Buffers, buffers_of};
 pub use protocol::rollback::{drop_tail, take_back};
 pub use protocol::undo_entry::{Placed, undo_entries};
-pub use write::head::Head;
+pub use write::head::{Head, Place};
 pub use write::look::look_and_begin;
-pub use write::ranges::Place;

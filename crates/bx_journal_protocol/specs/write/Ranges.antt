@@ -7,7 +7,7 @@ use Rattle.bx_journal_format.specs.Entry.{rows, rows_text}
 use Rattle.bx_journal_format.specs.Line.{save_line}
 use Rattle.bx_journal_format.specs.Text.{ended}
 use Rattle.bx_image.specs.declared.record.spans.Span.{Span}
-use Rattle.bx_journal_protocol.specs.declared.write.ranges.Place.{Place}
+use Rattle.bx_journal_protocol.specs.declared.write.head.Place.{Place}
 
 -- the saved lines of the bytes from an address up to another
 abbrev pub saved_lines_text : List ℕ → ℕ → ℕ → List ℕ

@@ -10,7 +10,7 @@ use Rattle.bx_journal_store.specs.declared.store.TextStore.{Ghosts as StoreViews
 use Rattle.bx_journal_format.specs.Entry.{head_text}
 use Rattle.bx_journal_format.specs.declared.read.types.EntryRead.{EntryRead}
 use Rattle.bx_journal_protocol.specs.declared.write.head.Head.{Head}
-use Rattle.bx_journal_protocol.specs.declared.write.ranges.Place.{Place}
+use Rattle.bx_journal_protocol.specs.declared.write.head.Place.{Place}
 use Rattle.bx_journal_protocol.specs.write.Ranges.{head_from, kept_over, left_len, rest_len, IsPlace}
 
 -- ranges of what restoring an entry overwrites or cuts off in an image of this length, which an entry can tell

@@ -1,25 +1,11 @@
 //! Redo records: what undos will take of the image, filled one by one.
-ghost use Rattle.std.specs.Prelude.{◌≡◌, ◌<◌, ◌++◌, ◌∷◌, [], length, reverse, OnOk, is_err};
+ghost use Rattle.std.specs.Prelude.{◌≡◌, ◌<◌, length, reverse, OnOk, is_err};
 ghost use Rattle.bx_image.specs.Device.{GoesOn};
 ghost use Rattle.bx_image.specs.Power.{NoMore};
 ghost use Rattle.bx_journal_protocol.specs.protocol.Takens.{IsFirstBelow, AreFilled, AllShaped, entries_len};
 
-use crate::protocol::undo_entry::Placed;
 use bx_image::{Device, DeviceFailed, Saved};
 use std::alloc::Allocator;
-
-/// Takes the last place off, and the last record.
-pub fn take_last<A: Allocator>(
-    placed: &mut Vec<Placed, A>,
-    takens: &mut Vec<Saved<A>, A>,
-) -> (Placed, Saved<A>)
-    requires some { 0 < length takens.old.items }
-    requires same { length placed.old.items ≡ length takens.old.items }
-    ensures entry { placed.old.items ≡ placed.new.items ++ result.0 ∷ [] }
-    ensures taken { takens.old.items ≡ takens.new.items ++ result.1 ∷ [] }
-{
-    (placed.pop().unwrap(), takens.pop().unwrap())
-}
 
 /// Reads the bytes of the last record, if there is one, from the image.
 pub fn fill_last<D: Device, A: Allocator>(

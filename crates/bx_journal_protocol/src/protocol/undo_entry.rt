@@ -1,5 +1,5 @@
 //! Undoing entries: the newest, or some of them one after another.
-ghost use Rattle.std.specs.Prelude.{◌≡◌, ◌+◌, ◌<◌, ◌≤◌, ℕ, is_err, [], length, take, nat_le, vec_capacity, if◌then◌else◌, IfOk, OnOk, OnErr};
+ghost use Rattle.std.specs.Prelude.{◌≡◌, ◌+◌, ◌<◌, ◌≤◌, ◌++◌, ◌∷◌, ℕ, is_err, [], length, take, nat_le, vec_capacity, if◌then◌else◌, IfOk, OnOk, OnErr};
 ghost use Rattle.bx_image.specs.Change.{restore};
 ghost use Rattle.bx_journal_format.specs.Kept.{Kept};
 ghost use Rattle.bx_image.specs.Device.{GoesOn};
@@ -17,7 +17,7 @@ ghost use Rattle.bx_journal_protocol.specs.protocol.Written.{EntrySettles};
 ghost use Rattle.bx_journal_store.specs.Store.{IsCutInPart};
 
 use crate::devices::Devices;
-use crate::protocol::fill::{fill_last, take_last};
+use crate::protocol::fill::fill_last;
 use crate::protocol::redo_text::keep_undone;
 use crate::protocol::restore::{Buffers, restore_windows};
 use crate::protocol::rollback::drop_tail;
@@ -148,6 +148,19 @@ pub fn undo_entry<D: Device, T: TextStore, A: Allocator>(
 {
     open_and_change(devices, page, buffers, entry.mark, number, taken)?;
     drop_tail(&mut devices.journal, entry.begins)
+}
+
+/// Takes the last place off, and the last record.
+fn take_last<A: Allocator>(
+    placed: &mut Vec<Placed, A>,
+    takens: &mut Vec<Saved<A>, A>,
+) -> (Placed, Saved<A>)
+    requires some { 0 < length takens.old.items }
+    requires same { length placed.old.items ≡ length takens.old.items }
+    ensures entry { placed.old.items ≡ placed.new.items ++ result.0 ∷ [] }
+    ensures taken { takens.old.items ≡ takens.new.items ++ result.1 ∷ [] }
+{
+    (placed.pop().unwrap(), takens.pop().unwrap())
 }
 
 /// How many changes are undone with one more, from an image of this length.

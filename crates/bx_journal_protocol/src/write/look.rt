@@ -7,7 +7,8 @@ ghost use Rattle.bx_image.specs.Power.{NoMore};
 ghost use Rattle.bx_journal_format.specs.Entry.{head_text};
 ghost use Rattle.bx_journal_protocol.specs.write.Ranges.{head_from, kept_over, left_len, rest_len, AreRanges, IsPlace};
 
-use crate::write::ranges::{Place, begin_head};
+use crate::write::head::Place;
+use crate::write::ranges::begin_head;
 use bx_image::{Device, DeviceFailed, Span};
 use std::alloc::Allocator;
 

@@ -13,20 +13,12 @@ ghost use Rattle.bx_journal_protocol.specs.write.Ranges.{saved_lines_text, range
 
 use crate::write::entry::put_words;
 use crate::write::first::put_first;
-use crate::write::head::Head;
+use crate::write::head::{Head, Place};
 use crate::write::page::append_page;
 use bx_image::{Device, DeviceFailed, Span};
 use bx_journal_format::{Words, push_rows, row_of, save_text, start_words};
 use bx_journal_store::TextStore;
 use std::alloc::Allocator;
-
-/// Where the lines of some ranges go on: the index of a range, and how many of its bytes are done. At the end of all ranges the
-/// index is their number.
-#[derive(Clone, Copy)]
-pub struct Place {
-    pub range: usize,
-    pub done: u64,
-}
 
 /// The most bytes of a saved line, its newline included.
 const LINE: usize = 82;

@@ -4,7 +4,7 @@ use Rattle.bx_image.specs.Change.{saved, HaveBytes}
 use Rattle.bx_image.specs.Over.{LieWithin}
 use Rattle.bx_image.specs.declared.record.spans.Span.{Span}
 use Rattle.bx_journal_format.specs.Entry.{head_text}
-use Rattle.bx_journal_protocol.specs.declared.write.ranges.Place.{Place}
+use Rattle.bx_journal_protocol.specs.declared.write.head.Place.{Place}
 use Rattle.bx_journal_protocol.specs.write.Ranges.{head_from, kept_over, left_len, rest_len, AreRanges, IsPlace}
 use Rattle.bx_journal_protocol.proofs.RangeLemmas.{are_ranges, ranges_more, kept_as, kept_of_image}
 use Rattle.bx_journal_protocol.proofs.before.head.begin_change.Goals as goal
