@@ -2,7 +2,7 @@
 
 A room is a module right below `src/`, with its folder; what stands in `lib.rt` is none. A room imports another one where one of
 its files has `use crate::ROOM`, or `use crate::NAME` of a name that `lib.rt` exports from that room. It fails where rooms reach
-one another both ways, directly or through others, where files of a crate do, but for those that are still named below, and where
+one another both ways, directly or through others, where files of a crate do, and where
 rooms.txt names other imports than the code has. People change rooms.txt, on purpose, and no script writes it. An inner part of a
 family is imported from above the family only where the crate's line `inner` names it.
 
@@ -20,8 +20,6 @@ TOP = """# Crates and their rooms
 Written by `tools/docs.py --write` of `crates.txt`, `rooms.txt` and the sentence at the head of each file. A room is a module
 right below `src/`; behind it stand the rooms that it may import.
 """
-# circles of files that are to end, by their crate and one of their files; no other may be made
-CIRCLES = [("bx_journal_read", "scan/journal")]
 
 
 def rooms(found):
@@ -144,8 +142,6 @@ def check(options):
         table = dict(named.get(name, {}))
         wrong += families(name, below, table.pop("inner", set()))
         wrong += wrong_rows(name, found, table)
-        for circle in circles(files):
-            if not any((name, file) in CIRCLES for file in circle):
-                wrong.append(f"{name}: the files {', '.join(circle)} reach one another")
+        wrong += [f"{name}: the files {', '.join(circle)} reach one another" for circle in circles(files)]
     wrong += [f"{name} stands in rooms.txt, and is no crate" for name in named if name not in sources.crates()]
     return wrong or sources.generated(PAGE, page(named), options.write), "rooms import one another in one direction, and as rooms.txt says"

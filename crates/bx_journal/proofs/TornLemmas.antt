@@ -11,7 +11,7 @@ use Rattle.bx_journal_format.specs.declared.format.version.Version.{Version}
 use Rattle.bx_journal_format.specs.count.Mark.{IsMark}
 use Rattle.bx_journal_format.proofs.ShownLemmas.{shown_is_front, shown_short, take_shown}
 use Rattle.bx_journal_read.specs.declared.scan.mark.Mark.{Mark}
-use Rattle.bx_journal_read.specs.declared.scan.journal.Torn.{Torn}
+use Rattle.bx_journal_read.specs.declared.scan.torn.Torn.{Torn}
 use Rattle.bx_journal_read.specs.declared.answers.How.{How}
 use Rattle.bx_journal_read.specs.declared.answers.How.TheVariants.{Dropped, Restored}
 use Rattle.bx_journal_read.specs.model.Calls.{how_of}

@@ -28,7 +28,7 @@ use Rattle.bx_journal_read.specs.declared.show.way.Way.{Way}
 use Rattle.bx_journal_read.specs.declared.show.way.Way.TheVariants.{Undo, Redo}
 use Rattle.bx_journal_read.specs.declared.show.unfinished.Marked.{Marked}
 use Rattle.bx_journal_read.specs.declared.scan.mark.Mark.{Mark as Place}
-use Rattle.bx_journal_read.specs.declared.scan.journal.Torn.{Torn}
+use Rattle.bx_journal_read.specs.declared.scan.torn.Torn.{Torn}
 use Rattle.bx_journal_read.specs.declared.fault.SessionFault.{SessionFault}
 use Rattle.bx_journal_read.specs.declared.fault.SessionFault.TheVariants.{NoMemory, TooLarge, DeviceFailed, Damaged, TooFew, JournalFull, Interrupted, Broken, LengthDiffers, NothingToRedo, RedoDamaged}
 use Rattle.bx_journal_read.specs.scan.Looking.{FaultCounts, LooksAt}

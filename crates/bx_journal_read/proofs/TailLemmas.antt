@@ -12,7 +12,7 @@ use Rattle.bx_journal_format.specs.Parsed.{entries_of, reading_of, stage_of, tol
 use Rattle.bx_journal_format.specs.read.Journal.{HasRead}
 use Rattle.bx_journal_format.proofs.ReadLemmas.{length-entries_of}
 use Rattle.bx_journal_format.proofs.ReadLoop.{marked_few}
-use Rattle.bx_journal_read.specs.declared.scan.journal.Torn.{Torn}
+use Rattle.bx_journal_read.specs.declared.scan.torn.Torn.{Torn}
 use Rattle.bx_journal_read.specs.scan.Recovery.{HasMark, IsTorn}
 
 -- where what is unfinished begins

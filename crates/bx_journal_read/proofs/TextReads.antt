@@ -6,7 +6,7 @@ use Rattle.bx_image.proofs.Devices.{GoesOn_refl, GoesOn_then}
 use Rattle.bx_image.proofs.Survivors.{NoMore_then}
 use Rattle.bx_journal_store.specs.declared.store.TextStore.{Ghosts as StoreViews}
 use Rattle.bx_journal_read.specs.declared.scan.count.Walk.{Walk}
-use Rattle.bx_journal_read.specs.declared.scan.journal.Torn.{Torn}
+use Rattle.bx_journal_read.specs.declared.scan.torn.Torn.{Torn}
 use Rattle.bx_journal_read.specs.scan.Looking.{OnlyReadsText}
 use Rattle.bx_journal_read.specs.scan.Recovery.{IsTornIn, IsUnfinishedIn}
 use Rattle.bx_journal_read.specs.scan.Windows.{IsWalkedTo}

@@ -17,7 +17,7 @@ use Rattle.bx_journal_format.proofs.ReadLoop.{drop_twice}
 use Rattle.bx_journal_format.proofs.ZeroLemmas.{end_torn}
 use Rattle.bx_journal_read.specs.model.Redo.{IsClean}
 use Rattle.bx_journal_read.specs.declared.scan.mark.Mark.{Mark}
-use Rattle.bx_journal_read.specs.declared.scan.journal.Torn.{Torn}
+use Rattle.bx_journal_read.specs.declared.scan.torn.Torn.{Torn}
 use Rattle.bx_journal_read.specs.declared.scan.count.Walk.{Walk}
 use Rattle.bx_journal_read.specs.scan.Recovery.{HasMark, HasTorn, IsTorn, IsTornFront, IsTornIn, IsUnfinishedIn}
 use Rattle.bx_journal_read.specs.scan.Restoring.{AllShorter, StandsAt}

@@ -9,7 +9,7 @@ use Rattle.bx_journal_read.specs.declared.answers.How.TheVariants.{Clean}
 use Rattle.bx_journal_read.specs.declared.answers.Recovered.{Recovered}
 use Rattle.bx_journal_read.specs.declared.fault.SessionFault.{SessionFault}
 use Rattle.bx_journal_read.specs.declared.fault.SessionFault.TheVariants.{Damaged, Interrupted}
-use Rattle.bx_journal_read.specs.declared.scan.journal.Torn.{Torn}
+use Rattle.bx_journal_read.specs.declared.scan.torn.Torn.{Torn}
 use Rattle.bx_journal_format.specs.Shown.{shown}
 use Rattle.bx_journal_format.specs.Text.{IsAccepted, IsDamagedAt, Reading, Reads}
 use Rattle.bx_journal_read.specs.model.Calls.{AfterFault}

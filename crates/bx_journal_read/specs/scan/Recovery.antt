@@ -9,7 +9,7 @@ use Rattle.bx_journal_read.specs.model.Fault.{DeviceFault}
 use Rattle.bx_journal_read.specs.declared.scan.journal.Found.{Found}
 use Rattle.bx_journal_read.specs.declared.scan.journal.Found.TheVariants.{Finished, Unfinished}
 use Rattle.bx_journal_read.specs.declared.scan.mark.Mark.{Mark}
-use Rattle.bx_journal_read.specs.declared.scan.journal.Torn.{Torn}
+use Rattle.bx_journal_read.specs.declared.scan.torn.Torn.{Torn}
 use Rattle.bx_journal_format.specs.count.Mark.{IsMark}
 use Rattle.bx_journal_read.specs.model.Judging.{RefusesRedo}
 use Rattle.bx_journal_read.specs.scan.Looking.{LooksAt, LookFault}

@@ -21,7 +21,7 @@ use Rattle.bx_journal_format.specs.count.Mark.{IsMark}
 use Rattle.bx_journal_format.specs.count.Marks.{marks_of}
 use Rattle.bx_journal_read.specs.declared.show.unfinished.Marked.{Marked}
 use Rattle.bx_journal_read.specs.declared.scan.mark.Mark.{Mark as Place}
-use Rattle.bx_journal_read.specs.declared.scan.journal.Torn.{Torn}
+use Rattle.bx_journal_read.specs.declared.scan.torn.Torn.{Torn}
 use Rattle.bx_journal_read.specs.declared.fault.SessionFault.{SessionFault}
 use Rattle.bx_journal_read.specs.scan.Looking.{LooksAt}
 use Rattle.bx_journal_read.specs.scan.Recovery.{FindFault}

@@ -8,23 +8,13 @@ use crate::fault::{SessionFault, of_text};
 use crate::scan::count::{ALL, walk_windows};
 use crate::scan::damage::journal_damage;
 use crate::scan::mark::{Mark, start_size};
-use crate::scan::torn::{find_faded, find_torn};
+use crate::scan::torn::{Torn, find_faded, find_torn};
 use crate::scan::whole::read_journal;
 use crate::scan::windows::WINDOW;
 use bx_image::DeviceFailed;
 use bx_journal_format::{Counted, JournalRead, StageRead, counted_by, shown_len, told_length};
 use bx_journal_store::TextStore;
 use std::alloc::Allocator;
-
-/// What is unfinished at the end of a text: `count` finished entries stand before it, the last one records the length `told`, and it
-/// begins at `begins`. Where its `save` line stands, its record stands at a mark.
-#[derive(Clone, Copy)]
-pub struct Torn {
-    pub count: u32,
-    pub told: Option<u64>,
-    pub begins: u64,
-    pub mark: Option<Mark>,
-}
 
 /// What a journal's text is.
 #[derive(Clone, Copy)]

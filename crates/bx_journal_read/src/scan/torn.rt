@@ -12,12 +12,21 @@ ghost use Rattle.bx_journal_read.specs.scan.Restoring.{AllShorter, StandsAt};
 ghost use Rattle.bx_journal_read.specs.scan.Windows.{IsWalkedTo, rest_to};
 
 use crate::scan::count::{ALL, Walk, count_windows, walk_windows};
-use crate::scan::journal::Torn;
 use crate::scan::mark::{Mark, start_size};
 use crate::scan::shown::{shown_in, zero_from};
 use bx_image::DeviceFailed;
 use bx_journal_format::{Place, Tally, Version, count_lines, next_end, rest_may_follow};
 use bx_journal_store::TextStore;
+
+/// What is unfinished at the end of a text: `count` finished entries stand before it, the last one records the length `told`, and it
+/// begins at `begins`. Where its `save` line stands, its record stands at a mark.
+#[derive(Clone, Copy)]
+pub struct Torn {
+    pub count: u32,
+    pub told: Option<u64>,
+    pub begins: u64,
+    pub mark: Option<Mark>,
+}
 
 /// The most bytes that a line has which begins an entry, its newline included.
 const LONGEST_START: usize = 34;
