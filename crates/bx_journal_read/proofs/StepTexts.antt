@@ -16,25 +16,28 @@ use Rattle.bx_journal_format.proofs.TallyLemmas.{take_sum}
 use Rattle.bx_journal_read.proofs.AddedLemmas.{shown_there}
 use Rattle.bx_journal_read.proofs.RowTexts.{joined-append, lines_there, marks_many, plain_front, ranges_there, tail_of}
 use Rattle.bx_journal_read.specs.show.Differences.{diff_line, made_line}
-use Rattle.bx_journal_read.specs.show.Steps.{bytes_text, heading, length_words, lines_text, next_number, step_text, steps_text, amount_text, heading_at, heading_end, heading_front, heading_start, mark_step, newest_first, number_at, saved_lines_at, where_at}
+use Rattle.bx_journal_read.specs.show.Steps.{bytes_text, heading, length_words, lines_text, next_number, step_text, steps_text, amount_text, heading_at, heading_end, heading_front, heading_start, length_told, mark_step, newest_first, number_at, saved_lines_at, where_at}
 use Rattle.bx_journal_read.specs.declared.show.way.Steps.{Steps}
 use Rattle.bx_journal_read.specs.declared.show.way.Way.{Way}
 use Rattle.bx_journal_read.specs.declared.show.way.Way.TheVariants.{Undo, Redo}
 use Rattle.bx_journal_read.specs.show.Showing.{lines_at}
 
--- a heading is written in three parts
-pub heading_written : (w0 w1 w2 w3 : Option (List ℕ)) (text : List ℕ) (way : Way) (n : ℕ) (mark : Mark) → Appends w0 w1 (heading_start way n mark.saved) → Appends w1 w2 (where_at text mark)
-    → Appends w2 w3 (heading_end mark.after mark.len) → Appends w0 w3 (heading_at text way n mark)
-heading_written w0 w1 w2 w3 text way n mark front places end =
-    Appends-trans w0 w2 w3 (heading_start way n mark.saved ++ where_at text mark) (heading_end mark.after mark.len)
-    (Appends-trans w0 w1 w2 (heading_start way n mark.saved) (where_at text mark) front places) end
+-- a heading is written in three parts, and what a patch tells behind it with the last
+pub heading_written : (w0 w1 w2 w3 : Option (List ℕ)) (text : List ℕ) (s : Steps) (n : ℕ) (mark : Mark) → Appends w0 w1 (heading_start s.way n mark.saved) → Appends w1 w2 (where_at text mark)
+    → Appends w2 w3 (heading_end mark.after mark.len ++ length_told s mark.after mark.len) → Appends w0 w3 (heading_at text s.way n mark ++ length_told s mark.after mark.len)
+heading_written w0 w1 w2 w3 text s n mark front places end =
+    let start = heading_start s.way n mark.saved ++ where_at text mark in
+    subst (Appends w0 w3) (sym (append_assoc start (heading_end mark.after mark.len) (length_told s mark.after mark.len)))
+    (Appends-trans w0 w2 w3 start (heading_end mark.after mark.len ++ length_told s mark.after mark.len)
+    (Appends-trans w0 w1 w2 (heading_start s.way n mark.saved) (where_at text mark) front places) end)
 
 -- a step too
-pub step_written : (w0 w1 w2 w3 : Option (List ℕ)) (s : Steps) (image text : List ℕ) (n : ℕ) (mark : Mark) → Appends w0 w1 (heading_at text s.way n mark) → Appends w1 w2 (saved_lines_at s.compares image text mark)
-    → Appends w2 w3 (codes "\n") → Appends w0 w3 (mark_step s image text n mark)
+pub step_written : (w0 w1 w2 w3 : Option (List ℕ)) (s : Steps) (image text : List ℕ) (n : ℕ) (mark : Mark) → Appends w0 w1 (heading_at text s.way n mark ++ length_told s mark.after mark.len)
+    → Appends w1 w2 (saved_lines_at s.compares image text mark) → Appends w2 w3 (codes "\n") → Appends w0 w3 (mark_step s image text n mark)
 step_written w0 w1 w2 w3 s image text n mark front lines end =
-    Appends-trans w0 w2 w3 (heading_at text s.way n mark ++ saved_lines_at s.compares image text mark) (codes "\n")
-    (Appends-trans w0 w1 w2 (heading_at text s.way n mark) (saved_lines_at s.compares image text mark) front lines) end
+    let start = heading_at text s.way n mark ++ length_told s mark.after mark.len in
+    Appends-trans w0 w2 w3 (start ++ saved_lines_at s.compares image text mark) (codes "\n")
+    (Appends-trans w0 w1 w2 start (saved_lines_at s.compares image text mark) front lines) end
 
 -- the image counts only where it is compared
 same_saved : (compares : Bool) (image now text : List ℕ) (mark : Mark) → (IsTrue compares → now ≡ image) → saved_lines_at compares now text mark ≡ saved_lines_at compares image text mark
@@ -42,7 +45,8 @@ same_saved true image now text mark same = ap (λ x. saved_lines_at true x text 
 same_saved false image now text mark same = refl
 
 same_step : (s : Steps) (image now text : List ℕ) (n : ℕ) (mark : Mark) → (IsTrue s.compares → now ≡ image) → mark_step s now text n mark ≡ mark_step s image text n mark
-same_step s image now text n mark same = ap (λ t. heading_at text s.way n mark ++ t ++ codes "\n") (same_saved s.compares image now text mark same)
+same_step s image now text n mark same =
+    ap (λ t. heading_at text s.way n mark ++ length_told s mark.after mark.len ++ t ++ codes "\n") (same_saved s.compares image now text mark same)
 
 -- nothing is put yet
 pub steps_none : (s : Steps) (image text : List ℕ) (n : ℕ) (marks : List Mark) → newest_first s image text n (drop (length marks - 0) marks) ≡ []
@@ -101,8 +105,9 @@ module _ (older : List EntryLines) (c : EntryLines) (rest text : List ℕ) (is :
 
   step_there : (s : Steps) (image : List ℕ) (n : ℕ) → mark_step s image text n (mark_of older c) ≡ step_text s image n c
   step_there s image n =
-      ap (λ t. t ++ saved_lines_at s.compares image text (mark_of older c) ++ codes "\n") (heading_there s.way n)
-      ∙ ap (λ t. heading s.way n c.entry ++ t ++ codes "\n") (saved_there s.compares image)
+      let told = length_told s c.entry.after c.entry.saved.len in
+      ap (λ t. t ++ told ++ saved_lines_at s.compares image text (mark_of older c) ++ codes "\n") (heading_there s.way n)
+      ∙ ap (λ t. heading s.way n c.entry ++ told ++ t ++ codes "\n") (saved_there s.compares image)
 
 number_none : (way : Way) (n : ℕ) → number_at way n 0 ≡ n
 number_none Undo n = omega arith

@@ -3,6 +3,7 @@ pub(crate) mod cache;
 pub(crate) mod differences;
 pub(crate) mod fault;
 pub(crate) mod heading;
+pub(crate) mod lengths;
 pub(crate) mod lines;
 pub(crate) mod marks;
 pub(crate) mod ranges;

@@ -58,9 +58,23 @@ heading way n e = codes "# change " ++ decimal n ++ codes ": " ++ way_word way +
 abbrev pub lines_text : Bool → List ℕ → ℕ → List (List ℕ) → List ℕ
 lines_text compares image len lines = if compares then diff_text image len lines else made_text len lines
 
--- a step: its heading, the saved lines, and an empty line
+-- the line of a patch that tells both lengths, where the step is known to change the length
+abbrev pub patch_length : Option ℕ → ℕ → List ℕ
+patch_length None len = []
+patch_length (Some after) len = if after == len then [] else codes "length " ++ decimal after ++ codes " to " ++ decimal len ++ codes "\n"
+
+-- whether steps are shown as a patch: one step, beside the image
+abbrev pub shows_patch : Steps → Bool
+shows_patch s = if s.compares then s.count == 1 else false
+
+-- that line behind the heading of such a step
+abbrev pub length_told : Steps → Option ℕ → ℕ → List ℕ
+length_told s after len = if shows_patch s then patch_length after len else []
+
+-- a step: its heading, the saved lines, and an empty line; a patch tells both lengths behind the heading
 abbrev pub step_text : Steps → List ℕ → ℕ → EntryLines → List ℕ
-step_text s image n c = heading s.way n c.entry ++ lines_text s.compares image c.entry.saved.len c.saved ++ codes "\n"
+step_text s image n c = heading s.way n c.entry ++ length_told s c.entry.after c.entry.saved.len
+    ++ lines_text s.compares image c.entry.saved.len c.saved ++ codes "\n"
 
 -- the number of the step behind one: an undo goes down, a redo goes up
 abbrev pub next_number : Way → ℕ → ℕ
@@ -193,7 +207,7 @@ saved_lines_at compares image text mark = if compares then diff_text image mark.
 
 -- the step of a mark
 abbrev pub mark_step : Steps → List ℕ → List ℕ → ℕ → Mark → List ℕ
-mark_step s image text n mark = heading_at text s.way n mark ++ saved_lines_at s.compares image text mark ++ codes "\n"
+mark_step s image text n mark = heading_at text s.way n mark ++ length_told s mark.after mark.len ++ saved_lines_at s.compares image text mark ++ codes "\n"
 
 -- the number of the step behind i others
 abbrev pub number_at : Way → ℕ → ℕ → ℕ

@@ -2,9 +2,10 @@
 ghost use Rattle.std.specs.Prelude.{◌≡◌, ◌<◌, ◌≤◌, ◌++◌, length, Some, OnOk, IfErr, string_bytes};
 ghost use Rattle.std.specs.Io.KnownBytes.{Appends};
 ghost use Rattle.bx_journal_read.specs.show.Showing.{CountsNone, PutFault, WritesFrom};
-ghost use Rattle.bx_journal_read.specs.show.Steps.{amount_text, changed_end, heading_at, heading_end, heading_front, heading_start, kept_end, told_end, where_at, keeps_length};
+ghost use Rattle.bx_journal_read.specs.show.Steps.{amount_text, changed_end, heading_at, heading_end, heading_front, heading_start, kept_end, length_told, told_end, where_at, keeps_length};
 
 use crate::show::fault::ShowFault;
+use crate::show::lengths::push_told_length;
 use crate::show::ranges::put_ranges;
 use crate::show::way::{Step, Way};
 use crate::show::writing::{Writing, put};
@@ -130,20 +131,22 @@ fn put_where<T: TextStore, A: Allocator + Clone, W: Write>(
 /// Writes what stands behind the ranges.
 fn put_end<A: Allocator + Clone, W: Write>(
     alloc: &A,
-    mark: Mark,
+    step: Step,
     written: u64,
     out: &mut W,
 ) -> Result<u64, ShowFault>
-    ensures end { OnOk result (Appends (W.contents out.old) (W.contents out.new) (heading_end mark.after mark.len)) }
+    ensures end { OnOk result (Appends (W.contents out.old) (W.contents out.new)
+        (heading_end step.mark.after step.mark.len ++ length_told step.steps step.mark.after step.mark.len)) }
     ensures kind { IfErr result PutFault }
     ensures counts { IfErr result CountsNone }
 {
     let mut text = String::new(alloc.clone()?);
-    push_length(&mut text, mark.after, mark.len)?;
+    push_length(&mut text, step.mark.after, step.mark.len)?;
+    push_told_length(&mut text, step.steps, step.mark)?;
     put(out, written, text.as_bytes())
 }
 
-/// Writes the heading of the step over a change.
+/// Writes the heading of the step over a change, and behind it what a patch tells of the length.
 pub fn put_heading<T: TextStore, A: Allocator + Clone, W: Write>(
     store: &mut T,
     writing: &mut Writing<A>,
@@ -154,7 +157,8 @@ pub fn put_heading<T: TextStore, A: Allocator + Clone, W: Write>(
     requires within { T.honest store.old → step.mark.to ≤ length (T.text store.old) }
     requires order { step.mark.from ≤ step.mark.to }
     ensures heading { T.honest store.old → OnOk result
-        (Appends (W.contents out.old) (W.contents out.new) (heading_at (T.text store.old) step.steps.way step.number step.mark)) }
+        (Appends (W.contents out.old) (W.contents out.new)
+        (heading_at (T.text store.old) step.steps.way step.number step.mark ++ length_told step.steps step.mark.after step.mark.len)) }
     ensures puts { WritesFrom T.honest T.text T.failures result store.old store.new }
 {
     let alloc = &writing.alloc;
@@ -169,6 +173,6 @@ pub fn put_heading<T: TextStore, A: Allocator + Clone, W: Write>(
         out,
     )?;
     let places = put_where(alloc, store, window, step.mark, start, out)?;
-    writing.written = put_end(alloc, step.mark, places, out)?;
+    writing.written = put_end(alloc, step, places, out)?;
     Ok(())
 }
