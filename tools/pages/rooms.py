@@ -2,9 +2,9 @@
 
 A room is a module right below `src/`, with its folder; what stands in `lib.rt` is none. A room imports another one where one of
 its files has `use crate::ROOM`, or `use crate::NAME` of a name that `lib.rt` exports from that room. It fails where rooms reach
-one another both ways, directly or through others, where files of a crate do, and where
-rooms.txt names other imports than the code has. People change rooms.txt, on purpose, and no script writes it. An inner part of a
-family is imported from above the family only where the crate's line `inner` names it.
+one another both ways, directly or through others, where files of a crate do, and where rooms.txt names other imports than the
+code has. People change rooms.txt, on purpose, and no script writes it. An inner part of a family is imported from above the
+family only where the crate's line `inner` names it.
 
 docs/generated/ROOMS.md has the crates and their rooms with the sentence at the head of each file: --write writes it, and without
 it the page is compared.

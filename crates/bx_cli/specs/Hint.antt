@@ -4,7 +4,7 @@ use Rattle.bx_text.specs.declared.fault.IoFault.TheVariants as io
 use Rattle.bx_read.specs.declared.fault.ReadFault.TheVariants as read
 use Rattle.bx_dd.specs.declared.fault.DdFault.TheVariants as dd
 use Rattle.bx_patch.specs.declared.read.fault.PatchFault.TheVariants as patch
-use Rattle.bx_journal_read.specs.declared.fault.SessionFault.TheVariants as session
+use Rattle.bx_journal.specs.SessionFault.TheVariants as session
 use Rattle.bx_cli_commands.specs.declared.fault.Fault.{Fault}
 use Rattle.bx_cli_commands.specs.declared.fault.Fault.TheVariants.{Io, Read, Dd, Patch, Disagrees, Session, ChangedSince}
 use Rattle.bx_cli.specs.declared.hint.Known.{Known}

@@ -8,8 +8,8 @@ use Rattle.bx_journal.specs.Machine.{top}
 use Rattle.bx_journal.specs.Power.{NothingNew}
 use Rattle.bx_journal.specs.Session.{FailsSafely, IsRedoSame, IsSame}
 use Rattle.bx_journal.specs.SessionView.{SessionView}
-use Rattle.bx_journal_read.specs.declared.fault.SessionFault.{SessionFault}
-use Rattle.bx_journal_read.specs.declared.fault.SessionFault.TheVariants.{Broken, DeviceFailed, Interrupted, JournalFull}
+use Rattle.bx_journal.specs.SessionFault.{SessionFault}
+use Rattle.bx_journal.specs.SessionFault.TheVariants.{Broken, DeviceFailed, Interrupted, JournalFull}
 use Rattle.bx_patch.specs.declared.other.Other.{Other}
 use Rattle.bx_patch.specs.declared.read.fault.PatchFault.TheVariants as of_patch
 use Rattle.bx_patch.specs.Other.{FindsOther}

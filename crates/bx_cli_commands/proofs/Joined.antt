@@ -14,8 +14,8 @@ use Rattle.bx_read.specs.Text.{dump_pieces}
 use Rattle.bx_dd.specs.declared.counts.Counts.{Counts}
 use Rattle.bx_journal.specs.Images.{Images, change_to}
 use Rattle.bx_journal.specs.Machine.{top}
-use Rattle.bx_journal_read.specs.declared.fault.SessionFault.{SessionFault}
-use Rattle.bx_journal_read.specs.declared.fault.SessionFault.TheVariants.{NoMemory, TooLarge, DeviceFailed, Damaged, TooFew, JournalFull, Interrupted, Broken, LengthDiffers, NothingToRedo, RedoDamaged}
+use Rattle.bx_journal.specs.SessionFault.{SessionFault}
+use Rattle.bx_journal.specs.SessionFault.TheVariants.{NoMemory, TooLarge, DeviceFailed, Damaged, TooFew, JournalFull, Interrupted, Broken, LengthDiffers, NothingToRedo, RedoDamaged}
 use Rattle.bx_cli_commands.specs.declared.command.Reply.{Reply}
 use Rattle.bx_cli_commands.specs.Command.{dump_change}
 use Rattle.bx_cli_commands.specs.Run.{ReadStep, ChangeStep, DumpStep}

@@ -2,7 +2,7 @@
 use Rattle.std.proofs.Common.{ℕ, Option, List, sym, subst}
 use Rattle.bx_image.specs.declared.device.Device.{Ghosts as DeviceViews}
 use Rattle.bx_journal_store.specs.declared.store.TextStore.{Ghosts as StoreViews}
-use Rattle.bx_journal_protocol.specs.declared.devices.Devices.{Devices}
+use Rattle.bx_journal.specs.Devices.{Devices}
 use Rattle.bx_journal.specs.Images.{Images}
 use Rattle.bx_journal.specs.Losses.{AreLeft}
 use Rattle.bx_journal.specs.Power.{Found}

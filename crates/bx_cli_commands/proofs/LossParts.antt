@@ -3,10 +3,10 @@ use Rattle.std.proofs.Common.{◌≡◌, ◌⊎◌, ℕ, Option, Ok, Err, List, 
 use Rattle.std.specs.Prelude.{MatchResult}
 use Rattle.bx_image.specs.declared.device.Device.{Ghosts as DeviceViews}
 use Rattle.bx_journal_store.specs.declared.store.TextStore.{Ghosts as StoreViews}
-use Rattle.bx_journal_protocol.specs.declared.devices.Devices.{Devices}
-use Rattle.bx_journal_read.specs.declared.answers.How.{How}
-use Rattle.bx_journal_read.specs.declared.answers.How.TheVariants.{Clean, Dropped, Restored}
-use Rattle.bx_journal_read.specs.declared.answers.Recovered.{Recovered}
+use Rattle.bx_journal.specs.Devices.{Devices}
+use Rattle.bx_journal.specs.How.{How}
+use Rattle.bx_journal.specs.How.TheVariants.{Clean, Dropped, Restored}
+use Rattle.bx_journal.specs.Recovered.{Recovered}
 use Rattle.bx_journal.specs.Images.{Images}
 use Rattle.bx_journal.specs.Losses.{AllFound, emptied}
 use Rattle.bx_journal.specs.Opened.{Opening, OpensDevices}

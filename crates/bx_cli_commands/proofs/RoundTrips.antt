@@ -11,8 +11,8 @@ use Rattle.bx_journal.specs.Machine.{PerformStep, UndoStep, changed, changes_of,
 use Rattle.bx_journal.specs.Redo.{IsRedoOf}
 use Rattle.bx_journal.specs.SessionView.{SessionView, devices_of}
 use Rattle.bx_journal.specs.Stack.{StandsFor}
-use Rattle.bx_journal_protocol.specs.declared.devices.Devices.{Devices}
-use Rattle.bx_journal_protocol.proofs.Ready.{top_of}
+use Rattle.bx_journal.specs.Devices.{Devices}
+use Rattle.bx_journal.proofs.Ready.{top_of}
 use Rattle.bx_cli_commands.specs.RoundTrip.{RestsIn, StandAt, UndoneFrom, images_after}
 
 module _ {D T : Type 0} (d : DeviceViews D) (t : StoreViews T) where

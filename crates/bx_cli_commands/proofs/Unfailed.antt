@@ -4,8 +4,8 @@ use Rattle.bx_image.specs.declared.change.Change.{Change}
 use Rattle.bx_image.specs.declared.device.Device.{Ghosts as DeviceViews}
 use Rattle.bx_journal_store.specs.declared.store.TextStore.{Ghosts as StoreViews}
 use Rattle.bx_read.specs.declared.fault.ReadFault.{ReadFault}
-use Rattle.bx_journal_read.specs.declared.fault.SessionFault.{SessionFault}
-use Rattle.bx_journal_read.specs.declared.fault.SessionFault.TheVariants.{NoMemory, TooLarge, DeviceFailed, Damaged, TooFew, JournalFull, Interrupted, Broken, LengthDiffers, NothingToRedo, RedoDamaged}
+use Rattle.bx_journal.specs.SessionFault.{SessionFault}
+use Rattle.bx_journal.specs.SessionFault.TheVariants.{NoMemory, TooLarge, DeviceFailed, Damaged, TooFew, JournalFull, Interrupted, Broken, LengthDiffers, NothingToRedo, RedoDamaged}
 use Rattle.bx_cli_commands.specs.declared.command.Command.{Command}
 use Rattle.bx_cli_commands.specs.declared.command.Command.TheVariants.{Revert, RevertPlain, Dd, Copy, Patch, Undo, Redo}
 use Rattle.bx_cli_commands.specs.declared.command.Reply.{Reply}

@@ -8,9 +8,9 @@ use Rattle.bx_read.specs.Digits.{is_hex}
 use Rattle.bx_read.specs.Laws.{dump_line_text}
 use Rattle.bx_read.proofs.DumpLemmas.{first_is}
 use Rattle.bx_read.proofs.FullLines.{first_line}
-use Rattle.bx_journal_read.specs.declared.show.way.Steps.{Steps}
-use Rattle.bx_journal_read.specs.declared.show.way.Way.{Way}
-use Rattle.bx_journal_read.specs.declared.show.way.Way.TheVariants.{Undo, Redo}
+use Rattle.bx_journal.specs.Steps.{Steps}
+use Rattle.bx_journal.specs.Way.{Way}
+use Rattle.bx_journal.specs.Way.TheVariants.{Undo, Redo}
 use Rattle.bx_journal.specs.Differences.{line_made, made_text, signed_line}
 use Rattle.bx_journal.specs.Kept.{Kept, Run}
 use Rattle.bx_journal.specs.Line.{saved_in}

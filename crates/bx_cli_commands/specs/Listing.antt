@@ -1,8 +1,8 @@
 -- The log of a session as text.
 use Rattle.std.specs.Prelude.{ℕ, List, ◌++◌, codes, decimal}
-use Rattle.bx_journal_read.specs.declared.show.fault.ShowFault.TheVariants as look
-use Rattle.bx_journal_read.specs.declared.answers.LogRow.{LogRow}
-use Rattle.bx_journal_read.specs.declared.show.way.Steps.{Steps}
+use Rattle.bx_journal.specs.ShowFault.TheVariants as look
+use Rattle.bx_journal.specs.LogRow.{LogRow}
+use Rattle.bx_journal.specs.Steps.{Steps}
 use Rattle.bx_journal.specs.Showing.{LookCounts, StopsLog}
 use Rattle.bx_journal.specs.Steps.{RefusesSteps, StopsSteps}
 use Rattle.bx_cli_commands.specs.declared.fault.Fault.{Fault}

@@ -3,8 +3,8 @@ use Rattle.std.specs.Prelude.{◌⊎◌, ℕ, Option, List, MatchResult}
 use Rattle.bx_image.specs.Fuse.{Fused}
 use Rattle.bx_image.specs.declared.device.Device.{Ghosts as DeviceViews}
 use Rattle.bx_journal_store.specs.declared.store.TextStore.{Ghosts as StoreViews}
-use Rattle.bx_journal_protocol.specs.declared.devices.Devices.{Devices}
-use Rattle.bx_journal_read.specs.declared.answers.How.{How}
+use Rattle.bx_journal.specs.Devices.{Devices}
+use Rattle.bx_journal.specs.How.{How}
 use Rattle.bx_journal.specs.Images.{Images}
 use Rattle.bx_journal.specs.Losses.{AllFound, AreLeft, emptied}
 use Rattle.bx_journal.specs.Opened.{Opening, OpensDevices}

@@ -12,7 +12,7 @@ use Rattle.bx_journal.specs.Images.{Images, change_to, redo_of, undo_of}
 use Rattle.bx_journal.specs.Machine.{top}
 use Rattle.bx_journal.specs.Power.{Found, Survive}
 use Rattle.bx_journal.specs.SessionView.{SessionView}
-use Rattle.bx_journal_read.specs.declared.fault.SessionFault.TheVariants.{Interrupted}
+use Rattle.bx_journal.specs.SessionFault.TheVariants.{Interrupted}
 use Rattle.bx_cli_commands.specs.declared.command.Command.{Command}
 use Rattle.bx_cli_commands.specs.declared.command.Command.TheVariants.{Copy, Dd, Patch, Redo, Revert, RevertPlain, Undo}
 use Rattle.bx_cli_commands.specs.declared.command.Reply.{Reply}

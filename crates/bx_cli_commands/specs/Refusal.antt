@@ -4,7 +4,7 @@ use Rattle.bx_image.specs.declared.device.Device.{Ghosts as DeviceViews}
 use Rattle.bx_journal_store.specs.declared.store.TextStore.{Ghosts as StoreViews}
 use Rattle.bx_read.specs.declared.fault.ReadFault.TheVariants as read
 use Rattle.bx_dd.specs.declared.fault.DdFault.TheVariants as dd
-use Rattle.bx_journal_read.specs.declared.fault.SessionFault.TheVariants.{Interrupted}
+use Rattle.bx_journal.specs.SessionFault.TheVariants.{Interrupted}
 use Rattle.bx_journal.specs.Session.{IsSame}
 use Rattle.bx_journal.specs.SessionView.{SessionView}
 use Rattle.bx_cli_commands.specs.declared.command.Reply.{Reply}

@@ -4,8 +4,8 @@ use Rattle.bx_image.specs.declared.change.Change.{Change}
 use Rattle.bx_image.specs.declared.device.Device.{Ghosts as DeviceViews}
 use Rattle.bx_image.specs.Change.{effect}
 use Rattle.bx_journal_store.specs.declared.store.TextStore.{Ghosts as StoreViews}
-use Rattle.bx_journal_protocol.specs.declared.devices.Devices.{Devices}
-use Rattle.bx_journal_read.specs.declared.fault.SessionFault.{SessionFault}
+use Rattle.bx_journal.specs.Devices.{Devices}
+use Rattle.bx_journal.specs.SessionFault.{SessionFault}
 use Rattle.bx_journal.specs.Images.{Images, change_to, redo_of, undo_of}
 use Rattle.bx_journal.specs.Machine.{PerformStep, RedoStep, UndoStep, changed, changes_of, top}
 use Rattle.bx_journal.specs.Redo.{IsRedoOf}

@@ -6,8 +6,8 @@ use Rattle.bx_image.specs.declared.device.Device.{Ghosts as DeviceViews}
 use Rattle.bx_journal_store.specs.declared.store.TextStore.{Ghosts as StoreViews}
 use Rattle.bx_read.specs.declared.fault.ReadFault.{ReadFault}
 use Rattle.bx_read.specs.declared.fault.ReadFault.TheVariants.{NoMemory}
-use Rattle.bx_journal_read.specs.declared.fault.SessionFault.{SessionFault}
-use Rattle.bx_journal_read.specs.declared.fault.SessionFault.TheVariants.{DeviceFailed, Interrupted, Broken}
+use Rattle.bx_journal.specs.SessionFault.{SessionFault}
+use Rattle.bx_journal.specs.SessionFault.TheVariants.{DeviceFailed, Interrupted, Broken}
 use Rattle.bx_patch.specs.declared.other.Other.{Other}
 use Rattle.bx_patch.specs.declared.read.fault.PatchFault.TheVariants as of_patch
 use Rattle.bx_patch.specs.Other.{FindsOther}

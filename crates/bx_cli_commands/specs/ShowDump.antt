@@ -3,7 +3,7 @@ use Rattle.std.specs.Prelude.{◌≡◌, ◌==◌, ℕ, false, Ok, List, [], ◌
 use Rattle.bx_image.specs.Change.{effect}
 use Rattle.bx_image.specs.declared.change.Change.{Change}
 use Rattle.bx_read.specs.Text.{contents, dump_pieces, lines_of}
-use Rattle.bx_journal_read.specs.declared.show.way.Steps.{Steps}
+use Rattle.bx_journal.specs.Steps.{Steps}
 use Rattle.bx_journal.specs.Differences.{made_text}
 use Rattle.bx_journal.specs.ShowLaws.{shown_runs, steps_onto}
 use Rattle.bx_journal.specs.Spelled.{EntryLines}

@@ -7,8 +7,8 @@ use Rattle.bx_image.specs.Change.{effect, Fits}
 use Rattle.bx_journal_store.specs.declared.store.TextStore.{Ghosts as StoreViews}
 use Rattle.bx_journal.specs.Images.{Images, change_to}
 use Rattle.bx_journal.specs.SessionView.{SessionView}
-use Rattle.bx_journal_read.specs.declared.fault.SessionFault.{SessionFault}
-use Rattle.bx_journal_read.specs.declared.fault.SessionFault.TheVariants.{NoMemory, DeviceFailed, JournalFull, Interrupted}
+use Rattle.bx_journal.specs.SessionFault.{SessionFault}
+use Rattle.bx_journal.specs.SessionFault.TheVariants.{NoMemory, DeviceFailed, JournalFull, Interrupted}
 use Rattle.bx_journal.specs.Machine.{PerformStep, top, changes_of}
 use Rattle.bx_journal.specs.Session.{HasUndone, IsReady, SessionFinds}
 use Rattle.bx_journal.specs.Standing.{IsStanding}

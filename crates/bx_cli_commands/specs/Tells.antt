@@ -3,7 +3,7 @@ use Rattle.std.specs.Prelude.{◌≡◌, ◌⊎◌, ◌↔◌, ◌<◌, ◌≤�
 use Rattle.bx_journal.specs.SessionView.{SessionView}
 use Rattle.bx_journal.specs.Standing.{PerformFault}
 use Rattle.bx_journal.specs.Undoing.{RedoFault, UndoFault}
-use Rattle.bx_journal_read.specs.declared.fault.SessionFault.TheVariants.{DeviceFailed, TooFew, JournalFull, NothingToRedo}
+use Rattle.bx_journal.specs.SessionFault.TheVariants.{DeviceFailed, TooFew, JournalFull, NothingToRedo}
 use Rattle.bx_cli_commands.specs.declared.command.Command.{Command}
 use Rattle.bx_cli_commands.specs.declared.command.Command.TheVariants.{Patch, Undo, Redo}
 use Rattle.bx_cli_commands.specs.declared.command.Reply.{Reply}

@@ -1,5 +1,5 @@
 //! What command lines ask for, as jobs and commands, and their runs: dumps and copies, and commands on a session; with a fault that holds
-//! those of all crates. An inner part of `bx_cli`, which exports all of it.
+//! those of all crates. `bx_cli` exports all of it.
 #![tactic(auto)]
 
 mod changes;

@@ -4,7 +4,7 @@ ghost use Rattle.bx_image.specs.Change.{effect};
 ghost use Rattle.bx_journal.specs.Images.{Images, redo_of, undo_of};
 ghost use Rattle.bx_journal.specs.Machine.{PerformStep, RedoStep, UndoStep};
 ghost use Rattle.bx_journal.specs.Opened.{OfAll};
-ghost use Rattle.bx_journal_protocol.specs.Devices.{AreBelow};
+ghost use Rattle.bx_journal.specs.ThreeDevices.{AreBelow};
 ghost use Rattle.bx_cli_commands.specs.Standing.{CountsBelow};
 ghost use Rattle.bx_cli_commands.specs.RoundTrip.{ChangesAgain, ChangesAndUndoes, MovesBy, MovesOn, OpensAt, RestsIn, UndoneFrom, images_after};
 

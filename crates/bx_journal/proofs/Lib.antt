@@ -17,3 +17,5 @@ pub mod LossLaws
 pub mod ShownWritten
 pub mod SpelledLaws
 pub mod ForgottenLemmas
+pub use Rattle.bx_journal_protocol.proofs.Ready
+pub use Rattle.bx_journal_read.proofs.Phases

@@ -10,7 +10,7 @@ use Rattle.bx_image.specs.declared.device.Device.{Ghosts as DeviceViews}
 use Rattle.bx_journal_store.specs.declared.store.TextStore.{Ghosts as StoreViews}
 use Rattle.bx_journal_read.specs.declared.fault.SessionFault.{SessionFault}
 use Rattle.bx_journal_read.specs.declared.fault.SessionFault.TheVariants.{NoMemory, TooLarge, DeviceFailed, Damaged, TooFew, JournalFull, Interrupted, Broken, LengthDiffers, NothingToRedo, RedoDamaged}
-use Rattle.bx_journal_protocol.specs.Devices.{HaveStayed, StepsOn}
+use Rattle.bx_journal_protocol.specs.ThreeDevices.{HaveStayed, StepsOn}
 
 -- a session that is whole isn't broken
 not_both : {A : Type 0} (b : Bool) → b ≡ false → b ≡ true → A

@@ -34,3 +34,12 @@ pub mod Opened
 pub mod Recovery
 pub mod ShowLaws
 pub mod private
+pub use Rattle.bx_journal_read.specs.declared.fault.SessionFault
+pub use Rattle.bx_journal_read.specs.declared.answers.How
+pub use Rattle.bx_journal_read.specs.declared.answers.LogRow
+pub use Rattle.bx_journal_read.specs.declared.answers.Recovered
+pub use Rattle.bx_journal_read.specs.declared.show.fault.ShowFault
+pub use Rattle.bx_journal_read.specs.declared.show.way.Steps
+pub use Rattle.bx_journal_read.specs.declared.show.way.Way
+pub use Rattle.bx_journal_protocol.specs.declared.devices.Devices
+pub use Rattle.bx_journal_protocol.specs.ThreeDevices

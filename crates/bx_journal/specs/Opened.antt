@@ -21,7 +21,7 @@ use Rattle.bx_journal_read.specs.model.Stack.{Recovers, image_at, recovered}
 use Rattle.bx_journal_read.specs.model.Undoing.{HasLeft}
 use Rattle.bx_journal_read.specs.scan.Recovery.{HasUndoneCount, KeepsStack, KeepsUndone}
 use Rattle.bx_journal_protocol.specs.declared.devices.Devices.{Devices}
-use Rattle.bx_journal_protocol.specs.Devices.{AreCounted}
+use Rattle.bx_journal_protocol.specs.ThreeDevices.{AreCounted}
 use Rattle.bx_journal_protocol.specs.model.Power.{Found, FoundBefore, RecoverySurvives}
 use Rattle.bx_journal_protocol.specs.model.Session.{HasUndone, IsReady}
 use Rattle.bx_journal_protocol.specs.protocol.Written.{AreSettled}

@@ -2,7 +2,7 @@
 ghost use Rattle.std.specs.Prelude.{◌≡◌, ◌↔◌, ◌<◌, [], IfErr, OnOk, is_err};
 ghost use Rattle.bx_image.specs.Device.{GoesOn};
 ghost use Rattle.bx_image.specs.Power.{AllFade, Only};
-ghost use Rattle.bx_journal_protocol.specs.Devices.{AreBelow, AreCounted, AreUnfailed, StepsOn};
+ghost use Rattle.bx_journal_protocol.specs.ThreeDevices.{AreBelow, AreCounted, AreUnfailed, StepsOn};
 ghost use Rattle.bx_journal_protocol.specs.model.Power.{FoundBefore};
 ghost use Rattle.bx_journal_protocol.specs.protocol.Written.{AreSettled};
 ghost use Rattle.bx_journal_read.specs.model.Calls.{AfterFault};

@@ -1,6 +1,6 @@
 //! Recovery, which opening begins with: what image, journal and redo text hold, and how an unfinished entry is discarded or rolled back.
 ghost use Rattle.std.specs.Prelude.{◌+◌, ◌≤◌, IfOk};
-ghost use Rattle.bx_journal_protocol.specs.Devices.{AreBelow};
+ghost use Rattle.bx_journal_protocol.specs.ThreeDevices.{AreBelow};
 ghost use Rattle.bx_journal.specs.Opened.{CountsStack, FindsNothingNew, Opens, SettlesRecovered, SurvivesOpening};
 ghost use Rattle.bx_journal.specs.private.Recovering.{AnswersAsRead, CallsCount, JudgesJournal, LeavesRead, RefusesRedoText, SetsRedo, SparesAll};
 

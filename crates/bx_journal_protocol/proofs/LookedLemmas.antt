@@ -19,7 +19,7 @@ use Rattle.bx_journal_protocol.specs.model.Standing.{IsStanding}
 use Rattle.bx_journal_protocol.specs.model.Taken.{taken_by}
 use Rattle.bx_journal_read.specs.model.Undoing.{HasLeft, AreReadFrom, IsLastFrom}
 use Rattle.bx_journal_read.specs.declared.fault.SessionFault.{SessionFault}
-use Rattle.bx_journal_protocol.specs.Devices.{HaveStayed}
+use Rattle.bx_journal_protocol.specs.ThreeDevices.{HaveStayed}
 use Rattle.bx_journal_read.specs.scan.Looking.{LooksAt}
 use Rattle.bx_journal_protocol.specs.protocol.Turns.{AreAtRest, AreStanding}
 use Rattle.bx_journal_protocol.proofs.DeviceLemmas.{HaveGoneOn, both_ways}

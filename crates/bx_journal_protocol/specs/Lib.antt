@@ -1,4 +1,4 @@
-pub mod Devices
+pub mod ThreeDevices
 pub mod before
 pub mod model
 pub mod protocol

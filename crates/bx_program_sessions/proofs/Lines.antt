@@ -6,8 +6,8 @@ use Rattle.bx_program_world.specs.World.{KeepsFiles, Sight, held}
 use Rattle.bx_program_files.specs.Files.{LeavesFiles}
 use Rattle.bx_program_files.specs.declared.names.Names.{Names}
 use Rattle.bx_program_files.specs.declared.unopened.Unopened.{Unopened}
-use Rattle.bx_journal_read.specs.declared.answers.How.{How}
-use Rattle.bx_journal_read.specs.declared.fault.SessionFault.TheVariants.{Interrupted}
+use Rattle.bx_journal.specs.How.{How}
+use Rattle.bx_journal.specs.SessionFault.TheVariants.{Interrupted}
 use Rattle.bx_cli_commands.specs.declared.fault.Fault.{Fault}
 use Rattle.bx_cli_commands.specs.declared.fault.Fault.TheVariants.{OpenFailed, Session}
 use Rattle.bx_program_sessions.specs.Contents.{FindsIn, Holds}

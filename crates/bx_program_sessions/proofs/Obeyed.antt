@@ -8,7 +8,7 @@ use Rattle.bx_journal.specs.Opening.{ThreeCounts}
 use Rattle.bx_journal.specs.Redo.{IsRedoOf}
 use Rattle.bx_journal.specs.Session.{HasUndone, IsReady}
 use Rattle.bx_journal.specs.SessionView.{SessionView, devices_of}
-use Rattle.bx_journal_read.specs.declared.fault.SessionFault.{SessionFault}
+use Rattle.bx_journal.specs.SessionFault.{SessionFault}
 use Rattle.bx_cli_commands.specs.declared.command.Command.{Command}
 use Rattle.bx_cli_commands.specs.declared.command.Command.TheVariants.{Copy, Dd, Patch, Revert, RevertPlain, Undo, Redo}
 use Rattle.bx_cli_commands.specs.declared.command.Reply.{Reply}

@@ -9,9 +9,9 @@ use Rattle.bx_journal.specs.Machine.{changes_of}
 use Rattle.bx_journal.specs.Phase.{IsAtRest}
 use Rattle.bx_journal.specs.Power.{Found}
 use Rattle.bx_journal.specs.Redo.{Finds, IsRedoOf, found_undone}
-use Rattle.bx_journal_read.specs.declared.answers.How.{How}
-use Rattle.bx_journal_read.specs.declared.fault.SessionFault.{SessionFault}
-use Rattle.bx_journal_protocol.specs.declared.devices.Devices.{Devices}
+use Rattle.bx_journal.specs.How.{How}
+use Rattle.bx_journal.specs.SessionFault.{SessionFault}
+use Rattle.bx_journal.specs.Devices.{Devices}
 use Rattle.bx_cli_commands.specs.Power.{images_of}
 use Rattle.bx_cli_commands.specs.Run.{CommandStep}
 use Rattle.bx_cli_commands.specs.Standing.{Standing}

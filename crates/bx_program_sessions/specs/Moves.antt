@@ -6,10 +6,10 @@ use Rattle.bx_program_files.specs.Files.{LeavesFiles}
 use Rattle.bx_program_files.specs.declared.names.Names.{Names}
 use Rattle.bx_journal.specs.Images.{Images, redo_of, undo_of}
 use Rattle.bx_journal.specs.Machine.{changes_of}
-use Rattle.bx_journal_read.specs.declared.answers.How.{How}
-use Rattle.bx_journal_read.specs.declared.answers.How.TheVariants.{Clean, Dropped, Restored}
-use Rattle.bx_journal_read.specs.declared.fault.SessionFault.{SessionFault}
-use Rattle.bx_journal_read.specs.declared.fault.SessionFault.TheVariants.{DeviceFailed, Interrupted, NoMemory, NothingToRedo, TooFew}
+use Rattle.bx_journal.specs.How.{How}
+use Rattle.bx_journal.specs.How.TheVariants.{Clean, Dropped, Restored}
+use Rattle.bx_journal.specs.SessionFault.{SessionFault}
+use Rattle.bx_journal.specs.SessionFault.TheVariants.{DeviceFailed, Interrupted, NoMemory, NothingToRedo, TooFew}
 use Rattle.bx_cli_commands.specs.declared.fault.Fault.{Fault}
 use Rattle.bx_cli_commands.specs.declared.fault.Fault.TheVariants.{Io, OpenFailed, Session}
 use Rattle.bx_program_sessions.specs.Contents.{Contents, FindsIn, Holds}

@@ -4,8 +4,8 @@ use Rattle.bx_program_world.specs.World.{Sight, Trio, held}
 use Rattle.bx_program_files.specs.Files.{LeavesFiles}
 use Rattle.bx_program_files.specs.declared.names.Names.{Names}
 use Rattle.bx_journal.specs.Images.{Images}
-use Rattle.bx_journal_read.specs.declared.answers.How.{How}
-use Rattle.bx_journal_read.specs.declared.answers.How.TheVariants.{Clean}
+use Rattle.bx_journal.specs.How.{How}
+use Rattle.bx_journal.specs.How.TheVariants.{Clean}
 use Rattle.bx_cli_commands.specs.Run.{CommandStep}
 use Rattle.bx_cli_commands.specs.Standing.{Standing}
 use Rattle.bx_cli_commands.specs.declared.command.Command.{Command}

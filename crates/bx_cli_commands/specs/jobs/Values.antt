@@ -4,14 +4,14 @@ use Rattle.bx_text.specs.declared.number.size.SizeFault.{SizeFault}
 use Rattle.bx_text.specs.declared.number.size.SizeStyle.{SizeStyle}
 use Rattle.bx_text.specs.declared.number.size.SizeStyle.TheVariants.{Bare}
 use Rattle.bx_text.specs.Number.{read_size}
-use Rattle.bx_dump_columns.specs.declared.od.options.Address.{Address}
-use Rattle.bx_dump_columns.specs.declared.od.options.Address.TheVariants.{Octal, Decimal, Hexadecimal, Without}
-use Rattle.bx_dump_columns.specs.declared.od.options.Kind.{Kind}
-use Rattle.bx_dump_columns.specs.declared.od.options.Kind.TheVariants.{Chars, Number}
-use Rattle.bx_dump_columns.specs.declared.od.options.NumForm.{NumForm}
-use Rattle.bx_dump_columns.specs.declared.od.options.NumForm.TheVariants as form
-use Rattle.bx_dump_columns.specs.declared.od.options.Size.{Size}
-use Rattle.bx_dump_columns.specs.declared.od.options.Size.TheVariants as size
+use Rattle.bx_dump.specs.Address.{Address}
+use Rattle.bx_dump.specs.Address.TheVariants.{Octal, Decimal, Hexadecimal, Without}
+use Rattle.bx_dump.specs.Kind.{Kind}
+use Rattle.bx_dump.specs.Kind.TheVariants.{Chars, Number}
+use Rattle.bx_dump.specs.NumForm.{NumForm}
+use Rattle.bx_dump.specs.NumForm.TheVariants as form
+use Rattle.bx_dump.specs.Size.{Size}
+use Rattle.bx_dump.specs.Size.TheVariants as size
 use Rattle.bx_cli_commands.specs.declared.fault.Fault.{Fault}
 use Rattle.bx_cli_commands.specs.declared.fault.Fault.TheVariants.{Usage}
 

@@ -4,7 +4,7 @@ use Rattle.bx_image.specs.declared.device.Device.{Ghosts as DeviceViews}
 use Rattle.bx_journal_store.specs.declared.store.TextStore.{Ghosts as StoreViews}
 use Rattle.bx_image.specs.Power.{Only}
 use Rattle.bx_journal_protocol.specs.declared.devices.Devices.{Devices}
-use Rattle.bx_journal_protocol.specs.Devices.{AreCounted, AreUnfailed}
+use Rattle.bx_journal_protocol.specs.ThreeDevices.{AreCounted, AreUnfailed}
 use Rattle.bx_journal_read.specs.declared.answers.How.TheVariants.{Clean}
 use Rattle.bx_journal_read.specs.declared.answers.Recovered.{Recovered}
 use Rattle.bx_journal_read.specs.declared.fault.SessionFault.{SessionFault}

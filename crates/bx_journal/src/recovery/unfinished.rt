@@ -1,7 +1,7 @@
 //! An unfinished entry at the end of a journal, and how opening discards it or rolls it back.
 ghost use Rattle.std.specs.Prelude.{◌≡◌, ◌↔◌, ◌⊎◌, ◌+◌, ◌<◌, ◌≤◌, [], List, ℕ, OnOk, OnErr, IfOk, IfErr};
 ghost use Rattle.bx_journal_read.specs.model.Calls.{AfterFault};
-ghost use Rattle.bx_journal_protocol.specs.Devices.{AreBelow, AreCounted, AreUnfailed, HaveStayed, StepsOn};
+ghost use Rattle.bx_journal_protocol.specs.ThreeDevices.{AreBelow, AreCounted, AreUnfailed, HaveStayed, StepsOn};
 ghost use Rattle.bx_journal_read.specs.scan.Looking.{LooksAt, OneMore, LookFault};
 ghost use Rattle.bx_journal_protocol.specs.protocol.Entries.{StaySettled};
 ghost use Rattle.bx_journal_protocol.specs.protocol.Fading.{OpeningSurvives, PairSurvives};

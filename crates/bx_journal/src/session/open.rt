@@ -1,6 +1,6 @@
 //! Opening an image with its journal and its redo text, with recovery.
 ghost use Rattle.std.specs.Prelude.{◌≡◌, ◌<◌};
-ghost use Rattle.bx_journal_protocol.specs.Devices.{AreBelow};
+ghost use Rattle.bx_journal_protocol.specs.ThreeDevices.{AreBelow};
 
 use crate::Session;
 use crate::recovery::recover;

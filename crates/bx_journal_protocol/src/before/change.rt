@@ -4,7 +4,7 @@ ghost use Rattle.bx_image.specs.Change.{effect, Fits};
 ghost use Rattle.bx_journal_protocol.specs.before.Ready.{IsReadyChange};
 ghost use Rattle.bx_journal_protocol.specs.model.Power.{FoundBefore};
 ghost use Rattle.bx_journal_protocol.specs.write.Begun.{rest_of, IsOpenHead};
-ghost use Rattle.bx_journal_protocol.specs.Devices.{AreCounted, AreUnfailed, HaveStayed};
+ghost use Rattle.bx_journal_protocol.specs.ThreeDevices.{AreCounted, AreUnfailed, HaveStayed};
 ghost use Rattle.bx_journal_read.specs.model.Fault.{PrepareFault};
 ghost use Rattle.bx_journal_protocol.specs.protocol.Written.{AreSettled};
 

@@ -6,7 +6,7 @@ ghost use Rattle.bx_image.specs.Power.{NoMore};
 ghost use Rattle.bx_journal_read.specs.model.Fault.{DeviceFault};
 ghost use Rattle.bx_journal_protocol.specs.model.Power.{FoundBefore};
 ghost use Rattle.bx_journal_protocol.specs.before.Again.{IsReadyAgain};
-ghost use Rattle.bx_journal_protocol.specs.Devices.{AreCounted, AreUnfailed, HaveStayed};
+ghost use Rattle.bx_journal_protocol.specs.ThreeDevices.{AreCounted, AreUnfailed, HaveStayed};
 ghost use Rattle.bx_journal_protocol.specs.protocol.Takens.{length_at};
 ghost use Rattle.bx_journal_protocol.specs.write.Touched.{AreTouched, AreToldRanges, HasRoomForRanges, IsFirstBegun, IsFirstWithin, IsTouched, entries_over as entries_long};
 ghost use Rattle.bx_journal_read.specs.model.Undoing.{HasRoomFor};

@@ -2,7 +2,7 @@
 ghost use Rattle.std.specs.Prelude.{◌≡◌, ◌+◌, ◌-◌, ◌^◌, ◌<◌, ◌≤◌, [], length, drop, map, min, reverse, vec_capacity, All, IfOk, IfErr, OnOk};
 ghost use Rattle.bx_journal_read.specs.model.Fault.{DeviceFault};
 ghost use Rattle.bx_journal_protocol.specs.model.Power.{FoundBefore};
-ghost use Rattle.bx_journal_protocol.specs.Devices.{AreCounted, AreUnfailed, HaveStayed};
+ghost use Rattle.bx_journal_protocol.specs.ThreeDevices.{AreCounted, AreUnfailed, HaveStayed};
 ghost use Rattle.bx_journal_protocol.specs.protocol.Written.{AreSettled};
 ghost use Rattle.bx_journal_protocol.specs.before.Overwritten.{AreOrdered, place_in};
 ghost use Rattle.bx_journal_protocol.specs.protocol.Placed.{AllFit, ArePreparedIn};

@@ -1,7 +1,7 @@
 //! Room in all three devices, made before the first write.
 ghost use Rattle.std.specs.Prelude.{◌≡◌, ◌^◌, ◌≤◌, OnOk};
 ghost use Rattle.bx_journal_protocol.specs.model.Power.{FoundBefore};
-ghost use Rattle.bx_journal_protocol.specs.Devices.{HaveStayed};
+ghost use Rattle.bx_journal_protocol.specs.ThreeDevices.{HaveStayed};
 
 use crate::Devices;
 use bx_image::Device;

@@ -1,7 +1,7 @@
 //! All three devices synced before the first write, so that what they hold is durable.
 ghost use Rattle.std.specs.Prelude.{◌≡◌, ◌≤◌, OnOk};
 ghost use Rattle.bx_journal_protocol.specs.model.Power.{FoundBefore};
-ghost use Rattle.bx_journal_protocol.specs.Devices.{AreBelow, HaveStayed, StepsOn};
+ghost use Rattle.bx_journal_protocol.specs.ThreeDevices.{AreBelow, HaveStayed, StepsOn};
 ghost use Rattle.bx_journal_protocol.specs.protocol.Written.{AreSettled};
 
 use crate::devices::Devices;

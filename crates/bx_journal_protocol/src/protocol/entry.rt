@@ -7,7 +7,7 @@ ghost use Rattle.bx_image.specs.Power.{Only};
 ghost use Rattle.bx_journal_format.specs.Entry.{head_text};
 ghost use Rattle.bx_journal_format.specs.Text.{IsPrefix};
 ghost use Rattle.bx_journal_protocol.specs.write.Begun.{rest_of, IsBegunOver, IsOpenHead, KeepsBuffers};
-ghost use Rattle.bx_journal_protocol.specs.Devices.{AreBelow, GoOnPaired, ImageIsFirst, StepsOn};
+ghost use Rattle.bx_journal_protocol.specs.ThreeDevices.{AreBelow, GoOnPaired, ImageIsFirst, StepsOn};
 ghost use Rattle.bx_journal_read.specs.scan.Looking.{OneMore};
 ghost use Rattle.bx_journal_protocol.specs.protocol.Fading.{AllStayOpenFor, EndSurvives, HeadSurvives};
 ghost use Rattle.bx_journal_read.specs.model.Phase.{StaysOpenFor};

@@ -3,7 +3,7 @@ ghost use Rattle.std.specs.Prelude.{◌≡◌, ◌+◌, ◌-◌, ◌^◌, ◌<�
 ghost use Rattle.bx_image.specs.Device.{GoesOn};
 ghost use Rattle.bx_image.specs.Power.{NoMore};
 ghost use Rattle.bx_journal_format.specs.Parsed.{AllKept};
-ghost use Rattle.bx_journal_protocol.specs.Devices.{AreBelow, StepsOn};
+ghost use Rattle.bx_journal_protocol.specs.ThreeDevices.{AreBelow, StepsOn};
 ghost use Rattle.bx_journal_read.specs.model.Undoing.{LeavesFront, AreReadFrom};
 ghost use Rattle.bx_journal_protocol.specs.protocol.Entries.{RedoAll, RedoRests, RedoSome, RedoSomeSurvives, RedoTakes, RestsOnTop, RedoStands, StaySettled, StopsOnTop};
 ghost use Rattle.bx_journal_protocol.specs.write.Touched.{AreTouchedFrom, IsFirstBegun, IsFirstHead, IsFirstWithin, entries_over};

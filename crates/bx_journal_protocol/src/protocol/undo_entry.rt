@@ -4,7 +4,7 @@ ghost use Rattle.bx_image.specs.Change.{restore};
 ghost use Rattle.bx_journal_format.specs.Kept.{Kept};
 ghost use Rattle.bx_image.specs.Device.{GoesOn};
 ghost use Rattle.bx_image.specs.Power.{NoMore, Only};
-ghost use Rattle.bx_journal_protocol.specs.Devices.{AreBelow, ImageIsFirst, StepsOn};
+ghost use Rattle.bx_journal_protocol.specs.ThreeDevices.{AreBelow, ImageIsFirst, StepsOn};
 ghost use Rattle.bx_journal_protocol.specs.write.First.{WhereSettled};
 ghost use Rattle.bx_journal_read.specs.model.Undoing.{LeavesFront};
 ghost use Rattle.bx_journal_protocol.specs.protocol.Entries.{DropsRest, DropsSome, DropsStand, StaySettled, UndoAll, UndoSome, UndoSomeSurvives, UndoTakes};

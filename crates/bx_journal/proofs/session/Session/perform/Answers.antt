@@ -12,7 +12,7 @@ use Rattle.bx_journal_read.specs.model.Stack.{StandsFor}
 use Rattle.bx_journal_protocol.proofs.RedoText.{empty_is_redo}
 use Rattle.bx_journal_protocol.proofs.TurnLemmas.{change_stops}
 use Rattle.bx_journal_protocol.proofs.Performed.{appended, performs, top_of_stands}
-use Rattle.bx_journal_protocol.specs.Devices.{HaveStayed}
+use Rattle.bx_journal_protocol.specs.ThreeDevices.{HaveStayed}
 use Rattle.bx_journal.proofs.SafeLemmas.{any_fault}
 use Rattle.bx_journal_protocol.proofs.LookedLemmas.{pair_stays, rest_step}
 use Rattle.bx_journal_read.specs.scan.Step.{WritesEntry}

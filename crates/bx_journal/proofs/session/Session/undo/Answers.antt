@@ -7,7 +7,7 @@ use Rattle.bx_journal_read.specs.model.Undoing.{AgainFault, IsOutOfStep}
 use Rattle.bx_journal_read.proofs.AgainLemmas.{has_count, in_step}
 use Rattle.bx_journal_protocol.proofs.TakingLemmas.{changes_left}
 use Rattle.std.proofs.lemmas.Result.{err_from_is_err_and}
-use Rattle.bx_journal_protocol.specs.Devices.{HaveStayed}
+use Rattle.bx_journal_protocol.specs.ThreeDevices.{HaveStayed}
 use Rattle.bx_image.proofs.Survivors.{NoMore_then}
 use Rattle.bx_journal_protocol.proofs.DeviceLemmas.{one_more}
 use Rattle.bx_journal_protocol.specs.model.Power.{FoundBefore}

@@ -3,7 +3,7 @@ use Rattle.std.specs.Prelude.{reverse, Vec}
 use Rattle.bx_image.specs.declared.record.spans.Span.{Span}
 use Rattle.bx_image.proofs.Survivors.{NoMore_then}
 use Rattle.bx_journal_protocol.specs.model.Power.{FoundBefore}
-use Rattle.bx_journal_protocol.specs.Devices.{HaveStayed}
+use Rattle.bx_journal_protocol.specs.ThreeDevices.{HaveStayed}
 use Rattle.bx_journal_protocol.specs.write.Touched.{AreTouched, entries_over}
 use Rattle.bx_journal_protocol.proofs.DeviceLemmas.{both_ways, with_device}
 use Rattle.bx_journal_protocol.proofs.LookedLemmas.{found_then, stayed_then}
