@@ -15,7 +15,7 @@ use Rattle.bx_read.proofs.DumpLemmas.{only, small}
 use Rattle.bx_read.proofs.FullLines.{first_line}
 use Rattle.bx_read.proofs.GrammarLemmas.{ok_same}
 use Rattle.bx_read.proofs.WrittenLemmas.{reads_back}
-use Rattle.bx_journal.specs.DumpLine.{dump_line}
+use Rattle.bx_journal.specs.DumpLine.{saved_run_line}
 use Rattle.bx_journal.specs.Kept.{Kept, Run}
 use Rattle.bx_journal.specs.Line.{saved_in}
 use Rattle.bx_journal.specs.Spelled.{EntryLines}
@@ -33,7 +33,7 @@ pub line_gives : (line hex bytes : List ℕ) (at : ℕ) → IsLine line at hex b
 line_gives line hex bytes at is = small (line ∷ []) ((at, bytes) ∷ []) (inr (at, hex, bytes, [], is, refl, refl)) 0 (at, bytes) (omega arith)
 
 pub signed : (at : ℕ) (bytes : List ℕ) → 0 < length bytes → signed_line [] at bytes ≡ dump_line_text at bytes ++ 10 ∷ []
-unfolding dump_line
+unfolding saved_run_line
 signed at [] some = absurd (omega (arith, some))
 signed at (b ∷ bytes) some = refl
 

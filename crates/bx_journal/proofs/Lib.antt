@@ -15,6 +15,8 @@ pub mod ListLemmas
 pub mod Reopening
 pub mod LossLaws
 pub mod ShownWritten
+pub mod HeadingLines
+pub mod ShownPatch
 pub mod SpelledLaws
 pub mod ForgottenLemmas
 pub use Rattle.bx_journal_protocol.proofs.Ready

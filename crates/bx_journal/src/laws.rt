@@ -1,6 +1,6 @@
 //! Laws over the definitions alone.
 ghost use Rattle.bx_journal.specs.Losses.{FindsIsFound, OpeningFinds, OpeningsFind};
-ghost use Rattle.bx_journal.specs.ShowLaws.{FinishedIsSpelled, ShownIsWritten, ShowsAsDump};
+ghost use Rattle.bx_journal.specs.ShowLaws.{FinishedIsSpelled, ShownIsWritten, ShownRedoIsAPatch, ShownUndoIsAPatch, ShowsAsDump};
 ghost use Rattle.bx_journal_protocol.specs.model.Laws.{WrittenIsRead, StandsForOne, DamagedAtOne, EmptyIsSound};
 ghost use Rattle.bx_journal_protocol.specs.model.RedoLaws.{EmptyIsRedo, IsWrittenAgain, RedoIsOne, RedoLineOne};
 
@@ -75,4 +75,11 @@ pub fn shown_is_written()
 /// Each text of finished entries alone is spelled, so what is shown of a text that is accepted is said of each of them.
 pub fn finished_is_spelled()
     ensures { FinishedIsSpelled }
+{}
+
+/// What is shown of one undo or one redo, beside the image, is a patch: it agrees with the image that is there, and its change makes of it
+/// the image that the undo or the redo gives, bytes and length. Of an undo the newest entry has to tell the length after its change.
+pub fn shown_is_a_patch<A: Allocator>()
+    ensures undo { ShownUndoIsAPatch A }
+    ensures redo { ShownRedoIsAPatch A }
 {}

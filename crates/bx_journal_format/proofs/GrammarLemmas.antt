@@ -10,7 +10,7 @@ use Rattle.bx_read.specs.Grammar.{IsLine}
 use Rattle.bx_read.specs.Line.{line_piece, read_line}
 use Rattle.bx_read.specs.declared.fault.ReadFault.{ReadFault}
 use Rattle.bx_read.proofs.GrammarLemmas.{and_true, read_line-found}
-use Rattle.bx_read.proofs.PieceLemmas.{run_of_line as line_gives}
+use Rattle.bx_read.proofs.PieceLemmas.{piece_of as line_gives}
 use Rattle.bx_journal_format.specs.Kept.{Run, Kept, with_run}
 use Rattle.bx_journal_format.specs.declared.format.version.Version.{Version}
 use Rattle.bx_journal_format.specs.declared.format.version.Version.TheVariants.{First, Second}

@@ -6,7 +6,7 @@ use Rattle.bx_read.specs.Grammar.{IsLine}
 use Rattle.bx_read.specs.Line.{read_line, line_piece}
 use Rattle.bx_read.specs.declared.fault.ReadFault.{ReadFault}
 use Rattle.bx_read.proofs.GrammarLemmas.{guard_some, read_line-found}
-use Rattle.bx_read.proofs.PieceLemmas.{piece_err, run_of_line as line_gives}
+use Rattle.bx_read.proofs.PieceLemmas.{piece_err, piece_of as line_gives}
 use Rattle.bx_journal_format.specs.Kept.{Run}
 use Rattle.bx_journal_format.specs.DumpLine.{run_of_line}
 use Rattle.bx_journal_format.proofs.Inverse.{map_some}

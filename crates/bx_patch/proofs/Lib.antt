@@ -1,5 +1,6 @@
 pub mod UniqueLemmas
 pub mod LineLemmas
+pub mod FrontLemmas
 pub mod SpanLemmas
 pub mod RowLemmas
 pub mod MakesLemmas

@@ -67,11 +67,11 @@ gives ((false, at, bytes) ∷ ls) fine =
     (inr (inl ((at, bytes), pieces_of false ls, signed false at bytes l, refl, gives ls fine.1)))
 
 -- the line that tells the lengths
-abbrev IsOneLine : List ℕ → Type 0
+abbrev pub IsOneLine : List ℕ → Type 0
 IsOneLine [] = Unit {0}
 IsOneLine (c ∷ text) = (c ≢ 10) × IsOneLine text
 
-one_line : (text : List ℕ) → IsOneLine text → All (λ c. c ≢ 10) text
+pub one_line : (text : List ℕ) → IsOneLine text → All (λ c. c ≢ 10) text
 one_line [] is = λ k d inside. absurd (omega arith)
 one_line (c ∷ text) is = All-cons (λ c. c ≢ 10) c text is.0 (one_line text is.1)
 
@@ -82,7 +82,7 @@ digits_line : (ds rest : List ℕ) → AllDigits 10 ds → IsOneLine rest → Is
 digits_line [] rest all later = later
 digits_line (c ∷ ds) rest all later = (no_ten c all.0, digits_line ds rest all.1 later)
 
-length_line : (old new : ℕ) → old < 2 ^ 59 → new < 2 ^ 59 → IsOneLine (length_text old new)
+pub length_line : (old new : ℕ) → old < 2 ^ 59 → new < 2 ^ 59 → IsOneLine (length_text old new)
 length_line old new small little =
     let first = decimal_is_IsNumeral old (omega arith) in
     let second = decimal_is_IsNumeral new (omega arith) in
@@ -98,7 +98,7 @@ length_line old new small little =
 few_digits : (n : ℕ) → n < 2 ^ 59 → length (decimal n) ≤ 18
 few_digits n small = length-decimal-le 18 n (omega arith) (omega arith) (omega arith)
 
-tells : (old new : ℕ) → old < 2 ^ 59 → new < 2 ^ 59 → IsLength (length_text old new) old new
+pub tells : (old new : ℕ) → old < 2 ^ 59 → new < 2 ^ 59 → IsLength (length_text old new) old new
 tells old new small little =
     let first = decimal_is_IsNumeral old (omega arith) in
     let second = decimal_is_IsNumeral new (omega arith) in
