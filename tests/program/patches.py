@@ -171,7 +171,7 @@ def test_dry_runs_refused():
 
 
 def test_shown():
-    """`show -p` writes the last changes as one patch, with -r those that a redo would make, and only reads."""
+    """`show -p` writes the last changes as one patch, with -r those that a redo would make, and only reads. `show -d` of one is a patch."""
     images = [b"ABCDEFGH"]
     fresh(images[0])
     for words, given in (CHANGES[0], CHANGES[3], ("dd of=IMAGE", b"A"), CHANGES[1], ("patch IMAGE", b"length 9 to 40\n+0000001f: 21\n")):
@@ -193,6 +193,12 @@ def test_shown():
         say(not wrong and held(*TRIO) == was, f"show -p with {stands} changes and {undone} undone", "; ".join(wrong))
         done = run(f"show -p -k {stands + 1} img")
         say((done.status, said(done), done.out) == (1, f"only {stands} changes to undo", b""), "and of one more", said(done))
+        for words, count in (("show -d img", -1), ("show -rd img", 1)):
+            if 0 <= stands + count <= last:
+                made = f"made{undone}{count}"
+                write("step", run(words).out)
+                write(made, images[stands])
+                say(run(f"patch -f step {made}").status == 0 and held(made) == (images[stands + count],), f"{words} is a patch")
         run("undo img")
     fresh(IMAGE, STOPPED)
     done = run("show -p img")
