@@ -6,12 +6,12 @@ use Rattle.bx_read.specs.Digits.{is_hex}
 use Rattle.bx_read.specs.Laws.{dump_line_text}
 use Rattle.bx_read.proofs.DumpLemmas.{first_is}
 use Rattle.bx_read.proofs.FullLines.{first_line}
-use Rattle.bx_journal_read.specs.declared.show.way.Steps.{Steps}
+use Rattle.bx_journal.specs.Steps.{Steps}
 use Rattle.bx_journal.specs.Differences.{line_made, made_text, signed_line}
 use Rattle.bx_journal.specs.Kept.{Run}
 use Rattle.bx_journal.specs.Line.{saved_in}
 use Rattle.bx_journal.specs.Spelled.{EntryLines}
-use Rattle.bx_journal.specs.Steps.{length_told, lines_text, next_number, next_word, patch_length, step_text, steps_text}
+use Rattle.bx_journal.specs.ShownSteps.{length_told, lines_text, next_number, next_word, patch_length, step_text, steps_text}
 use Rattle.bx_journal.specs.Text.{Between, Ending, Saving, Stage}
 use Rattle.bx_journal.proofs.GrammarLemmas.{saved_found}
 use Rattle.bx_journal.proofs.HeadingLines.{IsOneLine, change_in, head, head_in, joined, looked}

@@ -4,7 +4,7 @@ use Rattle.bx_journal.specs.ShowFault.TheVariants as look
 use Rattle.bx_journal.specs.LogRow.{LogRow}
 use Rattle.bx_journal.specs.Steps.{Steps}
 use Rattle.bx_journal.specs.Showing.{LookCounts, StopsLog}
-use Rattle.bx_journal.specs.Steps.{RefusesSteps, StopsSteps}
+use Rattle.bx_journal.specs.ShownSteps.{RefusesSteps, StopsSteps}
 use Rattle.bx_cli_commands.specs.declared.fault.Fault.{Fault}
 use Rattle.bx_cli_commands.specs.declared.fault.Fault.TheVariants as of
 

@@ -7,7 +7,7 @@ use Rattle.bx_journal.specs.Steps.{Steps}
 use Rattle.bx_journal.specs.Differences.{made_text}
 use Rattle.bx_journal.specs.ShowLaws.{shown_runs, steps_onto}
 use Rattle.bx_journal.specs.Spelled.{EntryLines}
-use Rattle.bx_journal.specs.Steps.{steps_text, unfinished_line}
+use Rattle.bx_journal.specs.ShownSteps.{steps_text, unfinished_line}
 use Rattle.bx_journal.specs.Text.{Stage}
 use Rattle.bx_cli_commands.specs.Command.{dump_change}
 use Rattle.bx_cli_commands.specs.Reading.{IsChangeOf}

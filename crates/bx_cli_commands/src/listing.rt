@@ -2,7 +2,7 @@
 ghost use Rattle.std.specs.Prelude.{◌≡◌, ◌<◌, ◌++◌, IfErr, IfOk, OnOk, IsOkUnless, IsTrue, string_bytes};
 ghost use Rattle.std.specs.List.{flat_map};
 ghost use Rattle.bx_journal.specs.Showing.{RangesOf, Stays};
-ghost use Rattle.bx_journal.specs.Steps.{ShowsSteps};
+ghost use Rattle.bx_journal.specs.ShownSteps.{ShowsSteps};
 ghost use Rattle.bx_cli_commands.specs.Listing.{ListCounts, RefusesShowing, StopsListing, StopsShowing, log_line};
 
 use crate::Fault;

@@ -9,7 +9,7 @@ use Rattle.bx_journal_format.specs.Text.{Entry}
 use Rattle.bx_journal_read.specs.declared.show.way.Way.{Way}
 use Rattle.bx_journal_read.specs.declared.show.way.Way.TheVariants.{Undo, Redo}
 use Rattle.bx_journal_read.specs.show.Showing.{after_text, bytes_of}
-use Rattle.bx_journal_read.specs.show.Steps.{bytes_text, keeps_length, length_words, way_word, writes_text}
+use Rattle.bx_journal_read.specs.show.ShownSteps.{bytes_text, keeps_length, length_words, way_word, writes_text}
 
 -- no newline is in a text
 abbrev pub IsOneLine : List ℕ → Type 0

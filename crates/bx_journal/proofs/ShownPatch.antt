@@ -22,7 +22,7 @@ use Rattle.bx_journal_read.specs.model.Images.{Images, redone_by}
 use Rattle.bx_journal_read.specs.model.Machine.{changes_of, top}
 use Rattle.bx_journal_read.specs.model.Stack.{HaveLengths, StandsFor, stack_of}
 use Rattle.bx_journal_read.specs.show.Differences.{diff_text, lines_beside, signed_line}
-use Rattle.bx_journal_read.specs.show.Steps.{first_number, heading, lines_text, patch_length, shown_steps, shows_patch, step_text, steps_text}
+use Rattle.bx_journal_read.specs.show.ShownSteps.{first_number, heading, lines_text, patch_length, shown_steps, shows_patch, step_text, steps_text}
 use Rattle.bx_journal_read.proofs.OpenLemmas.{some_same}
 use Rattle.bx_patch.specs.Grammar.{EndsWithin, IsInLengths, IsPatch}
 use Rattle.bx_patch.specs.Patch.{Agrees, Asked, HasPiece, Pieces, patch_change}

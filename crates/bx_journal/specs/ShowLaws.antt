@@ -13,7 +13,7 @@ use Rattle.bx_journal_read.specs.model.Machine.{RedoStep, UndoStep, changes_of, 
 use Rattle.bx_journal_read.specs.model.Redo.{IsRedoOf}
 use Rattle.bx_journal_read.specs.model.Stack.{StandsFor}
 use Rattle.bx_journal_read.specs.show.Differences.{made_text, signed_line}
-use Rattle.bx_journal_read.specs.show.Steps.{shown_steps, shows_patch}
+use Rattle.bx_journal_read.specs.show.ShownSteps.{shown_steps, shows_patch}
 use Rattle.bx_patch.specs.Grammar.{IsPatch}
 use Rattle.bx_patch.specs.Patch.{Agrees, Asked, patch_change}
 

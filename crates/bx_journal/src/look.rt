@@ -3,7 +3,7 @@ ghost use Rattle.std.specs.Prelude.{◌≡◌, ◌<◌, ◌≤◌, ℕ, All, IsT
 ghost use Rattle.bx_journal_read.specs.model.Fault.{LacksOrFails};
 ghost use Rattle.bx_journal_read.specs.scan.Looking.{LooksAt};
 ghost use Rattle.bx_journal_read.specs.show.Showing.{RangesOf, StopsLog, LiesWithin, LookCounts, PutFault, Stays};
-ghost use Rattle.bx_journal_read.specs.show.Steps.{RefusesSteps, ShowsSteps, StopsSteps, BeginsLine, CannotStep, FindsSteps, IsChecked, IsFoundPut, IsLeftIn, IsSettled, few_that, fault_that};
+ghost use Rattle.bx_journal_read.specs.show.ShownSteps.{RefusesSteps, ShowsSteps, StopsSteps, BeginsLine, CannotStep, FindsSteps, IsChecked, IsFoundPut, IsLeftIn, IsSettled, few_that, fault_that};
 
 mod entries;
 mod step;

@@ -16,7 +16,7 @@ use Rattle.bx_journal_format.proofs.TallyLemmas.{take_sum}
 use Rattle.bx_journal_read.proofs.AddedLemmas.{shown_there}
 use Rattle.bx_journal_read.proofs.RowTexts.{joined-append, lines_there, marks_many, plain_front, ranges_there, tail_of}
 use Rattle.bx_journal_read.specs.show.Differences.{diff_line, made_line}
-use Rattle.bx_journal_read.specs.show.Steps.{bytes_text, heading, length_words, lines_text, next_number, step_text, steps_text, amount_text, heading_at, heading_end, heading_front, heading_start, length_told, mark_step, newest_first, number_at, saved_lines_at, where_at}
+use Rattle.bx_journal_read.specs.show.ShownSteps.{bytes_text, heading, length_words, lines_text, next_number, step_text, steps_text, amount_text, heading_at, heading_end, heading_front, heading_start, length_told, mark_step, newest_first, number_at, saved_lines_at, where_at}
 use Rattle.bx_journal_read.specs.declared.show.way.Steps.{Steps}
 use Rattle.bx_journal_read.specs.declared.show.way.Way.{Way}
 use Rattle.bx_journal_read.specs.declared.show.way.Way.TheVariants.{Undo, Redo}

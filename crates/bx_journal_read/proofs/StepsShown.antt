@@ -20,7 +20,7 @@ use Rattle.bx_journal_read.proofs.RowTexts.{all_lie, marks_many}
 use Rattle.bx_journal_read.proofs.Spellings.{front_once, spelled_few, spelled_once}
 use Rattle.bx_journal_read.proofs.StepTexts.{steps_there}
 use Rattle.bx_journal_read.proofs.WindowLemmas.{fault_is, looks_before}
-use Rattle.bx_journal_read.specs.show.Steps.{HasEntries, HasShown, IsUnfinishedBehind, RefusesSteps, ShowsSteps, StopsSteps, BeginsLine, IsLeftAt, IsLeftIn, first_number, next_word, shown_steps, steps_text, unfinished_line, AreFrontMarks, AreStepsPut, CannotStep, FindsFront, FindsSteps, IsChecked, StandsBehind, fault_that, few_that, mark_word, newest_first, torn_text}
+use Rattle.bx_journal_read.specs.show.ShownSteps.{HasEntries, HasShown, IsUnfinishedBehind, RefusesSteps, ShowsSteps, StopsSteps, BeginsLine, IsLeftAt, IsLeftIn, first_number, next_word, shown_steps, steps_text, unfinished_line, AreFrontMarks, AreStepsPut, CannotStep, FindsFront, FindsSteps, IsChecked, StandsBehind, fault_that, few_that, mark_word, newest_first, torn_text}
 use Rattle.bx_journal_read.specs.declared.show.fault.ShowFault.{ShowFault}
 use Rattle.bx_journal_read.specs.declared.show.fault.ShowFault.TheVariants.{Text, Io}
 use Rattle.bx_journal_read.specs.declared.show.way.Steps.{Steps}

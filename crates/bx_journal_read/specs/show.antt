@@ -1,4 +1,4 @@
 -- What looks write.
 pub mod Differences
 pub mod Showing
-pub mod Steps
+pub mod ShownSteps

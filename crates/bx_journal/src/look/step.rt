@@ -1,7 +1,7 @@
 //! Steps over changes, as they are shown: a heading, the saved lines, and an empty line for each.
 ghost use Rattle.std.specs.Prelude.{◌≡◌, ◌+◌, ◌<◌, ◌≤◌, ℕ, All, IsTrue, length, OnOk};
 ghost use Rattle.std.specs.Io.KnownBytes.{Appends};
-ghost use Rattle.bx_journal_read.specs.show.Steps.{first_number, AreStepsPut, mark_step, number_at, saved_lines_at};
+ghost use Rattle.bx_journal_read.specs.show.ShownSteps.{first_number, AreStepsPut, mark_step, number_at, saved_lines_at};
 ghost use Rattle.bx_journal_read.specs.show.Showing.{LiesWithin, WritesBeside};
 
 use bx_image::Device;

@@ -2,7 +2,7 @@
 ghost use Rattle.std.specs.Prelude.{◌≡◌, ◌<◌, ◌≤◌, ◌++◌, length, Some, OnOk, IfErr, string_bytes};
 ghost use Rattle.std.specs.Io.KnownBytes.{Appends};
 ghost use Rattle.bx_journal_read.specs.show.Showing.{CountsNone, PutFault, WritesFrom};
-ghost use Rattle.bx_journal_read.specs.show.Steps.{amount_text, changed_end, heading_at, heading_end, heading_front, heading_start, kept_end, length_told, told_end, where_at, keeps_length};
+ghost use Rattle.bx_journal_read.specs.show.ShownSteps.{amount_text, changed_end, heading_at, heading_end, heading_front, heading_start, kept_end, length_told, told_end, where_at, keeps_length};
 
 use crate::show::fault::ShowFault;
 use crate::show::lengths::push_told_length;

@@ -1,6 +1,6 @@
 //! The line that tells both lengths, as a patch has it.
 ghost use Rattle.std.specs.Prelude.{◌≡◌, ◌++◌, Some, OnOk, string_bytes};
-ghost use Rattle.bx_journal_read.specs.show.Steps.{length_told, patch_length, shows_patch};
+ghost use Rattle.bx_journal_read.specs.show.ShownSteps.{length_told, patch_length, shows_patch};
 
 use crate::show::way::Steps;
 use bx_journal_format::Mark;

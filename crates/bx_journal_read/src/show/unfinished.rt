@@ -3,7 +3,7 @@ ghost use Rattle.std.specs.Prelude.{◌≡◌, ◌<◌, ◌++◌, OnOk, IfErr, s
 ghost use Rattle.std.specs.Io.KnownBytes.{Appends};
 ghost use Rattle.bx_journal_read.specs.scan.Recovery.{IsUnfinishedIn};
 ghost use Rattle.bx_journal_read.specs.show.Showing.{CountsNone, PutFault};
-ghost use Rattle.bx_journal_read.specs.show.Steps.{FindsFront, torn_line, torn_text};
+ghost use Rattle.bx_journal_read.specs.show.ShownSteps.{FindsFront, torn_line, torn_text};
 
 use crate::show::fault::ShowFault;
 use crate::show::marks::{marks_in_windows, marks_to};

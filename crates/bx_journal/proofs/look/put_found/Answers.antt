@@ -1,7 +1,7 @@
 use Rattle.std.proofs.Common.{◌≤◌, length, subst, sym}
 use Rattle.std.specs.Prelude.{All}
 use Rattle.bx_journal_read.specs.show.Showing.{LiesWithin}
-use Rattle.bx_journal_read.specs.show.Steps.{AreStepsPut}
+use Rattle.bx_journal_read.specs.show.ShownSteps.{AreStepsPut}
 use Rattle.bx_journal_read.proofs.RowTexts.{ok_weaker}
 use Rattle.bx_journal.proofs.look.put_found.Goals as goal
 

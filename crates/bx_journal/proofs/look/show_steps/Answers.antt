@@ -1,6 +1,6 @@
 use Rattle.std.proofs.Common.{◌≡◌, List, ℕ, refl}
 use Rattle.std.proofs.lemmas.Result.{IfErr-weaker}
-use Rattle.bx_journal_read.specs.show.Steps.{RefusesSteps, StopsSteps, AreFrontMarks}
+use Rattle.bx_journal_read.specs.show.ShownSteps.{RefusesSteps, StopsSteps, AreFrontMarks}
 use Rattle.bx_journal_read.specs.show.Showing.{PutFault}
 use Rattle.bx_journal_read.proofs.RowTexts.{ok_weaker}
 use Rattle.bx_journal_read.proofs.StepsShown.{front_lie, put_allows, put_stops, steps_shown}

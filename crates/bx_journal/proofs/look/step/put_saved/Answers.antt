@@ -1,7 +1,7 @@
 use Rattle.std.proofs.Common.{OnOk, subst, sym, refl}
 use Rattle.std.specs.Prelude.{IsTrue}
 use Rattle.std.specs.Io.KnownBytes.{Appends}
-use Rattle.bx_journal_read.specs.show.Steps.{saved_lines_at}
+use Rattle.bx_journal_read.specs.show.ShownSteps.{saved_lines_at}
 use Rattle.bx_journal.proofs.look.step.put_saved.Goals as goal
 
 pub returns-in-true-clause-put : goal.returns-in-true-clause-put

@@ -1,6 +1,6 @@
 use Rattle.std.proofs.Common.{subst}
 use Rattle.std.specs.Io.KnownBytes.{Appends}
-use Rattle.bx_journal_read.specs.show.Steps.{saved_lines_at}
+use Rattle.bx_journal_read.specs.show.ShownSteps.{saved_lines_at}
 use Rattle.bx_journal_read.proofs.StepTexts.{step_written}
 use Rattle.bx_journal.proofs.look.step.put_step.Goals as goal
 

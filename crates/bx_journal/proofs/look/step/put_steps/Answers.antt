@@ -3,7 +3,7 @@ use Rattle.std.proofs.KnownBytes.{Appends-nil}
 use Rattle.std.specs.Io.KnownBytes.{Appends}
 use Rattle.std.proofs.lemmas.List.Elements.{All-get_or}
 use Rattle.bx_journal_format.specs.declared.read.marks.Mark.{Mark}
-use Rattle.bx_journal_read.specs.show.Steps.{first_number, AreStepsPut}
+use Rattle.bx_journal_read.specs.show.ShownSteps.{first_number, AreStepsPut}
 use Rattle.bx_journal_read.specs.show.Showing.{LiesWithin}
 use Rattle.bx_journal_read.proofs.BesideLemmas.{stayed_none, stayed_on}
 use Rattle.bx_journal_read.proofs.StepTexts.{steps_none, steps_put}

@@ -1,5 +1,5 @@
 use Rattle.std.specs.Prelude.{IsTrue}
-use Rattle.bx_journal_read.specs.show.Steps.{AreStepsPut}
+use Rattle.bx_journal_read.specs.show.ShownSteps.{AreStepsPut}
 use Rattle.bx_journal_read.proofs.BesideLemmas.{HasStayed}
 use Rattle.bx_journal.proofs.look.step.put_steps.Given as goal
 

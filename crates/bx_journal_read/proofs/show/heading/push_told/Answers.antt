@@ -1,5 +1,5 @@
 use Rattle.std.proofs.Common.{◌≡◌, ◌++◌, OnOk, string_bytes, subst, sym}
-use Rattle.bx_journal_read.specs.show.Steps.{told_end}
+use Rattle.bx_journal_read.specs.show.ShownSteps.{told_end}
 use Rattle.bx_journal_read.proofs.show.heading.push_told.Goals as goal
 
 pub returns-in-true : goal.returns-in-true
