@@ -1,5 +1,5 @@
 -- Without its headings, what is shown of undos is their saved lines.
-use Rattle.std.proofs.Common.{◌≡◌, ◌≢◌, ℕ, true, false, Bool, Option, None, Some, List, [], ◌∷◌, ◌++◌, refl, sym, ap, ◌∙◌, append_assoc, append-nil, get_or}
+use Rattle.std.proofs.Common.{◌≡◌, ℕ, true, false, Bool, Option, None, Some, List, [], ◌∷◌, ◌++◌, refl, sym, ap, ◌∙◌, append_assoc, append-nil, get_or}
 use Rattle.std.specs.Prelude.{codes, decimal, flat_map, if◌then◌else◌, ◌==◌}
 use Rattle.std.proofs.lemmas.Bool.{ne_eqb}
 use Rattle.bx_read.specs.Digits.{is_hex}
@@ -11,7 +11,7 @@ use Rattle.bx_journal.specs.Differences.{line_made, made_text, signed_line}
 use Rattle.bx_journal.specs.Kept.{Run}
 use Rattle.bx_journal.specs.Line.{saved_in}
 use Rattle.bx_journal.specs.Spelled.{EntryLines}
-use Rattle.bx_journal.specs.ShownSteps.{length_told, lines_text, next_number, next_word, patch_length, step_text, steps_text}
+use Rattle.bx_journal.specs.ShownSteps.{lines_text, next_number, next_word, patch_length, step_text, steps_text}
 use Rattle.bx_journal.specs.Text.{Between, Ending, Saving, Stage}
 use Rattle.bx_journal.proofs.GrammarLemmas.{saved_found}
 use Rattle.bx_journal.proofs.HeadingLines.{IsOneLine, change_in, head, head_in, joined, looked}

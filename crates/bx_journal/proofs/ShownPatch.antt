@@ -2,7 +2,7 @@
 use Rattle.std.proofs.Common.{◌≡◌, ◌≤◌, ◌<◌, ◌+◌, ◌-◌, ◌^◌, ℕ, zero, suc, eqb, Bool, true, false, Option, None, Some, List, [], ◌∷◌, ◌++◌, length, take, drop, map, inr, refl, sym, ap, subst, ◌∙◌, arith, append_assoc, append-nil}
 use Rattle.std.specs.Prelude.{◌==◌, codes, decimal, if◌then◌else◌, is_some, IfSome, IsTrue, All}
 use Rattle.std.proofs.lemmas.Bool.{eqb-true}
-use Rattle.std.proofs.lemmas.List.{length-map, length-take}
+use Rattle.std.proofs.lemmas.List.{length-take}
 use Rattle.std.proofs.lemmas.List.Elements.{All-cons, All-drop, All-nil, All-take}
 use Rattle.std.specs.Option.{option_map_or}
 use Rattle.bx_image.specs.declared.change.TheConstants.{MAX_LEN}
@@ -24,13 +24,13 @@ use Rattle.bx_journal_read.specs.model.Stack.{HaveLengths, StandsFor, stack_of}
 use Rattle.bx_journal_read.specs.show.Differences.{diff_text, lines_beside, signed_line}
 use Rattle.bx_journal_read.specs.show.ShownSteps.{first_number, heading, lines_text, patch_length, shown_steps, shows_patch, step_text, steps_text}
 use Rattle.bx_journal_read.proofs.OpenLemmas.{some_same}
-use Rattle.bx_patch.specs.Grammar.{EndsWithin, IsInLengths, IsPatch}
+use Rattle.bx_patch.specs.Grammar.{EndsWithin, IsInLengths}
 use Rattle.bx_patch.specs.Patch.{Agrees, Asked, HasPiece, Pieces, patch_change}
 use Rattle.bx_patch.specs.Text.{length_text}
 use Rattle.bx_patch.proofs.DiffLemmas.{lengths_are}
 use Rattle.bx_patch.proofs.FrontLemmas.{TextAsks, TextGives, gives_none, lengths_in_front, line_sizes, new_in_front, no_lengths, old_in_front, remark_in_front}
 use Rattle.bx_patch.proofs.MakesLemmas.{EachIn, all_in, piece_end, writes}
-use Rattle.bx_journal.specs.ShowLaws.{IsShownPatch, NewestTells, ShownRedoIsAPatch, ShownUndoIsAPatch, run_then, shown_runs, step_onto}
+use Rattle.bx_journal.specs.ShowLaws.{IsShownPatch, ShownRedoIsAPatch, ShownUndoIsAPatch, run_then, shown_runs, step_onto}
 use Rattle.bx_journal.proofs.HeadingLines.{head, head_in}
 use Rattle.bx_journal.proofs.ShownWritten.{shown_is_written}
 

@@ -1,6 +1,5 @@
 -- What a text gives that begins with a line of a patch.
 use Rattle.std.proofs.Common.{◌≡◌, ◌≢◌, ℕ, ◌<◌, ◌≤◌, ◌^◌, false, true, Some, None, List, [], ◌∷◌, ◌++◌, length, inl, inr, refl, sym, subst, arith}
-use Rattle.std.specs.Prelude.{codes}
 use Rattle.std.specs.List.{All}
 use Rattle.std.proofs.lemmas.List.Elements.{All-cons}
 use Rattle.bx_read.specs.Grammar.{IsLine}
