@@ -9,8 +9,8 @@ use Rattle.bx_image.specs.declared.change.TheConstants.{MAX_LEN}
 use Rattle.bx_image.specs.Change.{effect, placed}
 use Rattle.bx_image.specs.Image.{cut, end_of, place}
 use Rattle.bx_image.proofs.Images.{length-cut, same_image, slice_index-cut}
-use Rattle.bx_journal_format.specs.Finished.{AllTell}
 use Rattle.bx_journal_format.specs.DumpLine.{saved_run_line}
+use Rattle.bx_journal_format.specs.Finished.{AllTell}
 use Rattle.bx_journal_format.specs.Kept.{Run}
 use Rattle.bx_journal_format.specs.Line.{saved_in}
 use Rattle.bx_journal_format.specs.Spelled.{EntryLines, IsSpelled, entry_in}
@@ -202,7 +202,7 @@ module _ (A : Type 0) (x : List ℕ) (are : All (λ b. b < 256) x) (c : EntryLin
         asked keeps,
         (
           subst (λ t. TextAsks t (asked keeps)) (sym (text_is s older one after))
-          (remark_in_front line (told keeps ++ body) (asked keeps) (head_in s.way n c.entry) (inr (drop 1 line, refl)) (asks keeps small little)),
+              (remark_in_front line (told keeps ++ body) (asked keeps) (head_in s.way n c.entry) (inr (drop 1 line, refl)) (asks keeps small little)),
           fits keeps,
         ),
         agrees keeps,
