@@ -2,8 +2,10 @@
 nothing."""
 import os
 import shutil
+import subprocess
+import tempfile
 
-from common import entry, expect, fresh, held, remove, run, said, say, trio, write
+from common import entry, expect, folder, fresh, held, left_out, remove, run, said, say, trio, write
 
 IMAGE, LINE, SINCE = b"ABCDEFGH", "img.bxj.image", "the image was changed since"
 FILES = ("img", "img.bxj", "img.bxj.redo", LINE)
@@ -12,7 +14,6 @@ NOTE = b"# the image was changed since\n"
 
 def begin(*dumps):
     """An image anew, with a change for each dump."""
-    remove(LINE, f"{LINE}.new")
     fresh(IMAGE)
     for dump in dumps:
         run("revert img", dump.encode())
@@ -87,20 +88,46 @@ def test_older():
         done_as("which --anyway takes back", "undo --anyway img", b"abCDefgh", b"0\n")
 
 
+def copied(place):
+    for name in FILES:
+        shutil.copy(name, place)
+
+
+def moved(place):
+    for name in FILES:
+        shutil.move(name, place)
+
+
+def cloned(place):
+    named = {f"GIT_{who}_{what}": "a" for who in ("AUTHOR", "COMMITTER") for what in ("NAME", "EMAIL")}
+    for words in ("init -q", f"add {' '.join(FILES)}", "commit -qm a", f"clone -q . {place}"):
+        subprocess.run(["git", *words.split()], check=True, capture_output=True, env={**os.environ, **named})
+
+
+# how the four files come to another place, and in which folder that is
+PLACES = [("copies of the four files", copied, None), ("files moved to another disk", moved, "/dev/shm"),
+          ("what git has of them", cloned, None)]
+
+
 def test_no_other():
     """What leaves the bytes is refused nowhere."""
     begin("2: 7879", "4: 7a7a")
     os.utime("img")
     done_as("an image with a newer time", "undo img", b"ABxyEFGH", b"1\n")
     done_as("and a redo", "redo img", b"ABxyzzGH", b"2\n")
-    os.makedirs("copy")
-    for name in FILES:
-        shutil.copy(name, "copy")
-    os.chdir("copy")
-    done_as("copies of the four files", "undo -k 2 img", b"ABCDEFGH", b"0\n")
-    done_as("and a redo", "redo -k 2 img", b"ABxyzzGH", b"2\n")
-    os.chdir("..")
-    shutil.rmtree("copy")
+    for name, come, disk in PLACES:
+        if disk and not os.path.isdir(disk) or come is cloned and not shutil.which("git"):
+            left_out(name)
+            continue
+        with folder() as here, tempfile.TemporaryDirectory(dir=disk) as there:
+            begin("2: 7879", "4: 7a7a")
+            come(there)
+            os.chdir(there)
+            done_as(name, "undo -k 2 img", IMAGE, b"0\n")
+            done_as("and a redo", "redo -k 2 img", b"ABxyzzGH", b"2\n")
+            write("img", b"abcdefgh")
+            refused("and of another image there", "undo img")
+            os.chdir(here)
     write("img", b"XXxyzzXX")
     done_as("bytes that no change wrote", "undo img", b"XXxyEFXX", b"1\n")
     begin("2: 7879")
@@ -118,11 +145,12 @@ def test_fresh():
     for number in range(100):
         write("img", bytes([65 + number % 26]) * 8)
         well += run("revert -U --fresh -f dump img").status == 0
-    say(well == 100 and run("log img").out == b"1 8 2\n", "a hundred builds leave one change", well)
+    say(well == 100 and run("log img").out == b"1 8 2\n" and held(LINE)[0].startswith(b"image1 00000001 00000000 "),
+        "a hundred builds leave one change", well)
     done_as("which is taken back", "undo img", bytes([65 + 99 % 26]) * 8)
 
 
-HOSTILE = [b"", b"\0", b"\0" * 117, b"image1 \n", b"image1 " + b"0" * 110, b"x" * 117, b"x" * (1 << 20), b"image1 " + b"\xff" * 200,
+HOSTILE = [b"", b"\0", b"\0" * 117, b"\0" * 118, b"im", b"imagine", b"image1 \n", b"image1 " + b"0" * 110, b"x" * 117, b"x" * (1 << 20), b"image1 " + b"\xff" * 200,
            b"image1 00000001 00000000 0000000000000008 " + b"0" * 32 + b" " + b"0" * 32 + b" 00000000",
            b"image1 00000001 00000000 0000000000000008 " + b"g" * 32 + b" " + b"0" * 32 + b" 00000000\n",
            b"image1 00000001 00000000 0000000000000008 " + b"A" * 32 + b" " + b"0" * 32 + b" 00000000\n",
@@ -137,7 +165,7 @@ def test_hostile():
         begin("2: 7879")
         write(LINE, text)
         done_as(f"a line {text[:60]!r}", "undo img", IMAGE, b"0\n")
-        ours = not text or (text.startswith(b"image1 ") and len(text) <= 117)
+        ours = len(text) <= 117 and (text.startswith(b"image1 ") or b"image1 ".startswith(text) or not text.strip(b"\0"))
         say((held(LINE)[0] != text) == ours, "is written anew" if ours else "stays")
     write("precious", b"image1 precious\n")
     for link in (os.symlink, os.link):
@@ -183,3 +211,11 @@ def test_old():
     os.utime("img.bxj", ns=(os.stat(LINE).st_atime_ns, os.stat(LINE).st_mtime_ns + 10**9))
     done_as("an old line beside a newer journal", "undo img", IMAGE, b"0\n")
     say(held(LINE)[0] != line, "is written anew")
+    begin("4: 7a7a")
+    write(LINE, line)
+    refused("the line of another image", "undo img")
+    done_as("which --anyway passes", "undo --anyway img", IMAGE, b"0\n")
+    begin("2: 7879")
+    os.chmod(LINE, 0o444)
+    done_as("a line that may only be read", "undo img", IMAGE, b"0\n")
+    say(held(LINE)[0].startswith(b"image1 00000000 00000001 "), "is made anew")

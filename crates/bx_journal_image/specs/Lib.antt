@@ -1,4 +1,5 @@
 pub mod Line
+pub mod Ranges
 pub mod Digest
 pub mod Advice
 pub mod Laws

@@ -1,5 +1,6 @@
 -- The line that a journal's third text has.
-use Rattle.std.specs.Prelude.{ℕ, ◌^◌, ◌<◌, List, [], ◌++◌, codes}
+use Rattle.std.specs.Prelude.{ℕ, ◌^◌, ◌<◌, ◌==◌, ◌||◌, Bool, List, [], ◌++◌, codes, replicate}
+use Rattle.std.specs.List.{starts_with}
 use Rattle.bx_journal_format.specs.Hex.{hex_digits}
 use Rattle.bx_journal_image.specs.declared.line.ImageLine.{ImageLine}
 
@@ -23,3 +24,8 @@ pub record FitsPlaces (l : ImageLine) : Type 0 where
   pub next_high : l.next.high < 16 ^ 16
   pub next_low : l.next.low < 16 ^ 16
   pub others : l.others < 16 ^ 8
+
+-- a text whose place the line may take: a front of its first word, what begins with that, or zeros
+abbrev pub is_replaceable : List ℕ → Bool
+is_replaceable text = starts_with (λ a b. a == b) (codes "image1 ") text || starts_with (λ a b. a == b) text (codes "image1 ")
+    || starts_with (λ a b. a == b) (replicate 117 0) text

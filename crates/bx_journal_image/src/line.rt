@@ -1,7 +1,7 @@
 //! The line that a journal's third text has.
 ghost use Rattle.std.specs.Prelude.{◌≡◌, ◌+◌, ◌<◌, ◌≤◌, ◌^◌, ◌++◌, ℕ, List, length, IfSome, IfNone};
 ghost use Rattle.bx_journal_format.specs.Hex.{hex_digits, hex_nibble, number_after};
-ghost use Rattle.bx_journal_image.specs.Line.{FitsPlaces, field, image_line};
+ghost use Rattle.bx_journal_image.specs.Line.{FitsPlaces, field, image_line, is_replaceable};
 
 use crate::digest::Digest;
 use bx_text::{ShortText, hex_field};
@@ -31,7 +31,7 @@ pub struct ImageLine {
 pub type LineText = ShortText<117>;
 
 /// Appends a word, and a number in `width` digits.
-fn push_field(line: &mut LineText, word: &[u8], width: u8, n: u64)
+pub(crate) fn push_field(line: &mut LineText, word: &[u8], width: u8, n: u64)
     requires fits { n < 16 ^ width }
     requires some { 0 < width }
     requires wide { width ≤ 16 }
@@ -72,7 +72,7 @@ fn digit(c: u8) -> Option<u64>
 }
 
 /// The number that at most 16 digits give.
-pub fn number(text: &[u8]) -> Option<u64>
+fn number(text: &[u8]) -> Option<u64>
     requires { length text.now ≤ 16 }
     ensures value { result ≡ number_after 0 text.now }
     ensures fits { IfSome result (λ n. n < 16 ^ length text.now) }
@@ -87,13 +87,13 @@ pub fn number(text: &[u8]) -> Option<u64>
 
 /// A number, and what follows it in a text.
 #[derive(Clone, Copy)]
-struct Numbered<'a> {
-    number: u64,
-    rest: &'a [u8],
+pub(crate) struct Numbered<'a> {
+    pub number: u64,
+    pub rest: &'a [u8],
 }
 
 /// The number in `width` digits behind as many bytes as a word has; 0 where there is none.
-fn number_behind<'a>(text: &'a [u8], word: usize, width: usize) -> Numbered<'a>
+pub(crate) fn number_behind<'a>(text: &'a [u8], word: usize, width: usize) -> Numbered<'a>
     requires short { word ≤ 8 }
     requires wide { width ≤ 16 }
     ensures is { (front more : List ℕ) (n : ℕ) → length front ≡ word → n < 16 ^ width → text.now ≡ field front width n ++ more
@@ -154,4 +154,14 @@ pub fn read_line(text: &[u8]) -> Option<ImageLine>
     } else {
         None
     }
+}
+
+/// Whether a text is one whose place the line may take: a front of its first word, what begins with that, or zeros, which a loss of
+/// power may leave.
+pub fn is_replaceable(text: &[u8]) -> bool
+    ensures { result ≡ is_replaceable text.now }
+{
+    let word = b"image1 ";
+    let zeros = [0u8; LINE];
+    word.starts_with(text) || text.starts_with(word) || zeros.starts_with(text)
 }

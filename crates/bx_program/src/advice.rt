@@ -4,7 +4,7 @@ mod finding;
 mod ranges;
 mod text;
 
-use crate::advice::finding::{Found, find};
+use crate::advice::finding::find;
 use crate::advice::text::{empty, line_in, put};
 use bx_cli::Target;
 use bx_journal::Way;
@@ -112,7 +112,7 @@ where
     })
 }
 
-/// Writes the line anew. `others` of the oldest changes stand for another image.
+/// Makes the line anew, while the files are locked. `others` of the oldest changes stand for another image.
 fn write_anew<R>(rt: &R, target: &Target, others: u32)
 where
     R: Files<File = File> + AllocGlobal,
@@ -120,9 +120,8 @@ where
     let Some(found) = find(rt, target) else {
         return;
     };
-    let Found { standing, image } = found;
-    let line = standing.line(others.min(standing.changes));
-    let _ = put(rt, target, &image, &line);
+    let line = found.standing.line(others.min(found.standing.changes));
+    let _ = put(rt, target, &found.image, &line);
 }
 
 /// Empties the line's text, where there is one.

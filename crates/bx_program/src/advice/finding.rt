@@ -23,6 +23,8 @@ pub struct Found {
     pub standing: Standing,
     /// What the system says of the image.
     pub image: Metadata,
+    /// The files, whose locks keep what was found as it is.
+    pub files: SessionFiles,
 }
 
 /// Adds the bytes of a range, as far as an image of this length has them and they count.
@@ -83,5 +85,9 @@ where
         last,
         next,
     };
-    Some(Found { standing, image })
+    Some(Found {
+        standing,
+        image,
+        files,
+    })
 }

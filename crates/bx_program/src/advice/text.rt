@@ -1,23 +1,19 @@
-//! The third text: read, written anew in a file that takes its place, and emptied. It is judged as a journal is, and what isn't
-//! the line stays.
+//! The third text: read, made anew, and emptied. It is judged as a journal is, and what isn't the line stays.
 use crate::advice::ranges::fill;
 use crate::devices::left::length_of;
 use crate::files::guard::Guard;
 use bx_cli::{Durability, Target};
-use bx_journal_image::{ImageLine, LINE, read_line, write_line};
-use bx_program_system::{Permits, folder_of, is_among_devices, is_same, open_there};
+use bx_journal_image::{ImageLine, LINE, is_replaceable, read_line, write_line};
+use bx_program_system::{Permits, folder_of, is_among_devices, is_same, open_there, take_away};
 use std::alloc::Global;
 use std::fs::{self, File, Metadata};
 use std::io::{ErrorKind, Write};
 use std::rt::Files;
 
-/// With what a line begins.
-const FRONT: &[u8] = b"image1 ";
-
-/// The name of the text, or of the file that is to take its place.
-fn name_of(alloc: Global, target: &Target, behind: &str) -> Option<String> {
+/// The name of the text.
+fn name_of(alloc: Global, target: &Target) -> Option<String> {
     let mut name = String::from_str(alloc, target.texts.journal.as_str()).ok()?;
-    name.push_str(behind).ok()?;
+    name.push_str(".image").ok()?;
     Some(name)
 }
 
@@ -73,12 +69,11 @@ fn bytes_of(file: &File, room: &mut [u8; 117]) -> Option<usize> {
     Some(length)
 }
 
-/// Whether a text is one that may be replaced: it is empty, or begins as a line does.
+/// Whether a text is one that may be replaced.
 fn is_line(file: &File) -> bool {
     let mut room = [0u8; LINE];
     match bytes_of(file, &mut room) {
-        Some(0) => true,
-        Some(_) => room.starts_with(FRONT),
+        Some(length) => room.get(..length).is_some_and(|text| is_replaceable(text)),
         None => false,
     }
 }
@@ -88,7 +83,7 @@ pub fn line_in<R>(rt: &R, target: &Target) -> Option<ImageLine>
 where
     R: Files<File = File> + AllocGlobal,
 {
-    let name = name_of(rt.alloc(), target, ".image")?;
+    let name = name_of(rt.alloc(), target)?;
     let image = fs::metadata(rt, target.image.as_str()).ok()?;
     let file = opened(rt, target, &image, name.as_str(), false)?;
     let journal = fs::metadata(rt, target.texts.journal.as_str()).ok()?;
@@ -100,48 +95,42 @@ where
     read_line(room.get(..length)?)
 }
 
-/// Whether no file has this name, or one that may be replaced.
-fn is_free<R>(rt: &R, target: &Target, image: &Metadata, name: &str) -> bool
-where
-    R: Files<File = File> + AllocGlobal,
-{
-    match fs::symlink_metadata(rt, name) {
-        Err(error) => error.kind() == ErrorKind::NotFound,
-        Ok(_) => match opened(rt, target, image, name, false) {
-            Some(file) => is_line(&file),
-            None => false,
-        },
-    }
-}
-
-/// Takes a file away that was left under the name of the one that is to take the text's place.
+/// Takes a text away that may be replaced; none where another one has the name.
 fn clear<R>(rt: &R, target: &Target, image: &Metadata, name: &str) -> Option<()>
 where
     R: Files<File = File> + AllocGlobal,
 {
-    if !is_free(rt, target, image, name) {
-        return None;
+    match fs::symlink_metadata(rt, name) {
+        Err(error) if error.kind() == ErrorKind::NotFound => Some(()),
+        Err(_) => None,
+        Ok(_) => {
+            let file = opened(rt, target, image, name, false)?;
+            if !is_line(&file) {
+                return None;
+            }
+            fs::remove_file(rt, name).ok()
+        }
     }
-    let _ = fs::remove_file(rt, name);
-    Some(())
 }
 
-/// Writes the line into a new file, which takes the text's place. It is not synced: a loss of power loses advice.
+/// Makes the text anew with the line, and takes one that stands away before. To give a file the name of another one (`rename`) or
+/// to cut it to nothing may wait for the disk, and one that is written in place may be found with the old line and the new time.
+/// It is not synced: a loss of power loses advice.
 pub fn put<R>(rt: &R, target: &Target, image: &Metadata, line: &ImageLine) -> Option<()>
 where
     R: Files<File = File> + AllocGlobal,
 {
-    let name = name_of(rt.alloc(), target, ".image")?;
-    let beside = name_of(rt.alloc(), target, ".image.new")?;
-    let (name, beside) = (name.as_str(), beside.as_str());
-    if is_among_devices(rt, folder_of(name)) || !is_free(rt, target, image, name) {
+    let name = name_of(rt.alloc(), target)?;
+    let name = name.as_str();
+    if is_among_devices(rt, folder_of(name)) {
         return None;
     }
-    clear(rt, target, image, beside)?;
-    let mut file = Permits::beside(image).make(rt, beside).ok()?;
+    clear(rt, target, image, name)?;
+    let mut file = Permits::beside(image).make(rt, name).ok()?;
     let text = write_line(*line);
-    if file.write_all(text.as_bytes()).is_err() || fs::rename(rt, beside, name).is_err() {
-        let _ = fs::remove_file(rt, beside);
+    if file.write_all(text.as_bytes()).is_err() {
+        let _ = file.set_len(0);
+        take_away(rt, name, &file);
         return None;
     }
     Some(())
@@ -152,7 +141,7 @@ pub fn empty<R>(rt: &R, target: &Target) -> Option<()>
 where
     R: Files<File = File> + AllocGlobal,
 {
-    let name = name_of(rt.alloc(), target, ".image")?;
+    let name = name_of(rt.alloc(), target)?;
     let image = fs::metadata(rt, target.image.as_str()).ok()?;
     let file = opened(rt, target, &image, name.as_str(), true)?;
     if !is_line(&file) {
