@@ -11,7 +11,10 @@ use Rattle.bx_journal_format.proofs.Damage.{split_joined}
 use Rattle.bx_journal_format.proofs.ReadLoop.{drop_twice}
 use Rattle.bx_journal_format.proofs.Splits.{AllPlain, split-append, split-ended}
 use Rattle.bx_journal_format.proofs.TallyLemmas.{IsFirstLine, line_taken, take_sum}
-use Rattle.bx_journal_read.specs.show.Differences.{AreAdded, AreWritten}
+use Rattle.bx_journal_read.specs.declared.show.fault.ShowFault.{ShowFault}
+use Rattle.bx_journal_read.specs.show.Differences.{shown_between, AreAdded, AreWritten}
+use Rattle.bx_journal_read.specs.show.Stopping.{CountsBytes, StopsPrefix}
+use Rattle.bx_journal_read.proofs.StopLemmas.{counts_both, stops_first, stops_later}
 use Rattle.bx_journal_read.specs.show.Showing.{lines_at}
 use Rattle.bx_journal_read.proofs.RowTexts.{lines_there}
 use Rattle.bx_journal_read.proofs.WindowLemmas.{front_of}
@@ -39,6 +42,71 @@ added_next show window rest taken i old mid new before left f more =
       added = more ∙ ap (λ t. t ++ show (take i rest)) before.added
           ∙ append_assoc old (flat_map show (split (take taken window)).lines) (show (take i rest)) ∙ ap (λ t. old ++ t) (sym text);
     }
+
+-- the lines between three places of a stored text
+shown_parts : (show : List ℕ → List ℕ) (stored : List ℕ) (from mid to : ℕ) → from ≤ mid → mid ≤ to → (split (take (mid - from) (drop from stored))).rest ≡ []
+    → shown_between show stored from to ≡ shown_between show stored from mid ++ shown_between show stored mid to
+shown_parts show stored from mid to behind on whole =
+    let a : List ℕ = take (mid - from) (drop from stored) in
+    let b : List ℕ = take (to - mid) (drop mid stored) in
+    let sum : to - from ≡ (mid - from) + (to - mid) = omega (arith, behind, on) in
+    let place : from + (mid - from) ≡ mid = omega (arith, behind) in
+    let bytes : take (to - from) (drop from stored) ≡ take (mid - from) (drop from stored) ++ take (to - mid) (drop mid stored) =
+    ap (λ n. take n (drop from stored)) sum ∙ take_sum (mid - from) (to - mid) (drop from stored)
+    ∙ ap (λ l. take (mid - from) (drop from stored) ++ take (to - mid) l) (drop_twice from (mid - from) stored)
+    ∙ ap (λ n. take (mid - from) (drop from stored) ++ take (to - mid) (drop n stored)) place in
+    ap (flat_map show) (ap (λ t. (split t).lines) bytes ∙ ap (λ (s : Split). s.lines) (split-append a b whole)) ∙ flat_map-append show (split a).lines (split b).lines
+
+-- what was gathered of a window that was read
+window_text : (show : List ℕ → List ℕ) (window stored : List ℕ) (at taken size : ℕ) (old text : List ℕ) → taken ≤ length window → window ≡ take size (drop at stored) → old ≡ []
+    → AreAdded show window taken old text → text ≡ shown_between show stored at (at + taken)
+window_text show window stored at taken size old text within is empty added =
+    let count : (at + taken) - at ≡ taken = omega arith in
+    let bytes : take taken window ≡ take ((at + taken) - at) (drop at stored) = front_of taken size window (drop at stored) within is ∙ ap (λ n. take n (drop at stored)) (sym count) in
+    added.added ∙ ap (λ t. t ++ flat_map show (split (take taken window)).lines) empty ∙ ap (λ l. flat_map show (split l).lines) bytes
+
+-- it was counted
+pub window_counted : (show : List ℕ → List ℕ) (window stored : List ℕ) (at taken size : ℕ) (old text : List ℕ) (before after : ℕ) → taken ≤ length window → window ≡ take size (drop at stored) → old ≡ []
+    → AreAdded show window taken old text → CountsBytes before text after → CountsBytes before (shown_between show stored at (at + taken)) after
+window_counted show window stored at taken size old text before after within is empty added counted =
+    subst (λ t. CountsBytes before t after) (window_text show window stored at taken size old text within is empty added) counted
+
+-- it was stopped: behind it the lines go on up to a place
+pub window_stopped : (show : List ℕ → List ℕ) (window stored : List ℕ) (at taken size to : ℕ) (old text : List ℕ) (before : ℕ) (w0 w1 : Option (List ℕ)) (fault : ShowFault) → taken ≤ length window
+    → window ≡ take size (drop at stored) → old ≡ [] → AreAdded show window taken old text → at + taken ≤ to → StopsPrefix before text w0 w1 fault
+    → StopsPrefix before (shown_between show stored at to) w0 w1 fault
+window_stopped show window stored at taken size to old text before w0 w1 fault within is empty added inside stop =
+    let count : (at + taken) - at ≡ taken = omega arith in
+    let bytes : take taken window ≡ take ((at + taken) - at) (drop at stored) = front_of taken size window (drop at stored) within is ∙ ap (λ n. take n (drop at stored)) (sym count) in
+    let whole : (split (take ((at + taken) - at) (drop at stored))).rest ≡ [] = ap (λ l. (split l).rest) (sym bytes) ∙ added.whole in
+    let here : StopsPrefix before (shown_between show stored at (at + taken)) w0 w1 fault =
+    subst (λ t. StopsPrefix before t w0 w1 fault) (window_text show window stored at taken size old text within is empty added) stop in
+    subst (λ t. StopsPrefix before t w0 w1 fault) (sym (shown_parts show stored at (at + taken) to (omega arith) inside whole))
+    (stops_first before (shown_between show stored at (at + taken)) (shown_between show stored (at + taken) to) w0 w1 fault here)
+
+-- no window was counted
+pub counted_none : (show : List ℕ → List ℕ) (stored : List ℕ) (at before : ℕ) → CountsBytes before (shown_between show stored at at) before
+unfolding split
+counted_none show stored at before few =
+    let none : at - at ≡ 0 = omega arith in
+    let empty : length (shown_between show stored at at) ≡ 0 = ap (λ n. length (flat_map show (split (take n (drop at stored))).lines)) none in
+    omega (arith, empty)
+
+-- one more was, of a text that is the same as before
+pub counted_more : (show : List ℕ → List ℕ) (stored text : List ℕ) (from mid to before now after : ℕ) (w0 w1 : Option (List ℕ)) → from ≤ mid → mid ≤ to → text ≡ stored → AreWritten show stored from mid w0 w1
+    → CountsBytes before (shown_between show stored from mid) now → CountsBytes now (shown_between show text mid to) after → CountsBytes before (shown_between show stored from to) after
+counted_more show stored text from mid to before now after w0 w1 behind on same written first next =
+    subst (λ t. CountsBytes before t after) (sym (shown_parts show stored from mid to behind on written.whole))
+    (counts_both before now after (shown_between show stored from mid) (shown_between show stored mid to) first (subst (λ t. CountsBytes now (shown_between show t mid to) after) same next))
+
+-- one more was stopped
+pub stopped_more : (show : List ℕ → List ℕ) (stored text : List ℕ) (from mid to before now : ℕ) (w0 w1 w2 : Option (List ℕ)) (fault : ShowFault) → from ≤ mid → mid ≤ to → text ≡ stored
+    → AreWritten show stored from mid w0 w1 → CountsBytes before (shown_between show stored from mid) now → StopsPrefix now (shown_between show text mid to) w1 w2 fault
+    → StopsPrefix before (shown_between show stored from to) w0 w2 fault
+stopped_more show stored text from mid to before now w0 w1 w2 fault behind on same written counted stop =
+    subst (λ t. StopsPrefix before t w0 w2 fault) (sym (shown_parts show stored from mid to behind on written.whole))
+    (stops_later before now (shown_between show stored from mid) (shown_between show stored mid to) w0 w1 w2 fault written.written counted
+    (subst (λ t. StopsPrefix now (shown_between show t mid to) w1 w2 fault) same stop))
 
 -- the lines of a window that was read were written
 pub written_window : (show : List ℕ → List ℕ) (window stored : List ℕ) (at taken size : ℕ) (old text : List ℕ) (w0 w1 : Option (List ℕ)) → taken ≤ length window → window ≡ take size (drop at stored) → old ≡ []

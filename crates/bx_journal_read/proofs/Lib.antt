@@ -26,3 +26,4 @@ pub mod Spellings
 pub mod StepsShown
 pub mod AddedLemmas
 pub mod BesideLemmas
+pub mod StopLemmas

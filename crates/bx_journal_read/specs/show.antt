@@ -2,3 +2,4 @@
 pub mod Differences
 pub mod Showing
 pub mod ShownSteps
+pub mod Stopping

@@ -56,6 +56,10 @@ pub record AreAdded (show : List ℕ → List ℕ) (window : List ℕ) (taken : 
   pub whole : (split (take taken window)).rest ≡ []
   pub added : new ≡ old ++ flat_map show (split (take taken window)).lines
 
+-- what is shown of the lines of a stored text from one place to another
+abbrev pub shown_between : (List ℕ → List ℕ) → List ℕ → ℕ → ℕ → List ℕ
+shown_between show stored from to = flat_map show (split (take (to - from) (drop from stored))).lines
+
 -- a stored text has whole lines from one place to another, and what is shown of each was written
 pub record AreWritten (show : List ℕ → List ℕ) (stored : List ℕ) (from to : ℕ) (old new : Option (List ℕ)) : Type 0 where
   pub whole : (split (take (to - from) (drop from stored))).rest ≡ []

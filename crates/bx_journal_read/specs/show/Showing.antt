@@ -21,6 +21,7 @@ use Rattle.bx_journal_read.specs.scan.Looking.{FaultCounts, LooksAt}
 use Rattle.bx_text.specs.declared.fault.IoFault.TheVariants.{WriteFailed}
 use Rattle.bx_journal_read.specs.scan.Recovery.{FindFault}
 use Rattle.bx_journal_read.specs.declared.show.ranges.Done.{Done}
+use Rattle.bx_journal_read.specs.show.Stopping.{CountsBytes, StopsPrefix}
 
 -- how many bytes a record has
 abbrev pub bytes_of : Kept → ℕ
@@ -121,18 +122,26 @@ pub record PutsOn (honest : Type 0) (stored : List ℕ) (mark : Mark) (old new :
   pub text : List ℕ
   pub leads : RangesOn mark.len (split bytes).lines old.ranging [] text new.ranging
   pub appended : Appends w0 w1 text
+  pub counted : CountsBytes old.written text new.written
   pub some : old.at < new.at
   pub within : new.at ≤ mark.to
   pub below : new.ranging.at + new.ranging.count ≤ mark.len
 
--- what was written of the ranges of an entry's saved lines up to a place: they are the store's, where that is honest
-pub record ArePutTo (honest : Type 0) (stored : List ℕ) (mark : Mark) (d : Done) (w0 w1 : Option (List ℕ)) : Type 0 where
+-- what was written behind `before` bytes of the ranges of an entry's saved lines up to a place: they are the store's, where that is honest
+pub record ArePutTo (honest : Type 0) (stored : List ℕ) (mark : Mark) (before : ℕ) (d : Done) (w0 w1 : Option (List ℕ)) : Type 0 where
   pub bytes : List ℕ
   pub is : honest → bytes ≡ take (d.at - mark.from) (drop mark.from stored)
   pub whole : (split bytes).rest ≡ []
   pub text : List ℕ
   pub put : AreRanged (runs_behind mark.len [] (split bytes).lines) d.ranging text
   pub appended : Appends w0 w1 text
+  pub counted : CountsBytes before text d.written
+
+-- behind the ranges that are put, what follows of an entry's saved lines gives others, and a front of these was written
+abbrev pub StopsRanges : List ℕ → Mark → Done → Option (List ℕ) → Option (List ℕ) → ShowFault → Type 0
+StopsRanges stored mark d old new fault = (runs : List Run) (text : List ℕ) → AreRanged runs d.ranging text
+    → (rest : List ℕ) × (ranges_text (runs_behind mark.len runs (split (take (mark.to - d.at) (drop d.at stored))).lines) ≡ text ++ rest)
+    × StopsPrefix d.written rest old new fault
 
 -- the text between the places of a mark
 abbrev pub lines_at : List ℕ → Mark → List ℕ

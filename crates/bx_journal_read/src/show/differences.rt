@@ -1,10 +1,11 @@
 //! The saved lines of an entry that is marked, each made from its bytes behind a `+`, and before it what an image has at its
 //! addresses, behind a `-`.
-ghost use Rattle.std.specs.Prelude.{◌≡◌, ◌+◌, ◌<◌, ◌≤◌, ◌++◌, length, take, drop, codes, OnOk, IfOk};
+ghost use Rattle.std.specs.Prelude.{◌≡◌, ◌+◌, ◌<◌, ◌≤◌, ◌++◌, length, take, drop, codes, OnOk, IfOk, IfErr};
 ghost use Rattle.std.specs.Io.KnownBytes.{Appends};
 ghost use Rattle.bx_journal_format.specs.Text.{split};
-ghost use Rattle.bx_journal_read.specs.show.Differences.{diff_line, diff_text, signed_line, AreAdded, AreWritten, HasGoneOn, IsCache};
+ghost use Rattle.bx_journal_read.specs.show.Differences.{diff_line, diff_text, shown_between, signed_line, AreAdded, AreWritten, HasGoneOn, IsCache};
 ghost use Rattle.bx_journal_read.specs.show.Showing.{WritesBeside, WritesFrom, lines_at};
+ghost use Rattle.bx_journal_read.specs.show.Stopping.{CountsBytes, IsOfReading, StopsPrefix};
 
 use crate::SessionFault;
 use crate::show::cache::{Cached, keep};
@@ -57,6 +58,7 @@ fn push_now<D: Device, A: Allocator>(
         (text.new.items ≡ text.old.items ++ signed_line (codes "-") at (take count (drop at (D.image device.old)))) }
     ensures cache { IfOk result (IsCache (D.honest device.old) (D.image device.old) page.new) }
     ensures puts { WritesFrom D.honest D.image D.failures result device.old device.new }
+    ensures read { IfErr result IsOfReading }
 {
     if cached.len <= at {
         return Ok(cached);
@@ -83,6 +85,7 @@ fn push_beside<D: Device, A: Allocator>(
     ensures added { D.honest device.old → OnOk result (text.new.items ≡ text.old.items ++ diff_line (D.image device.old) before line.now) }
     ensures cache { IfOk result (IsCache (D.honest device.old) (D.image device.old) page.new) }
     ensures puts { WritesFrom D.honest D.image D.failures result device.old device.new }
+    ensures read { IfErr result IsOfReading }
 {
     let Some(saved) = saved_in(before, line) else {
         return Ok(cached);
@@ -109,6 +112,7 @@ fn push_lines<D: Device, A: Allocator>(
         window.now lines.taken text.old.items text.new.items) }
     ensures cache { IfOk result (λ lines. IsCache (D.honest device.old) (D.image device.old) page.new lines.cached) }
     ensures puts { WritesFrom D.honest D.image D.failures result device.old device.new }
+    ensures read { IfErr result IsOfReading }
 {
     let mut taken: usize = 0;
     let mut now = cached;
@@ -141,6 +145,11 @@ fn put_window<D: Device, T: TextStore, A: Allocator, W: Write>(
     requires at { now.done.at ≤ now.mark.to }
     ensures put { D.honest device.old → T.honest store.old → IfOk result (λ next. AreWritten (diff_line (D.image device.old) now.mark.len)
         (T.text store.old) now.done.at next.at (W.contents out.old) (W.contents out.new)) }
+    ensures counted { D.honest device.old → T.honest store.old → IfOk result (λ next. CountsBytes writing.old.written
+        (shown_between (diff_line (D.image device.old) now.mark.len) (T.text store.old) now.done.at next.at) writing.new.written) }
+    ensures stops { D.honest device.old → T.honest store.old → IfErr result (StopsPrefix writing.old.written
+        (shown_between (diff_line (D.image device.old) now.mark.len) (T.text store.old) now.done.at now.mark.to)
+        (W.contents out.old) (W.contents out.new)) }
     ensures on { IfOk result (HasGoneOn now.mark.to now.done) }
     ensures cache { IfOk result (λ next. IsCache (D.honest device.old) (D.image device.old) page.new next.cached) }
     ensures puts { WritesBeside D.Device T.TextStore result device.old device.new store.old store.new }
@@ -178,6 +187,11 @@ fn put_windows<D: Device, T: TextStore, A: Allocator, W: Write>(
     requires at { from.done.at ≤ from.mark.to }
     ensures put { D.honest device.old → T.honest store.old → OnOk result (AreWritten (diff_line (D.image device.old) from.mark.len)
         (T.text store.old) from.done.at from.mark.to (W.contents out.old) (W.contents out.new)) }
+    ensures counted { D.honest device.old → T.honest store.old → OnOk result (CountsBytes writing.old.written
+        (shown_between (diff_line (D.image device.old) from.mark.len) (T.text store.old) from.done.at from.mark.to) writing.new.written) }
+    ensures stops { D.honest device.old → T.honest store.old → IfErr result (StopsPrefix writing.old.written
+        (shown_between (diff_line (D.image device.old) from.mark.len) (T.text store.old) from.done.at from.mark.to)
+        (W.contents out.old) (W.contents out.new)) }
     ensures puts { WritesBeside D.Device T.TextStore result device.old device.new store.old store.new }
 {
     let mut done = from.done;
@@ -212,6 +226,10 @@ pub fn put_differences<D: Device, T: TextStore, A: Allocator + Clone, W: Write>(
     requires order { mark.from ≤ mark.to }
     ensures put { D.honest device.old → T.honest store.old → OnOk result (Appends (W.contents out.old) (W.contents out.new)
         (diff_text (D.image device.old) mark.len (split (lines_at (T.text store.old) mark)).lines)) }
+    ensures counted { D.honest device.old → T.honest store.old → OnOk result (CountsBytes writing.old.written
+        (diff_text (D.image device.old) mark.len (split (lines_at (T.text store.old) mark)).lines) writing.new.written) }
+    ensures stops { D.honest device.old → T.honest store.old → IfErr result (StopsPrefix writing.old.written
+        (diff_text (D.image device.old) mark.len (split (lines_at (T.text store.old) mark)).lines) (W.contents out.old) (W.contents out.new)) }
     ensures puts { WritesBeside D.Device T.TextStore result device.old device.new store.old store.new }
 {
     let mut page = vec![in writing.alloc.clone()?; 0u8; PAGE]?;

@@ -1,8 +1,9 @@
 //! The heading of a step: which change, and what the step writes.
-ghost use Rattle.std.specs.Prelude.{◌≡◌, ◌<◌, ◌≤◌, ◌++◌, length, Some, OnOk, IfErr, string_bytes};
+ghost use Rattle.std.specs.Prelude.{◌≡◌, ◌<◌, ◌≤◌, ◌++◌, length, Some, OnOk, IfOk, IfErr, string_bytes};
 ghost use Rattle.std.specs.Io.KnownBytes.{Appends};
 ghost use Rattle.bx_journal_read.specs.show.Showing.{CountsNone, PutFault, WritesFrom};
 ghost use Rattle.bx_journal_read.specs.show.ShownSteps.{amount_text, changed_end, heading_at, heading_end, heading_front, heading_start, kept_end, length_told, told_end, where_at, keeps_length};
+ghost use Rattle.bx_journal_read.specs.show.Stopping.{CountsBytes, StopsPrefix};
 
 use crate::show::fault::ShowFault;
 use crate::show::lengths::push_told_length;
@@ -100,6 +101,8 @@ fn put_start<A: Allocator + Clone, W: Write>(
     ensures start { OnOk result (Appends (W.contents out.old) (W.contents out.new) (heading_start way number saved)) }
     ensures kind { IfErr result PutFault }
     ensures counts { IfErr result CountsNone }
+    ensures counted { IfOk result (CountsBytes written (heading_start way number saved)) }
+    ensures stops { IfErr result (StopsPrefix written (heading_start way number saved) (W.contents out.old) (W.contents out.new)) }
 {
     let mut text = String::new(alloc.clone()?);
     push_front(&mut text, way, number)?;
@@ -120,6 +123,9 @@ fn put_where<T: TextStore, A: Allocator + Clone, W: Write>(
     requires within { T.honest store.old → mark.to ≤ length (T.text store.old) }
     requires order { mark.from ≤ mark.to }
     ensures put { T.honest store.old → OnOk result (Appends (W.contents out.old) (W.contents out.new) (where_at (T.text store.old) mark)) }
+    ensures counted { T.honest store.old → IfOk result (CountsBytes written (where_at (T.text store.old) mark)) }
+    ensures stops { T.honest store.old → IfErr result
+        (StopsPrefix written (where_at (T.text store.old) mark) (W.contents out.old) (W.contents out.new)) }
     ensures puts { WritesFrom T.honest T.text T.failures result store.old store.new }
 {
     if mark.saved == 0 {
@@ -139,6 +145,11 @@ fn put_end<A: Allocator + Clone, W: Write>(
         (heading_end step.mark.after step.mark.len ++ length_told step.steps step.mark.after step.mark.len)) }
     ensures kind { IfErr result PutFault }
     ensures counts { IfErr result CountsNone }
+    ensures counted { IfOk result (CountsBytes written
+        (heading_end step.mark.after step.mark.len ++ length_told step.steps step.mark.after step.mark.len)) }
+    ensures stops { IfErr result (StopsPrefix written
+        (heading_end step.mark.after step.mark.len ++ length_told step.steps step.mark.after step.mark.len)
+        (W.contents out.old) (W.contents out.new)) }
 {
     let mut text = String::new(alloc.clone()?);
     push_length(&mut text, step.mark.after, step.mark.len)?;
@@ -159,6 +170,12 @@ pub fn put_heading<T: TextStore, A: Allocator + Clone, W: Write>(
     ensures heading { T.honest store.old → OnOk result
         (Appends (W.contents out.old) (W.contents out.new)
         (heading_at (T.text store.old) step.steps.way step.number step.mark ++ length_told step.steps step.mark.after step.mark.len)) }
+    ensures counted { T.honest store.old → OnOk result (CountsBytes writing.old.written
+        (heading_at (T.text store.old) step.steps.way step.number step.mark ++ length_told step.steps step.mark.after step.mark.len)
+        writing.new.written) }
+    ensures stops { T.honest store.old → IfErr result (StopsPrefix writing.old.written
+        (heading_at (T.text store.old) step.steps.way step.number step.mark ++ length_told step.steps step.mark.after step.mark.len)
+        (W.contents out.old) (W.contents out.new)) }
     ensures puts { WritesFrom T.honest T.text T.failures result store.old store.new }
 {
     let alloc = &writing.alloc;

@@ -1,10 +1,11 @@
 //! The saved lines of an entry that is marked, each made from the bytes that it gives: no byte of a line reaches the output as it
 //! stands.
-ghost use Rattle.std.specs.Prelude.{◌≡◌, ◌<◌, ◌≤◌, ◌++◌, length, OnOk, IfOk};
+ghost use Rattle.std.specs.Prelude.{◌≡◌, ◌<◌, ◌≤◌, ◌++◌, length, OnOk, IfOk, IfErr};
 ghost use Rattle.std.specs.Io.KnownBytes.{Appends};
 ghost use Rattle.bx_journal_format.specs.Text.{split};
-ghost use Rattle.bx_journal_read.specs.show.Differences.{made_line, made_text, signed_line, AreAdded, AreWritten};
+ghost use Rattle.bx_journal_read.specs.show.Differences.{made_line, made_text, shown_between, signed_line, AreAdded, AreWritten};
 ghost use Rattle.bx_journal_read.specs.show.Showing.{WritesFrom, lines_at};
+ghost use Rattle.bx_journal_read.specs.show.Stopping.{CountsBytes, StopsPrefix};
 
 use crate::SessionFault;
 use crate::show::fault::ShowFault;
@@ -87,6 +88,10 @@ fn put_window<T: TextStore, A: Allocator, W: Write>(
     requires at { at ≤ mark.to }
     ensures put { T.honest store.old → IfOk result (λ next. AreWritten (made_line mark.len)
         (T.text store.old) at next (W.contents out.old) (W.contents out.new)) }
+    ensures counted { T.honest store.old → IfOk result (λ next. CountsBytes writing.old.written
+        (shown_between (made_line mark.len) (T.text store.old) at next) writing.new.written) }
+    ensures stops { T.honest store.old → IfErr result (StopsPrefix writing.old.written
+        (shown_between (made_line mark.len) (T.text store.old) at mark.to) (W.contents out.old) (W.contents out.new)) }
     ensures on { IfOk result (λ next. (at < next) × (next ≤ mark.to)) }
     ensures puts { WritesFrom T.honest T.text T.failures result store.old store.new }
 {
@@ -119,6 +124,10 @@ pub fn put_lines<T: TextStore, A: Allocator, W: Write>(
     requires order { mark.from ≤ mark.to }
     ensures put { T.honest store.old → OnOk result
         (Appends (W.contents out.old) (W.contents out.new) (made_text mark.len (split (lines_at (T.text store.old) mark)).lines)) }
+    ensures counted { T.honest store.old → OnOk result (CountsBytes writing.old.written
+        (made_text mark.len (split (lines_at (T.text store.old) mark)).lines) writing.new.written) }
+    ensures stops { T.honest store.old → IfErr result (StopsPrefix writing.old.written
+        (made_text mark.len (split (lines_at (T.text store.old) mark)).lines) (W.contents out.old) (W.contents out.new)) }
     ensures puts { WritesFrom T.honest T.text T.failures result store.old store.new }
 {
     let mut at = mark.from;

@@ -1,7 +1,8 @@
 //! The saved lines of an entry that is marked, as ranges.
-ghost use Rattle.std.specs.Prelude.{◌≡◌, ◌+◌, ◌<◌, ◌≤◌, length, OnOk, IfOk};
+ghost use Rattle.std.specs.Prelude.{◌≡◌, ◌+◌, ◌<◌, ◌≤◌, length, OnOk, IfOk, IfErr};
 ghost use Rattle.std.specs.Io.KnownBytes.{Appends};
-ghost use Rattle.bx_journal_read.specs.show.Showing.{PutsOn, WritesFrom, ranges_at};
+ghost use Rattle.bx_journal_read.specs.show.Showing.{PutsOn, StopsRanges, WritesFrom, ranges_at};
+ghost use Rattle.bx_journal_read.specs.show.Stopping.{CountsBytes, StopsPrefix};
 
 use crate::SessionFault;
 use crate::show::fault::ShowFault;
@@ -33,6 +34,7 @@ fn put_window<T: TextStore, A: Allocator + Clone, W: Write>(
     requires at { done.at ≤ mark.to }
     requires below { done.ranging.at + done.ranging.count ≤ mark.len }
     ensures put { IfOk result (λ next. PutsOn (T.honest store.old) (T.text store.old) mark done next (W.contents out.old) (W.contents out.new)) }
+    ensures stops { T.honest store.old → IfErr result (StopsRanges (T.text store.old) mark done (W.contents out.old) (W.contents out.new)) }
     ensures puts { WritesFrom T.honest T.text T.failures result store.old store.new }
 {
     let more = (window.len() as u64).min(mark.to - done.at) as usize;
@@ -64,6 +66,9 @@ pub fn put_ranges<T: TextStore, A: Allocator + Clone, W: Write>(
     requires within { T.honest store.old → mark.to ≤ length (T.text store.old) }
     requires order { mark.from ≤ mark.to }
     ensures put { T.honest store.old → OnOk result (Appends (W.contents out.old) (W.contents out.new) (ranges_at (T.text store.old) mark)) }
+    ensures counted { T.honest store.old → IfOk result (CountsBytes written (ranges_at (T.text store.old) mark)) }
+    ensures stops { T.honest store.old → IfErr result
+        (StopsPrefix written (ranges_at (T.text store.old) mark) (W.contents out.old) (W.contents out.new)) }
     ensures puts { WritesFrom T.honest T.text T.failures result store.old store.new }
 {
     let mut done = Done {

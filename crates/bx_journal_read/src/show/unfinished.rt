@@ -1,9 +1,10 @@
 //! The finished entries of a text, and what is unfinished behind them.
-ghost use Rattle.std.specs.Prelude.{◌≡◌, ◌<◌, ◌++◌, OnOk, IfErr, string_bytes};
+ghost use Rattle.std.specs.Prelude.{◌≡◌, ◌<◌, ◌++◌, OnOk, IfOk, IfErr, string_bytes};
 ghost use Rattle.std.specs.Io.KnownBytes.{Appends};
 ghost use Rattle.bx_journal_read.specs.scan.Recovery.{IsUnfinishedIn};
 ghost use Rattle.bx_journal_read.specs.show.Showing.{CountsNone, PutFault};
 ghost use Rattle.bx_journal_read.specs.show.ShownSteps.{FindsFront, torn_line, torn_text};
+ghost use Rattle.bx_journal_read.specs.show.Stopping.{CountsBytes, StopsPrefix};
 
 use crate::show::fault::ShowFault;
 use crate::show::marks::{marks_in_windows, marks_to};
@@ -109,6 +110,8 @@ pub fn put_torn<A: Allocator + Clone, W: Write>(
     ensures line { OnOk result (Appends (W.contents out.old) (W.contents out.new) (torn_text torn)) }
     ensures kind { IfErr result PutFault }
     ensures counts { IfErr result CountsNone }
+    ensures counted { IfOk result (CountsBytes 0 (torn_text torn)) }
+    ensures stops { IfErr result (StopsPrefix 0 (torn_text torn) (W.contents out.old) (W.contents out.new)) }
 {
     let Some(torn) = torn else {
         return Ok(0);

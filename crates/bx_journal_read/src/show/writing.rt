@@ -2,6 +2,7 @@
 ghost use Rattle.std.specs.Prelude.{◌≡◌, OnOk, IfOk, IfErr};
 ghost use Rattle.std.specs.Io.KnownBytes.{Appends};
 ghost use Rattle.bx_journal_read.specs.show.Showing.{CountsNone, PutFault};
+ghost use Rattle.bx_journal_read.specs.show.Stopping.{CountsBytes, StopsPrefix};
 
 use crate::WINDOW;
 use crate::show::fault::ShowFault;
@@ -38,6 +39,8 @@ pub fn put<W: Write>(out: &mut W, before: u64, bytes: &[u8]) -> Result<u64, Show
     ensures put { OnOk result (Appends (W.contents out.old) (W.contents out.new) bytes.now) }
     ensures kind { IfErr result PutFault }
     ensures counts { IfErr result CountsNone }
+    ensures counted { IfOk result (CountsBytes before bytes.now) }
+    ensures stops { IfErr result (StopsPrefix before bytes.now (W.contents out.old) (W.contents out.new)) }
 {
     let len = bytes.len() as u64;
     emit_after(out, before.min(u64::MAX - len), bytes)?;

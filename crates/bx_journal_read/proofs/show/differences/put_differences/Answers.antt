@@ -1,10 +1,14 @@
 use Rattle.std.proofs.Common.{rules, length, refl, ap, sym, ◌∙◌, subst, arith}
 use Rattle.std.specs.Io.KnownBytes.{Appends}
 use Rattle.bx_journal_format.specs.Text.{split}
+use Rattle.std.specs.Prelude.{IfErr, OnOk}
 use Rattle.bx_journal_read.specs.show.Differences.{diff_text}
+use Rattle.bx_journal_read.specs.show.Stopping.{CountsBytes, StopsPrefix}
 use Rattle.bx_journal_read.specs.show.Showing.{lines_at}
 use Rattle.bx_journal_read.proofs.BesideLemmas.{counts_behind, stays_behind}
 use Rattle.bx_journal_read.proofs.RowTexts.{ok_weaker}
+use Rattle.bx_journal_read.proofs.StopLemmas.{refused_on}
+use Rattle.bx_journal_read.specs.declared.fault.SessionFault.TheVariants.{NoMemory, DeviceFailed}
 use Rattle.bx_journal_read.proofs.show.differences.put_differences.Goals as goal
 
 pub put_windows-requires-clause-cache : goal.put_windows-requires-clause-cache
@@ -41,3 +45,29 @@ returns-clause-puts g c =
       text = last.text;
       counts = counts_behind _ _ c.put_windows.result c.in_ok-len.ensures.goes_on.counted refl last.counts;
     }
+
+pub returns-clause-counted : goal.returns-clause-counted
+returns-clause-counted g c h k =
+    subst (λ im. OnOk c.put_windows.result (CountsBytes c.args.writing.now.written (diff_text im c.args.mark.len (split (lines_at (g.T.TextStore.text c.args.store.now) c.args.mark)).lines) c.put_windows.new.writing.written))
+    (c.len.ensures.image h) (c.put_windows.ensures.counted (c.len.ensures.goes_on.honesty.1 h) k)
+
+pub returns-clause-stops : goal.returns-clause-stops
+returns-clause-stops g c h k =
+    subst (λ im. IfErr c.put_windows.result (StopsPrefix c.args.writing.now.written (diff_text im c.args.mark.len (split (lines_at (g.T.TextStore.text c.args.store.now) c.args.mark)).lines)
+    (g.W.Write.contents c.args.out.now) (g.W.Write.contents c.put_windows.new.out)))
+    (c.len.ensures.image h) (c.put_windows.ensures.stops (c.len.ensures.goes_on.honesty.1 h) k)
+
+pub returns-in_err-clone-clause-stops : goal.returns-in_err-clone-clause-stops
+returns-in_err-clone-clause-stops g c h k =
+    refused_on c.from_residual.result c.args.writing.now.written (diff_text (g.D.Device.image c.args.device.now) c.args.mark.len (split (lines_at (g.T.TextStore.text c.args.store.now) c.args.mark)).lines)
+    (g.W.Write.contents c.args.out.now) NoMemory c.from_residual.ensures.1
+
+pub returns-in_err-page-clause-stops : goal.returns-in_err-page-clause-stops
+returns-in_err-page-clause-stops g c h k =
+    refused_on c.from_residual-in_err-page.result c.args.writing.now.written (diff_text (g.D.Device.image c.args.device.now) c.args.mark.len (split (lines_at (g.T.TextStore.text c.args.store.now) c.args.mark)).lines)
+    (g.W.Write.contents c.args.out.now) NoMemory c.from_residual-in_err-page.ensures.1
+
+pub returns-in_err-len-clause-stops : goal.returns-in_err-len-clause-stops
+returns-in_err-len-clause-stops g c h k =
+    refused_on c.from_residual-in_err-len.result c.args.writing.now.written (diff_text (g.D.Device.image c.args.device.now) c.args.mark.len (split (lines_at (g.T.TextStore.text c.args.store.now) c.args.mark)).lines)
+    (g.W.Write.contents c.args.out.now) DeviceFailed c.from_residual-in_err-len.ensures.1

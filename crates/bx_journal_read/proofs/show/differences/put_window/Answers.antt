@@ -1,7 +1,11 @@
-use Rattle.std.proofs.Common.{subst}
+use Rattle.std.proofs.Common.{subst, arith}
 use Rattle.std.specs.Io.KnownBytes.{Appends}
 use Rattle.bx_journal_read.specs.show.Differences.{diff_line}
-use Rattle.bx_journal_read.proofs.AddedLemmas.{written_window}
+use Rattle.bx_journal_read.specs.show.Stopping.{CountsBytes, StopsPrefix}
+use Rattle.bx_journal_read.proofs.AddedLemmas.{window_counted, window_stopped, written_window}
+use Rattle.bx_journal_read.proofs.StopLemmas.{handed_on, stops_before, stops_none}
+use Rattle.bx_journal_read.specs.declared.fault.SessionFault.TheVariants.{NoMemory}
+use Rattle.bx_journal_read.specs.show.Differences.{shown_between}
 use Rattle.bx_journal_read.proofs.show.differences.put_window.Goals as goal
 
 pub returns-clause-put : goal.returns-clause-put
@@ -10,3 +14,29 @@ returns-clause-put g c h k =
     written_window (diff_line (g.D.Device.image c.args.device.now) c.args.now.mark.len) c.read_at.new.buf (g.T.TextStore.text c.args.store.now) c.args.now.done.at c.in_ok-lines.lines.taken _ c.clear.new.self.items
     c.push_lines.new.text.items (g.W.Write.contents c.args.out.now) (g.W.Write.contents c.put.new.out) c.in_ok-lines.ensures.within (c.in_ok-read_at.ensures.bytes k) c.clear.ensures.items
     (c.in_ok-lines.ensures.added h) put
+
+pub returns-clause-counted : goal.returns-clause-counted
+returns-clause-counted g c h k =
+    window_counted (diff_line (g.D.Device.image c.args.device.now) c.args.now.mark.len) c.read_at.new.buf (g.T.TextStore.text c.args.store.now) c.args.now.done.at c.in_ok-lines.lines.taken _ c.clear.new.self.items
+    c.push_lines.new.text.items c.args.writing.now.written c.in_ok-writing.field-0 c.in_ok-lines.ensures.within (c.in_ok-read_at.ensures.bytes k) c.clear.ensures.items
+    (c.in_ok-lines.ensures.added h) (subst (λ b. CountsBytes c.args.writing.now.written b c.in_ok-writing.field-0) c.as_slice.ensures.value c.in_ok-writing.ensures.counted)
+
+pub returns-in_err-writing-clause-stops : goal.returns-in_err-writing-clause-stops
+returns-in_err-writing-clause-stops g c h k =
+    let w0 = g.W.Write.contents c.args.out.now in
+    let w1 = g.W.Write.contents c.put.new.out in
+    handed_on c.from_residual-in_err-writing.result _ _ c.from_residual-in_err-writing.ensures.1
+    (window_stopped (diff_line (g.D.Device.image c.args.device.now) c.args.now.mark.len) c.read_at.new.buf (g.T.TextStore.text c.args.store.now) c.args.now.done.at c.in_ok-lines.lines.taken _ c.args.now.mark.to
+    c.clear.new.self.items c.push_lines.new.text.items c.args.writing.now.written w0 w1 c.in_err-writing.field-0.0 c.in_ok-lines.ensures.within (c.in_ok-read_at.ensures.bytes k) c.clear.ensures.items
+    (c.in_ok-lines.ensures.added h) (omega (arith, c.in_ok-lines.ensures.within)) (subst (λ b. StopsPrefix c.args.writing.now.written b w0 w1 c.in_err-writing.field-0.0) c.as_slice.ensures.value c.in_err-writing.ensures.stops))
+
+pub returns-then-lines-eq0-clause-stops : goal.returns-then-lines-eq0-clause-stops
+returns-then-lines-eq0-clause-stops g c h k =
+    stops_none c.args.writing.now.written (shown_between (diff_line (g.D.Device.image c.args.device.now) c.args.now.mark.len) (g.T.TextStore.text c.args.store.now) c.args.now.done.at c.args.now.mark.to)
+    (g.W.Write.contents c.args.out.now) NoMemory
+
+pub returns-in_err-lines-clause-stops : goal.returns-in_err-lines-clause-stops
+returns-in_err-lines-clause-stops g c h k =
+    handed_on c.from_residual-in_err-lines.result _ c.in_err-lines.field-0.0 c.from_residual-in_err-lines.ensures.1
+    (stops_before c.args.writing.now.written (shown_between (diff_line (g.D.Device.image c.args.device.now) c.args.now.mark.len) (g.T.TextStore.text c.args.store.now) c.args.now.done.at c.args.now.mark.to)
+    (g.W.Write.contents c.args.out.now) c.in_err-lines.field-0.0 c.in_err-lines.ensures.read)

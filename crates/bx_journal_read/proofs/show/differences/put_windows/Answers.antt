@@ -1,12 +1,15 @@
 use Rattle.std.proofs.Common.{◌≡◌, length, ap, sym, subst, arith}
-use Rattle.bx_journal_read.specs.show.Differences.{diff_line, AreWritten}
-use Rattle.bx_journal_read.proofs.AddedLemmas.{written_from, written_more, written_none}
+use Rattle.bx_journal_read.specs.show.Differences.{diff_line, shown_between, AreWritten}
+use Rattle.bx_journal_read.specs.show.Stopping.{CountsBytes, StopsPrefix}
+use Rattle.bx_journal_read.proofs.AddedLemmas.{counted_more, counted_none, stopped_more, written_from, written_more, written_none}
+use Rattle.bx_journal_read.proofs.StopLemmas.{handed_on}
 use Rattle.bx_journal_read.proofs.BesideLemmas.{cache_again, stayed_none, stayed_on}
 use Rattle.bx_journal_read.proofs.show.differences.put_windows.Goals as goal
 
 pub loop-done-init : goal.loop-done-init
 loop-done-init g c = record {
   written = λ h k. written_none (diff_line (g.D.Device.image c.args.device.now) c.args.from.mark.len) (g.T.TextStore.text c.args.store.now) c.args.from.done.at (g.W.Write.contents c.args.out.now);
+  counted = λ h k. counted_none (diff_line (g.D.Device.image c.args.device.now) c.args.from.mark.len) (g.T.TextStore.text c.args.store.now) c.args.from.done.at _;
   cache = c.requires.cache;
   behind = omega arith;
   within = c.requires.at;
@@ -38,6 +41,10 @@ loop-done-preserved g c =
           (written_from (diff_line (g.D.Device.image c.args.device.now) c.args.from.mark.len) (g.T.TextStore.text c.args.store.now) (g.T.TextStore.text c.loop-done.store) c.loop-done.done.at c.in_ok-done.done.at w1 w2 (inv.text.same k)
           (subst (λ im. AreWritten (diff_line im c.args.from.mark.len) (g.T.TextStore.text c.loop-done.store) c.loop-done.done.at c.in_ok-done.done.at w1 w2) (inv.image.same h)
           (now.put (inv.image.honesty.1 h) (inv.text.honesty.1 k))));
+      counted = λ h k. counted_more (diff_line (g.D.Device.image c.args.device.now) c.args.from.mark.len) (g.T.TextStore.text c.args.store.now) (g.T.TextStore.text c.loop-done.store) c.args.from.done.at c.loop-done.done.at
+          c.in_ok-done.done.at c.args.writing.now.written c.loop-done.writing.written c.put_window.new.writing.written w0 w1 inv.behind (omega (arith, now.on.0)) (inv.text.same k) (inv.written h k) (inv.counted h k)
+          (subst (λ im. CountsBytes c.loop-done.writing.written (shown_between (diff_line im c.args.from.mark.len) (g.T.TextStore.text c.loop-done.store) c.loop-done.done.at c.in_ok-done.done.at) c.put_window.new.writing.written)
+          (inv.image.same h) (now.counted (inv.image.honesty.1 h) (inv.text.honesty.1 k)));
       cache = cache_again (g.D.Device.honest c.loop-done.device) (g.D.Device.honest c.args.device.now) (g.D.Device.image c.loop-done.device) (g.D.Device.image c.args.device.now) c.put_window.new.page
           c.in_ok-done.done.cached inv.image.honesty.1 (λ h. sym (inv.image.same h)) now.cache;
       behind = omega (arith, inv.behind, now.on.0);
@@ -52,3 +59,21 @@ returns-clause-put g c h k =
     let all : c.loop-done.done.at ≡ c.args.from.mark.to = omega (arith, inv.within) in
     subst (λ n. AreWritten (diff_line (g.D.Device.image c.args.device.now) c.args.from.mark.len) (g.T.TextStore.text c.args.store.now) c.args.from.done.at n (g.W.Write.contents c.args.out.now)
     (g.W.Write.contents c.loop-done.out)) all (inv.written h k)
+
+pub returns-clause-counted : goal.returns-clause-counted
+returns-clause-counted g c h k =
+    let inv = c.loop-done.invariant in
+    let all : c.loop-done.done.at ≡ c.args.from.mark.to = omega (arith, inv.within) in
+    subst (λ n. CountsBytes c.args.writing.now.written (shown_between (diff_line (g.D.Device.image c.args.device.now) c.args.from.mark.len) (g.T.TextStore.text c.args.store.now) c.args.from.done.at n) c.loop-done.writing.written) all
+    (inv.counted h k)
+
+pub returns-in_err-done-clause-stops : goal.returns-in_err-done-clause-stops
+returns-in_err-done-clause-stops g c h k =
+    let inv = c.loop-done.invariant in
+    let w1 = g.W.Write.contents c.loop-done.out in
+    let w2 = g.W.Write.contents c.put_window.new.out in
+    handed_on c.from_residual.result _ _ c.from_residual.ensures.1
+    (stopped_more (diff_line (g.D.Device.image c.args.device.now) c.args.from.mark.len) (g.T.TextStore.text c.args.store.now) (g.T.TextStore.text c.loop-done.store) c.args.from.done.at c.loop-done.done.at c.args.from.mark.to
+    c.args.writing.now.written c.loop-done.writing.written (g.W.Write.contents c.args.out.now) w1 w2 _ inv.behind inv.within (inv.text.same k) (inv.written h k) (inv.counted h k)
+    (subst (λ im. StopsPrefix c.loop-done.writing.written (shown_between (diff_line im c.args.from.mark.len) (g.T.TextStore.text c.loop-done.store) c.loop-done.done.at c.args.from.mark.to) w1 w2 c.in_err-done.field-0.0)
+    (inv.image.same h) (c.in_err-done.ensures.stops (inv.image.honesty.1 h) (inv.text.honesty.1 k))))

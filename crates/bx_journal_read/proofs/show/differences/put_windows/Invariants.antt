@@ -1,5 +1,6 @@
 use Rattle.std.proofs.Common.{◌-◌, ◌≤◌}
-use Rattle.bx_journal_read.specs.show.Differences.{diff_line, AreWritten, IsCache}
+use Rattle.bx_journal_read.specs.show.Differences.{diff_line, shown_between, AreWritten, IsCache}
+use Rattle.bx_journal_read.specs.show.Stopping.{CountsBytes}
 use Rattle.bx_journal_read.proofs.BesideLemmas.{HasStayed}
 use Rattle.bx_journal_read.proofs.show.differences.put_windows.Given as goal
 
@@ -8,6 +9,8 @@ abbrev pub invariant-loop-done : goal.invariant-loop-done
 invariant-loop-done g l = record {
   written : g.D.Device.honest l.fn.device → g.T.TextStore.honest l.fn.store → AreWritten (diff_line (g.D.Device.image l.fn.device) l.from.mark.len)
       (g.T.TextStore.text l.fn.store) l.fn.from.done.at l.done.at (g.W.Write.contents l.fn.out) (g.W.Write.contents l.out);
+  counted : g.D.Device.honest l.fn.device → g.T.TextStore.honest l.fn.store → CountsBytes l.fn.writing.written
+      (shown_between (diff_line (g.D.Device.image l.fn.device) l.from.mark.len) (g.T.TextStore.text l.fn.store) l.fn.from.done.at l.done.at) l.writing.written;
   cache : IsCache (g.D.Device.honest l.fn.device) (g.D.Device.image l.fn.device) l.page l.done.cached;
   behind : l.fn.from.done.at ≤ l.done.at;
   within : l.done.at ≤ l.from.mark.to;

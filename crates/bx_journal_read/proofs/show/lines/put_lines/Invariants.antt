@@ -1,5 +1,6 @@
 use Rattle.std.proofs.Common.{◌≤◌, ◌-◌}
-use Rattle.bx_journal_read.specs.show.Differences.{made_line, AreWritten}
+use Rattle.bx_journal_read.specs.show.Differences.{made_line, shown_between, AreWritten}
+use Rattle.bx_journal_read.specs.show.Stopping.{CountsBytes}
 use Rattle.bx_journal_read.proofs.BesideLemmas.{HasStayed}
 use Rattle.bx_journal_read.proofs.show.lines.put_lines.Given as goal
 
@@ -7,6 +8,7 @@ use Rattle.bx_journal_read.proofs.show.lines.put_lines.Given as goal
 abbrev pub invariant-loop-at : goal.invariant-loop-at
 invariant-loop-at g l = record {
   written : g.T.TextStore.honest l.fn.store → AreWritten (made_line l.mark.len) (g.T.TextStore.text l.fn.store) l.mark.from l.at (g.W.Write.contents l.fn.out) (g.W.Write.contents l.out);
+  counted : g.T.TextStore.honest l.fn.store → CountsBytes l.fn.writing.written (shown_between (made_line l.mark.len) (g.T.TextStore.text l.fn.store) l.mark.from l.at) l.writing.written;
   behind : l.mark.from ≤ l.at;
   within : l.at ≤ l.mark.to;
   text : HasStayed g.T.TextStore.honest g.T.TextStore.text g.T.TextStore.failures l.fn.store l.store;
