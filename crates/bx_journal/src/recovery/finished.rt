@@ -56,7 +56,7 @@ fn read_redo<T: TextStore, A: Allocator + Clone>(
     ensures looks { LooksAt T.honest T.text T.failures result redo.old redo.new }
     ensures found_before { T.honest redo.old → NoMore (T.survives redo.old) (T.survives redo.new) }
 {
-    let damage = match text_damage(alloc, redo) {
+    let damage = match text_damage(alloc, redo, false) {
         Ok(damage) => damage,
         Err(fault) => return Err(fault),
     };

@@ -1,10 +1,8 @@
 //! At which line a text is damaged: found a window at a time, however long the text or the line is.
 ghost use Rattle.std.specs.Prelude.{◌≡◌, ◌+◌, ◌<◌, ◌≤◌, length, take, false, IsTrue, is_err, IfOk, IfErr, IfSome};
-ghost use Rattle.bx_image.specs.Power.{NoMore};
 ghost use Rattle.bx_journal_format.specs.Shown.{shown};
-ghost use Rattle.bx_journal_read.specs.model.Fault.{LacksOrFails};
-ghost use Rattle.bx_journal_read.specs.scan.Damage.{IsDamagedIn, IsInPlace, IsPlainTo};
-ghost use Rattle.bx_journal_read.specs.scan.Looking.{LooksAt, LooksThrough, OnlyReadsText};
+ghost use Rattle.bx_journal_read.specs.scan.Damage.{IsDamagedIn, IsInPlace, IsPlainTo, read_of};
+ghost use Rattle.bx_journal_read.specs.scan.Looking.{LooksThrough, OnlyReadsText};
 ghost use Rattle.bx_journal_read.specs.scan.Windows.{IsWalkedTo};
 
 use crate::fault::SessionFault;
@@ -210,37 +208,39 @@ fn find_shown<T: TextStore>(
     find_line(store, window, shown)
 }
 
-/// The line at which what is read of a journal's text is damaged, in as much memory for any length. It answers none where it isn't damaged, and
-/// where a saved line that is in place is very long.
-pub fn journal_damage<T: TextStore, A: Allocator + Clone>(
+/// The line at which a text of `len` bytes is damaged, if it is found so: with `fades` at which what is read of it is, where a loss of power may have left
+/// zeros in it.
+fn find_read<T: TextStore>(
+    store: &mut T,
+    window: &mut [u8],
+    len: u64,
+    fades: bool,
+) -> Result<Option<u64>, DeviceFailed>
+    requires countable { T.failures store.old < u64.MAX }
+    requires long { T.honest store.old → len ≡ length (T.text store.old) }
+    ensures line { IfOk result (λ found. IfSome found (IsDamagedIn (T.honest store.old) (read_of fades (T.text store.old)))) }
+    ensures reads { OnlyReadsText T.TextStore (is_err result) store.old store.new }
+{
+    if fades {
+        return find_shown(store, window, len);
+    }
+    find_line(store, window, len)
+}
+
+/// The line at which a text is damaged, in as much memory for any length; with `fades` at which what is read of a journal's text is. It answers none
+/// where it isn't damaged, and where a saved line that is in place is very long.
+pub fn text_damage<T: TextStore, A: Allocator + Clone>(
     alloc: &A,
     store: &mut T,
+    fades: bool,
 ) -> Result<Option<u64>, SessionFault>
     requires { T.failures store.old < u64.MAX }
-    ensures line { IfOk result (λ found. IfSome found (IsDamagedIn (T.honest store.old) (shown (T.text store.old)))) }
+    ensures line { IfOk result (λ found. IfSome found (IsDamagedIn (T.honest store.old) (read_of fades (T.text store.old)))) }
     ensures reads { LooksThrough T.TextStore result store.old store.new }
 {
     let len = store.len()?;
     let size = WINDOW.min(len) as usize;
     let mut window = vec![in alloc.clone()?; 0u8; size]?;
-    let found = find_shown(store, window.as_mut_slice(), len)?;
-    Ok(found)
-}
-
-/// The line at which a text is damaged, as `journal_damage` finds it, where all of the text is read.
-pub fn text_damage<T: TextStore, A: Allocator + Clone>(
-    alloc: &A,
-    store: &mut T,
-) -> Result<Option<u64>, SessionFault>
-    requires { T.failures store.old < u64.MAX }
-    ensures line { IfOk result (λ found. IfSome found (IsDamagedIn (T.honest store.old) (T.text store.old))) }
-    ensures fault { IfErr result LacksOrFails }
-    ensures looks { LooksAt T.honest T.text T.failures result store.old store.new }
-    ensures survives { T.honest store.old → NoMore (T.survives store.old) (T.survives store.new) }
-{
-    let len = store.len()?;
-    let size = WINDOW.min(len) as usize;
-    let mut window = vec![in alloc.clone()?; 0u8; size]?;
-    let found = find_line(store, window.as_mut_slice(), len)?;
+    let found = find_read(store, window.as_mut_slice(), len, fades)?;
     Ok(found)
 }

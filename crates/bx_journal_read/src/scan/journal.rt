@@ -6,7 +6,7 @@ ghost use Rattle.bx_journal_format.specs.count.Tally.{IsCounted};
 
 use crate::fault::{SessionFault, of_text};
 use crate::scan::count::{ALL, walk_windows};
-use crate::scan::damage::journal_damage;
+use crate::scan::damage::text_damage;
 use crate::scan::mark::{Mark, start_size};
 use crate::scan::torn::{Torn, find_faded, find_torn};
 use crate::scan::whole::read_journal;
@@ -208,7 +208,7 @@ fn read_unfound<T: TextStore, A: Allocator + Clone>(
     requires { T.failures store.old < u64.MAX }
     ensures { FindsText T.TextStore result store.old store.new }
 {
-    let damage = match journal_damage(alloc, store) {
+    let damage = match text_damage(alloc, store, true) {
         Ok(damage) => damage,
         Err(fault) => return Err(fault),
     };

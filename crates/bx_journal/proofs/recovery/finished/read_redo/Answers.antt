@@ -11,6 +11,6 @@ returns-in-Some-clause-found g c =
 pub returns-in-Ok-read_all-clause-found : goal.returns-in-Ok-read_all-clause-found
 returns-in-Ok-read_all-clause-found g c = record {
   text = c.in-Ok-read_all.bytes.items;
-  is = λ h. sym (c.in-Ok-read_all.ensures.bytes (c.text_damage.ensures.looks.honesty.1 h) ∙ c.text_damage.ensures.looks.same h);
+  is = λ h. sym (c.in-Ok-read_all.ensures.bytes (c.text_damage.ensures.reads.looks.honesty.1 h) ∙ c.text_damage.ensures.reads.looks.same h);
   found = refl;
 }
