@@ -1,7 +1,6 @@
 -- Whether what was read is a redo text, and the line at which it isn't.
-use Rattle.std.proofs.Common.{◌≡◌, ℕ, suc, ◌+◌, ◌<◌, ◌≤◌, List, [], ◌∷◌, ◌++◌, length, length-append, length-drop, length-take, append_assoc, take, drop, get_or, refl, ap, sym, ◌∙◌, subst, inl, inr, ◌⊎◌, arith, Bool, true, false, eqb, cond, Option, Some, None, Result, Ok, Err}
-use Rattle.std.specs.Prelude.{is_some, IsTrue, IfSome, IfNone, IfOk, IfErr, MatchResult, ◌==◌, if◌then◌else◌}
-use Rattle.std.proofs.lemmas.Grind.{common_steps}
+use Rattle.std.proofs.Common.{◌≡◌, ℕ, suc, ◌+◌, ◌<◌, ◌≤◌, List, [], ◌∷◌, ◌++◌, length, length-append, length-drop, length-take, append_assoc, take, drop, get_or, refl, ap, sym, ◌∙◌, subst, inl, inr, ◌⊎◌, arith, true, Option, Some, None, Result, Ok, Err}
+use Rattle.std.specs.Prelude.{is_some, IsTrue, IfSome, IfNone, IfOk, IfErr, MatchResult}
 use Rattle.std.proofs.lemmas.List.{take_more, take-append-drop}
 use Rattle.std.proofs.Math.Seq.{drop-cons}
 use Rattle.bx_journal_read.specs.declared.fault.SessionFault.{SessionFault}
@@ -22,7 +21,7 @@ use Rattle.bx_journal_format.specs.Finished.{AllTell, IsFinished}
 use Rattle.bx_journal_read.specs.model.Redo.{IsRedoOf, DamagedLine, Tail, FirstForm, IsRefusedAt, NoRedo, TooMany, Off}
 use Rattle.bx_journal_read.specs.model.Stack.{stack_of}
 use Rattle.bx_journal_format.specs.count.Tally.{IsCounted, IsCountedAll}
-use Rattle.bx_journal_format.specs.Text.{Entry, Between, Reading, Reads, Split, split, with_first_byte, start, after_lines}
+use Rattle.bx_journal_format.specs.Text.{Entry, Between, Reading, Reads, split, start, after_lines}
 use Rattle.bx_journal_read.proofs.Phases.{length-stack_of}
 use Rattle.bx_journal_format.proofs.ReadLemmas.{length-entries_of}
 use Rattle.bx_journal_protocol.proofs.RedoText.{one_reading}
@@ -255,59 +254,6 @@ module _ (text x : List ℕ) (changes count : ℕ) (told : Option ℕ) (c : IsRe
         differs = apart;
         line_is = last;
       })
-
--- the newlines of a text, counted byte by byte
-one_newline : ℕ → ℕ
-one_newline b = if b == 10 then 1 else 0
-
-newlines_of : List ℕ → ℕ
-newlines_of [] = 0
-newlines_of (b ∷ text) = one_newline b + newlines_of text
-
-front_lines : (b : ℕ) (s : Split) → length (with_first_byte b s).lines ≡ length s.lines
-front_lines b s = by_lines s.lines
-  where
-    by_lines : (lines : List (List ℕ)) → length (with_first_byte b (record { lines = lines; rest = s.rest })).lines ≡ length lines
-    by_lines [] = refl
-    by_lines (l ∷ ls) = refl
-
-lines_counted : (text : List ℕ) → length (split text).lines ≡ newlines_of text
-unfolding split newlines_of one_newline
-lines_counted [] = refl
-lines_counted (b ∷ text) = by_test (eqb b 10) (lines_counted text)
-  where
-    by_test : (is : Bool) → length (split text).lines ≡ newlines_of text
-        → length (cond is (record { lines = [] ∷ (split text).lines; rest = (split text).rest }) (with_first_byte b (split text))).lines ≡ cond is 1 0 + newlines_of text
-    by_test true ih = omega (arith, ih)
-    by_test false ih = omega (arith, ih, front_lines b (split text))
-
-newlines_push : (text : List ℕ) (b : ℕ) → newlines_of (text ++ b ∷ []) ≡ newlines_of text + one_newline b
-unfolding newlines_of
-newlines_push [] b = omega arith
-newlines_push (c ∷ text) b = let more = newlines_push text b in omega (arith, more)
-
-newlines_more : (text : List ℕ) (i d : ℕ) → i < length text → length (split (take (i + 1) text)).lines ≡ length (split (take i text)).lines + one_newline (get_or text i d)
-newlines_more text i d within =
-    lines_counted (take (i + 1) text) ∙ ap newlines_of (take_more text i d within) ∙ newlines_push (take i text) (get_or text i d)
-    ∙ ap (λ n. n + one_newline (get_or text i d)) (sym (lines_counted (take i text)))
-
--- one more byte
-pub newline_more : (text : List ℕ) (i count : ℕ) → i < length text → get_or text i 0 ≡ 10 → count ≡ length (split (take i text)).lines → count + 1 ≡ length (split (take (i + 1) text)).lines
-unfolding one_newline
-newline_more text i count within ten counted =
-    let one : one_newline (get_or text i 0) ≡ 1 = ap one_newline ten in
-    omega (arith, newlines_more text i 0 within, one, counted)
-
-apart_ten : (b : ℕ) → (b ≡ 10 → ⊥) → one_newline b ≡ 0
-unfolding one_newline
-apart_ten b apart = by_test (eqb b 10) refl
-  where
-    by_test : (is : Bool) → eqb b 10 ≡ is → cond is (let one : ℕ = 1 in one) 0 ≡ 0
-    by_test true is = absurd (let ten : b ≡ 10 = grind (arith, common_steps) in apart ten)
-    by_test false is = refl
-
-pub newline_same : (text : List ℕ) (i count : ℕ) → i < length text → (get_or text i 0 ≡ 10 → ⊥) → count ≡ length (split (take i text)).lines → count ≡ length (split (take (i + 1) text)).lines
-newline_same text i count within apart counted = omega (arith, newlines_more text i 0 within, apart_ten (get_or text i 0) apart, counted)
 
 -- facts of an answer that may be none
 pub some_weaker : {X : Type 0} (P Q : X → Type 0) (o : Option X) → ((x : X) → P x → Q x) → IfSome o P → IfSome o Q

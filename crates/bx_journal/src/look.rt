@@ -1,20 +1,17 @@
 //! A look at the changes of a text, without a session: nothing is recovered, and the text stays.
 ghost use Rattle.std.specs.Prelude.{◌≡◌, ◌<◌, ◌≤◌, ℕ, All, IsTrue, length, OnOk, IfOk, IfErr, IfSome, IfNone};
-ghost use Rattle.bx_journal_read.specs.model.Fault.{LacksOrFails};
-ghost use Rattle.bx_journal_read.specs.scan.Looking.{LooksAt};
 ghost use Rattle.bx_journal_read.specs.show.Showing.{RangesOf, StopsLog, LiesWithin, LookCounts, PutFault, Stays};
-ghost use Rattle.bx_journal_read.specs.show.ShownSteps.{RefusesSteps, ShowsSteps, StopsSteps, BeginsLine, CannotStep, FindsSteps, IsChecked, IsFoundPut, IsLeftIn, IsSettled, few_that, fault_that};
+ghost use Rattle.bx_journal_read.specs.show.ShownSteps.{RefusesSteps, ShowsSteps, StopsSteps, CannotStep, FindsSteps, IsChecked, IsFoundPut, IsLeftIn, IsSettled, few_that, fault_that};
 
 mod entries;
 mod step;
 
 use crate::look::entries::put_rows;
 use crate::look::step::put_steps;
-use crate::recovery::redo::line_at;
 use bx_image::{Device, DeviceFailed};
 use bx_journal_read::{
     Marked, SessionFault, ShowFault, Steps, Torn, Way, all_marks, begin_writing, front_marks,
-    of_redo, of_text, put_torn,
+    line_from, of_redo, put_torn,
 };
 use bx_journal_store::TextStore;
 use std::alloc::Allocator;
@@ -78,25 +75,6 @@ fn left_of(way: Way, torn: Option<Torn>) -> Option<Torn>
     }
 }
 
-/// The number, from 1, of the line that begins at this place of a text, which is read whole. It changes nothing.
-fn left_line<T: TextStore, A: Allocator + Clone>(
-    alloc: &A,
-    journal: &mut T,
-    begins: u64,
-) -> Result<u64, SessionFault>
-    requires { T.failures journal.old < u64.MAX }
-    ensures line { T.honest journal.old → begins ≤ length (T.text journal.old) → IfOk result (BeginsLine (T.text journal.old) begins) }
-    ensures fault { IfErr result LacksOrFails }
-    ensures looks { LooksAt T.honest T.text T.failures result journal.old journal.new }
-{
-    let bytes = match journal.read_all(alloc.clone()?) {
-        Ok(bytes) => bytes,
-        Err(fault) => return Err(of_text(fault)),
-    };
-    let at = begins.min(bytes.len() as u64);
-    Ok(line_at(&bytes, at))
-}
-
 /// The marks that were found, where there are as many as there are to be steps.
 fn check_steps<A: Allocator>(steps: Steps, found: Marked<A>) -> Result<Marked<A>, SessionFault>
     requires few { length found.marks.items ≤ 65535 }
@@ -128,7 +106,7 @@ fn find_steps<T: TextStore, A: Allocator + Clone>(
     let Some(left) = left_of(steps.way, found.torn) else {
         return check_steps(steps, found);
     };
-    match left_line(alloc, journal, left.begins) {
+    match line_from(alloc, journal, left.begins) {
         Ok(line) => Err(SessionFault::RedoDamaged { line }),
         Err(fault) => Err(fault),
     }

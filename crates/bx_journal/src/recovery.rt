@@ -6,7 +6,7 @@ ghost use Rattle.bx_journal.specs.private.Recovering.{AnswersAsRead, CallsCount,
 
 mod finished;
 mod length;
-pub(crate) mod redo;
+mod redo;
 mod unfinished;
 
 use crate::recovery::finished::open_finished;

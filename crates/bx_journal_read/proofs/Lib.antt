@@ -13,6 +13,7 @@ pub mod RecoverLemmas
 pub mod WindowLemmas
 pub mod WalkLemmas
 pub mod TextReads
+pub mod NewlineLemmas
 pub mod ScanLemmas
 pub mod DamageLemmas
 pub mod ZeroLemmas

@@ -13,6 +13,7 @@ pub use scan::damage::text_damage;
 pub use scan::entries::{FinishedRead, read_again, read_last_of};
 pub use scan::journal::{Found, read_text};
 pub use scan::mark::{Mark, start_size};
+pub use scan::newlines::{line_from, newlines};
 pub use scan::torn::Torn;
 pub use scan::whole::read_journal;
 pub use scan::windows::{Scan, Taken, WINDOW, scan_windows};

@@ -4,6 +4,7 @@ pub(crate) mod damage;
 pub(crate) mod entries;
 pub(crate) mod journal;
 pub(crate) mod mark;
+pub(crate) mod newlines;
 pub(crate) mod shown;
 pub(crate) mod torn;
 pub(crate) mod whole;

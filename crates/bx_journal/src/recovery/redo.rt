@@ -10,7 +10,7 @@ ghost use Rattle.bx_journal_format.specs.Text.{split};
 
 use bx_image::Device;
 use bx_journal_format::{Counted, EntryRead, JournalRead, MOST_CHANGES, StageRead, told_length};
-use bx_journal_read::{CountedText, SessionFault, of_redo, read_journal};
+use bx_journal_read::{CountedText, SessionFault, newlines, of_redo, read_journal};
 use std::alloc::{Allocator, Global};
 
 /// What a redo text is.
@@ -26,22 +26,8 @@ pub enum RedoFound<A: Allocator = Global> {
 
 ghost use Rattle.bx_journal.specs.private.RedoFound.{AcceptsFound, IsOfText, IsRedoFound, RefusesFound};
 
-/// How many newlines a text has.
-fn newlines(text: &[u8]) -> u64
-    ensures lines { result ≡ length (split text.now).lines }
-    ensures most { result ≤ length text.now }
-{
-    let mut count: u64 = 0;
-    for byte in text {
-        if *byte == b'\n' {
-            count += 1;
-        }
-    }
-    count
-}
-
 /// The number, from 1, of the line that begins at this place.
-pub fn line_at(text: &[u8], at: u64) -> u64
+fn line_at(text: &[u8], at: u64) -> u64
     requires { at ≤ length text.now }
     ensures { result ≡ suc (length (split (take at text.now)).lines) }
 {

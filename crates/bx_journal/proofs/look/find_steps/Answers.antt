@@ -11,9 +11,9 @@ check_steps-requires-clause-few g c =
 pub returns-in_default : goal.returns-in_default
 returns-in_default g c = front_checked c.args.steps c.in-Ok.found c.check_steps.result c.in-Ok.ensures c.check_steps.ensures.ok c.check_steps.ensures.fault
 
-pub returns-in-Ok-left_line : goal.returns-in-Ok-left_line
-returns-in-Ok-left_line g c =
-    left_refused c.args.steps c.in-Ok.found c.in-Some.left c.in-Ok-left_line.line c.in-Ok.ensures c.in-Some.ensures.some c.in-Ok-left_line.ensures.looks c.in-Ok-left_line.ensures.line
+pub returns-in-Ok-line_from : goal.returns-in-Ok-line_from
+returns-in-Ok-line_from g c =
+    left_refused c.args.steps c.in-Ok.found c.in-Some.left c.in-Ok-line_from.line c.in-Ok.ensures c.in-Some.ensures.some c.in-Ok-line_from.ensures.reads.looks c.in-Ok-line_from.ensures.line
 
 pub returns : goal.returns
-returns g c = left_unread c.args.steps c.in-Ok.found c.in-Err-left_line.fault c.in-Ok.ensures c.in-Err-left_line.ensures.looks c.in-Err-left_line.ensures.fault
+returns g c = left_unread c.args.steps c.in-Ok.found c.in-Err-line_from.fault c.in-Ok.ensures c.in-Err-line_from.ensures.reads.looks c.in-Err-line_from.ensures.reads.fault

@@ -1,9 +1,9 @@
 use Rattle.std.proofs.Common.{◌≡◌, get_or, refl, ◌∙◌, arith}
 use Rattle.std.proofs.lemmas.Grind.{common_steps}
 use Rattle.bx_journal_format.specs.Text.{split}
-use Rattle.bx_journal.proofs.JudgeLemmas.{newline_more, newline_same}
-use Rattle.bx_journal.proofs.recovery.redo.newlines.Goals.{then-byte-eq10, else-byte-eq10}
-use Rattle.bx_journal.proofs.recovery.redo.newlines.Goals as goal
+use Rattle.bx_journal_read.proofs.NewlineLemmas.{newline_more, newline_same}
+use Rattle.bx_journal_read.proofs.scan.newlines.newlines.Goals.{then-byte-eq10, else-byte-eq10}
+use Rattle.bx_journal_read.proofs.scan.newlines.newlines.Goals as goal
 
 pub loop-byte-init : goal.loop-byte-init
 unfolding split
