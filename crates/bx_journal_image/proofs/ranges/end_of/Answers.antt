@@ -1,4 +1,4 @@
-use Rattle.std.proofs.Common.{◌≡◌, ◌-◌, ◌++◌, true, false, sym, ◌∙◌, refl, arith, ap, drop, length, length-append, codes}
+use Rattle.std.proofs.Common.{◌≡◌, ◌-◌, ◌++◌, true, false, sym, ◌∙◌, refl, arith, ap, length, length-append, codes}
 use Rattle.std.specs.Str.{bytes_eq}
 use Rattle.std.proofs.lemmas.Slice.Eq.{bytes_eq-Decides}
 use Rattle.bx_journal_image.specs.Line.{field}

@@ -1,4 +1,4 @@
-use Rattle.std.proofs.Common.{◌≡◌, ◌∙◌, length, sym, take}
+use Rattle.std.proofs.Common.{◌∙◌, sym, take}
 use Rattle.std.proofs.lemmas.Result.{on_ok_weaker}
 use Rattle.bx_image.specs.declared.change.TheConstants.{MAX_LEN}
 use Rattle.bx_journal_format.specs.Kept.{Run}

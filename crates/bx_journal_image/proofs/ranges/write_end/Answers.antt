@@ -1,5 +1,4 @@
 use Rattle.std.proofs.Common.{refl}
-use Rattle.bx_journal_image.specs.Line.{field}
 use Rattle.bx_journal_image.specs.Ranges.{ending_line}
 use Rattle.bx_journal_image.proofs.ranges.write_end.Goals as goal
 
