@@ -1,7 +1,7 @@
 -- Whether what stands under the three names may be opened.
 use Rattle.std.specs.Prelude.{◌≡◌, ℕ, Bool, true, false, List, Option, None, Some, if◌then◌else◌}
 use Rattle.bx_program_world.specs.Rule.{image_unfit, text_unfit}
-use Rattle.bx_program_world.specs.World.{MayBeImage, MayBeText, Sight}
+use Rattle.bx_program_world.specs.World.{MayBeImage, MayBeText, Sight, stat_named}
 use Rattle.bx_program_world.specs.declared.rule.Unfit.{Unfit}
 use Rattle.bx_program_world.specs.declared.rule.Unfit.TheVariants.{Link}
 use Rattle.bx_program_world.specs.declared.stat.Look.{Look}
@@ -19,6 +19,7 @@ look_unfit caller image look = found_unfit caller image look.is_link look.found
 -- the system says this of the file that the name leads to, and it may be an image that is changed
 pub record IsFitImage (name : List ℕ) (mounted : Bool) (image : Stat) (w : Sight) : Type 0 where
   pub told : (n : ℕ) → w.named name ≡ Some n → w.stat n ≡ image
+  pub found : stat_named w name ≡ Some image
   pub fit : image_unfit mounted image ≡ None
 
 -- what stands under the three names may be an image that is changed, and its texts

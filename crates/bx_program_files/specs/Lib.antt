@@ -1,3 +1,4 @@
 pub mod Fit
+pub mod Reasons
 pub mod Files
 pub mod Numbers

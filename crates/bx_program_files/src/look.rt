@@ -1,7 +1,9 @@
 //! What stands under the three names, asked before a file is opened.
-ghost use Rattle.std.specs.Prelude.{◌≡◌, ◌↔◌, ℕ, IfOk, OnOk};
+ghost use Rattle.std.specs.Prelude.{◌≡◌, ◌↔◌, ℕ, None, false, IfErr, IfOk, OnOk};
 ghost use Rattle.bx_program_world.specs.World.{MayBeText};
 ghost use Rattle.bx_program_files.specs.Fit.{AreFit, IsFitImage, look_unfit};
+ghost use Rattle.bx_program_files.specs.Reasons.{IsRefusedFile, IsUnfitBeside, IsUnfitImage, MayRefuseOpening};
+ghost use Rattle.bx_program_files.specs.declared.unopened.Which.TheVariants.{Image};
 
 use crate::Names;
 use crate::unopened::{Unopened, Which};
@@ -10,6 +12,8 @@ use bx_program_world::{Look, Refusal, Stat, Unfit, World, image_unfit, text_unfi
 /// What the system tells of the image, which may be one that is changed.
 fn look_at_image<W: World>(world: &mut W, name: &str, mounted: bool) -> Result<Stat, Unopened>
     ensures fit { W.honest world.old → IfOk result (λ image. IsFitImage name.now mounted image (W.sight world.old)) }
+    ensures why { W.honest world.old → IfErr result (IsRefusedFile Image ((W.sight world.old).named name.now ≡ None)
+        (IsUnfitImage mounted (W.sight world.old) name.now) ⊥ (W.is_refused world.new)) }
     ensures same { W.honest world.old → W.sight world.new ≡ W.sight world.old }
     ensures honesty { W.honest world.new ↔ W.honest world.old }
 {
@@ -46,6 +50,9 @@ fn look_at_text<W: World>(
 ) -> Result<bool, Unopened>
     ensures fit { W.honest world.old
         → OnOk result ((n : ℕ) → (W.sight world.old).stat n ≡ image.now → MayBeText n (W.sight world.old) name.now) }
+    ensures missing { W.honest world.old → IfOk result (λ is_there. is_there ≡ false → (W.sight world.old).named name.now ≡ None) }
+    ensures why { W.honest world.old
+        → IfErr result (IsRefusedFile which ⊥ (IsUnfitBeside image.now (W.sight world.old) name.now) ⊥ (W.is_refused world.new)) }
     ensures same { W.honest world.old → W.sight world.new ≡ W.sight world.old }
     ensures honesty { W.honest world.new ↔ W.honest world.old }
 {
@@ -63,6 +70,7 @@ fn look_at_text<W: World>(
 /// Looks at all three before one is opened. The redo text may be missing.
 pub fn look_at_all<W: World>(world: &mut W, names: &Names, mounted: bool) -> Result<(), Unopened>
     ensures fit { W.honest world.old → OnOk result (AreFit names.now mounted (W.sight world.old)) }
+    ensures why { W.honest world.old → IfErr result (MayRefuseOpening names.now mounted (W.is_refused world.new) (W.sight world.old)) }
     ensures same { W.honest world.old → W.sight world.new ≡ W.sight world.old }
     ensures honesty { W.honest world.new ↔ W.honest world.old }
 {

@@ -1,7 +1,9 @@
 //! One file that is opened, or made and opened.
-ghost use Rattle.std.specs.Prelude.{◌≡◌, ◌↔◌, ◌<◌, ◌≤◌, true, false, None, Some, IfOk, OnErr};
+ghost use Rattle.std.specs.Prelude.{◌≡◌, ◌↔◌, ◌<◌, ◌≤◌, true, false, None, Some, IfErr, IfOk, OnErr};
 ghost use Rattle.bx_program_world.specs.World.{MayBeImage, MayBeText, Sight, TakesAtMost};
 ghost use Rattle.bx_program_files.specs.Files.{HasMade, IsTextOpened, IsThere, AreAllThere, LeavesFiles, if_made};
+ghost use Rattle.bx_program_files.specs.Reasons.{IsRefusedFile, IsRefusedFor, NoneUnfit};
+ghost use Rattle.bx_program_files.specs.declared.unopened.Which.TheVariants.{Image, Journal, Redo};
 
 use crate::unopened::{Unopened, Which};
 use bx_program_world::{Refusal, World};
@@ -23,6 +25,7 @@ pub fn unmake<W: World>(world: &mut W, name: &str, file: &W::File, made: bool)
         → LeavesFiles first (W.sight world.new) }
     ensures most { W.honest world.old → TakesAtMost (W.sight world.old) (W.sight world.new) (W.number file.now) }
     ensures stays { W.honest world.old → made ≡ false → W.sight world.new ≡ W.sight world.old }
+    ensures noted { W.honest world.old → W.is_refused world.new ≡ W.is_refused world.old }
     ensures honesty { W.honest world.new ↔ W.honest world.old }
 {
     if made {
@@ -34,6 +37,8 @@ pub fn unmake<W: World>(world: &mut W, name: &str, file: &W::File, made: bool)
 pub fn open_image<W: World>(world: &mut W, name: &str, mounted: bool) -> Result<W::File, Unopened>
     requires may { W.honest world.old → MayBeImage mounted (W.sight world.old) name.now }
     ensures there { W.honest world.old → IfOk result (λ f. IsThere name.now (W.number f) (W.sight world.old)) }
+    ensures why { W.honest world.old → IfErr result (IsRefusedFile Image ((W.sight world.old).named name.now ≡ None) NoneUnfit ⊥
+        (W.is_refused world.new)) }
     ensures same { W.honest world.old → W.sight world.new ≡ W.sight world.old }
     ensures honesty { W.honest world.new ↔ W.honest world.old }
 {
@@ -51,6 +56,7 @@ pub fn open_image<W: World>(world: &mut W, name: &str, mounted: bool) -> Result<
 fn open_locked<W: World>(world: &mut W, name: &str, image: &W::File) -> Result<W::File, Refusal>
     requires may { W.honest world.old → MayBeText (W.number image.now) (W.sight world.old) name.now }
     ensures there { W.honest world.old → IfOk result (λ f. IsThere name.now (W.number f) (W.sight world.old)) }
+    ensures why { W.honest world.old → IfErr result (IsRefusedFor ((W.sight world.old).named name.now ≡ None) (W.is_refused world.new)) }
     ensures same { W.honest world.old → W.sight world.new ≡ W.sight world.old }
     ensures honesty { W.honest world.new ↔ W.honest world.old }
 {
@@ -67,6 +73,8 @@ pub fn open_journal<W: World>(
 ) -> Result<W::File, Unopened>
     requires may { W.honest world.old → MayBeText (W.number image.now) (W.sight world.old) name.now }
     ensures there { W.honest world.old → IfOk result (λ f. IsThere name.now (W.number f) (W.sight world.old)) }
+    ensures why { W.honest world.old → IfErr result (IsRefusedFile Journal ((W.sight world.old).named name.now ≡ None) NoneUnfit ⊥
+        (W.is_refused world.new)) }
     ensures same { W.honest world.old → W.sight world.new ≡ W.sight world.old }
     ensures honesty { W.honest world.new ↔ W.honest world.old }
 {
@@ -83,6 +91,7 @@ fn make_locked<W: World>(world: &mut W, name: &str, image: &W::File) -> Result<W
     ensures ok { W.honest world.old
         → IfOk result (λ f. IsTextOpened name.now (W.number image.now) (W.number f) true (W.sight world.old) (W.sight world.new)) }
     ensures err { W.honest world.old → OnErr result (LeavesFiles (W.sight world.old) (W.sight world.new)) }
+    ensures why { W.honest world.old → IfErr result (IsRefusedFor ⊥ (W.is_refused world.new)) }
     ensures honesty { W.honest world.new ↔ W.honest world.old }
 {
     let file = world.make_text(name, image)?;
@@ -107,6 +116,7 @@ fn open_or_make<W: World>(
     ensures ok { W.honest world.old
         → IfOk result (λ o. IsTextOpened name.now (W.number image.now) (W.number o.file) o.made (W.sight world.old) (W.sight world.new)) }
     ensures err { W.honest world.old → OnErr result (LeavesFiles (W.sight world.old) (W.sight world.new)) }
+    ensures why { W.honest world.old → IfErr result (IsRefusedFor ⊥ (W.is_refused world.new)) }
     ensures honesty { W.honest world.new ↔ W.honest world.old }
 {
     match open_locked(world, name, image) {
@@ -130,6 +140,7 @@ pub fn open_redo<W: World>(
     ensures ok { W.honest world.old
         → IfOk result (λ o. IsTextOpened name.now (W.number image.now) (W.number o.file) o.made (W.sight world.old) (W.sight world.new)) }
     ensures err { W.honest world.old → OnErr result (LeavesFiles (W.sight world.old) (W.sight world.new)) }
+    ensures why { W.honest world.old → IfErr result (IsRefusedFile Redo ⊥ NoneUnfit ⊥ (W.is_refused world.new)) }
     ensures honesty { W.honest world.new ↔ W.honest world.old }
 {
     match open_or_make(world, name, image) {

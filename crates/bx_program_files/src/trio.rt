@@ -1,7 +1,10 @@
 //! The three files of a session.
-ghost use Rattle.std.specs.Prelude.{◌≡◌, ◌↔◌, OnOk, IfOk, OnErr};
+ghost use Rattle.std.specs.Prelude.{◌≡◌, ◌↔◌, Some, false, OnOk, IfErr, IfOk, OnErr};
+ghost use Rattle.bx_program_world.specs.Rule.{image_unfit, text_unfit};
 ghost use Rattle.bx_program_files.specs.Files.{AreOpened, LeavesFiles};
 ghost use Rattle.bx_program_files.specs.Numbers.{numbers_of};
+ghost use Rattle.bx_program_files.specs.Reasons.{AreFitFiles, IsOneOf, IsReason, IsRefusedFile, MayRefuseOpening, NoneUnfit};
+ghost use Rattle.bx_program_files.specs.declared.unopened.Which.TheVariants.{Image};
 
 use crate::Names;
 use crate::look::look_at_all;
@@ -30,6 +33,8 @@ fn is_apart<W: World>(
     other: &W::File,
 ) -> Result<(), Unopened>
     ensures apart { W.honest world.old → OnOk result (W.number file.now ≡ W.number other.now → ⊥) }
+    ensures why { W.honest world.old
+        → IfErr result (IsRefusedFile which ⊥ NoneUnfit (W.number file.now ≡ W.number other.now) (W.is_refused world.new)) }
     ensures same { W.honest world.old → W.sight world.new ≡ W.sight world.old }
     ensures honesty { W.honest world.new ↔ W.honest world.old }
 {
@@ -42,6 +47,8 @@ fn is_apart<W: World>(
 
 /// What the system tells of an open file.
 fn stat_of<W: World>(world: &mut W, which: Which, file: &W::File) -> Result<Stat, Unopened>
+    ensures told { W.honest world.old → IfOk result (λ s. s ≡ (W.sight world.old).stat (W.number file.now)) }
+    ensures why { W.honest world.old → IfErr result (IsRefusedFile which ⊥ NoneUnfit ⊥ (W.is_refused world.new)) }
     ensures same { W.honest world.old → W.sight world.new ≡ W.sight world.old }
     ensures honesty { W.honest world.new ↔ W.honest world.old }
 {
@@ -53,6 +60,9 @@ fn stat_of<W: World>(world: &mut W, which: Which, file: &W::File) -> Result<Stat
 
 /// Looks again at an image that is open, whose name may have been given to another file by now.
 fn look_again<W: World>(world: &mut W, image: &W::File, mounted: bool) -> Result<Stat, Unopened>
+    ensures told { W.honest world.old → IfOk result (λ s. s ≡ (W.sight world.old).stat (W.number image.now)) }
+    ensures why { W.honest world.old → IfErr result (IsRefusedFile Image ⊥
+        (λ unfit. image_unfit mounted ((W.sight world.old).stat (W.number image.now)) ≡ Some unfit) ⊥ (W.is_refused world.new)) }
     ensures same { W.honest world.old → W.sight world.new ≡ W.sight world.old }
     ensures honesty { W.honest world.new ↔ W.honest world.old }
 {
@@ -70,6 +80,9 @@ fn look_again_at_text<W: World>(
     text: &W::File,
     image: &Stat,
 ) -> Result<(), Unopened>
+    ensures why { W.honest world.old → IfErr result (IsRefusedFile which ⊥
+        (λ unfit. text_unfit (W.sight world.old).caller image.now false ((W.sight world.old).stat (W.number text.now)) ≡ Some unfit) ⊥
+        (W.is_refused world.new)) }
     ensures same { W.honest world.old → W.sight world.new ≡ W.sight world.old }
     ensures honesty { W.honest world.new ↔ W.honest world.old }
 {
@@ -89,6 +102,9 @@ fn are_fit<W: World>(
     journal: &W::File,
     redo: &W::File,
 ) -> Result<(), Unopened>
+    ensures why { W.honest world.old
+        → AreFitFiles mounted (record { image = W.number image.now; journal = W.number journal.now; redo = W.number redo.now }) (W.sight world.old)
+        → IfErr result (λ u. IsReason ⊥ NoneUnfit ⊥ (W.is_refused world.new) u.why) }
     ensures same { W.honest world.old → W.sight world.new ≡ W.sight world.old }
     ensures honesty { W.honest world.new ↔ W.honest world.old }
 {
@@ -107,6 +123,10 @@ fn are_apart<W: World>(
     ensures journal { W.honest world.old → OnOk result (W.number journal.now ≡ W.number image.now → ⊥) }
     ensures redo_of_image { W.honest world.old → OnOk result (W.number redo.now ≡ W.number image.now → ⊥) }
     ensures redo_of_journal { W.honest world.old → OnOk result (W.number redo.now ≡ W.number journal.now → ⊥) }
+    ensures why { W.honest world.old
+        → IfErr result (λ u. IsReason ⊥ NoneUnfit
+        (IsOneOf (record { image = W.number image.now; journal = W.number journal.now; redo = W.number redo.now }) u.which)
+        (W.is_refused world.new) u.why) }
     ensures same { W.honest world.old → W.sight world.new ≡ W.sight world.old }
     ensures honesty { W.honest world.new ↔ W.honest world.old }
 {
@@ -126,6 +146,11 @@ fn are_three<W: World>(
     ensures journal { W.honest world.old → OnOk result (W.number journal.now ≡ W.number image.now → ⊥) }
     ensures redo_of_image { W.honest world.old → OnOk result (W.number redo.now ≡ W.number image.now → ⊥) }
     ensures redo_of_journal { W.honest world.old → OnOk result (W.number redo.now ≡ W.number journal.now → ⊥) }
+    ensures why { W.honest world.old
+        → AreFitFiles mounted (record { image = W.number image.now; journal = W.number journal.now; redo = W.number redo.now }) (W.sight world.old)
+        → IfErr result (λ u. IsReason ⊥ NoneUnfit
+        (IsOneOf (record { image = W.number image.now; journal = W.number journal.now; redo = W.number redo.now }) u.which)
+        (W.is_refused world.new) u.why) }
     ensures same { W.honest world.old → W.sight world.new ≡ W.sight world.old }
     ensures honesty { W.honest world.new ↔ W.honest world.old }
 {
@@ -136,6 +161,7 @@ fn are_three<W: World>(
 /// Puts the names of an image and its texts on the disk, whoever made them: a run that was killed may have, and their names be
 /// lost with the power.
 fn keep_names<W: World>(world: &mut W, names: &Names) -> Result<(), Unopened>
+    ensures why { W.honest world.old → IfErr result (λ u. IsReason ⊥ NoneUnfit ⊥ (W.is_refused world.new) u.why) }
     ensures same { W.honest world.old → W.sight world.new ≡ W.sight world.old }
     ensures honesty { W.honest world.new ↔ W.honest world.old }
 {
@@ -160,6 +186,11 @@ fn are_ready<W: World>(
     ensures journal { W.honest world.old → OnOk result (W.number journal.now ≡ W.number image.now → ⊥) }
     ensures redo_of_image { W.honest world.old → OnOk result (W.number redo.now ≡ W.number image.now → ⊥) }
     ensures redo_of_journal { W.honest world.old → OnOk result (W.number redo.now ≡ W.number journal.now → ⊥) }
+    ensures why { W.honest world.old
+        → AreFitFiles mounted (record { image = W.number image.now; journal = W.number journal.now; redo = W.number redo.now }) (W.sight world.old)
+        → IfErr result (λ u. IsReason ⊥ NoneUnfit
+        (IsOneOf (record { image = W.number image.now; journal = W.number journal.now; redo = W.number redo.now }) u.which)
+        (W.is_refused world.new) u.why) }
     ensures same { W.honest world.old → W.sight world.new ≡ W.sight world.old }
     ensures honesty { W.honest world.new ↔ W.honest world.old }
 {
@@ -182,6 +213,7 @@ pub fn open_trio<W: World>(
     ensures ok { W.honest world.old
         → IfOk result (λ f. AreOpened names.now mounted (numbers_of W.number f) f.made (W.sight world.old) (W.sight world.new)) }
     ensures err { W.honest world.old → OnErr result (LeavesFiles (W.sight world.old) (W.sight world.new)) }
+    ensures why { W.honest world.old → IfErr result (MayRefuseOpening names.now mounted (W.is_refused world.new) (W.sight world.old)) }
     ensures honesty { W.honest world.new ↔ W.honest world.old }
 {
     look_at_all(world, names, mounted)?;

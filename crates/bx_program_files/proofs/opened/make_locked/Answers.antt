@@ -1,4 +1,3 @@
-use Rattle.std.proofs.Common.{rules}
 use Rattle.bx_program_files.proofs.Made.{made_later, made_one}
 use Rattle.bx_program_files.proofs.opened.make_locked.Goals as goal
 
@@ -14,12 +13,8 @@ unmake-requires-clause-named g c h =
     let old = c.make_text.ensures.honesty.0 made in
     rw (c.lock.ensures.same made) (c.in_ok-file.ensures.made old).named
 
-pub returns : goal.returns
-returns g c = record {
-  ok = λ _. tt;
-  err = λ old.
-      let made = c.make_text.ensures.honesty.1 old in
-      c.unmake.ensures.left (c.lock.ensures.honesty.1 made) _ (λ name n e. g.met.W.World.within _ name n old e)
-      (rw (c.lock.ensures.same made) (made_one _ _ _ _ (c.in_ok-file.ensures.made old)));
-  honesty = search rules;
-}
+pub returns-clause-err : goal.returns-clause-err
+returns-clause-err g c old =
+    let made = c.make_text.ensures.honesty.1 old in
+    c.unmake.ensures.left (c.lock.ensures.honesty.1 made) _ (λ name n e. g.met.W.World.within _ name n old e)
+    (rw (c.lock.ensures.same made) (made_one _ _ _ _ (c.in_ok-file.ensures.made old)))
