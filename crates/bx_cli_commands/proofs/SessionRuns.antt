@@ -147,7 +147,7 @@ module _ {D T : Type 0} (d : DeviceViews D) (t : StoreViews T) where
 
 module _ {D T R A : Type 0} (d : DeviceViews D) (t : StoreViews T) (remaining : R → Option (List ℕ)) where
   -- whatever is left of it, a command obeys its step
-  obeys_command : (old new : SessionView D T) (c left : Command R A) (reply : Reply) → SessionStep (Obeys d t) Tells remaining old c left reply new
+  pub obeys_command : (old new : SessionView D T) (c left : Command R A) (reply : Reply) → SessionStep (Obeys d t) Tells remaining old c left reply new
       → Obeys d t old new reply (λ before. CommandStep remaining before c)
   obeys_command old new (Dd operands input) (Dd words rest) reply step =
       obeys_next d t (λ before after dd. (remaining rest, (step.2.0, (step.2.1, dd)))) step.2.2

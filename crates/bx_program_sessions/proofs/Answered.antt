@@ -1,10 +1,12 @@
 -- What an undo and a redo answer, from what their commands make of the files.
-use Rattle.std.proofs.Common.{◌≡◌, ◌⊎◌, ◌∙◌, ◌≤◌, ℕ, Option, Some, None, refl, sym, ap, subst, inl, inr}
-use Rattle.std.specs.Prelude.{Result, Ok, Err, IfOk, IfErr, IfSome}
+use Rattle.std.proofs.Common.{◌≡◌, ◌⊎◌, ◌∙◌, ◌≤◌, ℕ, Bool, List, Option, Some, None, refl, sym, ap, subst, inl, inr}
+use Rattle.std.specs.Prelude.{Result, Ok, Err, IfOk, IfErr, IfSome, OnErr}
 use Rattle.bx_journal.specs.Fault.{DeviceFault}
 use Rattle.bx_journal.specs.Images.{Images, redo_of, undo_of}
 use Rattle.bx_journal.specs.Machine.{RedoStep, UndoStep}
 use Rattle.bx_journal.specs.How.{How}
+use Rattle.bx_journal.specs.Way.{Way}
+use Rattle.bx_journal.specs.Way.TheVariants.{Redo as Onward, Undo as Backward}
 use Rattle.bx_journal.specs.SessionFault.{SessionFault}
 use Rattle.bx_journal.specs.SessionFault.TheVariants.{NoMemory, TooLarge, DeviceFailed, Damaged, TooFew, JournalFull, Interrupted, Broken, LengthDiffers, NothingToRedo, RedoDamaged}
 use Rattle.bx_program_world.specs.World.{Sight}
@@ -19,9 +21,9 @@ use Rattle.bx_cli_commands.specs.declared.command.Reply.{Reply}
 use Rattle.bx_cli_commands.specs.declared.command.Reply.TheVariants.{Changed, Copied, Redone, Refused, Undone}
 use Rattle.bx_cli_commands.specs.declared.fault.Fault.{Fault}
 use Rattle.bx_cli_commands.specs.declared.fault.Fault.TheVariants.{OpenFailed, Session}
-use Rattle.bx_program_sessions.specs.Contents.{Contents, EndsAt, FindsIn, IsUnopened, recovered_as}
-use Rattle.bx_program_sessions.specs.Moves.{Course, IsMoved, MayNotMove, RefusesMove, again, back}
-use Rattle.bx_program_sessions.specs.Named.{NothingDone, contents_of}
+use Rattle.bx_program_sessions.specs.Contents.{Contents, EndsAt, FindsIn, IsUnopened, StepsTo, recovered_as}
+use Rattle.bx_program_sessions.specs.Moves.{Course, IsMoved, MayNotMove, RefusesMove, again, back, command_by, stepped}
+use Rattle.bx_program_sessions.specs.Named.{MayRefuse, NothingDone, contents_of}
 
 abbrev number_or : ℕ → Result ℕ Fault → ℕ
 number_or m (Ok n) = n
@@ -33,9 +35,9 @@ ok_injective m n is = ap (number_or m) is
 -- why a command was refused, whether its files were opened or not
 pub reason : (Why : Type 0) (u : Option Unopened) (reply : Reply) (how : Option How) (old new : Sight)
     → IfSome u (λ _. NothingDone reply how old new) → (u ≡ None → IsWholeRefusal reply → Why) → IsWholeRefusal reply
-    → (reply ≡ Refused OpenFailed) ⊎ Why
+    → ((reply ≡ Refused OpenFailed) × (u ≡ None → ⊥)) ⊎ Why
 reason Why None reply how old new un why whole = inr (why refl whole)
-reason Why (Some x) reply how old new un why whole = inl un.0
+reason Why (Some x) reply how old new un why whole = inl (un.0, λ e. (let wrong : Some x ≡ None = e in cc))
 
 -- files that weren't opened
 pub nothing_moved : (u : Option Unopened) (reply : Reply) (how : Option How) (old new : Sight) → IfSome u (λ _. NothingDone reply how old new)
@@ -104,26 +106,38 @@ module _ (s : Images) (k : ℕ) (course : Course) (moved : ℕ → Images → Im
   call_may e (Ok m) after is moves = absurd (let wrong : Err e ≡ Ok m = ap stands_by is ∙ made_is m in cc)
   call_may e (Err f) after is moves = let same : e ≡ Session f = cc in subst (MayNotMove k course) (sym same) (stop_may after f moves)
 
-  may : (e : Fault) → (Refused e ≡ Refused OpenFailed) ⊎ (IsUnopened (Refused e) ⊎ ((after : Standing) × Call (Refused e) after)) → MayNotMove k course e
+  may : (e : Fault) → IsUnopened (Refused e) ⊎ ((after : Standing) × Call (Refused e) after) → MayNotMove k course e
   may e why = elim why [
-    | inl is ↦ let same : e ≡ OpenFailed = cc in subst (MayNotMove k course) (sym same) tt
-    | inr rest ↦ elim rest [
-      | inl un ↦ let is = un.1 in let same : e ≡ Session un.0 = cc in subst (MayNotMove k course) (sym same) (device_may k course un.0 un.2)
-      | inr step ↦ call_may e step.1.0 step.0 step.1.1 step.1.2
-    ]
+    | inl un ↦ let is = un.1 in let same : e ≡ Session un.0 = cc in subst (MayNotMove k course) (sym same) (device_may k course un.0 un.2)
+    | inr step ↦ call_may e step.1.0 step.0 step.1.1 step.1.2
   ]
 
-  pub answers_err : (names : Names) (old new : Sight) (reply : Reply)
+  abbrev Reason : Option Unopened → Reply → Type 0
+  Reason u reply = ((reply ≡ Refused OpenFailed) × (u ≡ None → ⊥)) ⊎ (IsUnopened reply ⊎ ((after : Standing) × Call reply after))
+
+  unopened_told : (u : Option Unopened) → Reason u (Refused OpenFailed) → u ≡ None → ⊥
+  unopened_told u why = elim why [
+    | inl un ↦ un.1
+    | inr rest ↦ absurd (may OpenFailed rest)
+  ]
+
+  opened_may : (u : Option Unopened) (e : Fault) → (Refused e ≡ Refused OpenFailed → ⊥) → Reason u (Refused e) → MayNotMove k course e
+  opened_may u e other why = elim why [
+    | inl un ↦ absurd (other un.0)
+    | inr rest ↦ may e rest
+  ]
+
+  pub answers_err : (names : Names) (u : Option Unopened) (old new : Sight) (reply : Reply)
       → ((IsWholeRefusal reply → ⊥) → (after : Standing) × Call reply after × EndsAt (contents_of names new) after)
-      → (IsWholeRefusal reply → LeavesFiles old new)
-      → (IsWholeRefusal reply → (reply ≡ Refused OpenFailed) ⊎ (IsUnopened reply ⊎ ((after : Standing) × Call reply after)))
-      → IfErr (stands_by reply) (RefusesMove names k course old new)
-  answers_err names old new (Changed n) steps leaves why = tt
-  answers_err names old new (Copied n counts) steps leaves why = tt
-  answers_err names old new (Undone n) steps leaves why = tt
-  answers_err names old new (Redone n) steps leaves why = tt
-  answers_err names old new (Refused (Session Interrupted)) steps leaves why = down (contents_of names new) (steps (λ whole. whole refl))
-  answers_err names old new (Refused e) steps leaves why = (may e (why (λ wrong. cc)), leaves (λ wrong. cc))
+      → (IsWholeRefusal reply → LeavesFiles old new) → (IsWholeRefusal reply → Reason u reply)
+      → IfErr (stands_by reply) (RefusesMove names k course u old new)
+  answers_err names u old new (Changed n) steps leaves why = tt
+  answers_err names u old new (Copied n counts) steps leaves why = tt
+  answers_err names u old new (Undone n) steps leaves why = tt
+  answers_err names u old new (Redone n) steps leaves why = tt
+  answers_err names u old new (Refused (Session Interrupted)) steps leaves why = down (contents_of names new) (steps (λ whole. whole refl))
+  answers_err names u old new (Refused OpenFailed) steps leaves why = (unopened_told u (why (λ wrong. cc)), leaves (λ wrong. cc))
+  answers_err names u old new (Refused e) steps leaves why = (opened_may u e (λ wrong. cc) (why (λ wrong. cc)), leaves (λ wrong. cc))
 
 -- an undo that is refused
 undo_refuses : (s : Images) (k : ℕ) (e : SessionFault) → UndoStep s.stack k (Err e) s.stack → MayNotMove k (back s) (Session e)
@@ -163,14 +177,14 @@ module _ (s : Images) (k : ℕ) where
       answers_ok s k (back s) undo_of Undone (λ s k r t. UndoStep s.stack k r t.stack) (λ i. refl) (λ n. refl) (λ n new step. (step.0, step.1))
       (undo_refuses s k) reply c steps
 
-  pub undone_err : (names : Names) (old new : Sight) (reply : Reply)
+  pub undone_err : (names : Names) (u : Option Unopened) (old new : Sight) (reply : Reply)
       → ((IsWholeRefusal reply → ⊥) → (after : Standing) × Undoing reply after × EndsAt (contents_of names new) after)
       → (IsWholeRefusal reply → LeavesFiles old new)
-      → (IsWholeRefusal reply → (reply ≡ Refused OpenFailed) ⊎ (IsUnopened reply ⊎ ((after : Standing) × Undoing reply after)))
-      → IfErr (stands_by reply) (RefusesMove names k (back s) old new)
-  undone_err names old new reply steps leaves why =
+      → (IsWholeRefusal reply → ((reply ≡ Refused OpenFailed) × (u ≡ None → ⊥)) ⊎ (IsUnopened reply ⊎ ((after : Standing) × Undoing reply after)))
+      → IfErr (stands_by reply) (RefusesMove names k (back s) u old new)
+  undone_err names u old new reply steps leaves why =
       answers_err s k (back s) undo_of Undone (λ s k r t. UndoStep s.stack k r t.stack) (λ i. refl) (λ n. refl) (λ n new step. (step.0, step.1))
-      (undo_refuses s k) names old new reply steps leaves why
+      (undo_refuses s k) names u old new reply steps leaves why
 
 module _ (s : Images) (k : ℕ) where
   abbrev Redoing : Reply → Standing → Type 0
@@ -181,25 +195,46 @@ module _ (s : Images) (k : ℕ) where
   redone_ok reply c steps =
       answers_ok s k (again s) redo_of Redone RedoStep (λ i. refl) (λ n. refl) (λ n new step. (step.0, step.1)) (redo_refuses s k) reply c steps
 
-  pub redone_err : (names : Names) (old new : Sight) (reply : Reply)
+  pub redone_err : (names : Names) (u : Option Unopened) (old new : Sight) (reply : Reply)
       → ((IsWholeRefusal reply → ⊥) → (after : Standing) × Redoing reply after × EndsAt (contents_of names new) after)
       → (IsWholeRefusal reply → LeavesFiles old new)
-      → (IsWholeRefusal reply → (reply ≡ Refused OpenFailed) ⊎ (IsUnopened reply ⊎ ((after : Standing) × Redoing reply after)))
-      → IfErr (stands_by reply) (RefusesMove names k (again s) old new)
-  redone_err names old new reply steps leaves why =
+      → (IsWholeRefusal reply → ((reply ≡ Refused OpenFailed) × (u ≡ None → ⊥)) ⊎ (IsUnopened reply ⊎ ((after : Standing) × Redoing reply after)))
+      → IfErr (stands_by reply) (RefusesMove names k (again s) u old new)
+  redone_err names u old new reply steps leaves why =
       answers_err s k (again s) redo_of Redone RedoStep (λ i. refl) (λ n. refl) (λ n new step. (step.0, step.1))
-      (redo_refuses s k) names old new reply steps leaves why
+      (redo_refuses s k) names u old new reply steps leaves why
 
--- what is recovered, undone
-pub undone_found : (s : Images) (k : ℕ) (how : Option How) (reply : Reply) (c : Contents)
-    → ((h : How) → how ≡ Some h → (after : Standing) × UndoesStep (Standing.Up (recovered_as h s)) k reply after × EndsAt c after)
-    → IfSome how (λ h. IfOk (stands_by reply) (λ left. IsMoved k (back (recovered_as h s)) left c))
-undone_found s k None reply c steps = tt
-undone_found s k (Some h) reply c steps = undone_ok (recovered_as h s) k reply c (λ _. steps h refl)
+module _ {R : Type 0} (A : Type 0) (remaining : R → Option (List ℕ)) where
+  abbrev Steps : Way → Images → ℕ → Reply → Contents → Type 0
+  Steps way s k reply c = StepsTo remaining s (command_by {R = R} {A = A} way k) reply c
 
--- and redone
-pub redone_found : (s : Images) (k : ℕ) (how : Option How) (reply : Reply) (c : Contents)
-    → ((h : How) → how ≡ Some h → (after : Standing) × RedoesStep (Standing.Up (recovered_as h s)) k reply after × EndsAt c after)
-    → IfSome how (λ h. IfOk (stands_by reply) (λ left. IsMoved k (again (recovered_as h s)) left c))
-redone_found s k None reply c steps = tt
-redone_found s k (Some h) reply c steps = redone_ok (recovered_as h s) k reply c (λ _. steps h refl)
+  abbrev Refuses : Way → Images → ℕ → Reply → Type 0
+  Refuses way s k reply = MayRefuse remaining s (command_by {R = R} {A = A} way k) reply
+
+  -- changes that were moved one way
+  pub moved_ok : (way : Way) (s : Images) (k : ℕ) (reply : Reply) (c : Contents) → ((IsWholeRefusal reply → ⊥) → Steps way s k reply c)
+      → IfOk (stands_by reply) (λ left. IsMoved k (stepped way s) left c)
+  moved_ok Backward s k reply c steps = undone_ok s k reply c steps
+  moved_ok Onward s k reply c steps = redone_ok s k reply c steps
+
+  -- and those that were not
+  pub moved_err : (way : Way) (s : Images) (k : ℕ) (names : Names) (u : Option Unopened) (old new : Sight) (reply : Reply)
+      → ((IsWholeRefusal reply → ⊥) → Steps way s k reply (contents_of names new)) → (IsWholeRefusal reply → LeavesFiles old new)
+      → (IsWholeRefusal reply → ((reply ≡ Refused OpenFailed) × (u ≡ None → ⊥)) ⊎ Refuses way s k reply)
+      → IfErr (stands_by reply) (RefusesMove names k (stepped way s) u old new)
+  moved_err Backward s k names u old new reply steps leaves why = undone_err s k names u old new reply steps leaves why
+  moved_err Onward s k names u old new reply steps leaves why = redone_err s k names u old new reply steps leaves why
+
+  -- what is recovered, moved
+  pub moved_found : (way : Way) (s : Images) (k : ℕ) (how : Option How) (reply : Reply) (c : Contents)
+      → ((h : How) → how ≡ Some h → Steps way (recovered_as h s) k reply c)
+      → IfSome how (λ h. IfOk (stands_by reply) (λ left. IsMoved k (stepped way (recovered_as h s)) left c))
+  moved_found way s k None reply c steps = tt
+  moved_found way s k (Some h) reply c steps = moved_ok way (recovered_as h s) k reply c (λ _. steps h refl)
+
+-- why files weren't opened, behind what was said of the rest
+pub why_kept : {V : Type 0} (u : Option Unopened) (standing : Result V Fault) (how : Option How) (left : Type 0) (noted told new : Bool) (W : Bool → Unopened → Type 0)
+    → IfSome u (λ _. (standing ≡ Err OpenFailed) × (how ≡ None) × left) → told ≡ noted → OnErr standing (new ≡ told)
+    → IfSome u (W noted) → IfSome u (W new)
+why_kept None standing how left noted told new W un keeps is why = tt
+why_kept (Some u) standing how left noted told new W un keeps is why = let same = rw un.0 at is in subst (λ n. W n u) (sym (same ∙ keeps)) why

@@ -68,10 +68,10 @@ module _ (names : Names) (k : ℕ) (course : Course) (left : ℕ) (old mid new :
   written (Err e) moved keeps silent line = tt
 
   -- it couldn't be written
-  pub unwritten : {V : Type 0} (r : Result V Fault) → IsMoved k course left (contents_of names mid) → KeepsFiles mid new → mid.output ≡ old.output
-      → IfErr r (StopsLine (number_line left) mid.output new.output) → IfErr r (StopsMove names k course old new)
-  unwritten (Ok v) moved keeps silent line = tt
-  unwritten (Err e) moved keeps silent line = inr (record {
+  pub unwritten : {V : Type 0} (u : Option Unopened) (r : Result V Fault) → IsMoved k course left (contents_of names mid) → KeepsFiles mid new → mid.output ≡ old.output
+      → IfErr r (StopsLine (number_line left) mid.output new.output) → IfErr r (StopsMove names k course u old new)
+  unwritten u (Ok v) moved keeps silent line = tt
+  unwritten u (Err e) moved keeps silent line = inr (record {
     enough = moved.enough;
     files = subst (λ c. Holds c (course.moved k)) (sym (contents_kept names mid new keeps)) moved.files;
     line = record {
@@ -165,23 +165,23 @@ module _ (names : Names) (k : ℕ) (course : Course) (old mid told new : Sight) 
       (between ∙ before) line
   done_behind (Err e) r moved first second before between line refused = rw refused.0 tt
 
-  refuses_kept : (e : Fault) → RefusesMove names k course old mid e → KeepsFiles mid told → told.output ≡ mid.output → told.errors ≡ mid.errors
-      → RefusesMove names k course old told e
-  refuses_kept (Session Interrupted) refuses keeps output errors =
+  refuses_kept : (u : Option Unopened) (e : Fault) → RefusesMove names k course u old mid e → KeepsFiles mid told → told.output ≡ mid.output
+      → told.errors ≡ mid.errors → RefusesMove names k course u old told e
+  refuses_kept u (Session Interrupted) refuses keeps output errors =
       (refuses.0, refuses.1, subst (λ c. FindsIn c (course.moved refuses.0)) (sym (contents_kept names mid told keeps)) refuses.2)
-  refuses_kept e refuses keeps output errors = (refuses.0, leaves_kept old mid told refuses.1 keeps output errors)
+  refuses_kept u e refuses keeps output errors = (refuses.0, leaves_kept old mid told refuses.1 keeps output errors)
 
   -- stopped
-  pub stopped_behind : (how : Option How) (standing : Result ℕ Fault) (r : Result Unit Fault) → IsUnrecovered how
-      → IfOk standing (λ left. IsMoved k course left (contents_of names mid)) → IfErr standing (RefusesMove names k course old mid)
+  pub stopped_behind : (u : Option Unopened) (how : Option How) (standing : Result ℕ Fault) (r : Result Unit Fault) → IsUnrecovered how
+      → IfOk standing (λ left. IsMoved k course left (contents_of names mid)) → IfErr standing (RefusesMove names k course u old mid)
       → KeepsFiles mid told → KeepsFiles told new → mid.output ≡ old.output → told.output ≡ mid.output → TellsRecovered how mid.errors told.errors
       → IfOk standing (λ left. IfErr r (StopsLine (number_line left) told.output new.output)) → IfErr standing (λ e. (r ≡ Err e) × (new ≡ told))
-      → IfErr r (StopsMove names k course old new)
-  stopped_behind how (Ok left) r is moved refuses first second before between tells line refused =
-      unwritten names k course left old told new r (subst (IsMoved k course left) (sym (contents_kept names mid told first)) moved) second
+      → IfErr r (StopsMove names k course u old new)
+  stopped_behind u how (Ok left) r is moved refuses first second before between tells line refused =
+      unwritten names k course left old told new u r (subst (IsMoved k course left) (sym (contents_kept names mid told first)) moved) second
       (between ∙ before) line
-  stopped_behind how (Err e) r is moved refuses first second before between tells line refused =
-      rw (refused.0, refused.1) (inl (refuses_kept e refuses first between (silent_line _ _ _ is tells), between ∙ before))
+  stopped_behind u how (Err e) r is moved refuses first second before between tells line refused =
+      rw (refused.0, refused.1) (inl (refuses_kept u e refuses first between (silent_line _ _ _ is tells), between ∙ before))
 
 -- the same of what is recovered
 pub recovered_behind : (names : Names) (k : ℕ) (course : How → Course) (old mid told new : Sight) (how : Option How) (standing : Result ℕ Fault)

@@ -10,17 +10,13 @@ use Rattle.bx_journal.specs.Session.{HasUndone, IsReady}
 use Rattle.bx_journal.specs.SessionView.{SessionView, devices_of}
 use Rattle.bx_journal.specs.SessionFault.{SessionFault}
 use Rattle.bx_cli_commands.specs.declared.command.Command.{Command}
-use Rattle.bx_cli_commands.specs.declared.command.Command.TheVariants.{Copy, Dd, Patch, Revert, RevertPlain, Undo, Redo}
 use Rattle.bx_cli_commands.specs.declared.command.Reply.{Reply}
 use Rattle.bx_cli_commands.specs.declared.command.Reply.TheVariants.{Refused}
 use Rattle.bx_cli_commands.specs.declared.fault.Fault.TheVariants.{Session}
 use Rattle.bx_cli_commands.specs.Obeys.{Obeys}
 use Rattle.bx_cli_commands.specs.Refusal.{IsWholeRefusal}
 use Rattle.bx_cli_commands.specs.Run.{CommandStep, is_failure}
-use Rattle.bx_cli_commands.specs.SessionRun.{SessionStep}
 use Rattle.bx_cli_commands.specs.Standing.{CountsBy, HoldsAt, Standing}
-use Rattle.bx_cli_commands.specs.Tells.{Tells}
-use Rattle.bx_cli_commands.proofs.Obeys.{obeys_next}
 use Rattle.bx_cli_commands.proofs.Steps.{counts_least, counts_rise}
 use Rattle.bx_program_sessions.specs.Contents.{AreFresh, AreHonest, AreInPlace, EndsAt, StepsTo, Survives, held_by}
 
@@ -53,37 +49,6 @@ module _ {D T : Type 0} (d : DeviceViews D) (t : StoreViews T) where
       placed b _ _ _ _ _ _ counts.image_least counts.journal_least counts.redo_least counts.rise fresh.0 fresh.1 fresh.2
 
 module _ {D T R A : Type 0} (d : DeviceViews D) (t : StoreViews T) (remaining : R → Option (List ℕ)) where
-  -- whatever is left of it, a command obeys its step
-  pub obeys_command : (old new : SessionView D T) (c left : Command R A) (reply : Reply) → SessionStep (Obeys d t) Tells remaining old c left reply new
-      → Obeys d t old new reply (λ before. CommandStep remaining before c)
-  obeys_command old new (Dd operands input) (Dd words rest) reply step =
-      obeys_next d t (λ before after dd. (remaining rest, (step.2.0, (step.2.1, dd)))) step.2.2
-  obeys_command old new (Dd operands input) (Revert text_ offset) reply step = step.2
-  obeys_command old new (Dd operands input) (RevertPlain text_ at_) reply step = step.2
-  obeys_command old new (Dd operands input) (Copy plan rest) reply step = step.2
-  obeys_command old new (Dd operands input) (Patch rest) reply step = step.2
-  obeys_command old new (Dd operands input) (Undo k) reply step = step.2
-  obeys_command old new (Dd operands input) (Redo j) reply step = step.2
-  obeys_command old new (Copy plan input) (Copy same rest) reply step =
-      obeys_next d t (λ before after dd. (remaining rest, (step.2.0, (step.2.1, dd)))) step.2.2
-  obeys_command old new (Copy plan input) (Dd words rest) reply step = step.2
-  obeys_command old new (Copy plan input) (Revert text_ offset) reply step = step.2
-  obeys_command old new (Copy plan input) (RevertPlain text_ at_) reply step = step.2
-  obeys_command old new (Copy plan input) (Patch rest) reply step = step.2
-  obeys_command old new (Copy plan input) (Undo k) reply step = step.2
-  obeys_command old new (Copy plan input) (Redo j) reply step = step.2
-  obeys_command old new (Patch patch) (Patch rest) reply step = step.2
-  obeys_command old new (Patch patch) (Dd words rest) reply step = step.2
-  obeys_command old new (Patch patch) (Copy plan rest) reply step = step.2
-  obeys_command old new (Patch patch) (Revert text_ offset) reply step = step.2
-  obeys_command old new (Patch patch) (RevertPlain text_ at_) reply step = step.2
-  obeys_command old new (Patch patch) (Undo k) reply step = step.2
-  obeys_command old new (Patch patch) (Redo j) reply step = step.2
-  obeys_command old new (Revert text_ offset) left reply step = step.2
-  obeys_command old new (RevertPlain text_ at_) left reply step = step.2
-  obeys_command old new (Undo k) left reply step = step.2
-  obeys_command old new (Redo j) left reply step = step.2
-
   pub steps_of : (old new : SessionView D T) (c : Command R A) (reply : Reply) → Obeys d t old new reply (λ before. CommandStep remaining before c)
       → AreHonest d t (devices_of old) → (s : Images) → IsReady d.image t.text old s.stack → HasUndone d.image t.text old s.undone
       → StepsTo remaining s c reply (held_by d t (devices_of new))

@@ -4,12 +4,17 @@ use Rattle.bx_text.specs.declared.fault.IoFault.TheVariants.{WriteFailed}
 use Rattle.bx_program_world.specs.World.{Sight, AddsFront}
 use Rattle.bx_program_files.specs.Files.{LeavesFiles}
 use Rattle.bx_program_files.specs.declared.names.Names.{Names}
+use Rattle.bx_program_files.specs.declared.unopened.Unopened.{Unopened}
 use Rattle.bx_journal.specs.Images.{Images, redo_of, undo_of}
 use Rattle.bx_journal.specs.Machine.{changes_of}
 use Rattle.bx_journal.specs.How.{How}
 use Rattle.bx_journal.specs.How.TheVariants.{Clean, Dropped, Restored}
+use Rattle.bx_journal.specs.Way.{Way}
+use Rattle.bx_journal.specs.Way.TheVariants.{Redo as Onward, Undo as Backward}
 use Rattle.bx_journal.specs.SessionFault.{SessionFault}
 use Rattle.bx_journal.specs.SessionFault.TheVariants.{DeviceFailed, Interrupted, NoMemory, NothingToRedo, TooFew}
+use Rattle.bx_cli_commands.specs.declared.command.Command.{Command}
+use Rattle.bx_cli_commands.specs.declared.command.Command.TheVariants.{Redo, Undo}
 use Rattle.bx_cli_commands.specs.declared.fault.Fault.{Fault}
 use Rattle.bx_cli_commands.specs.declared.fault.Fault.TheVariants.{Io, OpenFailed, Session}
 use Rattle.bx_program_sessions.specs.Contents.{Contents, FindsIn, Holds}
@@ -31,6 +36,16 @@ back s = record { most = changes_of s.stack; lacks = TooFew (changes_of s.stack)
 -- the changes that are undone, made again
 abbrev pub again : Images → Course
 again s = record { most = length s.undone; lacks = NothingToRedo (length s.undone); moved = λ i. redo_of i s; left = λ i. changes_of s.stack + i }
+
+-- the changes that are moved one way
+abbrev pub stepped : Way → Images → Course
+stepped Backward s = back s
+stepped Onward s = again s
+
+-- the command that moves k changes one way
+abbrev pub command_by : {R A : Type 0} → Way → ℕ → Command R A
+command_by Backward k = Undo k
+command_by Onward k = Redo k
 
 -- k changes were moved: the contents hold where that leads, and `left` changes stand
 pub record IsMoved (k : ℕ) (course : Course) (left : ℕ) (new : Contents) : Type 0 where
@@ -63,19 +78,20 @@ pub record Moves (names : Names) (k : ℕ) (course : Course) (old new : Sight) :
   pub files : Holds (contents_of names new) (course.moved k)
   pub output : new.output ≡ old.output ++ number_line (course.left k)
 
--- why the moving of k changes may be refused: a file wasn't opened, a device or want of memory stopped it, or there are fewer
+-- why the moving of k changes may be refused, with files that are open: a device or want of memory stopped it, or there are fewer
 abbrev pub MayNotMove : ℕ → Course → Fault → Type 0
-MayNotMove k course OpenFailed = Unit {0}
 MayNotMove k course (Session NoMemory) = Unit {0}
 MayNotMove k course (Session DeviceFailed) = Unit {0}
 MayNotMove k course (Session Interrupted) = Unit {0}
 MayNotMove k course (Session e) = (course.most < k) × (e ≡ course.lacks)
 MayNotMove k course e = ⊥
 
--- The moving of k changes was refused: interrupted, opening finds the images behind some of them; else all files are as they were
-abbrev pub RefusesMove : Names → ℕ → Course → Sight → Sight → Fault → Type 0
-RefusesMove names k course old new (Session Interrupted) = (i : ℕ) × (i ≤ k) × FindsIn (contents_of names new) (course.moved i)
-RefusesMove names k course old new e = MayNotMove k course e × LeavesFiles old new
+-- The moving of k changes was refused: interrupted, opening finds the images behind some of them; else all files are as they were. That files
+-- weren't opened is said with the one that wasn't.
+abbrev pub RefusesMove : Names → ℕ → Course → Option Unopened → Sight → Sight → Fault → Type 0
+RefusesMove names k course unopened old new (Session Interrupted) = (i : ℕ) × (i ≤ k) × FindsIn (contents_of names new) (course.moved i)
+RefusesMove names k course unopened old new OpenFailed = (unopened ≡ None → ⊥) × LeavesFiles old new
+RefusesMove names k course unopened old new e = MayNotMove k course e × LeavesFiles old new
 
 -- a part of a line couldn't be written, behind `before` bytes of the line
 abbrev pub StopsPart : ℕ → List ℕ → List ℕ → List ℕ → Fault → Type 0
@@ -98,5 +114,6 @@ pub record LosesLine (names : Names) (k : ℕ) (course : Course) (old new : Sigh
   pub line : StopsLine (number_line (course.left k)) old.output new.output e
 
 -- Why the moving of k changes ends in a fault: it was refused, and nothing is written; or it is done, and its number couldn't be written
-abbrev pub StopsMove : Names → ℕ → Course → Sight → Sight → Fault → Type 0
-StopsMove names k course old new e = (RefusesMove names k course old new e × (new.output ≡ old.output)) ⊎ LosesLine names k course old new e
+abbrev pub StopsMove : Names → ℕ → Course → Option Unopened → Sight → Sight → Fault → Type 0
+StopsMove names k course unopened old new e =
+    (RefusesMove names k course unopened old new e × (new.output ≡ old.output)) ⊎ LosesLine names k course old new e

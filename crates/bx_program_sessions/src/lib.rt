@@ -9,5 +9,5 @@ mod named;
 
 pub use devices::{Closed, run_on};
 pub use lent::{Done, run_lent};
-pub use moves::{Moved, redo, undo};
+pub use moves::{Moved, move_changes};
 pub use named::{Answer, run_command};

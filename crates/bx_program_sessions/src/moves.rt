@@ -1,15 +1,17 @@
 //! An undo and a redo on files, with the number that they write.
-ghost use Rattle.std.specs.Prelude.{◌≡◌, ◌↔◌, ◌++◌, ◌+◌, ◌<◌, ◌^◌, ℕ, decimal, length, Err, None, IfOk, IfErr, IfSome, OnOk};
+ghost use Rattle.std.specs.Prelude.{◌≡◌, ◌↔◌, ◌++◌, ◌+◌, ◌<◌, ◌^◌, ℕ, decimal, length, Err, None, IfOk, IfErr, IfSome, OnErr, OnOk};
 ghost use Rattle.bx_journal.specs.Images.{Images};
 ghost use Rattle.bx_program_world.specs.World.{KeepsFiles, KeepsStreams};
+ghost use Rattle.bx_cli_commands.specs.Command.{IsNear};
 ghost use Rattle.bx_program_files.specs.Fit.{AreFit};
+ghost use Rattle.bx_program_files.specs.Reasons.{MayRefuseOpening};
 ghost use Rattle.bx_program_sessions.specs.Contents.{FoundIn, Holds, recovered_as};
 ghost use Rattle.bx_program_sessions.specs.Named.{IsUnrecovered, KeepsOthers, contents_of};
-ghost use Rattle.bx_program_sessions.specs.Moves.{IsMoved, Moves, NothingMoved, RefusesMove, StopsLine, StopsMove, StopsPart, TellsRecovered, again, back, number_line, recovered_line};
+ghost use Rattle.bx_program_sessions.specs.Moves.{IsMoved, Moves, NothingMoved, RefusesMove, StopsLine, StopsMove, StopsPart, TellsRecovered, command_by, number_line, recovered_line, stepped};
 
 use crate::named::run_command;
 use bx_cli_commands::{Command, Fault};
-use bx_journal::How;
+use bx_journal::{How, Way};
 use bx_program_files::{Names, Unopened};
 use bx_program_world::World;
 use bx_text::{Field, IoFault, ShortText, dec_field};
@@ -78,6 +80,7 @@ fn tell_number<W: World>(world: &mut W, standing: Result<u32, Fault>) -> Result<
     ensures lost { W.honest world.old
         → IfOk standing (λ left. IfErr result (StopsLine (number_line left) (W.sight world.old).output (W.sight world.new).output)) }
     ensures refused { W.honest world.old → IfErr standing (λ e. (result ≡ Err e) × (W.sight world.new ≡ W.sight world.old)) }
+    ensures noted { W.honest world.old → OnErr standing (W.is_refused world.new ≡ W.is_refused world.old) }
     ensures errors { W.honest world.old → (W.sight world.new).errors ≡ (W.sight world.old).errors }
     ensures files { W.honest world.old → KeepsFiles (W.sight world.old) (W.sight world.new) }
     ensures honesty { W.honest world.new ↔ W.honest world.old }
@@ -111,6 +114,7 @@ fn line_of(how: Option<How>) -> ShortText<64>
 /// Says on standard error what opening found unfinished.
 fn tell_recovered<W: World>(world: &mut W, how: Option<How>)
     ensures errors { W.honest world.old → TellsRecovered how (W.sight world.old).errors (W.sight world.new).errors }
+    ensures noted { W.honest world.old → W.is_refused world.new ≡ W.is_refused world.old }
     ensures output { W.honest world.old → (W.sight world.new).output ≡ (W.sight world.old).output }
     ensures files { W.honest world.old → KeepsFiles (W.sight world.old) (W.sight world.new) }
     ensures honesty { W.honest world.new ↔ W.honest world.old }
@@ -119,30 +123,44 @@ fn tell_recovered<W: World>(world: &mut W, how: Option<How>)
     world.complain(line.as_bytes());
 }
 
-/// Takes the last changes of an image back, and answers how many stand.
-fn take_back<W: World>(
+/// The command that moves as many changes one way.
+fn command_by(way: Way, count: u32) -> Command<Empty>
+    ensures is { result ≡ command_by way count }
+    ensures near { IsNear result }
+{
+    match way {
+        Way::Undo => Command::Undo { k: count },
+        Way::Redo => Command::Redo { j: count },
+    }
+}
+
+/// Takes the last changes of an image back, or makes those undone last again, and answers how many stand.
+fn moved_by<W: World>(
     world: &mut W,
     alloc: Global,
     names: &Names,
     mounted: bool,
+    way: Way,
     count: u32,
 ) -> Moved<u32>
     requires free { W.honest world.old → (W.sight world.old).lent ≡ None }
     ensures done { W.honest world.old → (s : Images) → Holds (contents_of names.now (W.sight world.old)) s
-        → IfOk result.outcome (λ left. IsMoved count (back s) left (contents_of names.now (W.sight world.new))) }
+        → IfOk result.outcome (λ left. IsMoved count (stepped way s) left (contents_of names.now (W.sight world.new))) }
     ensures refused { W.honest world.old → (s : Images) → Holds (contents_of names.now (W.sight world.old)) s
-        → IfErr result.outcome (RefusesMove names.now count (back s) (W.sight world.old) (W.sight world.new)) }
+        → IfErr result.outcome (RefusesMove names.now count (stepped way s) result.unopened (W.sight world.old) (W.sight world.new)) }
     ensures unopened { W.honest world.old → IfSome result.unopened (λ _. NothingMoved result (W.sight world.old) (W.sight world.new)) }
+    ensures why_unopened { W.honest world.old
+        → IfSome result.unopened (MayRefuseOpening names.now mounted (W.is_refused world.new) (W.sight world.old)) }
     ensures fit { W.honest world.old → result.unopened ≡ None → AreFit names.now mounted (W.sight world.old) }
     ensures how { W.honest world.old → (s : Images) → Holds (contents_of names.now (W.sight world.old)) s → IsUnrecovered result.how }
     ensures recovered { W.honest world.old → (s : Images) → FoundIn (contents_of names.now (W.sight world.old)) s → result.unopened ≡ None
         → IfSome result.how (λ how. IfOk result.outcome (λ left.
-        IsMoved count (back (recovered_as how s)) left (contents_of names.now (W.sight world.new)))) }
+        IsMoved count (stepped way (recovered_as how s)) left (contents_of names.now (W.sight world.new)))) }
     ensures others { W.honest world.old → KeepsOthers names.now (W.sight world.old) (W.sight world.new) }
     ensures silent { W.honest world.old → KeepsStreams (W.sight world.old) (W.sight world.new) }
     ensures honesty { W.honest world.new ↔ W.honest world.old }
 {
-    let mut command: Command<Empty> = Command::Undo { k: count };
+    let mut command = command_by(way, count);
     let answer = run_command(world, alloc, names, mounted, &mut command);
     drop(command);
     Moved {
@@ -152,102 +170,37 @@ fn take_back<W: World>(
     }
 }
 
-/// Makes the last undone changes of an image again, and answers how many stand.
-fn make_again<W: World>(
-    world: &mut W,
-    alloc: Global,
-    names: &Names,
-    mounted: bool,
-    count: u32,
-) -> Moved<u32>
-    requires free { W.honest world.old → (W.sight world.old).lent ≡ None }
-    ensures done { W.honest world.old → (s : Images) → Holds (contents_of names.now (W.sight world.old)) s
-        → IfOk result.outcome (λ left. IsMoved count (again s) left (contents_of names.now (W.sight world.new))) }
-    ensures refused { W.honest world.old → (s : Images) → Holds (contents_of names.now (W.sight world.old)) s
-        → IfErr result.outcome (RefusesMove names.now count (again s) (W.sight world.old) (W.sight world.new)) }
-    ensures unopened { W.honest world.old → IfSome result.unopened (λ _. NothingMoved result (W.sight world.old) (W.sight world.new)) }
-    ensures fit { W.honest world.old → result.unopened ≡ None → AreFit names.now mounted (W.sight world.old) }
-    ensures how { W.honest world.old → (s : Images) → Holds (contents_of names.now (W.sight world.old)) s → IsUnrecovered result.how }
-    ensures recovered { W.honest world.old → (s : Images) → FoundIn (contents_of names.now (W.sight world.old)) s → result.unopened ≡ None
-        → IfSome result.how (λ how. IfOk result.outcome (λ left.
-        IsMoved count (again (recovered_as how s)) left (contents_of names.now (W.sight world.new)))) }
-    ensures others { W.honest world.old → KeepsOthers names.now (W.sight world.old) (W.sight world.new) }
-    ensures silent { W.honest world.old → KeepsStreams (W.sight world.old) (W.sight world.new) }
-    ensures honesty { W.honest world.new ↔ W.honest world.old }
-{
-    let mut command: Command<Empty> = Command::Redo { j: count };
-    let answer = run_command(world, alloc, names, mounted, &mut command);
-    drop(command);
-    Moved {
-        outcome: answer.reply.standing(),
-        unopened: answer.unopened,
-        how: answer.how,
-    }
-}
-
-/// Takes the last changes of an image back, says on standard error what was recovered, and writes how many changes stand.
+/// Takes the last changes of an image back, or makes those undone last again, says on standard error what was recovered, and
+/// writes how many changes stand.
 ///
 /// # Errors
-/// Where it was refused, and nothing is written; and where the number can't be written, behind an undo that is done.
-pub fn undo<W: World>(
+/// Where it was refused, and nothing is written; and where the number can't be written, behind a move that is done.
+pub fn move_changes<W: World>(
     world: &mut W,
     alloc: Global,
     names: &Names,
     mounted: bool,
+    way: Way,
     count: u32,
 ) -> Moved<()>
     requires free { W.honest world.old → (W.sight world.old).lent ≡ None }
     ensures done { W.honest world.old → (s : Images) → Holds (contents_of names.now (W.sight world.old)) s
-        → OnOk result.outcome (Moves names.now count (back s) (W.sight world.old) (W.sight world.new)) }
+        → OnOk result.outcome (Moves names.now count (stepped way s) (W.sight world.old) (W.sight world.new)) }
     ensures stopped { W.honest world.old → (s : Images) → Holds (contents_of names.now (W.sight world.old)) s
-        → IfErr result.outcome (StopsMove names.now count (back s) (W.sight world.old) (W.sight world.new)) }
+        → IfErr result.outcome (StopsMove names.now count (stepped way s) result.unopened (W.sight world.old) (W.sight world.new)) }
     ensures unopened { W.honest world.old → IfSome result.unopened (λ _. NothingMoved result (W.sight world.old) (W.sight world.new)) }
+    ensures why_unopened { W.honest world.old
+        → IfSome result.unopened (MayRefuseOpening names.now mounted (W.is_refused world.new) (W.sight world.old)) }
     ensures fit { W.honest world.old → result.unopened ≡ None → AreFit names.now mounted (W.sight world.old) }
     ensures how { W.honest world.old → (s : Images) → Holds (contents_of names.now (W.sight world.old)) s → IsUnrecovered result.how }
     ensures recovered { W.honest world.old → (s : Images) → FoundIn (contents_of names.now (W.sight world.old)) s → result.unopened ≡ None
         → IfSome result.how (λ how. OnOk result.outcome
-        (Moves names.now count (back (recovered_as how s)) (W.sight world.old) (W.sight world.new))) }
+        (Moves names.now count (stepped way (recovered_as how s)) (W.sight world.old) (W.sight world.new))) }
     ensures others { W.honest world.old → KeepsOthers names.now (W.sight world.old) (W.sight world.new) }
     ensures errors { W.honest world.old → TellsRecovered result.how (W.sight world.old).errors (W.sight world.new).errors }
     ensures honesty { W.honest world.new ↔ W.honest world.old }
 {
-    let moved = take_back(world, alloc, names, mounted, count);
-    tell_recovered(world, moved.how);
-    let outcome = tell_number(world, moved.outcome);
-    Moved {
-        outcome,
-        unopened: moved.unopened,
-        how: moved.how,
-    }
-}
-
-/// Makes the last undone changes of an image again, says on standard error what was recovered, and writes how many changes stand.
-///
-/// # Errors
-/// Where it was refused, and nothing is written; and where the number can't be written, behind a redo that is done.
-pub fn redo<W: World>(
-    world: &mut W,
-    alloc: Global,
-    names: &Names,
-    mounted: bool,
-    count: u32,
-) -> Moved<()>
-    requires free { W.honest world.old → (W.sight world.old).lent ≡ None }
-    ensures done { W.honest world.old → (s : Images) → Holds (contents_of names.now (W.sight world.old)) s
-        → OnOk result.outcome (Moves names.now count (again s) (W.sight world.old) (W.sight world.new)) }
-    ensures stopped { W.honest world.old → (s : Images) → Holds (contents_of names.now (W.sight world.old)) s
-        → IfErr result.outcome (StopsMove names.now count (again s) (W.sight world.old) (W.sight world.new)) }
-    ensures unopened { W.honest world.old → IfSome result.unopened (λ _. NothingMoved result (W.sight world.old) (W.sight world.new)) }
-    ensures fit { W.honest world.old → result.unopened ≡ None → AreFit names.now mounted (W.sight world.old) }
-    ensures how { W.honest world.old → (s : Images) → Holds (contents_of names.now (W.sight world.old)) s → IsUnrecovered result.how }
-    ensures recovered { W.honest world.old → (s : Images) → FoundIn (contents_of names.now (W.sight world.old)) s → result.unopened ≡ None
-        → IfSome result.how (λ how. OnOk result.outcome
-        (Moves names.now count (again (recovered_as how s)) (W.sight world.old) (W.sight world.new))) }
-    ensures others { W.honest world.old → KeepsOthers names.now (W.sight world.old) (W.sight world.new) }
-    ensures errors { W.honest world.old → TellsRecovered result.how (W.sight world.old).errors (W.sight world.new).errors }
-    ensures honesty { W.honest world.new ↔ W.honest world.old }
-{
-    let moved = make_again(world, alloc, names, mounted, count);
+    let moved = moved_by(world, alloc, names, mounted, way, count);
     tell_recovered(world, moved.how);
     let outcome = tell_number(world, moved.outcome);
     Moved {

@@ -6,6 +6,7 @@ ghost use Rattle.bx_cli_commands.specs.Refusal.{IsWholeRefusal};
 ghost use Rattle.bx_program_world.specs.World.{KeepsStreams, Sight, TakesAtMost, Trio};
 ghost use Rattle.bx_program_files.specs.Files.{HasMade, AreAllThere, LeavesFiles, if_made};
 ghost use Rattle.bx_program_files.specs.Fit.{AreFit};
+ghost use Rattle.bx_program_files.specs.Reasons.{MayRefuseOpening};
 ghost use Rattle.bx_program_sessions.specs.Contents.{DoesFound, FoundIn, Holds, StepsTo, Survives};
 ghost use Rattle.bx_program_sessions.specs.Named.{LeadTo, IsUnrecovered, KeepsOthers, MayRefuse, NothingDone, contents_of};
 
@@ -96,6 +97,10 @@ pub fn run_command<W: World, R: Read>(
         → LeavesFiles (W.sight world.old) (W.sight world.new) }
     ensures unopened { W.honest world.old
         → IfSome result.unopened (λ _. NothingDone result.reply result.how (W.sight world.old) (W.sight world.new)) }
+
+    // Why files were not opened.
+    ensures why_unopened { W.honest world.old
+        → IfSome result.unopened (MayRefuseOpening names.now mounted (W.is_refused world.new) (W.sight world.old)) }
 
     // Why it was refused, where the files were opened, which may be so only with files that may be changed.
     ensures why { W.honest world.old → (s : Images) → Holds (contents_of names.now (W.sight world.old)) s → result.unopened ≡ None

@@ -211,6 +211,7 @@ pub trait World {
         ensures errors { honest self.old → (n : ℕ) × (sight self.new).errors ≡ (sight self.old).errors ++ take n bytes.now }
         ensures output { honest self.old → (sight self.new).output ≡ (sight self.old).output }
         ensures files { honest self.old → KeepsFiles (sight self.old) (sight self.new) }
+        ensures noted { honest self.old → is_refused self.new ≡ is_refused self.old }
         ensures survives { honest self.old → NothingNewFound (survives self.old) (survives self.new) }
         ensures honesty { honest self.new ↔ honest self.old };
 

@@ -2,29 +2,29 @@
 //! missing.
 use bx_journal::Way;
 use bx_program_files::Names;
-use bx_program_sessions::{Moved, redo, undo};
+use bx_program_sessions::{Moved, move_changes};
 use bx_program_world::{Classes, Kind, MemoryWorld, Plan, Stat};
 use bx_text::{Name, NoMemory};
 use std::alloc::{AllocError, Global};
 
-const LINK: &str = "disk";
+pub const LINK: &str = "disk";
 
-const IMAGE: &str = "disk.img";
+pub const IMAGE: &str = "disk.img";
 
-const JOURNAL: &str = "disk.bxj";
+pub const JOURNAL: &str = "disk.bxj";
 
-const REDO: &str = "disk.bxr";
+pub const REDO: &str = "disk.bxr";
 
-const OTHER: &str = "other.img";
+pub const OTHER: &str = "other.img";
 
 /// What the other file holds.
-const OTHER_BYTES: &[u8] = b"another image";
+pub const OTHER_BYTES: &[u8] = b"another image";
 
 /// Who runs the program, and has the files.
-const CALLER: u32 = 1000;
+pub const CALLER: u32 = 1000;
 
 /// What the system tells of each file.
-const STAT: Stat = Stat {
+pub const STAT: Stat = Stat {
     kind: Kind::Regular,
     owner: CALLER,
     group: 100,
@@ -66,6 +66,14 @@ pub struct Kept {
 }
 
 impl Kept {
+    pub fn held(&self) -> Held<'_> {
+        Held {
+            image: self.image.as_slice(),
+            journal: self.journal.as_slice(),
+            redo: self.redo.as_slice(),
+        }
+    }
+
     pub fn of(alloc: Global, held: Held<'_>) -> Result<Self, AllocError> {
         Ok(Kept {
             image: held.image.to_vec(alloc)?,
@@ -135,8 +143,5 @@ pub fn run(
     count: u32,
 ) -> Moved<()> {
     world.begin(plan);
-    match way {
-        Way::Undo => undo(world, alloc, names, false, count),
-        Way::Redo => redo(world, alloc, names, false, count),
-    }
+    move_changes(world, alloc, names, false, way, count)
 }

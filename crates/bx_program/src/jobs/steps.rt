@@ -10,7 +10,7 @@ use crate::stopped::{STANDARD_OUTPUT, Stopped};
 use bx_cli::{Durability, Fault, StepsJob, Target};
 use bx_journal::{SessionFault, Way};
 use bx_program_files::{Names, Unopened};
-use bx_program_sessions::{Moved, redo, undo};
+use bx_program_sessions::move_changes;
 use bx_program_system::SystemWorld;
 use bx_text::{IoFault, Name};
 use std::alloc::{AllocError, Global};
@@ -59,7 +59,8 @@ where
     let progress = remarks.progress_of_input(rt, None);
     let waits = target.access.durability == Durability::Synced;
     let mut world = SystemWorld::new(rt, &progress, waits);
-    let moved = moved_by(&mut world, rt.alloc(), way, &names, job);
+    let mounted = target.access.mounted;
+    let moved = move_changes(&mut world, rt.alloc(), &names, mounted, way, job.count);
     drop(names);
     remarks.look_at_recovered(moved.how);
     if job.count > 0 && is_moved(&moved.outcome) {
@@ -76,24 +77,6 @@ fn is_moved(outcome: &Result<(), Fault>) -> bool {
     match outcome {
         Ok(()) | Err(Fault::Io(IoFault::WriteFailed { .. })) => true,
         Err(_) => false,
-    }
-}
-
-/// Takes changes back or makes undone ones again in a world.
-fn moved_by<R>(
-    world: &mut SystemWorld<'_, '_, R>,
-    alloc: Global,
-    way: Way,
-    names: &Names,
-    job: &StepsJob,
-) -> Moved<()>
-where
-    R: Files<File = File> + Print + Eprint + Clock + AllocGlobal,
-{
-    let mounted = job.target.access.mounted;
-    match way {
-        Way::Undo => undo(world, alloc, names, mounted, job.count),
-        Way::Redo => redo(world, alloc, names, mounted, job.count),
     }
 }
 

@@ -1,6 +1,7 @@
 use Rattle.std.proofs.Common.{refl}
 use Rattle.bx_cli_commands.specs.Run.{is_failure}
-use Rattle.bx_program_sessions.proofs.Obeyed.{obeys_command, placed_behind, steps_of, survives_of}
+use Rattle.bx_cli_commands.proofs.SessionRuns.{obeys_command}
+use Rattle.bx_program_sessions.proofs.Obeyed.{placed_behind, steps_of, survives_of}
 use Rattle.bx_program_sessions.proofs.devices.run_opened.Goals as goal
 
 pub returns-clause-order : goal.returns-clause-order

@@ -1,12 +1,13 @@
 use Rattle.bx_program_sessions.specs.Named.{contents_of}
-use Rattle.bx_program_sessions.proofs.Answered.{nothing_moved, reason, redone_err, redone_found, redone_ok}
-use Rattle.bx_program_sessions.proofs.moves.make_again.Goals as goal
+use Rattle.bx_program_sessions.proofs.Answered.{moved_err, moved_found, moved_ok, nothing_moved, reason}
+use Rattle.bx_program_sessions.proofs.moves.moved_by.Goals as goal
 
 pub returns-clause-done : goal.returns-clause-done
 returns-clause-done g c old s holds =
     let behind = g.W.World.sight c.run_command-answer.new.world in
     rw c.standing.ensures
-    (redone_ok s c.args.count c.run_command-answer.result.reply (contents_of c.args.names.now behind) (c.run_command-answer.ensures.done old s holds))
+    (moved_ok _ _ c.args.way s c.args.count c.run_command-answer.result.reply (contents_of c.args.names.now behind)
+    (rw c.command_by-command.ensures.is at (c.run_command-answer.ensures.done old s holds)))
 
 pub returns-clause-refused : goal.returns-clause-refused
 returns-clause-refused g c old s holds =
@@ -15,8 +16,10 @@ returns-clause-refused g c old s holds =
     let answer = c.run_command-answer.result in
     let said = c.run_command-answer.ensures in
     rw c.standing.ensures
-    (redone_err s c.args.count c.args.names.now before behind answer.reply (said.done old s holds) (said.refused old s holds)
-    (reason _ answer.unopened answer.reply answer.how before behind (said.unopened old) (said.why old s holds)))
+    (moved_err _ _ c.args.way s c.args.count c.args.names.now answer.unopened before behind answer.reply
+    (rw c.command_by-command.ensures.is at (said.done old s holds)) (said.refused old s holds)
+    (reason _ answer.unopened answer.reply answer.how before behind (said.unopened old)
+    (rw c.command_by-command.ensures.is at (said.why old s holds))))
 
 pub returns-clause-unopened : goal.returns-clause-unopened
 returns-clause-unopened g c old =
@@ -28,5 +31,5 @@ returns-clause-recovered g c old s found is_opened =
     let behind = g.W.World.sight c.run_command-answer.new.world in
     let answer = c.run_command-answer.result in
     rw c.standing.ensures
-    (redone_found s c.args.count answer.how answer.reply (contents_of c.args.names.now behind)
-    (λ h is. rw is at (c.run_command-answer.ensures.recovered old s found is_opened)))
+    (moved_found _ _ c.args.way s c.args.count answer.how answer.reply (contents_of c.args.names.now behind)
+    (λ h is. rw (is, c.command_by-command.ensures.is) at (c.run_command-answer.ensures.recovered old s found is_opened)))
