@@ -23,14 +23,16 @@ use std::alloc::Global;
 /// Where the failures of a redo text begin to count.
 const FIRST_OF_REDO: u64 = 1 << 32;
 
-/// Which writes of a device that is lent fail.
+/// Which calls of a device that is lent fail.
 #[derive(Clone, Copy)]
 pub struct Fails {
-    /// The count of writes that pass first.
+    /// The count of them that pass first.
     pub pass: u64,
+    /// Whether they are reads, which all fail from there on; else they are writes, cuts and syncs.
+    pub on_reads: bool,
     /// How much of a write that fails takes effect.
     pub part: Part,
-    /// Whether one fails alone, or all from there on.
+    /// Whether one write fails alone, or all from there on.
     pub once: bool,
 }
 
@@ -38,6 +40,7 @@ impl Fails {
     /// None of them.
     pub const NEVER: Fails = Fails {
         pass: u64::MAX,
+        on_reads: false,
         part: Part::Nothing,
         once: true,
     };
@@ -48,7 +51,7 @@ impl Fails {
 pub struct Plan {
     /// The calls of the world that are refused.
     pub calls: Fuse,
-    /// The writes of the image that fail, once it is lent.
+    /// The calls of the image that fail, once it is lent.
     pub image: Fails,
     /// Those of the journal.
     pub journal: Fails,
@@ -261,12 +264,12 @@ impl MemoryWorld {
         ensures within { result.within ≡ record { contents = contents; alloc = self.now.alloc; failures = 0 } }
         ensures failures { ⟦<FuseText<LentText> as TextStore>⟧.failures result ≡ 0 }
     {
-        FuseText::new(
-            LentText::new(self.alloc, contents),
-            fails.pass,
-            fails.part,
-            fails.once,
-        )
+        let text = LentText::new(self.alloc, contents);
+        if fails.on_reads {
+            FuseText::on_reads(text, fails.pass)
+        } else {
+            FuseText::new(text, fails.pass, fails.part, fails.once)
+        }
     }
 
     /// The image of these contents, which fails as planned.
@@ -274,12 +277,12 @@ impl MemoryWorld {
         ensures within { result.within ≡ record { contents = contents; alloc = self.now.alloc; failures = 0 } }
         ensures failures { ⟦<FuseImage<LentImage> as Device>⟧.failures result ≡ 0 }
     {
-        FuseImage::new(
-            LentImage::new(self.alloc, contents),
-            fails.pass,
-            fails.part,
-            fails.once,
-        )
+        let image = LentImage::new(self.alloc, contents);
+        if fails.on_reads {
+            FuseImage::on_reads(image, fails.pass)
+        } else {
+            FuseImage::new(image, fails.pass, fails.part, fails.once)
+        }
     }
 }
 

@@ -2,19 +2,23 @@
 //! or redo of as many changes; a first `undo: 0` tells what opening recovers.
 //!
 //! Each call of the world in turn is refused, alone or with all behind it, and each write, cut or sync of the image, of the journal
-//! and of the redo text fails (none, half or all of it taking effect, once or for good), until no call does. Outcome, streams and
+//! and of the redo text fails (none, half or all of it taking effect, once or for good), and each read of them with all behind it, until
+//! no call does. Outcome, streams and
 //! files have to be those of the case, or as before with nothing made; of an interrupted command an opening decides. Then the power
 //! is lost: of each of the three what it has or what is on its disk is left, in all combinations, and opening finds the image behind
 //! some of the changes: behind all where the command is done, behind none where it is refused. A line of the output has a case, and
-//! how often it was played with each of the four.
+//! how often it was played with each; before them stand the files of
+//! `odd.rt` that may not be opened, in the first case.
 #![tactic(auto)]
 
 mod left;
+mod odd;
 mod plays;
 mod report;
 mod setting;
 mod sweeps;
 
+use crate::odd::{ODDS, Odd, play_refused};
 use crate::plays::Play;
 use crate::report::Wrong;
 use crate::sweeps::{Failing, play_sweep};
@@ -51,17 +55,46 @@ fn play_case(rt: &HostRuntime, case: &Case) -> Result<bool, Wrong> {
     };
     let play = Play::new(rt.alloc(), commands)?;
     let _ = print!(rt; "{}", case.name);
-    let world = play_told(rt, &play, Failing::World);
-    let image = play_told(rt, &play, Failing::Image);
-    let journal = play_told(rt, &play, Failing::Journal);
-    let redo = play_told(rt, &play, Failing::Redo);
+    let mut right = true;
+    for failing in Failing::EACH {
+        right = play_told(rt, &play, *failing) && right;
+    }
     let _ = println!(rt; "");
-    Ok(world && image && journal && redo)
+    Ok(right)
+}
+
+/// Plays a case with a file that may not be opened. Tells whether it is right.
+fn play_odd(rt: &HostRuntime, play: &Play<'_>, odd: &Odd) -> bool {
+    let (name, _, _, _) = *odd;
+    match play_refused(play, odd) {
+        Ok(plays) => {
+            let _ = println!(rt; "{name}, not opened {plays}");
+            true
+        }
+        Err(failure) => {
+            let what = failure.wrong.text();
+            let _ = println!(rt; "{name}, call {}: {what}", failure.call);
+            false
+        }
+    }
+}
+
+/// Plays the first case with each file that may not be opened. Tells whether all are right.
+fn play_odds(rt: &HostRuntime, cases: &[Case]) -> Result<bool, Wrong> {
+    let Some(Test::Commands(commands)) = cases.first().map(|case| &case.test) else {
+        return Err(Wrong::Unknown);
+    };
+    let play = Play::new(rt.alloc(), commands)?;
+    let mut right = true;
+    for odd in &ODDS {
+        right = play_odd(rt, &play, odd) && right;
+    }
+    Ok(right)
 }
 
 /// Plays these cases. Tells whether all are right.
 fn play_each(rt: &HostRuntime, cases: &[Case]) -> Result<bool, Wrong> {
-    let mut right = true;
+    let mut right = play_odds(rt, cases)?;
     for case in cases {
         right = play_case(rt, case)? && right;
     }

@@ -7,24 +7,40 @@ use bx_image::{Fuse, Part};
 use bx_program_world::{Fails, MemoryWorld, Plan};
 
 /// More calls than a case makes.
-const MOST_CALLS: u64 = 200;
+pub const MOST_CALLS: u64 = 200;
 
-/// What fails: calls of the world, or those of a device that write.
+/// What fails: calls of the world, or those of a device that write, or that read.
 #[derive(Clone, Copy)]
 pub enum Failing {
     World,
     Image,
     Journal,
     Redo,
+    ImageReads,
+    JournalReads,
+    RedoReads,
 }
 
 impl Failing {
+    pub const EACH: &'static [Failing] = &[
+        Failing::World,
+        Failing::Image,
+        Failing::Journal,
+        Failing::Redo,
+        Failing::ImageReads,
+        Failing::JournalReads,
+        Failing::RedoReads,
+    ];
+
     pub fn name(self) -> &'static str {
         match self {
             Failing::World => "world",
             Failing::Image => "image",
             Failing::Journal => "journal",
             Failing::Redo => "redo text",
+            Failing::ImageReads => "image reads",
+            Failing::JournalReads => "journal reads",
+            Failing::RedoReads => "redo text reads",
         }
     }
 
@@ -32,12 +48,21 @@ impl Failing {
     fn ways(self) -> u32 {
         match self {
             Failing::World => 2,
-            _ => 6,
+            Failing::Image | Failing::Journal | Failing::Redo => 6,
+            Failing::ImageReads | Failing::JournalReads | Failing::RedoReads => 1,
+        }
+    }
+
+    /// Whether it is reads that fail.
+    fn on_reads(self) -> bool {
+        match self {
+            Failing::World | Failing::Image | Failing::Journal | Failing::Redo => false,
+            Failing::ImageReads | Failing::JournalReads | Failing::RedoReads => true,
         }
     }
 
     /// The plan by which `pass` calls are passed first: in an even way one call fails, in an odd one all from it on; and of a write
-    /// nothing takes effect, or half, or all.
+    /// nothing takes effect, or half, or all. Of reads all fail from one on.
     fn plan(self, way: u32, pass: u64) -> Plan {
         let once = way & 1 == 0;
         let part = match way {
@@ -45,13 +70,19 @@ impl Failing {
             2 | 3 => Part::Half,
             _ => Part::All,
         };
-        let fails = Fails { pass, part, once };
+        let on_reads = self.on_reads();
+        let fails = Fails {
+            pass,
+            on_reads,
+            part,
+            once,
+        };
         let mut plan = Plan::NOTHING;
         match self {
             Failing::World => plan.calls = Fuse::new(pass, once),
-            Failing::Image => plan.image = fails,
-            Failing::Journal => plan.journal = fails,
-            Failing::Redo => plan.redo = fails,
+            Failing::Image | Failing::ImageReads => plan.image = fails,
+            Failing::Journal | Failing::JournalReads => plan.journal = fails,
+            Failing::Redo | Failing::RedoReads => plan.redo = fails,
         }
         plan
     }
