@@ -1,10 +1,10 @@
 -- The log of a session as text.
-use Rattle.std.specs.Prelude.{ℕ, List, ◌++◌, codes, decimal}
+use Rattle.std.specs.Prelude.{ℕ, List, Option, ◌++◌, codes, decimal}
 use Rattle.bx_journal.specs.ShowFault.TheVariants as look
 use Rattle.bx_journal.specs.LogRow.{LogRow}
 use Rattle.bx_journal.specs.Steps.{Steps}
-use Rattle.bx_journal.specs.Showing.{LookCounts, StopsLog}
-use Rattle.bx_journal.specs.ShownSteps.{RefusesSteps, StopsSteps}
+use Rattle.bx_journal.specs.Showing.{LookCounts, StopsLog, StopsRows}
+use Rattle.bx_journal.specs.ShownSteps.{RefusesSteps, StopsShown, StopsSteps}
 use Rattle.bx_cli_commands.specs.declared.fault.Fault.{Fault}
 use Rattle.bx_cli_commands.specs.declared.fault.Fault.TheVariants as of
 
@@ -18,6 +18,12 @@ StopsListing honest text (of.Session fault) = StopsLog honest text (look.Text fa
 StopsListing honest text (of.Io fault) = StopsLog honest text (look.Io fault)
 StopsListing honest text _ = ⊥
 
+-- what was written where it was stopped: as of a look
+abbrev pub StopsListed : List ℕ → Option (List ℕ) → Option (List ℕ) → Fault → Type 0
+StopsListed text old new (of.Session fault) = StopsRows text old new (look.Text fault)
+StopsListed text old new (of.Io fault) = StopsRows text old new (look.Io fault)
+StopsListed text old new _ = ⊥
+
 -- how the counts of failed calls of two devices go on: as behind a look's fault
 abbrev pub ListCounts : Fault → ℕ → ℕ → ℕ → ℕ → Type 0
 ListCounts (of.Session fault) d t d_new t_new = LookCounts (look.Text fault) d t d_new t_new
@@ -29,6 +35,12 @@ abbrev pub StopsShowing : Type 0 → List ℕ → Steps → Fault → Type 0
 StopsShowing honest text s (of.Session fault) = StopsSteps honest text s (look.Text fault)
 StopsShowing honest text s (of.Io fault) = StopsSteps honest text s (look.Io fault)
 StopsShowing honest text s _ = ⊥
+
+-- what was written where it was stopped: as of a look at the steps
+abbrev pub StopsShownList : List ℕ → List ℕ → Steps → Option (List ℕ) → Option (List ℕ) → Fault → Type 0
+StopsShownList text image s old new (of.Session fault) = StopsShown text image s old new (look.Text fault)
+StopsShownList text image s old new (of.Io fault) = StopsShown text image s old new (look.Io fault)
+StopsShownList text image s old new _ = ⊥
 
 -- the fault is of the text and the number of steps: nothing is written before it
 abbrev pub RefusesShowing : Fault → Type 0

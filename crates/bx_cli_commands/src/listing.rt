@@ -3,7 +3,7 @@ ghost use Rattle.std.specs.Prelude.{◌≡◌, ◌<◌, ◌++◌, IfErr, IfOk, O
 ghost use Rattle.std.specs.List.{flat_map};
 ghost use Rattle.bx_journal.specs.Showing.{RangesOf, Stays};
 ghost use Rattle.bx_journal.specs.ShownSteps.{ShowsSteps};
-ghost use Rattle.bx_cli_commands.specs.Listing.{ListCounts, RefusesShowing, StopsListing, StopsShowing, log_line};
+ghost use Rattle.bx_cli_commands.specs.Listing.{ListCounts, RefusesShowing, StopsListed, StopsListing, StopsShowing, StopsShownList, log_line};
 
 use crate::Fault;
 use bx_image::Device;
@@ -47,6 +47,7 @@ pub fn list_ranges<T: TextStore, A: Allocator + Clone, W: Write>(
     requires { T.failures journal.old < u64.MAX }
     ensures rows { T.honest journal.old → OnOk result (RangesOf (T.text journal.old) (W.contents out.old) (W.contents out.new)) }
     ensures fault { IfErr result (StopsListing (T.honest journal.old) (T.text journal.old)) }
+    ensures stops { T.honest journal.old → IfErr result (StopsListed (T.text journal.old) (W.contents out.old) (W.contents out.new)) }
     ensures text { Stays T.honest T.text T.failures result journal.old journal.new }
     ensures counts { IfErr result (λ f. ListCounts f (T.failures journal.old) 0 (T.failures journal.new) 0) }
 {
@@ -75,6 +76,8 @@ pub fn list_steps<D: Device, T: TextStore, A: Allocator + Clone, W: Write>(
         (ShowsSteps (T.text journal.old) (D.image image.old) steps (W.contents out.old) (W.contents out.new)) }
     ensures fault { IfErr result (StopsShowing (T.honest journal.old) (T.text journal.old) steps) }
     ensures quiet { IfErr result (λ fault. RefusesShowing fault → W.contents out.new ≡ W.contents out.old) }
+    ensures stops { T.honest journal.old → (IsTrue steps.compares → D.honest image.old) → IfErr result
+        (StopsShownList (T.text journal.old) (D.image image.old) steps (W.contents out.old) (W.contents out.new)) }
     ensures image { Stays D.honest D.image D.failures result image.old image.new }
     ensures text { Stays T.honest T.text T.failures result journal.old journal.new }
     ensures counts { IfErr result (λ f. ListCounts f (D.failures image.old) (T.failures journal.old) (D.failures image.new) (T.failures journal.new)) }

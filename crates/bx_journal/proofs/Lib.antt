@@ -19,5 +19,6 @@ pub mod HeadingLines
 pub mod ShownPatch
 pub mod SpelledLaws
 pub mod ForgottenLemmas
+pub mod StoppedLooks
 pub use Rattle.bx_journal_protocol.proofs.Ready
 pub use Rattle.bx_journal_read.proofs.Phases

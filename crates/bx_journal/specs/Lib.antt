@@ -17,6 +17,7 @@ pub use Rattle.bx_journal_read.specs.model.Undoing
 pub use Rattle.bx_journal_read.specs.show.Differences
 pub use Rattle.bx_journal_read.specs.show.Showing
 pub use Rattle.bx_journal_read.specs.show.ShownSteps
+pub use Rattle.bx_journal_read.specs.show.Stopping
 pub use Rattle.bx_journal_protocol.specs.model.Laws
 pub use Rattle.bx_journal_protocol.specs.model.OnTop
 pub use Rattle.bx_journal_protocol.specs.model.Performing

@@ -1,7 +1,7 @@
 //! A look at the changes of a text, without a session: nothing is recovered, and the text stays.
 ghost use Rattle.std.specs.Prelude.{◌≡◌, ◌<◌, ◌≤◌, ℕ, All, IsTrue, length, OnOk, IfOk, IfErr, IfSome, IfNone};
-ghost use Rattle.bx_journal_read.specs.show.Showing.{RangesOf, StopsLog, LiesWithin, LookCounts, PutFault, Stays};
-ghost use Rattle.bx_journal_read.specs.show.ShownSteps.{RefusesSteps, ShowsSteps, StopsSteps, CannotStep, FindsSteps, IsChecked, IsFoundPut, IsLeftIn, IsSettled, few_that, fault_that};
+ghost use Rattle.bx_journal_read.specs.show.Showing.{RangesOf, StopsLog, StopsRows, LiesWithin, LookCounts, PutFault, Stays};
+ghost use Rattle.bx_journal_read.specs.show.ShownSteps.{RefusesSteps, ShowsSteps, StopsFound, StopsShown, StopsSteps, CannotStep, FindsSteps, IsChecked, IsFoundPut, IsLeftIn, IsSettled, few_that, fault_that};
 
 mod entries;
 mod step;
@@ -34,6 +34,7 @@ pub fn log_ranges<T: TextStore, A: Allocator + Clone, W: Write>(
     requires { T.failures journal.old < u64.MAX }
     ensures rows { T.honest journal.old → OnOk result (RangesOf (T.text journal.old) (W.contents out.old) (W.contents out.new)) }
     ensures fault { IfErr result (StopsLog (T.honest journal.old) (T.text journal.old)) }
+    ensures stops { T.honest journal.old → IfErr result (StopsRows (T.text journal.old) (W.contents out.old) (W.contents out.new)) }
     ensures text { Stays T.honest T.text T.failures result journal.old journal.new }
     ensures counts { IfErr result (λ f. LookCounts f (T.failures journal.old) 0 (T.failures journal.new) 0) }
 {
@@ -127,6 +128,8 @@ fn put_found<D: Device, T: TextStore, A: Allocator + Clone, W: Write>(
     requires lie { (len : ℕ) × (T.honest journal.old → len ≤ length (T.text journal.old)) × All (LiesWithin len) found.now.marks.items }
     ensures put { T.honest journal.old → (IsTrue steps.compares → D.honest image.old) → OnOk result
         (IsFoundPut steps (D.image image.old) (T.text journal.old) found.now (W.contents out.old) (W.contents out.new)) }
+    ensures stops { T.honest journal.old → (IsTrue steps.compares → D.honest image.old) → IfErr result
+        (StopsFound steps (D.image image.old) (T.text journal.old) found.now (W.contents out.old) (W.contents out.new)) }
     ensures kind { IfErr result PutFault }
     ensures image { Stays D.honest D.image D.failures result image.old image.new }
     ensures stays { Stays T.honest T.text T.failures result journal.old journal.new }
@@ -168,6 +171,8 @@ pub fn show_steps<D: Device, T: TextStore, A: Allocator + Clone, W: Write>(
         (ShowsSteps (T.text journal.old) (D.image image.old) steps (W.contents out.old) (W.contents out.new)) }
     ensures fault { IfErr result (StopsSteps (T.honest journal.old) (T.text journal.old) steps) }
     ensures quiet { IfErr result (λ fault. RefusesSteps fault → W.contents out.new ≡ W.contents out.old) }
+    ensures stops { T.honest journal.old → (IsTrue steps.compares → D.honest image.old) → IfErr result
+        (StopsShown (T.text journal.old) (D.image image.old) steps (W.contents out.old) (W.contents out.new)) }
     ensures image { Stays D.honest D.image D.failures result image.old image.new }
     ensures text { Stays T.honest T.text T.failures result journal.old journal.new }
     ensures counts { IfErr result (λ f. LookCounts f (D.failures image.old) (T.failures journal.old) (D.failures image.new) (T.failures journal.new)) }

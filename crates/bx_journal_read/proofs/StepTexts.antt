@@ -44,7 +44,7 @@ same_saved : (compares : Bool) (image now text : List ℕ) (mark : Mark) → (Is
 same_saved true image now text mark same = ap (λ x. saved_lines_at true x text mark) (same refl)
 same_saved false image now text mark same = refl
 
-same_step : (s : Steps) (image now text : List ℕ) (n : ℕ) (mark : Mark) → (IsTrue s.compares → now ≡ image) → mark_step s now text n mark ≡ mark_step s image text n mark
+pub same_step : (s : Steps) (image now text : List ℕ) (n : ℕ) (mark : Mark) → (IsTrue s.compares → now ≡ image) → mark_step s now text n mark ≡ mark_step s image text n mark
 same_step s image now text n mark same =
     ap (λ t. heading_at text s.way n mark ++ length_told s mark.after mark.len ++ t ++ codes "\n") (same_saved s.compares image now text mark same)
 

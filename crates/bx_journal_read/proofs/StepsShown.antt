@@ -309,7 +309,7 @@ front_lie honest stored now slice marks torn a same is = (
   subst (All (LiesWithin (length a.front))) (sym is) (all_lie a.front a.entries marks a.spelled a.marks_are),
 )
 
-torn_is : (torn : Torn) (cs : List EntryLines) (stage : Stage) → torn.count ≡ length cs → mark_word torn.mark ≡ next_word stage → torn_text (Some torn) ≡ unfinished_line (suc (length cs)) stage
+pub torn_is : (torn : Torn) (cs : List EntryLines) (stage : Stage) → torn.count ≡ length cs → mark_word torn.mark ≡ next_word stage → torn_text (Some torn) ≡ unfinished_line (suc (length cs)) stage
 torn_is torn cs stage count word =
     let number : torn.count + 1 ≡ suc (length cs) = omega (arith, count) in
     ap (λ n. codes "# change " ++ decimal n ++ codes ": unfinished, the next command " ++ mark_word torn.mark ++ codes "\n") number

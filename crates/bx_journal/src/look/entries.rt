@@ -1,7 +1,8 @@
 //! The entries of a text that are marked, a row for each.
-ghost use Rattle.std.specs.Prelude.{◌≡◌, ◌<◌, ◌≤◌, ◌++◌, ℕ, All, OnOk, IfErr, length, string_bytes};
+ghost use Rattle.std.specs.Prelude.{◌≡◌, ◌<◌, ◌≤◌, ◌++◌, ℕ, All, OnOk, IfOk, IfErr, length, string_bytes};
 ghost use Rattle.std.specs.Io.KnownBytes.{Appends};
 ghost use Rattle.bx_journal_read.specs.show.Showing.{CountsNone, LiesWithin, LookCounts, PutFault, Stays, mark_row, mark_rows, places_at, row_front};
+ghost use Rattle.bx_journal_read.specs.show.Stopping.{CountsBytes, StopsPrefix};
 
 use bx_journal_format::Mark;
 use bx_journal_read::{ShowFault, WINDOW, put, put_ranges};
@@ -31,6 +32,8 @@ fn put_front<A: Allocator + Clone, W: Write>(
     ensures front { OnOk result (Appends (W.contents out.old) (W.contents out.new) (row_front number mark)) }
     ensures kind { IfErr result PutFault }
     ensures counts { IfErr result CountsNone }
+    ensures counted { IfOk result (CountsBytes written (row_front number mark)) }
+    ensures stops { IfErr result (StopsPrefix written (row_front number mark) (W.contents out.old) (W.contents out.new)) }
 {
     let mut front = String::new(alloc.clone()?);
     push_front(&mut front, number, mark)?;
@@ -50,6 +53,9 @@ fn put_places<T: TextStore, A: Allocator + Clone, W: Write>(
     requires within { T.honest journal.old → mark.to ≤ length (T.text journal.old) }
     requires order { mark.from ≤ mark.to }
     ensures put { T.honest journal.old → OnOk result (Appends (W.contents out.old) (W.contents out.new) (places_at (T.text journal.old) mark)) }
+    ensures counted { T.honest journal.old → IfOk result (CountsBytes written (places_at (T.text journal.old) mark)) }
+    ensures stops { T.honest journal.old → IfErr result
+        (StopsPrefix written (places_at (T.text journal.old) mark) (W.contents out.old) (W.contents out.new)) }
     ensures kind { IfErr result PutFault }
     ensures stays { Stays T.honest T.text T.failures result journal.old journal.new }
     ensures counts { IfErr result (λ f. LookCounts f (T.failures journal.old) 0 (T.failures journal.new) 0) }
@@ -81,6 +87,9 @@ fn put_row<T: TextStore, A: Allocator + Clone, W: Write>(
     requires order { change.mark.from ≤ change.mark.to }
     ensures row { T.honest journal.old → OnOk result
         (Appends (W.contents out.old) (W.contents out.new) (mark_row (T.text journal.old) change.number change.mark)) }
+    ensures counted { T.honest journal.old → IfOk result (CountsBytes written (mark_row (T.text journal.old) change.number change.mark)) }
+    ensures stops { T.honest journal.old → IfErr result
+        (StopsPrefix written (mark_row (T.text journal.old) change.number change.mark) (W.contents out.old) (W.contents out.new)) }
     ensures kind { IfErr result PutFault }
     ensures stays { Stays T.honest T.text T.failures result journal.old journal.new }
     ensures counts { IfErr result (λ f. LookCounts f (T.failures journal.old) 0 (T.failures journal.new) 0) }
@@ -100,6 +109,8 @@ pub fn put_rows<T: TextStore, A: Allocator + Clone, W: Write>(
     requires countable { T.failures journal.old < u64.MAX }
     requires lie { (len : ℕ) × (T.honest journal.old → len ≤ length (T.text journal.old)) × All (LiesWithin len) marks.now }
     ensures rows { T.honest journal.old → OnOk result (Appends (W.contents out.old) (W.contents out.new) (mark_rows (T.text journal.old) 1 marks.now)) }
+    ensures stops { T.honest journal.old → IfErr result
+        (StopsPrefix 0 (mark_rows (T.text journal.old) 1 marks.now) (W.contents out.old) (W.contents out.new)) }
     ensures kind { IfErr result PutFault }
     ensures stays { Stays T.honest T.text T.failures result journal.old journal.new }
     ensures counts { IfErr result (λ f. LookCounts f (T.failures journal.old) 0 (T.failures journal.new) 0) }

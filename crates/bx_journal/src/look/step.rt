@@ -1,7 +1,8 @@
 //! Steps over changes, as they are shown: a heading, the saved lines, and an empty line for each.
-ghost use Rattle.std.specs.Prelude.{◌≡◌, ◌+◌, ◌<◌, ◌≤◌, ℕ, All, IsTrue, length, OnOk};
+ghost use Rattle.std.specs.Prelude.{◌≡◌, ◌+◌, ◌<◌, ◌≤◌, ℕ, All, IsTrue, length, OnOk, IfErr};
 ghost use Rattle.std.specs.Io.KnownBytes.{Appends};
-ghost use Rattle.bx_journal_read.specs.show.ShownSteps.{first_number, AreStepsPut, mark_step, number_at, saved_lines_at};
+ghost use Rattle.bx_journal_read.specs.show.ShownSteps.{first_number, AreStepsPut, mark_step, newest_steps, number_at, saved_lines_at};
+ghost use Rattle.bx_journal_read.specs.show.Stopping.{CountsBytes, StopsPrefix};
 ghost use Rattle.bx_journal_read.specs.show.Showing.{LiesWithin, WritesBeside};
 
 use bx_image::Device;
@@ -39,6 +40,10 @@ fn put_saved<D: Device, T: TextStore, A: Allocator + Clone, W: Write>(
     requires order { mark.from ≤ mark.to }
     ensures put { T.honest journal.old → (IsTrue compares → D.honest image.old) → OnOk result
         (Appends (W.contents out.old) (W.contents out.new) (saved_lines_at compares (D.image image.old) (T.text journal.old) mark)) }
+    ensures counted { T.honest journal.old → (IsTrue compares → D.honest image.old) → OnOk result (CountsBytes writing.old.written
+        (saved_lines_at compares (D.image image.old) (T.text journal.old) mark) writing.new.written) }
+    ensures stops { T.honest journal.old → (IsTrue compares → D.honest image.old) → IfErr result (StopsPrefix writing.old.written
+        (saved_lines_at compares (D.image image.old) (T.text journal.old) mark) (W.contents out.old) (W.contents out.new)) }
     ensures puts { WritesBeside D.Device T.TextStore result image.old image.new journal.old journal.new }
 {
     match compares {
@@ -61,6 +66,10 @@ fn put_step<D: Device, T: TextStore, A: Allocator + Clone, W: Write>(
     requires order { step.mark.from ≤ step.mark.to }
     ensures step { T.honest journal.old → (IsTrue step.steps.compares → D.honest image.old) → OnOk result
         (Appends (W.contents out.old) (W.contents out.new) (mark_step step.steps (D.image image.old) (T.text journal.old) step.number step.mark)) }
+    ensures counted { T.honest journal.old → (IsTrue step.steps.compares → D.honest image.old) → OnOk result (CountsBytes writing.old.written
+        (mark_step step.steps (D.image image.old) (T.text journal.old) step.number step.mark) writing.new.written) }
+    ensures stops { T.honest journal.old → (IsTrue step.steps.compares → D.honest image.old) → IfErr result (StopsPrefix writing.old.written
+        (mark_step step.steps (D.image image.old) (T.text journal.old) step.number step.mark) (W.contents out.old) (W.contents out.new)) }
     ensures puts { WritesBeside D.Device T.TextStore result image.old image.new journal.old journal.new }
 {
     put_heading(journal, writing, step, out)?;
@@ -84,6 +93,8 @@ pub fn put_steps<D: Device, T: TextStore, A: Allocator + Clone, W: Write>(
     requires lie { (len : ℕ) × (T.honest journal.old → len ≤ length (T.text journal.old)) × All (LiesWithin len) marks.now }
     ensures steps { T.honest journal.old → (IsTrue steps.compares → D.honest image.old) → OnOk result
         (AreStepsPut steps (D.image image.old) (T.text journal.old) steps.count marks.now (W.contents out.old) (W.contents out.new)) }
+    ensures stops { T.honest journal.old → (IsTrue steps.compares → D.honest image.old) → IfErr result (StopsPrefix writing.old.written
+        (newest_steps steps (D.image image.old) (T.text journal.old) steps.count marks.now) (W.contents out.old) (W.contents out.new)) }
     ensures puts { WritesBeside D.Device T.TextStore result image.old image.new journal.old journal.new }
 {
     for i in 0..steps.count {

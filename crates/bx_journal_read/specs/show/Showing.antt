@@ -51,6 +51,11 @@ pub record RangesOf (text : List ℕ) (old new : Option (List ℕ)) : Type 0 whe
   pub whole : IsClean text
   pub rows : (entries : List Entry) → IsFinished text entries → Appends old new (ranges_rows entries)
 
+-- A log with ranges was stopped: a front of the rows of finished entries was written, and nothing of another text
+pub record StopsRows (text : List ℕ) (old new : Option (List ℕ)) (fault : ShowFault) : Type 0 where
+  pub quiet : (IsClean text → ⊥) → new ≡ old
+  pub rows : (entries : List Entry) → IsFinished text entries → StopsPrefix 0 (ranges_rows entries) old new fault
+
 -- which fault writing what is read of a text answers: of memory or a device, or a failed write
 abbrev pub PutFault : ShowFault → Type 0
 PutFault (Text fault) = DeviceFault fault

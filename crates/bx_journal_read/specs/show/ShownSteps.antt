@@ -12,6 +12,7 @@ use Rattle.bx_journal_read.specs.model.Redo.{BeginsAt, IsClean}
 use Rattle.bx_journal_read.specs.show.Showing.{after_text, bytes_of, PutFault, lines_at, ranges_at}
 use Rattle.bx_journal_read.specs.declared.show.fault.ShowFault.{ShowFault}
 use Rattle.bx_journal_read.specs.declared.show.fault.ShowFault.TheVariants.{Text, Io}
+use Rattle.bx_journal_read.specs.show.Stopping.{StopsPrefix}
 use Rattle.bx_journal_read.specs.declared.show.way.Steps.{Steps}
 use Rattle.bx_journal_read.specs.declared.show.way.Way.{Way}
 use Rattle.bx_journal_read.specs.declared.show.way.Way.TheVariants.{Undo, Redo}
@@ -129,6 +130,13 @@ pub record ShowsSteps (text image : List ℕ) (s : Steps) (old new : Option (Lis
   pub unfinished : (front : List ℕ) (entries : List EntryLines) (stage : Stage) → IsUnfinishedBehind text front entries stage
       → (s.way ≡ Undo) × HasShown s image entries (unfinished_line (suc (length entries)) stage) old new
 
+-- A look at steps was stopped: a front of what is written of such a text was, and nothing of another
+pub record StopsShown (text image : List ℕ) (s : Steps) (old new : Option (List ℕ)) (fault : ShowFault) : Type 0 where
+  pub quiet : (HasFront text → ⊥) → new ≡ old
+  pub finished : (entries : List EntryLines) → IsSpelled text entries → StopsPrefix 0 (shown_steps s image entries) old new fault
+  pub unfinished : (front : List ℕ) (entries : List EntryLines) (stage : Stage) → IsUnfinishedBehind text front entries stage
+      → StopsPrefix 0 (unfinished_line (suc (length entries)) stage ++ shown_steps s image entries) old new fault
+
 -- a text has `have` finished entries
 abbrev pub HasEntries : List ℕ → ℕ → Type 0
 HasEntries text have = (r : Reading) × Reads (shown text) r × (length r.entries ≡ have)
@@ -224,6 +232,10 @@ abbrev pub AreStepsPut : Steps → List ℕ → List ℕ → ℕ → List Mark �
 AreStepsPut s image text count marks old new =
     Appends old new (newest_first s image text (first_number s.way s.changes (length marks)) (drop (length marks - count) marks))
 
+-- what the steps of the newest marks are
+abbrev pub newest_steps : Steps → List ℕ → List ℕ → ℕ → List Mark → List ℕ
+newest_steps s image text count marks = newest_first s image text (first_number s.way s.changes (length marks)) (drop (length marks - count) marks)
+
 -- what the next command does with what is unfinished, which has its record at a mark where the change was under way
 abbrev pub mark_word : Option Place → List ℕ
 mark_word None = codes "drops it"
@@ -301,3 +313,7 @@ pub record FindsSteps {T A : Type 0} (honest : T → Type 0) (text : T → List 
 abbrev pub IsFoundPut : {A : Type 0} → Steps → List ℕ → List ℕ → Marked A → Option (List ℕ) → Option (List ℕ) → Type 0
 IsFoundPut s image text found old new =
     (between : Option (List ℕ)) × Appends old between (torn_text found.torn) × AreStepsPut s image text s.count found.marks.items between new
+
+-- a front of that line and those steps was written
+abbrev pub StopsFound : {A : Type 0} → Steps → List ℕ → List ℕ → Marked A → Option (List ℕ) → Option (List ℕ) → ShowFault → Type 0
+StopsFound s image text found old new fault = StopsPrefix 0 (torn_text found.torn ++ newest_steps s image text s.count found.marks.items) old new fault

@@ -2,7 +2,14 @@ use Rattle.std.proofs.Common.{◌≤◌, length, subst, sym}
 use Rattle.std.specs.Prelude.{All}
 use Rattle.bx_journal_read.specs.show.Showing.{LiesWithin}
 use Rattle.bx_journal_read.specs.show.ShownSteps.{AreStepsPut}
+use Rattle.std.specs.Prelude.{IfErr}
+use Rattle.std.proofs.lemmas.Result.{IfErr-weaker}
+use Rattle.bx_journal_read.specs.declared.fault.SessionFault.TheVariants.{NoMemory}
+use Rattle.bx_journal_read.specs.declared.show.fault.ShowFault.TheVariants.{Text}
+use Rattle.bx_journal_read.specs.show.ShownSteps.{newest_steps, torn_text, StopsFound}
+use Rattle.bx_journal_read.specs.show.Stopping.{StopsPrefix}
 use Rattle.bx_journal_read.proofs.RowTexts.{ok_weaker}
+use Rattle.bx_journal_read.proofs.StopLemmas.{handed_on, stops_first, stops_later, stops_none}
 use Rattle.bx_journal.proofs.look.put_found.Goals as goal
 
 pub put_steps-requires-clause-enough : goal.put_steps-requires-clause-enough
@@ -20,3 +27,30 @@ returns-clause-put g c h hd =
       subst (λ ms. AreStepsPut c.args.steps (g.D.Device.image c.args.image.now) (g.T.TextStore.text c.args.journal.now) c.args.steps.count ms (g.W.Write.contents c.put_torn.new.out) (g.W.Write.contents c.put_steps.new.out)) c.as_slice.ensures.value put,
     ))
     (c.put_steps.ensures.steps h hd)
+
+pub returns-in_err-before-clause-stops : goal.returns-in_err-before-clause-stops
+returns-in_err-before-clause-stops g c h hd =
+    handed_on c.from_residual.result _ _ c.from_residual.ensures.1
+    (stops_first 0 (torn_text c.args.found.now.torn) (newest_steps c.args.steps (g.D.Device.image c.args.image.now) (g.T.TextStore.text c.args.journal.now) c.args.steps.count c.args.found.now.marks.items) _ _ _
+    c.in_err-before.ensures.stops)
+
+pub returns-in_err-writing-clause-stops : goal.returns-in_err-writing-clause-stops
+returns-in_err-writing-clause-stops g c h hd =
+    let steps = newest_steps c.args.steps (g.D.Device.image c.args.image.now) (g.T.TextStore.text c.args.journal.now) c.args.steps.count c.args.found.now.marks.items in
+    let w1 = g.W.Write.contents c.put_torn.new.out in
+    handed_on c.from_residual-in_err-writing.result _ (Text NoMemory) c.from_residual-in_err-writing.ensures.1
+    (stops_later 0 c.in_ok-before.before (torn_text c.args.found.now.torn) steps (g.W.Write.contents c.args.out.now) w1 w1 (Text NoMemory) c.in_ok-before.ensures.line c.in_ok-before.ensures.counted
+    (stops_none c.in_ok-before.before steps w1 NoMemory))
+
+pub returns-clause-stops : goal.returns-clause-stops
+returns-clause-stops g c h hd =
+    let image = g.D.Device.image c.args.image.now in
+    let text = g.T.TextStore.text c.args.journal.now in
+    let w0 = g.W.Write.contents c.args.out.now in
+    let w1 = g.W.Write.contents c.put_torn.new.out in
+    let w2 = g.W.Write.contents c.put_steps.new.out in
+    IfErr-weaker c.put_steps.result (StopsPrefix c.in_ok-before.before (newest_steps c.args.steps image text c.args.steps.count c.args.found.now.marks.items) w1 w2) (StopsFound c.args.steps image text c.args.found.now w0 w2)
+    (λ f stop. stops_later 0 c.in_ok-before.before (torn_text c.args.found.now.torn) (newest_steps c.args.steps image text c.args.steps.count c.args.found.now.marks.items) w0 w1 w2 f
+    c.in_ok-before.ensures.line c.in_ok-before.ensures.counted stop)
+    (subst (λ n. IfErr c.put_steps.result (StopsPrefix n (newest_steps c.args.steps image text c.args.steps.count c.args.found.now.marks.items) w1 w2)) c.in_ok-writing.ensures
+    (subst (λ ms. IfErr c.put_steps.result (StopsPrefix c.in_ok-writing.writing.written (newest_steps c.args.steps image text c.args.steps.count ms) w1 w2)) c.as_slice.ensures.value (c.put_steps.ensures.stops h hd)))

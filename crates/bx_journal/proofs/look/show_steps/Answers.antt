@@ -1,9 +1,10 @@
 use Rattle.std.proofs.Common.{◌≡◌, List, ℕ, refl}
 use Rattle.std.proofs.lemmas.Result.{IfErr-weaker}
-use Rattle.bx_journal_read.specs.show.ShownSteps.{RefusesSteps, StopsSteps, AreFrontMarks}
+use Rattle.bx_journal_read.specs.show.ShownSteps.{RefusesSteps, StopsFound, StopsShown, StopsSteps, AreFrontMarks}
 use Rattle.bx_journal_read.specs.show.Showing.{PutFault}
 use Rattle.bx_journal_read.proofs.RowTexts.{ok_weaker}
 use Rattle.bx_journal_read.proofs.StepsShown.{front_lie, put_allows, put_stops, steps_shown}
+use Rattle.bx_journal.proofs.StoppedLooks.{shown_refused, shown_stopped}
 use Rattle.bx_journal.proofs.look.show_steps.Goals as goal
 
 pub put_found-requires-clause-enough : goal.put_found-requires-clause-enough
@@ -35,3 +36,20 @@ returns-clause-fault g c =
 pub returns-clause-quiet : goal.returns-clause-quiet
 returns-clause-quiet g c =
     IfErr-weaker c.put_found.result PutFault (λ f. RefusesSteps f → g.W.Write.contents c.put_found.new.out ≡ g.W.Write.contents c.args.out.now) (λ f kind r. absurd (put_allows f kind r)) c.put_found.ensures.kind
+
+pub returns-in-Err-clause-stops : goal.returns-in-Err-clause-stops
+returns-in-Err-clause-stops g c h hd = shown_refused (g.T.TextStore.text c.args.journal.now) (g.D.Device.image c.args.image.now) c.args.steps (g.W.Write.contents c.args.out.now) c.in-Err.fault
+
+pub returns-clause-stops : goal.returns-clause-stops
+returns-clause-stops g c h hd =
+    let f = c.in-Ok.ensures in
+    let a = f.marks in
+    let stored : List ℕ = g.T.TextStore.text c.args.journal.now in
+    let now : List ℕ = g.T.TextStore.text c.find_steps.new.journal in
+    let image = g.D.Device.image c.args.image.now in
+    let w0 = g.W.Write.contents c.args.out.now in
+    let w1 = g.W.Write.contents c.put_found.new.out in
+    let known : AreFrontMarks (Unit {0}) stored c.in-Ok.found.marks.items c.in-Ok.found.torn = record { front = a.front; entries = a.entries; spelled = a.spelled; marks_are = a.marks_are; behind = λ u. a.behind h } in
+    IfErr-weaker c.put_found.result (StopsFound c.args.steps image now c.in-Ok.found w0 w1) (StopsShown stored image c.args.steps w0 w1)
+    (λ e stop. shown_stopped stored now image c.args.steps c.in-Ok.found.marks.items c.in-Ok.found.marks.items w0 w1 e f.can.0 (f.looks.same h) refl c.in-Ok.found.torn known stop)
+    (c.put_found.ensures.stops (f.looks.honesty.1 h) hd)

@@ -7,6 +7,8 @@ use Rattle.bx_journal_read.specs.show.ShownSteps.{first_number, AreStepsPut}
 use Rattle.bx_journal_read.specs.show.Showing.{LiesWithin}
 use Rattle.bx_journal_read.proofs.BesideLemmas.{stayed_none, stayed_on}
 use Rattle.bx_journal_read.proofs.StepTexts.{steps_none, steps_put}
+use Rattle.bx_journal.proofs.StoppedLooks.{step_counted, step_stopped}
+use Rattle.bx_journal_read.proofs.StopLemmas.{handed_on}
 use Rattle.bx_journal.proofs.look.step.put_steps.Goals as goal
 
 -- what stands for a mark where there is none
@@ -18,6 +20,11 @@ loop-i-init g c = record {
   steps = λ h hd. subst (Appends (g.W.Write.contents c.args.out.now) (g.W.Write.contents c.args.out.now))
       (sym (steps_none c.args.steps (g.D.Device.image c.args.image.now) (g.T.TextStore.text c.args.journal.now) (first_number c.args.steps.way c.args.steps.changes (length c.args.marks.now)) c.args.marks.now))
       (Appends-nil (g.W.Write.contents c.args.out.now));
+  counted = λ h hd few. omega (
+    arith,
+    ap length (steps_none c.args.steps (g.D.Device.image c.args.image.now) (g.T.TextStore.text c.args.journal.now)
+        (first_number c.args.steps.way c.args.steps.changes (length c.args.marks.now)) c.args.marks.now),
+  );
   image = stayed_none g.D.Device.honest g.D.Device.image g.D.Device.failures c.args.image.now;
   text = stayed_none g.T.TextStore.honest g.T.TextStore.text g.T.TextStore.failures c.args.journal.now;
 }
@@ -30,6 +37,9 @@ loop-i-preserved g c =
       steps = λ h hd. steps_put (g.W.Write.contents c.args.out.now) (g.W.Write.contents c.loop-i.out) (g.W.Write.contents c.put_step.new.out) c.args.steps (g.D.Device.image c.args.image.now) (g.D.Device.image c.loop-i.image)
           (g.T.TextStore.text c.args.journal.now) (g.T.TextStore.text c.loop-i.journal) (first_number c.args.steps.way c.args.steps.changes (length c.args.marks.now)) c.loop-i.i c.step_number-number.result c.args.marks.now none
           (omega (arith, c.requires.enough)) (λ t. inv.image.same (hd t)) (inv.text.same h) c.step_number-number.ensures (inv.steps h hd) (now.step (inv.text.honesty.1 h) (λ t. inv.image.honesty.1 (hd t)));
+      counted = λ h hd. step_counted c.args.writing.now.written c.loop-i.writing.written c.put_step.new.writing.written c.args.steps (g.D.Device.image c.args.image.now) (g.D.Device.image c.loop-i.image)
+          (g.T.TextStore.text c.args.journal.now) (g.T.TextStore.text c.loop-i.journal) (first_number c.args.steps.way c.args.steps.changes (length c.args.marks.now)) c.loop-i.i c.step_number-number.result c.args.marks.now none
+          (omega (arith, c.requires.enough)) (λ t. inv.image.same (hd t)) (inv.text.same h) c.step_number-number.ensures (inv.counted h hd) (now.counted (inv.text.honesty.1 h) (λ t. inv.image.honesty.1 (hd t)));
       image = stayed_on inv.image now.puts.image.same now.puts.image.honesty now.puts.image.no_failure;
       text = stayed_on inv.text now.puts.text.same now.puts.text.honesty now.puts.text.no_failure;
     }
@@ -48,3 +58,13 @@ returns-clause-steps g c h hd =
     let all : c.loop-i.i ≡ c.args.steps.count = omega (arith, c.loop-i-test.false, c.loop-i.auto.i-end) in
     subst (λ k. AreStepsPut c.args.steps (g.D.Device.image c.args.image.now) (g.T.TextStore.text c.args.journal.now) k c.args.marks.now (g.W.Write.contents c.args.out.now) (g.W.Write.contents c.loop-i.out)) all
     (c.loop-i.invariant.steps h hd)
+
+pub returns-in_err-put_step-clause-stops : goal.returns-in_err-put_step-clause-stops
+returns-in_err-put_step-clause-stops g c h hd =
+    let inv = c.loop-i.invariant in
+    handed_on c.from_residual.result _ _ c.from_residual.ensures.1
+    (step_stopped c.args.writing.now.written c.loop-i.writing.written c.args.steps.count (g.W.Write.contents c.args.out.now) (g.W.Write.contents c.loop-i.out) (g.W.Write.contents c.put_step.new.out) c.args.steps
+    (g.D.Device.image c.args.image.now) (g.D.Device.image c.loop-i.image) (g.T.TextStore.text c.args.journal.now) (g.T.TextStore.text c.loop-i.journal)
+    (first_number c.args.steps.way c.args.steps.changes (length c.args.marks.now)) c.loop-i.i c.step_number-number.result c.args.marks.now none _
+    (omega (arith, c.loop-i-test.true)) c.requires.enough (λ t. inv.image.same (hd t)) (inv.text.same h) c.step_number-number.ensures (inv.steps h hd) (inv.counted h hd)
+    (c.in_err-put_step.ensures.stops (inv.text.honesty.1 h) (λ t. inv.image.honesty.1 (hd t))))

@@ -24,8 +24,8 @@ loop-at-preserved g c =
     let read = read_bytes g.T.TextStore inv.reads c.read_at.new.buf c.loop-at.at _ n is now.bytes in
     record {
       below = omega (arith, inv.below, c.min-size.ensures);
-      counted = λ h. ap (λ m. c.loop-at.count + m) c.newlines.ensures.lines ∙ newlines_on stored c.read_at.new.buf c.loop-at.at n c.loop-at.count (read h) (inv.counted h);
-      most = omega (arith, inv.most, c.newlines.ensures.most, c.read_at.auto.buf, is);
+      counted = λ h. ap (λ m. c.loop-at.count + m) c.newlines-count.ensures.lines ∙ newlines_on stored c.read_at.new.buf c.loop-at.at n c.loop-at.count (read h) (inv.counted h);
+      most = omega (arith, inv.most, c.newlines-count.ensures.most, c.read_at.auto.buf, is);
       window = omega (arith, inv.window, c.read_at.auto.buf);
       reads = read_then g.T.TextStore inv.reads now.text now.survives now.goes_on;
     }

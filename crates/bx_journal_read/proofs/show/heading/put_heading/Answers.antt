@@ -1,3 +1,4 @@
+use Rattle.std.proofs.Common.{◌++◌}
 use Rattle.bx_journal_read.specs.show.ShownSteps.{heading_start, heading_end, length_told, where_at}
 use Rattle.bx_journal_read.proofs.StepTexts.{heading_written}
 use Rattle.bx_journal_read.proofs.StopLemmas.{counts_joined, counts_three, handed_on, stops_at_first, stops_at_second, stops_at_third, stops_joined}
