@@ -1,5 +1,5 @@
 #!/usr/bin/env python3
-"""Has each shell complete command lines of bx, and compares what it offers with what can be known there.
+"""Has each shell complete the command lines of tests/completions.t, and compares what it offers.
 
 Usage: tests/completions.py [SHELL ...]
 
@@ -10,169 +10,75 @@ tools/pages/options.py.
 """
 import argparse
 import os
+import pathlib
 import pty
 import re
 import select
+import shlex
 import shutil
 import subprocess
 import sys
 import tempfile
 import time
 
-COMMANDS = ["xxd", "od", "hexdump", "strings", "dd", "revert", "undo", "redo", "log", "show", "diff", "patch", "forget"]
-TYPES = ["c"] + [form + size for form in "doux" for size in "1248"]
-OPERANDS = ["if=", "of=", "ibs=", "obs=", "bs=", "cbs=", "skip=", "seek=", "count=", "conv="]
-CONVERSIONS = ["block", "unblock", "lcase", "ucase", "swab", "sync", "notrunc"]
-FILES = ["a file", "image", "image.bxj", "image.bxj.redo"]
-IMAGES = ["a file", "image"]
+from common import ROOT
+from transcript import steps
 
-# What is typed, and what has to be offered for its last word: of dd, the value alone behind a '='.
-CASES = [
-    ("bx ", [*COMMANDS, "help"]),
-    ("bx re", ["revert", "redo"]),
-    ("bx help ", COMMANDS),
-    ("bx od -A ", ["d", "o", "x", "n"]),
-    ("bx od -t ", TYPES),
-    ("bx od -t x", ["x1", "x2", "x4", "x8"]),
-    ("bx strings -t ", ["d", "o", "x"]),
-    ("bx xxd ", FILES),
-    ("bx xxd im", FILES[1:]),
-    ("bx xxd -c ", []),
-    ("bx hexdump -C ", FILES),
-    ("bx undo -k 2 ", IMAGES),
-    ("bx undo -k ", []),
-    ("bx revert -f ", FILES),
-    ("bx redo -J ", FILES),
-    ("bx log ", IMAGES),
-    ("bx show ", IMAGES),
-    ("bx show -k ", []),
-    ("bx diff ", FILES),
-    ("bx diff image im", FILES[1:]),
-    ("bx patch ", IMAGES),
-    ("bx forget ", IMAGES),
-    ("bx patch -f ", FILES),
-    ("bx revert ", IMAGES),
-    ("bx redo im", ["image"]),
-    ("bx dd ", OPERANDS),
-    ("bx dd c", ["cbs=", "count=", "conv="]),
-    ("bx dd if=image ", [word for word in OPERANDS if word != "if="]),
-    ("bx dd if=image of", ["of="]),
-    ("bx dd if=", FILES),
-    ("bx dd bs=4 of=im", ["image"]),
-    ("bx dd if=im", FILES[1:]),
-    ("bx dd conv=", CONVERSIONS),
-    ("bx dd conv=s", ["swab", "sync"]),
-    ("bx dd conv=lcase,s", ["swab", "sync"]),
-    ("bx dd conv=swab,s", ["sync"]),
-    ("bx dd count=", []),
-    ("bx dd -J ", FILES),
-]
-# Options, which zsh and fish list in their own way: of bash and fish alone. Those of one letter, and the longer ones.
-MOUNTED = ["--mounted"]
-FRESH = ["--dry-run", "--fresh", "--mounted"]
-ANYWAY = ["--anyway", "--mounted"]
-OPTIONS = [
-    ("bx xxd -", "bcgilopsu", []),
-    ("bx od -", "ANbcdjostvx", []),
-    ("bx hexdump -", "Cnsv", []),
-    ("bx strings -", "ant", []),
-    ("bx revert -", "JUfnps", FRESH),
-    ("bx undo -", "JUk", ANYWAY),
-    ("bx redo -", "JUk", ANYWAY),
-    ("bx log -", "JUv", MOUNTED),
-    ("bx show -", "Jdkpr", []),
-    ("bx diff -", "v", []),
-    ("bx patch -", "JRUfn", FRESH),
-    ("bx forget -", "JU", MOUNTED),
-    ("bx dd -", "JUn", FRESH),
-]
+BASH = r"""
+. "$1"; shift
+for line; do
+  read -ra COMP_WORDS <<< "$line"; [[ $line == *" " ]] && COMP_WORDS+=("")
+  COMP_CWORD=$((${#COMP_WORDS[@]} - 1)); COMPREPLY=(); _bx; printf "%s\n" "${COMPREPLY[@]}" "=="
+done"""
+# What the completion of zsh adds is written down by a `compadd` of our own.
+ZSH = r"""
+PS1=; unsetopt zle_bracketed_paste 2> /dev/null; fpath=(FOLDER $fpath); autoload -U compinit
+compinit -u -D; compdef _bx bx; zstyle ':completion:*' verbose no; zstyle ':completion:*' menu no
+compadd() {
+  if [[ ${@[1,(i)(-|--)]} == *-(O|A|D)* ]]; then builtin compadd "$@"; return; fi
+  local -a hits; builtin compadd -A hits -D nothing "$@" 2> /dev/null; builtin compadd -A hits "$@"
+  print -rl -- $hits >> ../hits; return 1
+}
+ask() { : > ../hits; zle complete-word; zle kill-buffer; print -r -- "=asked=" }
+zle -N ask; bindkey '^X' ask; print =ready=
+"""
 
 
-def value_of(word):
-    """The part of a word that is offered: behind dd's '=' and the last comma."""
-    return re.sub(r"^\w+=(?=.)", "", word).rsplit(",", 1)[-1]
-
-
-class Terminal:
-    """A shell at a terminal of its own."""
-
-    def __init__(self, words, folder, env):
-        self.pid, self.end = pty.fork()
-        if self.pid == 0:
-            os.chdir(folder)
-            os.execvpe(words[0], words, {**os.environ, "LC_ALL": "C", "TERM": "dumb", "COLUMNS": "500", **env})
-
-    def read(self, until, seconds=20):
-        """What it writes up to a text, or up to the end of the time."""
-        text, end = b"", time.monotonic() + seconds
-        while until.encode() not in text and time.monotonic() < end:
-            if select.select([self.end], [], [], 0.2)[0]:
-                try:
-                    text += os.read(self.end, 65536)
-                except OSError:
-                    break
-        return text.decode(errors="replace")
-
-    def ask(self, text, until):
-        os.write(self.end, text.encode())
-        return self.read(until)
-
-    def close(self):
-        os.close(self.end)
-        os.waitpid(self.pid, 0)
-
-
-def bash(lines, source, folder):
+def bash(lines, source):
     """What bash offers: the completion is called with the words as bash cuts them, at '=' too."""
-    script = ['. "$1"; shift', 'for line; do read -ra COMP_WORDS <<< "$line"; [[ $line == *" " ]] && COMP_WORDS+=("")',
-              'COMP_CWORD=$((${#COMP_WORDS[@]} - 1)); COMPREPLY=(); _bx; printf "%s\\n" "${COMPREPLY[@]}" "=="; done']
-    cut = [re.sub("=", " = ", line).replace("=  ", "= ") if line.startswith("bx dd") else line for line in lines]
-    cut = [line[:-1] if line.endswith("= ") and not whole.endswith(" ") else line for line, whole in zip(cut, lines)]
-    done = subprocess.run(["bash", "-c", "\n".join(script), "bash", source, *cut], cwd=folder, capture_output=True, text=True, check=True)
-    if done.stderr:
-        print(f"bash says: {done.stderr.strip()}")
+    cut = [re.sub("=(?!$)", " = ", re.sub("=$", " =", line)) if line.startswith("bx dd") else line for line in lines]
+    done = subprocess.run(["bash", "-c", BASH, "bash", source, *cut], stdout=subprocess.PIPE, text=True, check=True)
     return [[word for word in part.split("\n") if word] for part in done.stdout.split("==\n")[:-1]]
 
 
-def fish(lines, source, folder):
-    """What fish offers."""
-    found = []
+def fish(lines, source):
     for line in lines:
-        done = subprocess.run(["fish", "--no-config", "-c", f"source {source}; complete -C '{line}'"], cwd=folder,
-                              capture_output=True, text=True, check=True, env={**os.environ, "HOME": folder})
-        if done.stderr:
-            print(f"fish says: {done.stderr.strip()}")
-        found.append([word.split("\t")[0].replace("\\ ", " ") for word in done.stdout.splitlines()])
-    return found
+        done = subprocess.run(["fish", "--no-config", "-c", f"source {source}; complete -C '{line}'"], stdout=subprocess.PIPE, text=True,
+                              check=True, env={**os.environ, "HOME": os.getcwd()})
+        yield [word.split("\t")[0].replace("\\ ", " ") for word in done.stdout.splitlines()]
 
 
-def zsh(lines, source, folder):
-    """What zsh offers: what its completion adds is written down by a `compadd` of our own."""
-    start = f"""
-PS1=; unsetopt zle_bracketed_paste 2> /dev/null; fpath=({os.path.dirname(source)} $fpath); autoload -U compinit
-compinit -u -D; compdef _bx bx; zstyle ':completion:*' verbose no; zstyle ':completion:*' menu no
-compadd() {{
-  if [[ ${{@[1,(i)(-|--)]}} == *-(O|A|D)* ]]; then builtin compadd "$@"; return; fi
-  local -a hits; builtin compadd -A hits -D nothing "$@" 2> /dev/null; builtin compadd -A hits "$@"
-  print -rl -- $hits >> $ZSH_HITS; return 1
-}}
-ask() {{ : > $ZSH_HITS; zle complete-word; zle kill-buffer; print -r -- "=asked=" }}
-zle -N ask; bindkey '^X' ask; print =ready=
-"""
-    hits = os.path.join(folder, "..", "hits")
-    terminal = Terminal(["zsh", "-f", "-i"], folder, {"ZSH_HITS": hits})
+def zsh(lines, source):
+    """What zsh offers, at a terminal of its own."""
+    pathlib.Path("../start.zsh").write_text(ZSH.replace("FOLDER", str(source.parent)), encoding="utf-8")
+    child, terminal = pty.fork()
+    if child == 0:
+        os.execvpe("zsh", ["zsh", "-f", "-i"], {**os.environ, "LC_ALL": "C", "TERM": "dumb", "COLUMNS": "500"})
+
+    def ask(text, until):
+        os.write(terminal, text.encode())
+        got, end = b"", time.monotonic() + 20
+        while until not in got and time.monotonic() < end:
+            if select.select([terminal], [], [], 0.2)[0]:
+                got += os.read(terminal, 65536)
     try:
-        with open(os.path.join(folder, "..", "start.zsh"), "w", encoding="utf-8") as out:
-            out.write(start)
-        terminal.ask(". ../start.zsh\n", "=ready=\r")
-        found = []
+        ask(". ../start.zsh\n", b"=ready=\r")
         for line in lines:
-            terminal.ask(line + "\x18", "=asked=")
-            with open(hits, encoding="utf-8") as text:
-                found.append([word.replace("\\ ", " ") for word in text.read().split("\n") if word])
+            ask(line + "\x18", b"=asked=")
+            yield [word.replace("\\ ", " ") for word in pathlib.Path("../hits").read_text(encoding="utf-8").split("\n") if word]
     finally:
-        terminal.close()
-    return found
+        os.close(terminal)
+        os.waitpid(child, 0)
 
 
 SHELLS = {"bash": (bash, "bx.bash"), "zsh": (zsh, "_bx"), "fish": (fish, "bx.fish")}
@@ -180,38 +86,36 @@ SHELLS = {"bash": (bash, "bx.bash"), "zsh": (zsh, "_bx"), "fish": (fish, "bx.fis
 
 def differences(shell):
     """How many offers of a shell differ, each of which is told."""
+    text = (ROOT / "tests" / "completions.t").read_text(encoding="utf-8")
+    rows = [(line.removesuffix("<TAB>"), "".join(wanted)) for line, wanted in steps(line[2:] for line in text.splitlines() if line[:2] == "  ")]
+    rows = [row for row in rows if shell != "zsh" or not row[0].endswith("-")]
     offers, name = SHELLS[shell]
-    source = os.path.abspath(os.path.join(os.path.dirname(__file__), "..", "completions", name))
     with tempfile.TemporaryDirectory() as folder:
-        work = os.path.join(folder, "work")
-        os.mkdir(work)
-        for file in FILES:
-            with open(os.path.join(work, file), "wb"):
-                pass
-        asked = [line for line, _ in CASES] + ([line for line, _, _ in OPTIONS] if shell != "zsh" else [])
-        given = offers(asked, source, work)
-    wanted = [set(words) for _, words in CASES] + [{f"-{letter}" for letter in letters} | set(longer) for _, letters, longer in OPTIONS]
-    bad = 0
-    for line, words, want in zip(asked, given, wanted):
-        got = {value_of(word) for word in words} - {"-h", "--help", "-V", "--version"}
-        if got != want:
+        os.mkdir(f"{folder}/work")
+        os.chdir(f"{folder}/work")
+        for file in ("a file", "image", "image.bxj", "image.bxj.redo"):
+            pathlib.Path(file).touch()
+        given, bad = list(offers([line for line, _ in rows], ROOT / "completions" / name)), 0
+        os.chdir(ROOT)
+    for (line, wanted), words in zip(rows, given, strict=True):
+        got = {re.sub(r"^\w+=(?=.)", "", word).rsplit(",", 1)[-1] for word in words} - {"-h", "--help", "-V", "--version"}
+        if got != set(shlex.split(wanted)):
             bad += 1
-            print(f"{shell}, {line!r}: wanted {sorted(want)}, got {sorted(got)}")
-    print(f"{shell}: {len(asked) - bad} of {len(asked)} lines are completed as wanted")
+            print(f"{shell}, {line!r}: wanted {wanted}, got {sorted(got)}")
+    print(f"{shell}: {len(rows) - bad} of {len(rows)} lines are completed as wanted")
     return bad
 
 
 def main():
-    parser = argparse.ArgumentParser(description=__doc__.split("\n")[0])
+    parser = argparse.ArgumentParser(description=__doc__.split("\n", maxsplit=1)[0])
     parser.add_argument("shells", nargs="*", metavar="SHELL", default=list(SHELLS))
-    bad = asked = 0
-    for shell in parser.parse_args().shells:
+    shells, asked = parser.parse_args().shells, []
+    for shell in shells:
         if shutil.which(shell):
-            asked += 1
-            bad += differences(shell)
+            asked.append(differences(shell))
         else:
             print(f"{shell} isn't installed: not asked")
-    sys.exit(1 if bad or not asked else 0)
+    sys.exit(1 if any(asked) or not asked else 0)
 
 
 if __name__ == "__main__":

@@ -1,0 +1,45 @@
+"""Plays transcripts of a shell, in the form of cram: a line `$ COMMAND`, lines `> ..` that go on with it, and below them what it
+writes, standard error too; `[N]` stands for a status that isn't 0. Those of documents, of tests and of pictures are played here."""
+import os
+import re
+import shutil
+import subprocess
+
+END = "== end of a command =="
+
+
+def steps(lines):
+    """The commands, each with the lines that are wanted below it."""
+    found = []
+    for line in lines:
+        if line.startswith("$ "):
+            found.append([line[2:], []])
+        elif line.startswith("> ") and found and not found[-1][1]:
+            found[-1][0] += f"\n{line[2:]}"
+        elif found:
+            found[-1][1].append(line)
+    return found
+
+
+def outputs(commands, bx, folder, head="", told="", **env):
+    """What each command writes, in lines; all run by one bash, in the folder `work`, and each sees the status of the one before.
+    `head` comes first, and `told` behind each."""
+    for name in ("bin", "work"):
+        os.mkdir(os.path.join(folder, name))
+    shutil.copy(bx, os.path.join(folder, "bin", "bx"))
+    script = head + "".join(f"{command}\nstatus=$?; {told}echo '{END}'; (exit $status)\n" for command in commands)
+    env = {**os.environ, "LC_ALL": "C", "PATH": os.path.join(folder, "bin") + ":" + os.environ["PATH"], **env}
+    with open(os.path.join(folder, "commands"), "w", encoding="utf-8") as out:
+        out.write(script)
+    done = subprocess.run(["bash", os.path.join(folder, "commands")], stdin=subprocess.DEVNULL, stdout=subprocess.PIPE,
+                          stderr=subprocess.STDOUT, cwd=os.path.join(folder, "work"), env=env, timeout=900, check=False)
+    text = re.sub(r"[\0-\x08\x0b-\x1f\x7f]", lambda it: f"\\x{ord(it[0]):02x}", done.stdout.decode(errors="backslashreplace"))
+    return [part.split("\n")[: -1 if part.endswith("\n") else None] if part else [] for part in text.split(END + "\n")[:-1]]
+
+
+def differences(tour, given):
+    """Each command that wrote something else, as text."""
+    for number, (command, wanted) in enumerate(tour):
+        got = given[number] if number < len(given) else ["(not run)"]
+        if got != wanted:
+            yield "\n".join([f"$ {command}", "wanted:", *wanted, "got:", *got])
