@@ -22,7 +22,7 @@ import sys
 import tempfile
 import textwrap
 
-from pages.tour import outputs
+from transcript import outputs
 from sources import ROOT
 
 PICTURES = ROOT / "docs" / "pictures"

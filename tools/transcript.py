@@ -21,20 +21,23 @@ def steps(lines):
     return found
 
 
-def outputs(commands, bx, folder, head="", told="", **env):
+def outputs(commands, bx, folder, head="", with_status=False, **env):
     """What each command writes, in lines; all run by one bash, in the folder `work`, and each sees the status of the one before.
-    `head` comes first, and `told` behind each."""
+    `head` comes first. What a shell that ends before writes last is one more."""
     for name in ("bin", "work"):
         os.mkdir(os.path.join(folder, name))
     shutil.copy(bx, os.path.join(folder, "bin", "bx"))
-    script = head + "".join(f"{command}\nstatus=$?; {told}echo '{END}'; (exit $status)\n" for command in commands)
+    script = head + "".join(f"{command}\nstatus=$?; echo '{END}' $status; (exit $status)\n" for command in commands)
     env = {**os.environ, "LC_ALL": "C", "PATH": os.path.join(folder, "bin") + ":" + os.environ["PATH"], **env}
     with open(os.path.join(folder, "commands"), "w", encoding="utf-8") as out:
         out.write(script)
     done = subprocess.run(["bash", os.path.join(folder, "commands")], stdin=subprocess.DEVNULL, stdout=subprocess.PIPE,
                           stderr=subprocess.STDOUT, cwd=os.path.join(folder, "work"), env=env, timeout=900, check=False)
     text = re.sub(r"[\0-\x08\x0b-\x1f\x7f]", lambda it: f"\\x{ord(it[0]):02x}", done.stdout.decode(errors="backslashreplace"))
-    return [part.split("\n")[: -1 if part.endswith("\n") else None] if part else [] for part in text.split(END + "\n")[:-1]]
+    *parts, rest = re.split(f"{END} (\\d+)\n", text)
+    given = [lines.removesuffix("\n").split("\n") if lines else [] for lines in parts[::2]]
+    given = [lines + [f"[{status}]"] * (with_status and status != "0") for lines, status in zip(given, parts[1::2])]
+    return given + [rest.splitlines()] * bool(rest)
 
 
 def differences(tour, given):

@@ -4,10 +4,12 @@ A patch is made here by the sentences of `docs/FORMATS.md` ("Patches"), and befo
 address that `cmp -l` prints, with both bytes, each one behind the end of the shorter image, and no other. Those of `-v` have to
 have them too, and no row without one."""
 import hashlib
+import os
+import pathlib
 import random
+import re
 import subprocess
 import tempfile
-from pathlib import Path
 
 from record import form
 
@@ -30,61 +32,61 @@ def runs(old, new, rows):
     end, at = max(len(old), len(new)), 0
     while at < end:
         row = at - at % 16
-        if rows and old[row : row + 16] != new[row : row + 16]:
-            yield row, row + 16
-            at = row + 16
-        elif not rows and old[at : at + 1] != new[at : at + 1]:
-            first = at
-            while at < min(row + 16, end) and old[at : at + 1] != new[at : at + 1]:
-                at += 1
-            yield first, at
-        else:
-            at = row + 16 if rows else at + 1
+        last = row + 16 if rows else at
+        while not rows and last < min(row + 16, end) and old[last:last + 1] != new[last:last + 1]:
+            last += 1
+        if last > at and old[at:last] != new[at:last]:
+            yield at, last
+        at = max(last, at + 1)
 
 
 def patch(old, new, rows=False):
-    """The lines of the patch, and what they name: for each sign the byte at each address."""
-    lines, named = [], {"-": {}, "+": {}}
-    for first, last in runs(old, new, rows):
-        for sign, image in (("-", old), ("+", new)):
-            data = image[first:last]
-            if data:
-                lines.append(sign + form.dump_line(first, data))
-                named[sign].update(zip(range(first, last), data))
-    return [f"length {len(old)} to {len(new)}", *lines] if lines else [], named
+    """The lines of the patch."""
+    pairs = [(sign, first, image[first:last]) for first, last in runs(old, new, rows) for sign, image in (("-", old), ("+", new))]
+    lines = [sign + form.dump_line(first, data) for sign, first, data in pairs if data]
+    return [f"length {len(old)} to {len(new)}", *lines] if lines else []
 
 
-def compared(folder, old, new):
-    """What `cmp -l` says: the two bytes at each address that both have and at which they differ."""
+def by_patch(text):
+    """What a patch says of each address that it names: the old byte and the new one, each none where there is none."""
+    named = {}
+    for sign, at, digits in re.findall(rb"^([-+])([0-9a-f]+): ((?:[0-9a-f]+ ?)+)(?: |$)", text, re.M):
+        for place, byte in enumerate(bytes.fromhex(digits.decode()), int(at, 16)):
+            named.setdefault(place, [None, None])[sign == b"+"] = byte
+    return named
+
+
+def by_cmp(folder, old, new):
+    """The same as `cmp -l` says it of the files `old` and `new`, with the bytes of the longer one behind the end of the other."""
     for name, data in (("old", old), ("new", new)):
         (folder / name).write_bytes(data)
-    told = subprocess.run(["cmp", "-l", "old", "new"], cwd=folder, capture_output=True, text=True).stdout
-    return {int(at) - 1: (int(a, 8), int(b, 8)) for at, a, b in (line.split() for line in told.splitlines())}
+    lines = subprocess.run(["cmp", "-l", "old", "new"], cwd=folder, stdout=subprocess.PIPE, stderr=subprocess.DEVNULL, check=False,
+                           env={**os.environ, "LC_ALL": "C"}).stdout
+    named = {int(at) - 1: [int(was, 8), int(now, 8)] for at, was, now in map(bytes.split, lines.splitlines())}
+    for at in range(min(len(old), len(new)), max(len(old), len(new))):
+        named[at] = [data[at] if at < len(data) else None for data in (old, new)]
+    return named
+
+
+def text_of(lines):
+    return "".join(f"{line}\n" for line in lines)
 
 
 def check(folder, old, new):
     """Fails where the patch names another address than `cmp -l`, or -v a row without one."""
-    differ, shorter = compared(folder, old, new), min(len(old), len(new))
-    tail = {"-": range(shorter, len(old)), "+": range(shorter, len(new))}
-    for rows in (False, True):
-        _, named = patch(old, new, rows)
-        for sign, side in (("-", 0), ("+", 1)):
-            wanted = {at: pair[side] for at, pair in differ.items()} | {at: (old, new)[side][at] for at in tail[sign]}
-            assert wanted.items() <= named[sign].items() if rows else wanted == named[sign]
-            touched = {at // 16 for at in [*differ, *tail["-"], *tail["+"]]}
-            assert not rows or {at // 16 for at in named[sign]} <= touched
+    wanted = by_cmp(folder, old, new)
+    plain, rows = (by_patch(text_of(patch(old, new, rows)).encode()) for rows in (False, True))
+    assert plain == wanted and wanted.items() <= rows.items() and {at // 16 for at in rows} <= {at // 16 for at in wanted}
 
 
 def case(folder, name, old, new):
     """The lines of a case."""
     check(folder, old.bytes, new.bytes)
     out = ["", f"case: {name}", "from: FORMATS.md, patches; cmp -l, diffutils 3.8", f"old: {old.text}", f"new: {new.text}"]
-    lines, _ = patch(old.bytes, new.bytes)
-    text = "".join(line + "\n" for line in lines)
-    if len(text) > MOST_TEXT:
-        return out + [f"sum: {len(text)} {hashlib.md5(text.encode()).hexdigest()}"]
+    lines, rows = patch(old.bytes, new.bytes), patch(old.bytes, new.bytes, True)
+    if len(text_of(lines)) > MOST_TEXT:
+        return out + [f"sum: {len(text_of(lines))} {hashlib.md5(text_of(lines).encode()).hexdigest()}"]
     out += ["output:", *(f"| {line}" for line in lines)] if lines else []
-    rows, _ = patch(old.bytes, new.bytes, True)
     return out + ["rows:" if rows else 'rows: ""', *(f"| {line}" for line in rows)]
 
 
@@ -114,8 +116,7 @@ def drawn(rng):
     """A pair with changes, inserts, cuts and equal stretches."""
     old, new = [], []
     for _ in range(rng.randrange(1, 6)):
-        long = rng.choice([0, 1, 15, 16, 17, 40, 300, WINDOW - 1, WINDOW, WINDOW + 1])
-        part = (long, rng.randrange(1, 10**6))
+        part = (rng.choice([0, 1, 15, 16, 17, 40, 300, WINDOW - 1, WINDOW, WINDOW + 1]), rng.randrange(1, 10**6))
         kind = rng.choice(["equal", "equal", "equal", "insert", "cut", "change"])
         old += [part] if kind != "insert" else []
         new += [part] if kind in ("equal", "insert") else []
@@ -123,44 +124,29 @@ def drawn(rng):
     return Image(*old), Image(*new)
 
 
-def named(text):
-    """What the lines of a patch name: the lengths, and for each sign the byte at each address."""
-    head, *lines = text.decode().splitlines() or [""]
-    found = {"-": {}, "+": {}}
-    for line in lines:
-        at, rest = line[1:].split(": ", 1)
-        data = bytes.fromhex(rest[:40].replace(" ", ""))
-        found[line[0]].update(zip(range(int(at, 16), int(at, 16) + len(data)), data))
-    return head, found
-
-
-def differ(options):
+def differ(options, rng, folder):
     """How many patches of pairs bx writes else, which were found beside `cmp -l`."""
-    rng, bad = random.Random(options.seed), 0
-    pairs = [pair[1:] for pair in chosen()] + [drawn(rng) for _ in range(200)]
-    with tempfile.TemporaryDirectory() as name:
-        for old, new in pairs:
-            check(Path(name), old.bytes, new.bytes)
-            for rows in (False, True):
-                done = subprocess.run([options.bx, "diff", *["-v"] * rows, "old", "new"], cwd=name, capture_output=True, check=False)
-                lines, bytes_ = patch(old.bytes, new.bytes, rows)
-                is_same = (done.returncode, done.stderr, named(done.stdout)) == (0, b"", (lines[0] if lines else "", bytes_))
-                bad += not is_same
-                print(*([] if is_same else [f"diff of {old.text} and {new.text}, rows {rows}"]), sep="\n", end="")
+    pairs, bad = [pair[1:] for pair in chosen()] + [drawn(rng) for _ in range(200)], 0
+    for old, new in pairs:
+        check(folder, old.bytes, new.bytes)
+        for rows in (False, True):
+            done = subprocess.run([options.bx, "diff", *["-v"] * rows, "old", "new"], cwd=folder, capture_output=True, check=False)
+            text = text_of(patch(old.bytes, new.bytes, rows)).encode()
+            told, wanted = ((of.split(b"\n")[0], by_patch(of)) for of in (done.stdout, text))
+            if (done.returncode, done.stderr) != (0, b"") or told != wanted:
+                bad += 1
+                print(f"diff of {old.text} and {new.text}, rows {rows}")
     print(f"patches: {len(pairs)} pairs, {bad} differ")
     return bad > 0
 
 
 def run(options):
-    if options.bx:
-        return differ(options)
     rng = random.Random(options.seed)
-    out = ["# Patches between two images. tools/cases.py wrote this file.", "kind: patches"]
     with tempfile.TemporaryDirectory() as name:
-        folder = Path(name)
-        for title, old, new in chosen():
-            out += case(folder, title, old, new)
-        for number in range(60):
-            out += case(folder, f"drawn {number + 1}", *drawn(rng))
+        if options.bx:
+            return differ(options, rng, pathlib.Path(name))
+        out = ["# Patches between two images. tools/cases.py wrote this file.", "kind: patches"]
+        for title, *pair in [*chosen(), *((f"drawn {number + 1}", *drawn(rng)) for number in range(60))]:
+            out += case(pathlib.Path(name), title, *pair)
     form.write("patches", out, options.out)
     return False
