@@ -9,7 +9,7 @@ after another, in one folder, in which the file `image` holds the letters A to P
 states: the states of a pair of image and journal, and what opening does in each. A change is made, undone and redone in a folder.
 Then each front of its entry, with each image that may stand beside it, is opened by `bx log`, and so are pairs that are refused.
 What bx says and leaves there has to be one thing in each state, else this fails; the words in the picture are those that bx
-wrote.
+wrote. What stands where is in docs/pictures/states.in.
 
 Without a name both are drawn. bench/plot.py draws the chart of speed with its tables.
 """
@@ -22,27 +22,14 @@ import sys
 import tempfile
 import textwrap
 
-from transcript import outputs
 from sources import ROOT
+from transcript import outputs
 
 PICTURES = ROOT / "docs" / "pictures"
-MONO, SANS = "DejaVu Sans Mono, Menlo, Consolas, monospace", "DejaVu Sans, Verdana, sans-serif"
+MONO = "DejaVu Sans Mono, Menlo, Consolas, monospace"
 SIZE, ROW, CHARACTER, MARGIN = 14, 20, 8.43, 18
 PROMPT, COMMAND, OUTPUT, DARK = "#8ec07c", "#fbf1c7", "#d5c4a1", "#282828"
 FIRST, PATCH = b"ABCDEFGH", b"2: 7879\n8: 5a\n"
-WIDTH, BOX_AT, BOX, LINE, PAPER, INK, SOFT = 1000, 262, 462, 17, "#fbf8ef", "#3c3836", "#7c6f64"
-REST, OPEN, REFUSED, CHANGE, UNDO, OPENING = "#d9ead3", "#fce5cd", "#f4cccc", "#3d6b99", "#8a5a9e", "#b4541a"
-
-
-def svg(width, height, paper, parts, before=()):
-    """A picture of parts, on paper."""
-    size = f'width="{width}" height="{height}" viewBox="0 0 {width} {height}"'
-    return "\n".join([f'<svg xmlns="http://www.w3.org/2000/svg" {size}>', *before,
-                      f'<rect width="{width}" height="{height}" rx="8" fill="{paper}"/>', *parts, "</svg>", ""])
-
-
-def said(text):
-    return html.escape(text, quote=False)
 
 
 def shown(commands, bx):
@@ -62,9 +49,10 @@ def terminal(lines):
     for number, (is_command, text) in enumerate(lines):
         place = f'x="{MARGIN}" y="{MARGIN + ROW * number + SIZE}"'
         front = f'<tspan fill="{PROMPT}">$ </tspan>' if is_command else ""
-        parts.append(f'<text {place} fill="{COMMAND if is_command else OUTPUT}" xml:space="preserve">{front}{said(text)}</text>')
-    width = round(2 * MARGIN + CHARACTER * max(len(text) + 2 * is_command for is_command, text in lines))
-    return svg(width, 2 * MARGIN + ROW * len(lines), DARK, [*parts, "</g>"])
+        parts.append(f'<text {place} fill="{COMMAND if is_command else OUTPUT}" xml:space="preserve">{front}{html.escape(text, quote=False)}</text>')
+    width, height = round(2 * MARGIN + CHARACTER * max(len(text) + 2 * is_command for is_command, text in lines)), 2 * MARGIN + ROW * len(lines)
+    return "\n".join([f'<svg xmlns="http://www.w3.org/2000/svg" width="{width}" height="{height}" viewBox="0 0 {width} {height}">',
+                      f'<rect width="{width}" height="{height}" rx="8" fill="{DARK}"/>', *parts, "</g>", "</svg>", ""])
 
 
 class Pair:
@@ -115,89 +103,15 @@ def states(pair):
     for _, *left, put in refused:
         one("what is refused", [tuple(left), put])
     return {"entry": entry.decode().splitlines(), "first": FIRST.decode(), "last": last.decode(),
-            "between": sorted(x.decode() for x in between), "dropped": dropped[0], "taken": taken[0],
-            "refused": [row[0] for row in refused]}
-
-
-class Picture:
-    """Parts of an SVG, put one after another."""
-
-    def __init__(self):
-        self.parts = []
-
-    def text(self, x, y, what, size=13, color=INK, mono=False, anchor="start", weight="normal"):
-        self.parts.append(f'<text x="{x}" y="{y}" font-family="{MONO if mono else SANS}" font-size="{size}" fill="{color}" '
-                          f'text-anchor="{anchor}" font-weight="{weight}" xml:space="preserve">{said(what)}</text>')
-
-    def box(self, x, y, width, height, fill):
-        self.parts.append(f'<rect x="{x}" y="{y}" width="{width}" height="{height}" rx="8" fill="{fill}" stroke="{SOFT}"/>')
-
-    def arrow(self, points, color):
-        path = " ".join(f"{x},{y}" for x, y in points)
-        self.parts.append(f'<polyline points="{path}" fill="none" stroke="{color}" stroke-width="2" '
-                          f'marker-end="url(#{color[1:]})"/>')
-
-    def whole(self, height):
-        heads = "".join(f'<marker id="{color[1:]}" markerWidth="9" markerHeight="9" refX="7" refY="4" orient="auto">'
-                        f'<path d="M0,0 L8,4 L0,8 z" fill="{color}"/></marker>' for color in (CHANGE, UNDO, OPENING))
-        return svg(WIDTH, height, PAPER, self.parts, [f"<defs>{heads}</defs>"])
-
-
-def state(picture, y, title, lines, image, fill):
-    """A state: its name, the lines of the journal, the image. It answers where the box ends."""
-    height = 34 + LINE * (len(lines) + 1)
-    picture.box(BOX_AT, y, BOX, height, fill)
-    picture.text(BOX_AT + 12, y + 20, title, weight="bold")
-    for number, line in enumerate(lines):
-        picture.text(BOX_AT + 12, y + 40 + LINE * number, line, size=12, mono=True, color=INK if line[0] != "(" else SOFT)
-    picture.text(BOX_AT + 12, y + 40 + LINE * len(lines), f"image: {image}", size=12, mono=True, color=CHANGE)
-    return y + height
-
-
-def labels(picture, x, y, lines, color, anchor):
-    for number, line in enumerate(lines):
-        picture.text(x, y + 16 * number, line, size=12, color=color, anchor=anchor)
+            "between": sorted(x.decode() for x in between), "dropped": textwrap.wrap(dropped[0], 31),
+            "taken": textwrap.wrap(taken[0], 31), "refused": [row[0] for row in refused]}
 
 
 def drawn(found):
-    """The boxes of the states, and an arrow for each step between two of them."""
-    picture, entry, left, right = Picture(), found["entry"], BOX_AT, BOX_AT + BOX
-    alone, tops, ends, y = "Finished entries alone: nothing is done", [], [], 16
-    boxes = [(alone, ["(the entries before)"], found["first"], REST),
-             ("An entry without a whole save line", entry[:2] + ["(or any front of this, or of the save line)"], found["first"],
-              OPEN),
-             ("An entry with its save line", entry[:3] + ["(or a front of the end line behind it)"],
-              " or ".join(found["between"]) + ", ..", OPEN), (alone, entry, found["last"], REST)]
-    for box in boxes:
-        tops.append(y)
-        ends.append(state(picture, y, *box))
-        y = ends[-1] + 46
-    steps = ["a change or a redo appends its entry", "the save line is whole: the image is changed", "the end line is whole"]
-    for number, step in enumerate(steps):
-        picture.arrow([(left + 90, ends[number] + 2), (left + 90, tops[number + 1] - 3)], CHANGE)
-        picture.text(left + 102, ends[number] + 28, step, size=12, color=CHANGE)
-    # where an arrow leaves and comes in at a side of two boxes, how far out it goes, and the lines beside it
-    for at, to, side, out, text_at, lines, color in (
-            (tops[3] + 30, tops[2] + 70, right, 34, ends[2] + 12, ["an undo cuts the end line off"], UNDO),
-            (tops[2] + 30, tops[0] + 40, right, 34, ends[0] + 60,
-             ["it restores the saved bytes", "and the length, keeps the old", "ones in the redo file, and",
-              "cuts the entry off"], UNDO),
-            (tops[1] + 40, tops[0] + 50, left, -22, tops[1] + 12,
-             ["opening empties the redo file", "and cuts the text:", *textwrap.wrap(found["dropped"], 31)], OPENING),
-            (tops[2] + 40, tops[0] + 26, left, -12, tops[2] + 12,
-             ["opening empties the redo file,", "restores the image", "and cuts the text:", *textwrap.wrap(found["taken"], 31)],
-             OPENING)):
-        sign = 1 if out > 0 else -1
-        picture.arrow([(side + 2 * sign, at), (side + out, at), (side + out, to), (side + 4 * sign, to)], color)
-        labels(picture, side + (44 if out > 0 else -32), text_at, lines, color, "start" if out > 0 else "end")
-    y = ends[3] + 22
-    picture.text(16, y + 14, "Refused, and nothing is changed:", weight="bold")
-    for number, (what, answer) in enumerate(zip(("any other text", "an image of another length", "a redo file of another pair"),
-                                                found["refused"])):
-        picture.box(16 + number * 326, y + 26, 316, 52, REFUSED)
-        picture.text(28 + number * 326, y + 46, what, size=13)
-        picture.text(28 + number * 326, y + 66, answer, size=12, mono=True)
-    return picture.whole(y + 94)
+    """The picture with the words in their places, as states.in has them."""
+    words = {name: html.escape(said, quote=False) if isinstance(said, str) else [html.escape(line, quote=False) for line in said]
+             for name, said in found.items()}
+    return (PICTURES / "states.in").read_text(encoding="utf-8").format(**words)
 
 
 def session(bx):
