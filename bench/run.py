@@ -10,6 +10,7 @@ without a program `time`. The rows go to standard output, and to bench/out/run.t
 Run by hand, no part of the gate."""
 import argparse
 import collections
+import itertools
 import os
 import pathlib
 import re
@@ -19,62 +20,26 @@ import tempfile
 import time
 
 TOP = pathlib.Path(__file__).resolve().parent.parent
-NEW = "rm -f image image.bxj image.bxj.redo"
-OVER = f"{NEW}; cp few image"
-DONE = f"{OVER}; BX revert -U -f dump image"
-UNDONE = f"{DONE}; BX undo -U image"
-SYNCED = f"{OVER}; sync image"
-# the group, the goal, bx's words, those of what stands beside it, its name, what comes first, untimed, and the file that both
-# have to leave the same, where that isn't standard output: - where there is nothing to compare
-Row = collections.namedtuple("Row", "group goal ours real name before made", defaults=(None, "", ""))
+# the group, the goal, bx's words, those of what stands beside it, its name, what comes first, and the file that both leave
+Row = collections.namedtuple("Row", "group goal ours real name before made", defaults=("", "", ""))
 FILES = r"(if=)?\b(long|prose|random|less|few|zeros|text)\b"
 
 
-def dumps(goal, *lines):
-    return [Row("dumps", goal, line, line) for line in lines]
-
-
-COPIES = [Row("copies to a stream", goal, line, line) for line, goal in (
-    ("dd if=long", 3), ("dd if=long bs=1M", 1), ("dd if=long bs=16M", 1), ("dd if=long conv=ucase", 1.5),
-    ("dd if=long conv=swab", 1.5), ("dd if=prose conv=block cbs=80", 1.5), ("dd if=long conv=unblock cbs=80", 1.5))]
-DUMPS = [
-    *dumps(15, "xxd random", "xxd -p random"), *dumps(8, "xxd -b random"), *dumps(20, "xxd -i random"), *dumps(8, "xxd -c 32 -g 4 random"),
-    *dumps(40, "od less", "od -t x1 less", "od -c less"), *dumps(20, "od -t d4 less", "od -t u1 less"), *dumps(1, "od few"),
-    *dumps(60, "hexdump -C less"), *dumps(1, "hexdump -C few"),
-    Row("dumps", "-", "xxd -p random", "basenc --base16 -w 60 random"),
-    *(Row("dumps", "-", line, f"busybox {line}") for line in ("xxd less", "od less", "hexdump -C less")),
-]
-RUNS = [
-    *(Row("runs of text", 4, f"strings {name}", f"strings -a {name}") for name in ("random", "text", "zeros")),
-    *(Row("runs of text", "-", f"strings {name}", real) for name in ("random", "text", "zeros")
-      for real in (f"rg -a -o -N --no-unicode '[ -~]{{4,}}' {name}", f"busybox strings {name}")),
-]
-# Changes of an image, with -U, since the tools beside don't wait for the disk either; opening beside a full journal; and the same
-# on the disk, as bx makes them by default: each step is synced, and beside it what the tool wrote is, once.
-CHANGES = [
-    Row("changes", 8, "revert -U -f dump image", "xxd -r dump image", "revert, a new image", NEW, "image"),
-    Row("changes", 8, "revert -U -p -f plain image", "xxd -r -p plain image", "revert -p, a new image", NEW, "image"),
-    Row("changes", "-", "revert -U -f dump image", "xxd -r dump image", "revert over an image", OVER, "image"),
-    Row("changes", "-", "dd -U if=less of=image conv=notrunc", "dd if=less of=image conv=notrunc", "dd over an image", OVER,
-        "image"),
-    Row("changes", "-", "undo -U image", "cp few image", "undo of that", DONE, "image"),
-    Row("changes", "-", "redo -U image", "cp less image", "redo of that", UNDONE, "image"),
-    Row("changes", 4, "undo -U -k 0 image", "cat image.bxj", "undo -k 0, a large journal", DONE, "-"),
-    Row("changes", "-", "undo -U image", "cat image.bxj", "undo of a byte, a large journal",
-        f"{DONE}; BX revert -U -f byte image", "-"),
-    Row("changes", 4, "undo -U -k 0 image", "cat image.bxj.redo", "undo -k 0, a large redo file", UNDONE, "-"),
-    *(Row("changes", "-", f"{line} many", "xxd -r same", f"{name}, 65,535 changes", "", "-")
-      for line, name in (("undo -U -k 0", "undo -k 0"), ("log", "log"), ("show", "show"))),
-    *(Row("changes on the disk", "-", *row, "image") for row in (
-        ("revert -f dump image", "sh -c 'xxd -r dump image; sync image'", "revert over an image", SYNCED),
-        ("dd if=less of=image conv=notrunc", "dd if=less of=image conv=notrunc,fsync", "dd over an image", SYNCED),
-        ("revert -f byte image", "sh -c 'xxd -r byte image; sync image'", "revert of a byte", SYNCED),
-        ("undo image", "sh -c 'cp few image; sync image'", "undo of a revert", f"{SYNCED}; BX revert -f dump image"),
-        ("redo image", "sh -c 'cp less image; sync image'", "redo of a revert",
-         f"{SYNCED}; BX revert -f dump image; BX undo image"),
-        ("undo -k 10 image", "sh -c 'cp few image; sync image'", "undo of ten bytes",
-         f"{SYNCED}; for i in 1 2 3 4 5 6 7 8 9 10; do BX revert -f byte image; done"))),
-]
+def table():
+    """The rows of bench/rows.txt, by their groups."""
+    set_to, found, group = {}, {}, None
+    for line in (TOP / "bench" / "rows.txt").read_text(encoding="utf-8").splitlines():
+        name = re.match(r"([A-Z]+) = (.*)", line)
+        if name:
+            set_to[name[1]] = re.sub(r"^[A-Z]+\b", lambda word: set_to[word[0]], name[2])
+        group = line[2:] if line.startswith("# ") else group
+        if " | " in line:
+            found.setdefault(group, []).append([cell.strip() for cell in line.split("|")])
+    calls = found.pop("calls")
+    rows = [Row(group, *row) for group, of_group in found.items() for row in of_group]
+    rows = [row._replace(real=row.ours if row.real == "=" else row.real,
+                         before=re.sub(r"^[A-Z]{3,}\b", lambda word: set_to[word[0]], row.before)) for row in rows]
+    return rows, calls
 
 
 def shell(words, out=subprocess.DEVNULL):
@@ -183,35 +148,23 @@ def build_calls(calls):
     shutil.copy("room/crates/calls/out/calls", calls)
 
 
-# The words of a call, and of each field that it tells the goal, the row's name, and what stands beside it: a command, or another
-# field.
-CALLS = [
-    ("dump dump", [("call", 8, "read_dump", "xxd -r dump")]), ("plain plain", [("call", 8, "read_plain", "xxd -r -p plain")]),
-    ("apply applied less", [("call", 0.67, "apply", "plain")]), ("save applied less", [("call", 0.5, "save", "plain")]),
-    ("scatter applied addresses", [("call", 0.5, "save, 1,000,000 writes", "sort -n addresses")]),
-    ("open many many.bxj", [("call", 8, "open, 65,535 entries", "xxd -r same")]),
-    *((f"change changed less{end}", [("call", 0.5, f"perform{name}", "plain"), ("undo", 0.5, f"undo{name}", "call"),
-                                     ("redo", "-", f"redo{name}", "undo"), ("behind", "-", f"open, a redo text{name}", "beside")])
-      for end, name in (("", ""), (" huge", ", huge pages"))),
-]
 BESIDE = {"plain": "the same plainly", "call": "perform", "undo": "undo", "beside": "open, a journal"}
 
 
-def library_calls(options, run):
+def library_calls(options, run, table_of_calls):
     """Times the calls; the bytes that reading a dump and scattered saves took, of each line and each write; and huge pages, where
     the system gives them to who asks: most of an undo is memory touched for the first time."""
     calls = TOP / "bench" / "out" / "calls"
     build_calls(calls)
     shell("cp zeros changed; cp few applied; shuf -i 0-33554431 -n 1000000 > addresses")
-    for words, rows in CALLS:
+    for words, rows in itertools.groupby(table_of_calls, lambda row: row[0]):
         front = "GLIBC_TUNABLES=glibc.malloc.hugetlb=1 " if words.endswith(" huge") else ""
         told = [line.split() for line in shell(f"{front}{calls} {words.removesuffix(' huge')}", subprocess.PIPE).splitlines()]
         fields = {line[0]: int(line[1]) for line in told if len(line) == 2}
-        for field, goal, name, beside in rows:
+        for _, goal, field, name, beside in rows:
             there = fields[beside] if beside in fields else best(options.rounds, [beside], "", options.bx)[0]
             tell(run, "calls", name, BESIDE.get(beside, beside), goal, fields[field], there)
-        wanted = [["before", "VmRSS:"], ["after", "VmHWM:"]]
-        used = {line[1]: int(line[2]) for line in told if len(line) == 4 and line[:2] in wanted}
+        used = {line[1]: int(line[2]) for line in told if len(line) == 4 and line[:2] in (["before", "VmRSS:"], ["after", "VmHWM:"])}
         if used:
             units, held = fields.get("writes", fields["units"]), 0 if "writes" in fields else os.path.getsize("less")
             print(f"{words.split()[0]}, memory: {((used['VmHWM:'] - used['VmRSS:']) * 1024 - held) / units:.1f} bytes each "
@@ -242,10 +195,11 @@ def main():
         for tool in (options.bx, "xxd", "od", "hexdump", "strings", "rg", "busybox"):
             said = shell(f"{tool} --version 2>&1", subprocess.PIPE) if shutil.which(tool) else ""
             print(f"# {said.splitlines()[0]}\n" if said else "", end="", file=run)
-        for row in COPIES + DUMPS + RUNS + CHANGES:
+        rows, calls = table()
+        for row in rows:
             time_row(row, options, run)
         if not options.programs and not options.before:
-            library_calls(options, run)
+            library_calls(options, run, calls)
         os.chdir("/")
 
 

@@ -3,26 +3,62 @@
 
 Usage: tests/hostile.py [--bx PATH] [SUBJECT ..]
 
-A subject is a file of tests/program, whose head says what it tries. A line for each case says `ok` or `WRONG`, one for what can't
-run here `left out:` and why. The status is 1 where a case fails. It runs outside the gate."""
+A subject is a transcript (`.t`) and a script (`.py`) of tests/program, or one of both, whose head says what it tries. A transcript
+is played section by section, as tools/transcript.py says; `(wants root)` behind the head of a section is what it needs, root or a
+tool. A line for each case or section says `ok` or `WRONG`, one for what can't run here `left out:` and why. The status is 1 where
+one fails. It runs outside the gate."""
 import importlib
+import os
+import pathlib
+import re
+import shutil
 import traceback
 
-from common import ROOT, asked, finish, folder, say
+from common import ROOT, asked, bx, counts, finish, folder, left_out, say
+from transcript import differences, outputs, steps
 
-SUBJECTS = sorted(path.stem for path in (ROOT / "tests" / "program").glob("*.py"))
+FOLDER = ROOT / "tests" / "program"
+SUBJECTS = sorted({path.stem for path in FOLDER.iterdir() if path.suffix in (".py", ".t")})
+
+
+def play(subject, part):
+    """Plays a section of a transcript: its head, and its lines."""
+    title, *lines = part.splitlines()
+    needs = "".join(re.findall(r" \(wants (.*)\)$", title)).split()
+    missing = [need for need in needs if not (os.getuid() == 0 if need == "root" else os.path.ismount(need) or shutil.which(need))]
+    if missing:
+        left_out(f"{subject}: {title} (there is no {', '.join(missing)})")
+        return
+    tour = steps([line[2:] for line in lines if line.startswith("  ")])
+    with folder() as path:
+        tally = pathlib.Path(path, "tally")
+        tally.touch()
+        tally.chmod(0o666)
+        given = outputs([command for command, _ in tour], bx[0], path, (FOLDER / "head.sh").read_text(encoding="utf-8"), True,
+                        TALLY=str(tally), FOLDER=str(FOLDER))
+        checks = len(tour) + tally.stat().st_size
+    if given and given[-1][-1:] and given[-1][-1].startswith("left out: "):
+        left_out(f"{subject}: {title} ({given[-1][-1][10:]})")
+        return
+    wrong = list(differences(tour, given))
+    say(not wrong, f"{subject}: {title}", "\n".join(["", *wrong]) if wrong else f"{checks} steps")
+    counts[True] += checks - len(wrong) - (not wrong)
+    counts[False] += max(len(wrong) - 1, 0)
 
 
 def main():
     options = asked(__doc__, ("subjects", {"nargs": "*", "choices": [[], *SUBJECTS]}))
     for subject in options.subjects or SUBJECTS:
-        for name, test in list(vars(importlib.import_module(f"program.{subject}")).items()):
-            if name.startswith("test_"):
-                with folder():
-                    try:
-                        test()
-                    except Exception:  # pylint: disable=broad-except
-                        say(False, f"{subject}: {name}", traceback.format_exc())
+        transcript = FOLDER / f"{subject}.t"
+        for part in re.split(r"^# ", transcript.read_text(encoding="utf-8"), flags=re.M)[1:] if transcript.exists() else []:
+            play(subject, part)
+        script = importlib.import_module(f"program.{subject}") if (FOLDER / f"{subject}.py").exists() else None
+        for name, test in [(name, test) for name, test in vars(script or {}).items() if name.startswith("test_")] if script else []:
+            with folder():
+                try:
+                    test()
+                except Exception:  # pylint: disable=broad-except
+                    say(False, f"{subject}: {name}", traceback.format_exc())
     finish()
 
 

@@ -3,8 +3,8 @@
 
 Usage: tests/power.py [--bx PATH] [--sessions N] [--seed N] [--jobs N] [--limit N] [orders|replay|cache ..]
 
-orders: what each command syncs, and in which order, by the calls that strace sees it make, beside the table in docs/FORMATS.md,
-"Order of device calls"; that a file that was written is synced before another one is written, and the folders of the names before
+orders: what each command syncs, and in which order, by the calls that strace sees it make, as tests/power.txt has
+them, beside the table in docs/FORMATS.md, "Order of device calls"; that a file that was written is synced before another one is written, and the folders of the names before
 the first.
 
 replay: random sessions of reverts, dd, undos and redos run under strace, on small images. Their calls are replayed. Before each
@@ -22,112 +22,28 @@ Outside the gate. Without a name all run, and a line says what is left out. It e
 it should be."""
 import os
 import random
+import re
 import shutil
 import sys
 import tempfile
 
-from common import asked, folder, left_out, say, write
+from common import ROOT, asked, folder, left_out, say, write
 from replay.fuse import CachedSession, Mount
 from replay.judge import LOG, REFUSED, Judge, dd, redo, revert, undo
 from replay.room import Room
 from replay.session import Session
 
 IMAGE = b"ABCDEFGH"
-HEAD = "change2 00000002 0000000000000008\n"
-SAVED = "00000000: 41                                       A\nsave 00000002\n"
-# The folders and the three files, which a command that may write syncs first; and the first byte of a journal, which is on the
-# disk before the others, an undo or a redo, and a change.
-SETTLED, FIRST, STEP, CHANGED = "FIJDR", "J", "JDRJ", "JRDJ"
-# The changes that stand, those that are undone (none: no image), the text behind the journal, the command, its status, what it
-# syncs.
-ORDERS = [
-    (None, 0, "", "revert -f dump IMAGE", 0, SETTLED + FIRST + CHANGED),
-    (0, 0, "", "revert -f dump IMAGE", 0, SETTLED + FIRST + CHANGED),
-    (1, 0, "", "revert -f dump IMAGE", 0, SETTLED + CHANGED),
-    (2, 1, "", "revert -f dump IMAGE", 0, SETTLED + CHANGED),
-    (0, 0, "", "dd if=dump OF", 0, SETTLED + FIRST + CHANGED),
-    (0, 0, "", "dd if=dump obs=1 seek=100 OF", 0, SETTLED + FIRST + CHANGED),
-    (1, 0, "", "undo -k 0 IMAGE", 0, SETTLED),
-    (1, 0, "", "undo IMAGE", 0, SETTLED + STEP + FIRST),
-    (4, 0, "", "undo -k 3 IMAGE", 0, SETTLED + STEP * 3),
-    (2, 1, "", "redo -k 0 IMAGE", 0, SETTLED),
-    (1, 1, "", "redo IMAGE", 0, SETTLED + FIRST + STEP),
-    (4, 4, "", "redo -k 3 IMAGE", 0, SETTLED + FIRST + STEP * 3),
-    (1, 0, HEAD, "undo -k 9 IMAGE", 1, SETTLED + "RJ"),
-    (1, 0, HEAD + SAVED, "undo -k 9 IMAGE", 1, SETTLED + "RDJ"),
-    (1, 0, "", "undo -k 9 IMAGE", 1, "FI"),
-    (1, 0, "", "redo IMAGE", 1, "FI"),
-    (0, 0, "", "revert -f bad IMAGE", 1, "FI"),
-    (3, 0, "", "log IMAGE", 0, ""),
-    (1, 0, HEAD, "log IMAGE", 0, SETTLED + "RJ"),
-    (0, 0, HEAD, "log IMAGE", 0, "FIJDJ" + FIRST),
-    (0, 0, HEAD + SAVED, "log IMAGE", 0, "FIJDDJ" + FIRST),
-    (0, 0, "", "xxd images/image", 0, ""),
-    (0, 0, "", "dd if=images/image", 0, ""),
-    (None, 0, "", "revert -U -f dump IMAGE", 0, ""),
-    (0, 0, "", "dd -U if=dump OF", 0, ""),
-    (2, 0, "", "undo -U -k 2 IMAGE", 0, ""),
-    (2, 2, "", "redo -U -k 2 IMAGE", 0, ""),
-    (1, 0, HEAD + SAVED, "undo -U -k 0 IMAGE", 0, ""),
-    (1, 0, "", "log -U IMAGE", 0, ""),
-    (3, 0, "", "show -k 3 IMAGE", 0, ""),
-    (1, 0, HEAD + SAVED, "show -k 0 IMAGE", 0, ""),
-]
-
-CHANGE, OTHER, THIRD, UNDO, REDO = revert((2, b"xy")), revert((6, b"z")), revert((0, b"q")), undo(1), redo(1)
+HEAD = "change2 0000000{} 0000000000000008\n"
+BEGUN = {"": "", "head": HEAD, "saved": HEAD + "00000000: 41                                       A\nsave 0000000{}\n"}
+COMMANDS = {"change": revert((2, b"xy")), "other": revert((6, b"z")), "third": revert((0, b"q")), "undo": undo(1), "undo of two": undo(2),
+            "redo": redo(1), "log": LOG}
 
 
-def synced(*commands):
-    return [(command, {}) for command in commands]
-
-
-def unsynced(*commands):
-    return [(command, {"unsynced": True}) for command in commands]
-
-
-def killed(command, until, is_unsynced=False):
-    return [(command, {"until": until, "unsynced": is_unsynced})]
-
-
-BOTH, UNDONE, TWO_UNDONE = synced(CHANGE, OTHER), synced(CHANGE, UNDO), synced(CHANGE, OTHER) + unsynced(undo(2))
-# What a sync puts on the disk, the commands before, the command, the sync by the name that Session.run gives it. Where it is left
-# out something is lost, but of those in SAFE.
-LEFT_OUT = [
-    ("the names of the texts", [], CHANGE, "F:0"),
-    ("the name of an image that is made", [], CHANGE, "I:0"),
-    ("before a change: the journal", killed(CHANGE, "J:3"), OTHER, "J:0"),
-    ("before a change: the image", unsynced(CHANGE), OTHER, "D:0"),
-    ("before a change: the redo file", synced(CHANGE) + unsynced(UNDO), OTHER, "R:0"),
-    ("a change: the journal, behind its first byte", [], CHANGE, "J:1"),
-    ("a change: the journal, behind its save line", [], CHANGE, "J:2"),
-    ("a change: the redo file, emptied", UNDONE, OTHER, "R:1"),
-    ("a change: the image", [], CHANGE, "D:1"),
-    ("a change: the journal, behind its end line", [], CHANGE, "J:3"),
-    ("before an undo: the journal", unsynced(CHANGE, OTHER), UNDO, "J:0"),
-    ("before an undo: the image", unsynced(CHANGE, OTHER), UNDO, "D:0"),
-    ("before an undo: the redo file", BOTH + unsynced(UNDO), UNDO, "R:0"),
-    ("an undo: the journal, cut behind its save line", synced(CHANGE), UNDO, "J:1"),
-    ("an undo: the image", synced(CHANGE), UNDO, "D:1"),
-    ("an undo: the redo file", synced(CHANGE), UNDO, "R:1"),
-    ("an undo: the journal, cut behind its first byte", synced(CHANGE), UNDO, "J:2"),
-    ("an undo: the journal, cut before the entry", synced(CHANGE), UNDO, "J:3"),
-    ("before a redo: the redo file", TWO_UNDONE, REDO, "R:0"),
-    ("before a redo: the image", TWO_UNDONE, REDO, "D:0"),
-    ("before a redo: the journal", TWO_UNDONE, REDO, "J:0"),
-    ("a redo: the journal, behind its first byte", UNDONE, REDO, "J:1"),
-    ("a redo: the journal, behind its save line", UNDONE, REDO, "J:2"),
-    ("a redo: the image", UNDONE, REDO, "D:1"),
-    ("a redo: the redo file, cut", UNDONE, REDO, "R:1"),
-    ("a redo: the journal, behind its end line", UNDONE, REDO, "J:3"),
-    ("before an opening recovers: the journal", killed(CHANGE, "J:2"), LOG, "J:0"),
-    ("before an opening recovers: the image", synced(CHANGE) + unsynced(OTHER) + killed(THIRD, "W:2", True), LOG, "D:0"),
-    ("before an opening recovers: the redo file", synced(CHANGE) + unsynced(UNDO) + killed(OTHER, "W:1", True), LOG, "R:0"),
-    ("an opening recovers: the redo file, emptied", UNDONE + killed(OTHER, "W:1"), LOG, "R:1"),
-    ("an opening recovers: the image", killed(CHANGE, "D:1"), LOG, "D:1"),
-    ("an opening recovers: the journal, cut behind its first byte", killed(CHANGE, "D:1"), LOG, "J:1"),
-    ("an opening recovers: the journal, cut", killed(CHANGE, "D:1"), LOG, "J:2"),
-]
-SAFE = ("before an opening recovers: the redo file", "an opening recovers: the journal, cut")
+def rows(head):
+    """The rows of a table of tests/power.txt."""
+    text = (ROOT / "tests" / "power.txt").read_text(encoding="utf-8").split(f"# {head}\n")[1].split("\n# ")[0]
+    return [[cell.strip() for cell in line.split("|")] for line in text.splitlines() if "|" in line][1:]
 
 
 def wrong_in(calls):
@@ -147,27 +63,26 @@ def wrong_in(calls):
 
 def orders(_judge, _options):
     """The orders of syncs: how many are wrong."""
-    bad = 0
-    for changes, undone, behind, words, status, order in ORDERS:
+    bad, table = 0, rows("Orders")
+    for changes, undone, begun, words, status, order in table:
         with folder() as path:
-            room = Room(path)
-            for name, text in (("dump", "00000002: 7879\n"), ("bad", "none\n")):
-                write(room.place(name), text)
-            room.put((None if changes is None else IMAGE,))
-            for command in ["revert -f dump IMAGE"] * (changes or 0) + [f"undo -k {undone} IMAGE"] * bool(changes):
+            room, is_there = Room(path), changes != "none"
+            write(room.place("dump"), "00000002: 7879\n")
+            write(room.place("bad"), "none\n")
+            room.put((IMAGE if is_there else None,))
+            for command in [*["revert -f dump IMAGE"] * int(changes) , f"undo -k {undone} IMAGE"] if is_there else []:
                 room.run(command)
-            if behind:
+            if begun:
                 image, journal, redo_text = room.get()
-                room.put((image, (journal or b"") + (behind if journal else behind.replace("00000002", "00000001")).encode(), redo_text))
+                room.put((image, (journal or b"") + BEGUN[begun].replace("{}", "2" if journal else "1").encode(), redo_text))
             done, calls = room.trace(words)
         found = "".join(letter for what, letter, *_ in calls if what == "sync")
         wrong = None if " -U " in words else wrong_in(calls)
-        if found != order:
-            wrong = f"synced {found or 'nothing'}, and not {order or 'nothing'}"
-        wrong = f"status {done.status}" if done.status != status else wrong
+        wrong = wrong if found == order.replace(" ", "") else f"synced {found or 'nothing'}, and not {order or 'nothing'}"
+        wrong = wrong if done.status == int(status) else f"status {done.status}"
         bad += bool(wrong)
-        say(not wrong, f"{changes} changes, {undone} undone{', one unfinished' * bool(behind)}: {words}", wrong or f"{len(order)} syncs")
-    print(f"{len(ORDERS) - bad} of {len(ORDERS)} commands sync in order")
+        say(not wrong, f"{changes} changes, {undone} undone{', one unfinished' * bool(begun)}: {words}", wrong or f"{len(found)} syncs")
+    print(f"{len(table) - bad} of {len(table)} commands sync in order")
     return bad
 
 
@@ -245,25 +160,25 @@ def sessions(judge, options, play, name="session"):
 
 def is_lost(judge, options, row, without):
     """Whether the commands of a row lose something, with a sync left out or with none."""
-    what, before, command, _ = row
+    what, before, command, *_ = row
     with folder() as path:
         image = None if what == "the name of an image that is made" else IMAGE
         session = Session(judge, Room(path), random.Random(options.seed), 4 * options.limit, image)
-        for one, how in before:
-            session.run(one, **how)
-        session.run(command, left_out=without)
+        for name, is_unsynced, until in re.findall(r"(\w[\w ]*?)( -U)?(?: until (\S+))?(?:, |$)", before):
+            session.run(COMMANDS[name], unsynced=is_unsynced != "", until=until or None)
+        session.run(COMMANDS[command], left_out=without)
     return bool(session.lost)
 
 
 def replay(judge, options):
     """Sessions under strace, and each sync left out: how many contents are lost, and how many syncs are not as known."""
-    wrong = sessions(judge, options, replayed)
-    for row in LEFT_OUT:
-        lost_with, lost = is_lost(judge, options, row, None), is_lost(judge, options, row, row[-1])
-        is_known = lost == (row[0] not in SAFE) and not lost_with
+    wrong, table = sessions(judge, options, replayed), rows("Left out")
+    for row in table:
+        lost_with, lost = is_lost(judge, options, row, None), is_lost(judge, options, row, row[3])
+        is_known = lost == (row[4] == "lost") and not lost_with
         wrong += not is_known
         say(is_known, f"without the sync of {row[0]}", f"{'' if lost else 'nothing '}lost{', and with it too' * lost_with}")
-    print(f"{len(LEFT_OUT)} syncs left out, one at a time")
+    print(f"{len(table)} syncs left out, one at a time")
     return wrong
 
 

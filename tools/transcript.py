@@ -32,7 +32,7 @@ def outputs(commands, bx, folder, head="", with_status=False, **env):
     with open(os.path.join(folder, "commands"), "w", encoding="utf-8") as out:
         out.write(script)
     done = subprocess.run(["bash", os.path.join(folder, "commands")], stdin=subprocess.DEVNULL, stdout=subprocess.PIPE,
-                          stderr=subprocess.STDOUT, cwd=os.path.join(folder, "work"), env=env, timeout=900, check=False)
+                          stderr=subprocess.STDOUT, cwd=os.path.join(folder, "work"), env=env, timeout=3600, check=False)
     text = re.sub(r"[\0-\x08\x0b-\x1f\x7f]", lambda it: f"\\x{ord(it[0]):02x}", done.stdout.decode(errors="backslashreplace"))
     *parts, rest = re.split(f"{END} (\\d+)\n", text)
     given = [lines.removesuffix("\n").split("\n") if lines else [] for lines in parts[::2]]

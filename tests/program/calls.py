@@ -1,11 +1,10 @@
 """Each memory request, and each read, write and sync, failing in turn, by shim.c, which wants a C compiler."""
-import errno
 import os
 import pathlib
 import re
 import subprocess
 
-from common import OPEN, PATCHED, TRIO, UNPATCHED, expect, fresh, held, left_out, remove, run, said, say, trio, write
+from common import OPEN, PATCHED, UNPATCHED, fresh, held, left_out, run, said, say, trio, write
 
 BEFORE, AFTER = (b"ABCDEFGH", b"", UNPATCHED), (b"ABxyEFGH", PATCHED, UNPATCHED)
 DD = "dd if=plain of=img obs=3 seek=1 conv=ucase"
@@ -17,25 +16,8 @@ REQUESTS = [*CHANGES, ("revert -p -s 3 -f plain img", BEFORE), ("log img", AFTER
 SYNCED = [("revert -f dump img", BEFORE), (DD, AFTER), ("undo img", AFTER), ("redo img", AFTER)]
 DUMPS = ["xxd", "xxd -i", "od -t x2", "hexdump -C", "strings -t x", "dd cbs=4 conv=block,ucase", "--help"]
 WRONG_WORDS = ["xxd -c 300", "bogus", "undo -k 1k img"]
-# what a folder may answer to a sync, and whether a command then stops
-FOLDER = {**dict.fromkeys(("EINVAL", "ENOSYS", "EOPNOTSUPP", "EPERM", "EACCES"), False),
-          **dict.fromkeys(("EIO", "ENOSPC", "EROFS", "EDQUOT"), True)}
-ALIASES = [*(f"{words} -J own two" for words in ("revert -f dump", "log", "show")), "revert -f dump -J one one",
-           *(f"{words} -J {names}" for names in ("hard one", "own soft") for words in ("revert -f dump", "undo", "log", "show"))]
 TEXT = b"Hello World\n\0\1\2 and some more text\n"
 MEMORY = "out of memory"
-
-
-def build():
-    """Whether there is a compiler, which makes the shim here; and the files of all tests."""
-    for name, data in (("dump", b"2: 7879\n20: 41\n"), ("plain", b"78 7\n9"), ("same", b"length 8 to 8\n-2: 7879\n+2: 4344\n"),
-                       ("fix", b"length 8 to 9\n-2: 4344\n+2: 7879\n+8: 41\n"), ("back", b"length 3 to 8\n+2: 7879\n-1: 4142\n")):
-        write(name, data)
-    source = pathlib.Path(__file__).with_name("shim.c")
-    try:
-        return subprocess.run(["cc", "-shared", "-fPIC", "-O1", "-o", "shim.so", source, "-ldl"], check=False).returncode == 0
-    except FileNotFoundError:
-        return False
 
 
 def shimmed(mode, number, words, given=b""):
@@ -70,28 +52,24 @@ def counted(name, rows, least=1):
 def requests(words, start):
     """Of memory: status 1, and all three as before."""
     for _, done, before in each("a", words, start):
-        is_refused = (done.status, done.out, done.err) == (1, b"", f"bx: {MEMORY}\n")
+        is_refused = done == (1, b"", f"bx: {MEMORY}\n")
         yield is_refused, trio() == before if is_refused else done.status == 0
 
 
-def calls(words, start):
-    """Opening again finds the image before or after it, and undoing all gives the first."""
+def calls(words, start, mode="f"):
+    """Opening again finds the image before or after it, and undoing all gives the first; moving one byte does what it always
+    does."""
     fresh(*start)
-    shimmed("f", 0, words)
+    shimmed(mode, 0, words)
     after = trio()[0]
-    for _, done, _ in each("f", words, start):
+    for _, done, _ in each(mode, words, start):
+        if mode == "s":
+            yield False, done.status == 0 and trio()[0] == after
+            continue
         is_opened = run("undo -k 0 img").status == 0
         image = trio()[0]
         is_known = image == after or (image == start[0] and done.status == 1)
         yield done.status == 1, done.status <= 1 and is_opened and is_known and undone_all()
-
-
-def bytewise(words, start):
-    fresh(*start)
-    shimmed("s", 0, words)
-    after = trio()[0]
-    for _, done, _ in each("s", words, start):
-        yield False, done.status == 0 and trio()[0] == after
 
 
 def syncs(words, start):
@@ -104,37 +82,6 @@ def syncs(words, start):
         yield True, is_right and run("undo -k 0 img").status == 0 and undone_all()
 
 
-def test_texts():
-    if not build():
-        left_out("each memory request, read and write (no C compiler)")
-        return
-    for words, start in REQUESTS:
-        counted(f"each memory request of {words}", requests(words, start))
-    for words, start in CHANGES:
-        counted(f"each read and write of {words}", calls(words, start))
-        counted(f"each read and write of {words} moves one byte", bytewise(words, start), 0)
-    for words, start in SYNCED:
-        counted(f"a full disk at each sync of {words}", syncs(words, start), 5)
-        fresh(*start)
-        done = shimmed("d", 1, words.replace(" ", " -U ", 1))
-        say(done.status == 0 and held("count") == (b"0\n",), f"{words} with -U syncs nothing")
-
-
-def test_folders():
-    """A folder that answers a sync with an error: one that has no such sync, or is not to be synced by this user, is passed by,
-    and any other error refuses the command and changes nothing."""
-    for name, stops in FOLDER.items() if build() else ():
-        well, number = True, getattr(errno, name)
-        for words in ("revert -f dump img", "dd if=plain of=img conv=notrunc", "patch -f same img", "undo img", "redo img"):
-            fresh(*AFTER)
-            before, done = trio(), shimmed("o", number, words)
-            well = well and done.status == stops and (trio() == before) == stops and (said(done) == OPEN or not stops)
-            fresh(*AFTER)
-            well = well and shimmed("o", number, words.replace(" ", " -U ", 1)).status == 0
-        fresh(*AFTER)
-        say(well and shimmed("o", number, "log img").status == 0, f"a folder that answers a sync by {name}")
-
-
 def dumped(words, plain):
     """Where memory is refused nothing is written, or all of it where dd's report can't be made; else what is written is a
     prefix."""
@@ -143,40 +90,30 @@ def dumped(words, plain):
         yield is_refused, done.out in (b"", plain.out if words.startswith("dd") else b"") if is_refused else done == plain
     for _, done, _ in each("f", words, given=TEXT):
         is_fault = re.search(r"^bx: (read failed|write failed after \d+ bytes)$", done.err, re.M)
-        is_whole = (done.status, done.out) == (0, plain.out)
-        yield False, plain.out.startswith(done.out) and is_fault if done.status == 1 else is_whole
+        yield False, plain.out.startswith(done.out) and is_fault if done.status == 1 else (done.status, done.out) == (0, plain.out)
     for _, done, _ in each("s", words, given=TEXT):
         yield False, (done.status, done.out) == (0, plain.out)
 
 
-def test_dumps():
-    for words in DUMPS if build() else ():
+def test_calls():
+    for name, data in (("dump", b"2: 7879\n20: 41\n"), ("plain", b"78 7\n9"), ("fix", b"length 8 to 9\n-2: 4344\n+2: 7879\n+8: 41\n"),
+                       ("back", b"length 3 to 8\n+2: 7879\n-1: 4142\n")):
+        write(name, data)
+    if subprocess.run(["sh", "-c", 'cc -shared -fPIC -O1 -o shim.so "$0" -ldl', pathlib.Path(__file__).with_name("shim.c")], check=False).returncode:
+        left_out("each memory request, read and write (no C compiler)")
+        return
+    for words, start in REQUESTS:
+        counted(f"each memory request of {words}", requests(words, start))
+    for words, start in CHANGES:
+        counted(f"each read and write of {words}", calls(words, start))
+        counted(f"each read and write of {words} moves one byte", calls(words, start, "s"), 0)
+    for words, start in SYNCED:
+        counted(f"a full disk at each sync of {words}", syncs(words, start), 5)
+        fresh(*start)
+        done = shimmed("d", 1, words.replace(" ", " -U ", 1))
+        say(done.status == 0 and held("count") == (b"0\n",), f"{words} with -U syncs nothing")
+    for words in DUMPS:
         counted(f"each memory request, read and write of {words}", dumped(words, run(words, TEXT)))
-    for words in WRONG_WORDS if build() else ():
+    for words in WRONG_WORDS:
         rows = ((done.status == 1, (done.status, said(done)) in ((1, MEMORY), (2, "bad arguments"))) for _, done, _ in each("a", words))
         counted(f"each memory request of {words}", rows)
-
-
-def test_without_locks():
-    """One file by two names on a file system without locks, and a new image by a link as its own journal."""
-    if not build():
-        return
-    fresh(b"ABCDEFGH")
-    say(shimmed("n", 0, "revert -f dump img").status == 0 and run("log img").out == b"1 8 2\n", "a file system without locks")
-    files = {"one": b"AB", "own": PATCHED, "two": b"ABxyEFGH"}
-    for words in ALIASES:
-        for name, data in files.items():
-            write(name, data)
-        os.link("one", "hard")
-        os.symlink("own", "soft")
-        if "soft" not in words:
-            os.symlink("own", "own.redo")
-        done = shimmed("n", 0, words)
-        well = done.status and held(*files) == tuple(files.values()) and not any(map(os.path.exists, ("hard.redo", "one.redo")))
-        say(well and os.path.exists("own.redo") == os.path.islink("own.redo"), f"one file by two names, without locks: {words}", said(done))
-        remove("hard", "soft", "own.redo", "hard.redo", "one.redo")
-    os.symlink("dangling", "j")
-    expect("a new image as its journal, by a link", "revert -f dump -J j dangling", OPEN)
-    say(shimmed("n", 0, "revert -f dump -J j dangling").status == 1 and not any(map(os.path.exists, ("dangling", "j.redo"))),
-        "without locks too")
-    remove(*TRIO)

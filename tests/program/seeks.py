@@ -12,7 +12,6 @@ import time
 
 import common
 from common import bx, counts, held, left_out, say
-from program.devices import detach, loop_device
 
 # the greatest number that an operand of bx dd may have
 NUMBER = 2**40 - 1
@@ -40,15 +39,13 @@ def words_of(rng, tool, place):
     """Words that skip to a place, and show a little of what stands there."""
     few = rng.choice([1, 4, 16, 17, 48])
     if tool == "xxd":
-        more = rng.choice([[], ["-p"], ["-c", "7"], ["-o", "16"], ["-o", str(2**62)], ["-b"]])
-        return ["xxd", "-s", str(place), "-l", str(few), *more]
+        return ["xxd", "-s", str(place), "-l", str(few), *rng.choice(["", "-p", "-c 7", "-o 16", f"-o {2**62}", "-b"]).split()]
     if tool == "od":
         return ["od", "-j", str(place), "-N", str(few), "-A", rng.choice("doxn"), "-t", rng.choice(["x1", "o2", "c", "u8"])]
     if tool == "hexdump":
         return ["hexdump", "-C", "-s", str(place), "-n", str(few)]
     ibs = rng.choice([1, 512, 4096, 65536])
-    if place // ibs > NUMBER:
-        ibs = 512
+    ibs = 512 if place // ibs > NUMBER else ibs
     return ["dd", f"ibs={ibs}", f"skip={place // ibs}", f"count={rng.choice([1, 2])}"]
 
 
@@ -66,54 +63,41 @@ def left_of(program, words, at):
 
 def through(words, data, is_fifo):
     """The same of a pipe, or of a fifo that is FILE."""
+    reader, writer = (subprocess.DEVNULL, None) if is_fifo else os.pipe()
+
+    def pour():
+        try:
+            with open("fifo" if is_fifo else writer, "wb") as out:
+                out.write(data)
+        except BrokenPipeError:
+            pass
     if is_fifo:
         os.mkfifo("fifo")
-        open_writer, reader, words = lambda: os.open("fifo", os.O_WRONLY), subprocess.DEVNULL, on(words, "fifo")
-    else:
-        reader, writer = os.pipe()
-        open_writer = lambda: writer  # noqa: E731
-    feed = threading.Thread(target=lambda: pour(open_writer(), data))
+    feed = threading.Thread(target=pour)
     feed.start()
-    outcome = run(bx[0], words, reader)[0]
-    if is_fifo:
-        os.remove("fifo")
-    else:
-        os.close(reader)
+    outcome = run(bx[0], on(words, "fifo") if is_fifo else words, reader)[0]
+    (os.remove if is_fifo else os.close)("fifo" if is_fifo else reader)
     feed.join()
     return outcome
 
 
-def pour(writer, data):
-    try:
-        with os.fdopen(writer, "wb") as out:
-            out.write(data)
-    except BrokenPipeError:
-        pass
-
-
-def same(what, words, mine, theirs):
-    if mine != theirs:
-        say(False, f"{what}: {' '.join(words)}", f"\n  bx:   {mine}\n  real: {theirs}")
-
-
 def compare(rng, files):
-    """A seek in a file; and standard input, a pipe and a fifo, which are read."""
+    """A seek in a file; and standard input, a pipe and a fifo, which are read. Answers what differs."""
     tool, name = rng.choice(TOOLS), rng.choice(list(files))
-    length = files[name]
+    length, data = files[name], held("small")[0]
     place = rng.choice([p for p in PLACES if p <= 2 * length] + [rng.randrange(length + 3), rng.randrange(SMALL)])
     words = words_of(rng, tool, place)
     if tool in ("od", "dd") or place < length:  # where both say the same: man/bx.1 lists where they don't
         (mine, ours), (real, theirs) = run(bx[0], on(words, name)), run(tool, on(words, name)[1:])
-        same(name, words, mine, real)
-        if ours > max(2 * theirs, 0.5):
-            say(False, f"{name}: {' '.join(words)}", f"{ours:.2f} s, and not {theirs:.2f}")
+        yield name, words, mine, real
+        yield f"time of {name}", words, ours if ours > max(2 * theirs, 0.5) else theirs, theirs
     if name == "small":
         at = rng.choice([0, 1, 100])
         if at + place + 48 < length and tool in ("od", "dd"):
-            same(f"standard input at {at}", words, left_of(bx[0], words, at), left_of(tool, words[1:], at))
+            yield f"standard input at {at}", words, left_of(bx[0], words, at), left_of(tool, words[1:], at)
         want = run(bx[0], on(words, "small"))[0]
-        for is_fifo in (False, True):
-            same("a fifo" if is_fifo else "a pipe", words, through(words, held("small")[0], is_fifo), want)
+        yield "a pipe", words, through(words, data, False), want
+        yield "a fifo", words, through(words, data, True), want
 
 
 def test_seeks():
@@ -123,14 +107,16 @@ def test_seeks():
     rng, files = random.Random(SEED), {"small": SMALL, "huge": HUGE}
     for name, length in [*files.items(), ("disk", DISK)]:
         make(name, length, rng)
-    device = loop_device("disk")
+    made = subprocess.run(["losetup", "-f", "--show", "disk"], capture_output=True, text=True, check=False) if shutil.which("losetup") else None
+    device = made.stdout.strip() if made and made.returncode == 0 else None
     files |= {device: DISK} if device else {}
     try:
         for _ in range(ROUNDS):
-            before = counts[False]
-            compare(rng, files)
-            counts[True] += counts[False] == before
+            wrong = [row for row in compare(rng, files) if row[2] != row[3]]
+            counts[True] += not wrong
+            for what, words, mine, theirs in wrong:
+                say(False, f"{what}: {' '.join(words)}", f"\n  bx:   {mine}\n  real: {theirs}")
     finally:
         if device:
-            detach(device)
+            subprocess.run(["losetup", "-d", device], check=True)
     print(f"seeks {'with' if device else 'without'} a loop device")

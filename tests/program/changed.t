@@ -1,0 +1,205 @@
+An image that something else changed: when `undo` and `redo` refuse it by the text beside the journal, and texts that say nothing.
+
+# The text beside the journal
+
+Each command that changes something writes its line: how many changes stand and are undone, the image's length, the MD5 of what
+the last change wrote ("xy", and nothing) and of what the last undo did ("CD").
+
+  $ changes '2: 7879'; cat img.bxj.image
+  image1 00000001 00000000 0000000000000008 3e44107170a520582ade522fa73c1d15 d41d8cd98f00b204e9800998ecf8427e 00000000
+  $ bx undo img; cat img.bxj.image
+  0
+  image1 00000000 00000001 0000000000000008 d41d8cd98f00b204e9800998ecf8427e 4170acd6af571e8d0d59fdad999cc605 00000000
+  $ bx forget img; wc -c < img.bxj.image
+  0
+
+# A new build of the same length
+
+  $ changes '2: 7879' '4: 7a7a'; printf abcdefgh > img; refused 'the image was changed since' << .
+  > undo img
+  > undo -k 2 img
+  > .
+  $ kept bx undo -k 0 img
+  2
+  $ kept bx undo -k 3 img
+  bx: only 2 changes to undo
+  [1]
+  $ bx log -v img | head -1; bx show img | head -1
+  # the image was changed since
+  # the image was changed since
+  $ bx log img
+  1 8 2
+  2 8 2
+  $ bx show -k 3 img
+  bx: only 2 changes to undo
+  [1]
+  $ bx undo --anyway img; cat img
+  1
+  abcdEFgh
+  $ kept bx undo img
+  bx: the image was changed since
+  [1]
+
+And what was undone:
+
+  $ changes '2: 7879'; bx undo img; printf abcdefgh > img; kept bx redo img
+  0
+  bx: the image was changed since
+  [1]
+  $ bx show -r img | head -1; bx log -v img | grep -c since
+  # the image was changed since
+  0
+  [1]
+  $ bx redo --anyway img; cat img
+  1
+  abxyefgh
+  $ changes '2: 7879' '4: 7a7a'; bx undo img; printf abcdEFgh > img
+  1
+  $ bx redo img; cat img
+  2
+  abcdzzgh
+  $ kept bx undo -k 2 img
+  bx: the image was changed since
+  [1]
+
+# A change on an image that something else changed, and the undo past it
+
+  $ echo '+6: 7a7a' > fix; echo '6: 7a7a' > dump; printf zz > zz
+  $ for words in 'revert -f dump img' 'patch -f fix img' 'dd if=zz of=img seek=6 obs=1 conv=notrunc'; do
+  >   changes '2: 7879'; printf abcdefgh > img; bx $words 2> /dev/null; cat img; cut -c 109-116 img.bxj.image
+  >   refused 'the image was changed since' <<< 'undo -k 2 img'
+  >   bx undo img; cat img; echo
+  >   refused 'the image was changed since' <<< 'undo img'
+  >   bx undo --anyway img; cat img; echo
+  > done
+  abcdefzz00000001
+  1
+  abcdefgh
+  0
+  abCDefgh
+  abcdefzz00000001
+  1
+  abcdefgh
+  0
+  abCDefgh
+  abcdefzz00000001
+  1
+  abcdefgh
+  0
+  abCDefgh
+
+# What leaves the bytes
+
+It is refused nowhere: a newer time, copies of the four files, bytes that no change wrote, and no text.
+
+  $ changes '2: 7879' '4: 7a7a'; touch img; bx undo img; cat img
+  1
+  ABxyEFGH
+  $ bx redo img; cat img
+  2
+  ABxyzzGH
+  $ mkdir copy; cp img* copy; cd copy; bx undo -k 2 img; cat img
+  0
+  ABCDEFGH
+  $ bx redo -k 2 img; cat img; cd ..
+  2
+  ABxyzzGH
+  $ printf XXxyzzXX > img; bx undo img; cat img
+  1
+  XXxyEFXX
+  $ changes '2: 7879'; rm img.bxj.image; printf abcdefgh > img; bx undo img; cat img
+  0
+  abCDefgh
+  $ bx log -v img > /dev/null; cut -c 1-25 img.bxj.image
+  image1 00000000 00000001 
+
+# A build script that runs a hundred times
+
+  $ echo '2: 7879' > dump; : > img
+  $ for n in $(seq 100); do mega $((n % 10)) 8 > img; bx revert -U --fresh -f dump img || echo "$n: $?"; done; bx log img
+  1 8 2
+  $ bx undo img; cat img
+  0
+  00000000
+
+# Texts that say nothing
+
+One that begins as a line does, and isn't longer than one, is written anew by an undo, and so is an empty one; any other stays.
+
+  $ zeros=$(mega 0 32)
+  $ undone() { # TEXT: the undo goes on, and the text is written anew or stays
+  >   changes '2: 7879'; printf %b "$1" | tee img.bxj.image > was
+  >   bx undo img > out 2>&1; echo "$(cat out) $(cat img) $(cmp -s img.bxj.image was && echo stays || echo anew)"
+  > }
+  $ undone ''
+  0 ABCDEFGH anew
+  $ undone '\0'
+  0 ABCDEFGH stays
+  $ undone "$(mega '0' 117 | sed 's/0/\\0/g')"
+  0 ABCDEFGH stays
+  $ undone "$(mega x 117)"
+  0 ABCDEFGH stays
+  $ undone "$(mega x 1000000)"
+  0 ABCDEFGH stays
+  $ undone 'image1 \n'
+  0 ABCDEFGH anew
+  $ undone "image1 $(mega 0 110)"
+  0 ABCDEFGH anew
+  $ undone "image1 $(mega y 200 | sed 's/y/\\0377/g')"
+  0 ABCDEFGH stays
+  $ undone "image1 00000001 00000000 0000000000000008 $zeros $zeros 00000000"
+  0 ABCDEFGH anew
+  $ undone "image1 00000001 00000000 0000000000000008 ${zeros//0/g} $zeros 00000000\n"
+  0 ABCDEFGH anew
+  $ undone "image1 00000001 00000000 0000000000000008 ${zeros//0/A} $zeros 00000000\n"
+  0 ABCDEFGH anew
+  $ undone "image1 00000002 00000000 0000000000000008 $zeros $zeros 00000000\n"
+  0 ABCDEFGH anew
+  $ undone "image1 00000001 00000000 0000000000000009 $zeros $zeros 00000000\n"
+  0 ABCDEFGH anew
+  $ undone "image1 ffffffff ffffffff ffffffffffffffff $zeros $zeros ffffffff\n"
+  0 ABCDEFGH anew
+
+# Files in its place that aren't touched
+
+  $ echo 'image1 precious' > precious
+  $ for link in 'ln -s' 'ln -f'; do
+  >   changes '2: 7879'; rm img.bxj.image; $link precious img.bxj.image; bx undo img; bx forget img; cat img precious
+  >   [ precious -ef img.bxj.image ] || echo 'another file'
+  > done
+  0
+  ABCDEFGHimage1 precious
+  0
+  ABCDEFGHimage1 precious
+  $ changes '2: 7879'; rm img.bxj.image; mkdir img.bxj.image; bx undo img; cat img
+  0
+  ABCDEFGH
+  $ rmdir img.bxj.image; mkfifo img.bxj.image; bx redo img; cat img; rm img.bxj.image
+  1
+  ABxyEFGH
+
+An image that has the text's name, and begins as a line does:
+
+  $ printf ABCDEFGH > a.image; echo '2: 7879' | bx revert -J a a.image; cat a.image
+  ABxyEFGH
+  $ bx undo -J a a.image; cat a.image
+  0
+  ABCDEFGH
+  $ printf 'image1 AB' > a.image; bx forget -J a a.image; echo '2: 7879' | bx revert -J a a.image; cat a.image
+  imxye1 AB
+
+A line beside files of another history, whose journal is newer:
+
+  $ changes '2: 7879'; cp -p img.bxj.image line; fresh ABCDzzGH "${patched/00000002: 4344/00000004: 4546}"
+  $ sed -i 's/CD$/EF/' img.bxj; cp -p line img.bxj.image; touch -d '+1 second' img.bxj
+  $ bx undo img; cat img; cmp -s line img.bxj.image
+  0
+  ABCDEFGH
+  [1]
+
+# A text of somebody else (wants root)
+
+  $ changes '2: 7879'; chown 12345:12345 img img.bxj; chown 54321:54321 img.bxj.image; chmod 666 img.bxj.image
+  $ cp img.bxj.image was; bx undo img; cmp was img.bxj.image; stat -c %u img.bxj.image
+  0
+  54321

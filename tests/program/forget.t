@@ -1,0 +1,123 @@
+`forget` and `--fresh`: what is left of image, journal and redo file, which inputs drop no history, and files that aren't emptied.
+
+# What is forgotten
+
+  $ forgotten() { bx forget img; holds "$1"; echo *; bx undo img; }
+  $ fresh ABxyEFGH "$patched" "$unpatched"; forgotten ABxyEFGH
+  img img.bxj img.bxj.redo
+  bx: only 0 changes to undo
+  [1]
+  $ fresh ABxyEFGH "$patched"; forgotten ABxyEFGH
+  img img.bxj
+  bx: only 0 changes to undo
+  [1]
+
+An image of another length, and texts that are damaged:
+
+  $ fresh ABxyEFGHIJ "$patched" "$unpatched"; forgotten ABxyEFGHIJ
+  img img.bxj img.bxj.redo
+  bx: only 0 changes to undo
+  [1]
+  $ fresh ABxyEFGH "${patched}what is this\n" "$unpatched"; forgotten ABxyEFGH
+  img img.bxj img.bxj.redo
+  bx: only 0 changes to undo
+  [1]
+  $ fresh ABxyEFGH "$patched" "${unpatched}what is this\n"; forgotten ABxyEFGH
+  img img.bxj img.bxj.redo
+  bx: only 0 changes to undo
+  [1]
+
+A change that was stopped, and an entry that isn't whole:
+
+  $ fresh ABxyEFGH "$stopped"; forgotten ABCDEFGH
+  bx: recovered: change 1 was taken back
+  img img.bxj
+  bx: only 0 changes to undo
+  [1]
+  $ fresh ABCDEFGH "${stopped%save*}"; forgotten ABCDEFGH
+  bx: recovered: an unfinished entry was dropped
+  img img.bxj
+  bx: only 0 changes to undo
+  [1]
+
+No journal:
+
+  $ fresh ABxyEFGH; kept bx forget img
+  bx: cannot open file
+  [1]
+
+# A history that begins anew
+
+  $ echo '0: 41' > dump; echo '+0: 41' > fix
+  $ fresh ABxyEFGHIJ "$patched" "$unpatched"; bx revert --fresh -f dump img; bx log img; wc -c < img.bxj.redo
+  1 10 1
+  0
+  $ fresh ABxyEFGH "$patched" "$unpatched"; bx patch --fresh -f fix img; bx log img; wc -c < img.bxj.redo
+  1 8 1
+  0
+  $ fresh ABxyEFGH "$patched" "$unpatched"; bx dd --fresh if=dump of=img conv=notrunc; bx log img; wc -c < img.bxj.redo
+  0+1 records in
+  0+1 records out
+  1 8 6
+  0
+  $ bx undo img; cat img
+  0
+  ABxyEFGH
+  $ bx revert --fresh -f dump made; cat made; bx log made
+  A1 0 0
+
+# A file that begins as no journal, and inputs that are refused
+
+  $ echo '0: 41' > dump; echo '+0: 41' > fix; echo '0: 4g' > bad
+  $ printf -- '-0: 42\n+0: 41\n' > other; printf 'length 3 to 3\n' > short
+  $ for file in journal redo; do
+  >   [ $file = journal ] && fresh ABxyEFGH 'a letter\nthat is no journal\n' || fresh ABxyEFGH "$patched" 'a letter\nthat is no journal\n'
+  >   refused "$file line 1 is damaged" << .
+  > forget img
+  > revert --fresh -f dump img
+  > dd --fresh if=dump of=img
+  > patch --fresh -f fix img
+  > .
+  > done
+  $ fresh ABxyEFGH "$patched" "$unpatched"
+  $ kept bx revert --fresh -f bad img
+  bx: line 1: bad pair
+  [1]
+  $ kept bx revert --fresh -f missing img
+  bx: cannot open file
+  [1]
+  $ kept bx revert --fresh -f / img
+  bx: read failed
+  [1]
+  $ kept bx patch --fresh -f bad img
+  bx: line 1: not a line of a patch
+  [1]
+  $ kept bx patch --fresh -f other img
+  bx: the image has other bytes at 0
+  [1]
+  $ kept bx patch --fresh -f short img
+  bx: image should have 3 bytes
+  [1]
+  $ kept bx dd --fresh of=img off=1
+  bx: operand 2: unknown
+  [1]
+  $ kept bx dd --fresh if=missing of=img
+  bx: cannot open file
+  [1]
+  $ kept bx dd --fresh if=/ of=img
+  bx: read failed
+  [1]
+
+# What somebody planted, and what is in use
+
+  $ fresh ABxyEFGH; echo 'change2 precious' > precious
+  $ ln -s precious img.bxj; kept bx forget img
+  bx: cannot open file
+  [1]
+  $ ln -f precious img.bxj; kept bx forget img
+  bx: cannot open file
+  [1]
+  $ fresh ABxyEFGH "$patched" "$unpatched"; kept flock img.bxj bx forget img
+  bx: cannot open file
+  [1]
+  $ flock -s img bx forget img

@@ -1,0 +1,130 @@
+Patches: round trips with `diff`, texts that are none, and images that have other bytes. tests/program/patches.py has `-n`, `show -p`,
+and random pairs.
+
+# A patch is applied, taken back, and applied the other way round
+
+  $ fresh ABCDEFGH; printf 'ABxyEFGH\0Z' > new; bx diff img new > fix; cat fix
+  length 8 to 10
+  -00000002: 4344                                     CD
+  +00000002: 7879                                     xy
+  +00000008: 005a                                     .Z
+  $ bx patch -f fix img; cmp img new
+  $ kept bx patch -f fix img
+  bx: image should have 8 bytes
+  [1]
+  $ bx patch -R -f fix img; cat img; bx log img
+  ABCDEFGH1 8 2
+  2 10 4
+  $ bx undo -k 2 img; holds ABCDEFGH '' "$(cat img.bxj.redo)\n"
+  0
+  $ bx redo img; cmp img new
+  1
+  $ : > none; bx diff none new | bx patch made; cmp made new
+
+# Texts that are no patches
+
+Nothing is made or recovered: of an image with its texts, of one whose last change was stopped, and of one that is missing.
+
+  $ echo '00000002: 7879' > dump; printf 'length 8 to 8\n+00000007: 4142\n' > past; printf -- '-00000002: 7879\nlength 8 to 8\n' > late
+  $ echo 'length 8 to' > one; printf -- '--- old\n+++ new\n' > unified
+  $ (yes '+00000000: 4142 4344 4546 4748' | head -1000000; echo x) > million
+  $ for journal in patched stopped; do fresh ABxyEFGH "${!journal}" "$unpatched"
+  >   for image in img new; do
+  >     refused 'line 1: not a line of a patch' <<< "patch -f dump $image"
+  >     refused 'line 2: past the length' <<< "patch -f past $image"
+  >     refused 'line 2: not a line of a patch' <<< "patch -f late $image"
+  >     refused 'line 1: bad length' <<< "patch -f one $image"
+  >     refused 'line 1: bad address' <<< "patch -f unified $image"
+  >     refused 'line 1000001: not a line of a patch' <<< "patch -f million $image"
+  >   done
+  > done
+  $ kept bx patch -f "$(command -v bx)" new
+  bx: line 1: not a line of a patch
+  [1]
+  $ kept bx patch -f / new
+  bx: read failed
+  [1]
+  $ kept bx patch -f missing new
+  bx: cannot open file
+  [1]
+  $ echo '-0: 41' > text; kept bx patch -f text new
+  bx: the image has other bytes at 0
+  [1]
+
+# Patches of other images
+
+One that was applied before, one that goes on behind the image, of a shorter image, and of one of 18 digits; and one that makes
+it too large.
+
+  $ fresh ABxyEFGH "$patched" "$unpatched"; printf 'length 8 to 8\n-00000002: 4344\n+00000002: 7879\n' > fix; kept bx patch -f fix img
+  bx: the image has other bytes at 2
+  [1]
+  $ echo '-00000006: 4748 49' > behind; kept bx patch -f behind img
+  bx: the image has other bytes at 8
+  [1]
+  $ printf 'length 7 to 8\n-00000000: 41\n+00000000: 42\n' > shorter; kept bx patch -f shorter img
+  bx: image should have 7 bytes
+  [1]
+  $ echo 'length 999999999999999999 to 0' > digits; kept bx patch -f digits img
+  bx: image should have 999999999999999999 bytes
+  [1]
+  $ echo 'length 8 to 281474976710656' > large; kept bx patch -f large img
+  bx: image too large
+  [1]
+
+The other way round the first fits:
+
+  $ bx patch -R -f fix img; cat img
+  ABCDEFGH
+
+# What refuses a change refuses it under -n, with the same words
+
+  $ printf 'length 8 to 8\n-00000002: 4344\n+00000002: 7879\n' > fix
+  $ for image in ABCDEFGH AB; do for option in '' -n; do
+  >   fresh $image; refused 'line 1: bad pair' <<< "revert $option img <<< '00000002: 787'"
+  >   refused 'image too large' <<< "revert $option img <<< 'ffffffffffff: 78'"
+  >   refused 'cannot open file' <<< "revert $option -f missing img"
+  >   refused 'cannot open file' <<< "dd $option if=missing of=img"
+  >   refused 'operand 2: unknown' <<< "dd $option of=img off=1"
+  >   refused 'line 1: not a line of a patch' <<< "patch $option img <<< x"
+  >   refused 'image should have 7 bytes' <<< "patch $option img <<< 'length 7 to 8'"
+  >   [ $image = AB ] && fault='image should have 8 bytes' || fault='the image has other bytes at 2'
+  >   refused "$fault" <<< "patch $option -R -f fix img"
+  >   [ $image = AB ] && fault='the image has other bytes at 6' || fault='the image has other bytes at 8'
+  >   refused "$fault" <<< "patch $option img <<< '-00000006: 4748 49'"
+  >   [ $image = AB ] && fault='image should have 8 bytes' || fault='image too large'
+  >   refused "$fault" <<< "patch $option img <<< 'length 8 to 281474976710656'"
+  > done; done
+
+A missing image that should have bytes, a folder, and one that may only be read, in a folder that may:
+
+  $ rm img*; kept bx patch -n -f fix img
+  bx: image should have 8 bytes
+  [1]
+  $ mkdir folder; refused 'cannot open file' << .
+  > revert -n folder <<< '00000002: 7879'
+  > dd -n bs=2 seek=1 of=folder <<< xyz
+  > patch -n -f fix folder
+  > .
+  $ fresh ABCDEFGH; bx revert -n img <<< '2: 78' > /dev/full; holds ABCDEFGH
+  bx: write failed after 0 bytes
+
+# What -n writes can be applied
+
+  $ fresh ABCDEFGH; printf '00000002: 7879\n00000003: 7a\n0000000c: 41\n' > dump; kept bx revert -n -f dump img > ../patch; cat ../patch
+  length 8 to 13
+  -00000002: 4344                                     CD
+  +00000002: 787a                                     xz
+  +00000008: 0000 0000 41                             ....A
+  $ chmod 444 img; mkdir shut; mv img shut; chmod 555 shut; kept bx revert -n -f dump shut/img | cmp - ../patch
+  $ chmod 755 shut; mv shut/img img; chmod 644 img; bx patch -f ../patch img; xxd img
+  00000000: 4142 787a 4546 4748 0000 0000 41         ABxzEFGH....A
+
+# What `show -p` says no to
+
+  $ fresh ABxyEFGH "$stopped"; kept bx show -p img
+  bx: interrupted: open again to recover
+  [1]
+  $ kept bx show -d -p img
+  bx: bad arguments
+  [2]
