@@ -34,10 +34,8 @@ WORDS = ["block", "unblock", "lcase", "ucase", "swab", "sync", "notrunc", "noerr
 
 
 NEEDS_BX = True
-
-
-def arguments(parser):
-    pass
+FLAG = r"(?<![\w-])-([A-Za-z0-9])\b(?: <?([A-Z]+)>?)?"
+BASH = '. {}/completions/bx.bash; COMP_WORDS=(bx {} -) COMP_CWORD=2; _bx; printf "%s\\n" "${{COMPREPLY[@]}}"'
 
 
 def read(name):
@@ -90,32 +88,17 @@ class Program:
         return {word for word in WORDS if self.takes("dd", "cbs=4", f"conv={word}")}
 
 
-def flags(text):
-    """Options as a synopsis or a help names them: a letter, and perhaps a value in upper case."""
-    return {letter: bool(value) for letter, value in re.findall(r"(?<![\w-])-([A-Za-z0-9])\b(?: <?([A-Z]+)>?)?", text)}
-
-
-def help_options(bx, command):
-    lines = bx.run(command, "--help").stdout.splitlines()
-    return {k: v for line in lines if line.startswith("  -") for k, v in flags(line.split("  ")[1]).items() if k != "h"}
-
-
-def wide_lines(bx, commands):
-    texts = [bx.run("--help").stdout] + [bx.run(command, "--help").stdout for command in sorted(commands)]
-    return [line for text in texts for line in text.splitlines() if len(line) > 80]
+def named(pattern, text):
+    """Options by a pattern of two groups, a letter and what stands there where it has a value."""
+    return {letter: bool(value) for letter, value in re.findall(pattern, text, re.M)}
 
 
 def man_parts(man):
     """For each command its part of the synopsis, and its section."""
-    synopsis, sections = {}, {}
-    for part in re.split(r"^\.Nm bx ?", man.split(".Sh DESCRIPTION")[0], flags=re.M)[1:]:
-        words = part.split()
-        if words[:1] == ["Cm"]:
-            synopsis[words[1]] = part
-    for part in re.split(r"^\.S[sh] ", man, flags=re.M)[1:]:
-        if part.startswith("bx "):
-            sections[part.split()[1]] = part
-    return synopsis, sections
+    synopsis = re.split(r"^\.Nm bx ?", man.split(".Sh DESCRIPTION")[0], flags=re.M)[1:]
+    sections = re.split(r"^\.S[sh] ", man, flags=re.M)[1:]
+    return ({part.split()[1]: part for part in synopsis if part.split()[:1] == ["Cm"]},
+            {part.split()[1]: part for part in sections if part.startswith("bx ")})
 
 
 def macro_options(text):
@@ -126,51 +109,27 @@ def macro_options(text):
     return found
 
 
-def man_items(section):
-    return {letter: bool(value) for letter, value in re.findall(r"^\.It Fl (\w)(?: Ar (\w+))?", section, re.M)}
-
-
-def readme_options(readme, command):
-    lines = [line for line in readme.splitlines() if line.startswith(f"bx {command} ")]
-    return flags(lines[0]) if lines else {}
-
-
-def bash_options(command):
-    script = f'. {ROOT}/completions/bx.bash; COMP_WORDS=(bx {command} -) COMP_CWORD=2; _bx; printf "%s\\n" "${{COMPREPLY[@]}}"'
-    lines = subprocess.run(["bash", "-c", script], capture_output=True, text=True, check=True).stdout.split()
-    return {line[1] for line in lines if re.fullmatch("-[A-Za-z0-9]", line)} - {"h"}
-
-
-def zsh_options(text, command):
-    block = re.search(rf"^    {command}\)\n(.*?)^      ;;", text, re.M | re.S)
-    found = re.findall(r"'(?:\([^)]*\))?-(\w)(\+?)\[", block.group(1)) if block else []
-    return {letter: plus == "+" for letter, plus in found}
-
-
-def fish_options(text, command):
-    found = re.findall(rf"^complete -c bx -n '__fish_seen_subcommand_from {command}' -s (\w)( -x| -r)?", text, re.M)
-    return {letter: bool(value) for letter, value in found}
-
-
-def long_options(bx, command, synopsis, section, readme, zsh, fish):
-    """The long options of a command: those of its help, and what each other place has."""
-    script = f'. {ROOT}/completions/bx.bash; COMP_WORDS=(bx {command} -) COMP_CWORD=2; _bx; printf "%s\\n" "${{COMPREPLY[@]}}"'
-    bash = subprocess.run(["bash", "-c", script], capture_output=True, text=True, check=True).stdout
-    block = re.search(rf"^    {command}\)\n(.*?)^      ;;", zsh, re.M | re.S)
-    line = next((line for line in readme.splitlines() if line.startswith(f"bx {command} ")), "")
-    shown = bx.run(command, "--help").stdout
-    # README and the synopsis name an option that has a letter by it alone
+def places(bx, command, texts):
+    """What each place names: its name, the options of one letter, and the long ones. The synopsis and README.md name an option that
+    has a letter by it alone, and bash offers no values."""
+    synopsis, section = (parts.get(command, "") for parts in man_parts(texts["man"]))
+    shown, here = bx.run(command, "--help").stdout, f"^complete -c bx -n '__fish_seen_subcommand_from {command}' "
+    heads = "\n".join(line.split("  ")[1] for line in shown.splitlines() if line.startswith("  -"))
+    offered = subprocess.run(["bash", "-c", BASH.format(ROOT, command)], capture_output=True, text=True, check=True).stdout
+    block = "".join(re.findall(rf"^    {command}\)\n(.*?)^      ;;", texts["zsh"], re.M | re.S)[:1])
+    line = next((line for line in texts["readme"].splitlines() if line.startswith(f"bx {command} ")), "")
     lettered = re.findall(r"^ +-\w, --([a-z][\w-]+)", shown, re.M)
-    found = {
-        f"bx {command} --help": re.findall(r"^ +(?:-\w, )?--([a-z][\w-]+)", shown, re.M),
-        f"{command} in the man page's synopsis": lettered + re.findall(r"Fl -([\w-]+)", synopsis),
-        f"{command} in the man page": re.findall(r"^\.It Fl (?:\w , )?-([\w-]+)", section, re.M),
-        f"{command} in README.md": lettered + re.findall(r"\[--([\w-]+)\]", line),
-        f"{command} in bx.bash": re.findall(r"--([\w-]+)", bash),
-        f"{command} in _bx": re.findall(r"'(?:\([^)]*\))?--([\w-]+)\[", block.group(1) if block else ""),
-        f"{command} in bx.fish": re.findall(rf"^complete -c bx -n '__fish_seen_subcommand_from {command}' (?:-s \w )?-l ([\w-]+)", fish, re.M),
-    }
-    return {name: set(options) - {"help"} for name, options in found.items()}
+    return [
+        (f"bx {command} --help", named(FLAG, heads), re.findall(r"^ +(?:-\w, )?--([a-z][\w-]+)", shown, re.M)),
+        (f"{command} in the man page's synopsis", macro_options(synopsis), lettered + re.findall(r"Fl -([\w-]+)", synopsis)),
+        (f"{command} in the man page", named(r"^\.It Fl (\w)(?: Ar (\w+))?", section),
+         re.findall(r"^\.It Fl (?:\w , )?-([\w-]+)", section, re.M)),
+        (f"{command} in README.md", named(FLAG, line), lettered + re.findall(r"\[--([\w-]+)\]", line)),
+        (f"{command} in bx.bash", set(re.findall(r"^-(\w)$", offered, re.M)) - {"h"}, re.findall(r"--([\w-]+)", offered)),
+        (f"{command} in _bx", named(r"'(?:\([^)]*\))?-(\w)(\+?)\[", block), re.findall(r"'(?:\([^)]*\))?--([\w-]+)\[", block)),
+        (f"{command} in bx.fish", named(rf"{here}-s (\w)( -x| -r)?", texts["fish"]),
+         re.findall(rf"{here}(?:-s \w )?-l ([\w-]+)", texts["fish"], re.M)),
+    ]
 
 
 def fault_texts():
@@ -183,56 +142,42 @@ def fault_texts():
     return {int(number): texts[kind, variant] for kind, variant, number in numbers}
 
 
-class Report:
-    def __init__(self):
-        self.bad = []
-
-    def same(self, what, wanted, given):
-        if wanted != given:
-            self.bad.append(f"{what}: bx has {wanted}, but found {given}")
+def compared(bx, texts):
+    """What is compared: its name, what bx has, and what was found."""
+    commands, general = bx.commands(), bx.run("--help").stdout
+    synopsis, sections = man_parts(texts["man"])
+    yield "bx --help", commands, set(re.findall(r"^  (\w+)", general.split("Commands:")[1].split("\n\n")[0], re.M)) - {"help"}
+    yield "synopsis of the man page", commands | {"help"}, set(synopsis)
+    yield "sections of the man page", commands | {"help"}, set(sections)
+    helps = [general, *(bx.run(command, "--help").stdout for command in sorted(commands))]
+    yield "lines of help above 80 columns", [], [line for text in helps for line in text.splitlines() if len(line) > 80]
+    yield "README.md", commands, {c for c in COMMANDS if re.search(rf"^bx {c} ", texts["readme"], re.M)}
+    yield "bx.bash", commands, set(re.search(r"commands='(.*?)'", texts["bash"]).group(1).split())
+    yield "_bx", commands, set(re.findall(r"^    '([a-z]\w*):", texts["zsh"], re.M))
+    yield "bx.fish", commands, set(re.findall(r"-a (\w+) -d", texts["fish"])) - {"help"}
+    for command in sorted(commands):
+        taken, longer = bx.options(command), None
+        for place, letters, names in places(bx, command, texts):
+            letters = {letter: value for letter, value in letters.items() if letter != "h"} if place.endswith("--help") else letters
+            if longer is None:  # the first place is its help
+                longer = {name for name in set(names) - {"help"} if bx.takes(command, *COMMON.get(command, ["image"]), f"--{name}")}
+            yield place, set(taken) if isinstance(letters, set) else taken, letters
+            yield f"long options of {place}", longer, set(names) - {"help"}
+    if "dd" in commands:
+        operands, words = bx.operands(), bx.words()
+        yield "operands in bx dd --help", operands, set(re.findall(r"^  (\w+)=", bx.run("dd", "--help").stdout, re.M)) & set(OPERANDS)
+        yield "operands in the man page", operands, set(re.findall(r"^\.It Cm (\w+)=", texts["man"], re.M))
+        for name in ("bash", "zsh", "fish"):
+            yield f"operands of {name}", operands, set(re.findall(r"\b(\w+)=(?=[ ':\\])", texts[name])) & set(OPERANDS)
+            yield f"words of conv of {name}", words, {word for word in WORDS if re.search(rf"\b{word}\b", texts[name])}
+    faults = fault_texts()
+    yield "faults in docs/FORMATS.md", faults, {int(n): text for n, text in re.findall(r"^\| (\d+) \| `(.*?)` \|$", read("docs/FORMATS.md"), re.M)}
+    yield "faults in the man page", faults, {int(n): text for n, text in re.findall(r"^\.It (\d+)  (.*)$", texts["man"], re.M)}
 
 
 def check(options):
-    path = os.path.abspath(options.bx)
-    man, readme, zsh, fish = (read(name) for name in ("man/bx.1", "README.md", "completions/_bx", "completions/bx.fish"))
-    bash = read("completions/bx.bash")
-    synopsis, sections = man_parts(man)
-    report = Report()
+    files = {"man": "man/bx.1", "readme": "README.md", "zsh": "completions/_bx", "fish": "completions/bx.fish", "bash": "completions/bx.bash"}
     with tempfile.TemporaryDirectory() as folder:
-        bx = Program(path, folder)
-        commands = bx.commands()
-        listed = re.findall(r"^  (\w+)", bx.run("--help").stdout.split("Commands:")[1].split("\n\n")[0], re.M)
-        report.same("bx --help", commands, set(listed) - {"help"})
-        report.same("synopsis of the man page", commands | {"help"}, set(synopsis))
-        report.same("sections of the man page", commands | {"help"}, set(sections))
-        report.same("lines of help above 80 columns", [], wide_lines(bx, commands))
-        report.same("README.md", commands, {c for c in COMMANDS if re.search(rf"^bx {c} ", readme, re.M)})
-        report.same("bx.bash", commands, set(re.search(r"commands='(.*?)'", bash).group(1).split()))
-        report.same("_bx", commands, set(re.findall(r"^    '([a-z]\w*):", zsh, re.M)))
-        report.same("bx.fish", commands, set(re.findall(r"-a (\w+) -d", fish)) - {"help"})
-        for command in sorted(commands):
-            taken = bx.options(command)
-            report.same(f"bx {command} --help", taken, help_options(bx, command))
-            report.same(f"{command} in the man page's synopsis", taken, macro_options(synopsis.get(command, "")))
-            report.same(f"{command} in the man page", taken, man_items(sections.get(command, "")))
-            report.same(f"{command} in README.md", taken, readme_options(readme, command))
-            report.same(f"{command} in bx.bash", set(taken), bash_options(command))
-            report.same(f"{command} in _bx", taken, zsh_options(zsh, command))
-            report.same(f"{command} in bx.fish", taken, fish_options(fish, command))
-            longer = long_options(bx, command, synopsis.get(command, ""), sections.get(command, ""), readme, zsh, fish)
-            taken = {name for name in longer[f"bx {command} --help"] if bx.takes(command, *COMMON.get(command, ["image"]), f"--{name}")}
-            for place, options in longer.items():
-                report.same(f"long options of {place}", taken, options)
-        if "dd" in commands:
-            operands, words = bx.operands(), bx.words()
-            report.same("operands in bx dd --help", operands, set(re.findall(r"^  (\w+)=", bx.run("dd", "--help").stdout, re.M)) & set(OPERANDS))
-            report.same("operands in the man page", operands, set(re.findall(r"^\.It Cm (\w+)=", man, re.M)))
-            for name, text in (("bx.bash", bash), ("_bx", zsh), ("bx.fish", fish)):
-                report.same(f"operands in {name}", operands, set(re.findall(r"\b(\w+)=(?=[ ':\\])", text)) & set(OPERANDS))
-            for name, text in (("bx.bash", bash), ("_bx", zsh), ("bx.fish", fish)):
-                report.same(f"words of conv in {name}", words, {w for w in WORDS if re.search(rf"\b{w}\b", text)})
-    faults = fault_texts()
-    table = {int(n): text for n, text in re.findall(r"^\| (\d+) \| `(.*?)` \|$", read("docs/FORMATS.md"), re.M)}
-    report.same("faults in docs/FORMATS.md", faults, table)
-    report.same("faults in the man page", faults, {int(n): t for n, t in re.findall(r"^\.It (\d+)  (.*)$", man, re.M)})
-    return report.bad, f"{', '.join(sorted(commands))}: all as bx has it"
+        rows = list(compared(Program(os.path.abspath(options.bx), folder), {name: read(path) for name, path in files.items()}))
+    return [f"{what}: bx has {wanted}, but found {found}" for what, wanted, found in rows if wanted != found], \
+        f"{len(rows)} lists of options, operands and faults: all as bx has it"
