@@ -3,9 +3,9 @@
 
 Usage: tests/power.py [--bx PATH] [--sessions N] [--seed N] [--jobs N] [--limit N] [orders|replay|cache ..]
 
-orders: what each command syncs, and in which order, by the calls that strace sees it make, as tests/power.txt has
-them, beside the table in docs/FORMATS.md, "Order of device calls"; that a file that was written is synced before another one is written, and the folders of the names before
-the first.
+orders: what each command syncs, and in which order, by the calls that strace sees it make, as tests/power.txt has them, beside the
+table in docs/FORMATS.md, "Order of device calls"; that a file that was written is synced before another one is written, and the
+folders of the names before the first.
 
 replay: random sessions of reverts, dd, undos and redos run under strace, on small images. Their calls are replayed. Before each
 sync and after each answer what a loss of power may leave (replay/losses.py), or a sample of it, is written into files. `bx log`

@@ -16,7 +16,7 @@ import time
 
 from sources import ROOT
 
-SUBJECTS = sorted(path.stem for path in (ROOT / "tests" / "program").glob("*.py"))
+SUBJECTS = sorted({path.stem for path in (ROOT / "tests" / "program").iterdir() if path.suffix in (".py", ".t")})
 # how a script begins a line on what it left out
 LEFT_OUT = "left out: "
 # each check: its name, its words (BX is the program), and the tools that it needs

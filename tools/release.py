@@ -39,6 +39,15 @@ def output(*words):
     return done.stdout.strip() if done.returncode == 0 else ""
 
 
+def found(pattern, text):
+    return "".join(re.findall(pattern, text, re.M)[:1])
+
+
+def day_of(text, form):
+    """A date in this form, as YYYY-MM-DD; nothing where there is none."""
+    return datetime.datetime.strptime(text, form).date().isoformat() if text else ""
+
+
 class Report:
     def __init__(self, dry):
         self.failed, self.held, self.dry = 0, False, dry
@@ -48,8 +57,8 @@ class Report:
         self.failed += bool(wrong)
         print(f"{'failed ' if wrong else 'ok     '}  {what}: {wrong or note}")
 
-    def same(self, what, wanted, found):
-        self.line(what, None if found == wanted else f"{found or 'nothing'}, and not {wanted}", found)
+    def same(self, what, wanted, found_there):
+        self.line(what, None if found_there == wanted else f"{found_there or 'nothing'}, and not {wanted}", found_there)
 
     def hold(self, what, why, note=""):
         """A line for what may stop a release and is no fault before one; `why` says what stops it, or nothing."""
@@ -60,16 +69,13 @@ class Report:
         self.held = self.held or bool(why)
 
 
-def is_open():
-    """Whether CHANGELOG.md begins with what no version has yet."""
-    return HEAD.findall(read("CHANGELOG.md"))[:1] == [NEXT]
-
-
 def changes(report, version):
-    """The versions in CHANGELOG.md with their dates, the newest first; both fall from line to line."""
+    """The versions in CHANGELOG.md with their dates, the newest first, which both fall from line to line; and whether it begins with
+    what no version has yet."""
     heads = HEAD.findall(read("CHANGELOG.md"))
-    report.hold("first head of CHANGELOG.md", f"{NEXT}, which needs a version and a date" if is_open() else None, "".join(heads[:1]))
-    heads = heads[1:] if is_open() else heads
+    is_open = heads[:1] == [NEXT]
+    report.hold("first head of CHANGELOG.md", f"{NEXT}, which needs a version and a date" if is_open else None, "".join(heads[:1]))
+    heads = heads[is_open:]
     dated = [match.groups() for match in map(VERSION.fullmatch, heads) if match]
     undated = [head for head in heads if not VERSION.fullmatch(head)]
     report.line("heads of CHANGELOG.md", f"not of the form VERSION - YYYY-MM-DD: {', '.join(undated)}" if undated else None, ", ".join(heads))
@@ -77,13 +83,7 @@ def changes(report, version):
     falling = all(newer[0] > older[0] and newer[1] >= older[1] for newer, older in zip(numbers, numbers[1:]))
     report.line("order of CHANGELOG.md", None if falling else "versions or dates don't fall", "versions and dates fall")
     report.same("newest version in CHANGELOG.md", version, dated[0][0] if dated else "")
-    return dated
-
-
-def man_date():
-    """The date of the man page, as YYYY-MM-DD."""
-    found = re.search(r"^\.Dd (.*)$", read("man/bx.1"), re.M)
-    return datetime.datetime.strptime(found.group(1), "%B %d, %Y").date().isoformat() if found else ""
+    return dated, is_open
 
 
 def package(report, bx, version, date, holder):
@@ -93,24 +93,21 @@ def package(report, bx, version, date, holder):
         print(f"skipped  package: not installed: {', '.join(tools)}")
         return
     with tempfile.TemporaryDirectory() as folder:
-        made = output(str(ROOT / "tools/package.sh"), bx, folder)
+        made = output(str(ROOT / "tools/package.sh"), bx, folder).split("\n")[-1]
         if not made:
             report.line("package", "none is made")
             return
-        tree = os.path.join(folder, "tree")
-        output("dpkg-deb", "-x", made.splitlines()[-1], tree)
-        report.same("package", version, output("dpkg-deb", "-f", made.splitlines()[-1], "Version"))
-        documents = pathlib.Path(tree, "usr/share/doc/bx")
-        log = gzip.decompress((documents / "changelog").with_suffix(".gz").read_bytes()).decode()
+        output("dpkg-deb", "-x", made, os.path.join(folder, "tree"))
+        report.same("package", version, output("dpkg-deb", "-f", made, "Version"))
+        documents = pathlib.Path(folder, "tree", "usr/share/doc/bx")
+        log = gzip.decompress((documents / "changelog.gz").read_bytes()).decode()
         report.same("head of the package's changelog", f"bx ({version})", log.split(" unstable")[0])
-        day = re.search(r"^ -- .*>  \w+, (.*) \d\d:\d\d:\d\d .*$", log, re.M)
-        found = datetime.datetime.strptime(day.group(1), "%d %b %Y").date().isoformat() if day else ""
-        report.same("date of the package's changelog", date, found)
-        report.same("authors in the package", holder, "".join(re.findall(r"^Copyright: (.*)$", (documents / "copyright").read_text(), re.M)))
+        report.same("date of the package's changelog", date, day_of(found(r"^ -- .*>  \w+, (.*) \d\d:\d\d:\d\d .*$", log), "%d %b %Y"))
+        report.same("authors in the package", holder, found(r"^Copyright: (.*)$", (documents / "copyright").read_text()))
 
 
 def version_of(text):
-    return "".join(re.findall(r'\.version\("(.*?)"\)', text))
+    return found(r'\.version\("(.*?)"\)', text)
 
 
 def last_of(version, date):
@@ -120,9 +117,9 @@ def last_of(version, date):
     return commit if of_day and version_of(output("git", "show", f"{commit}:{SOURCE}")) == version else ""
 
 
-def missing(report, dated):
+def missing(report, dated, is_open):
     """The tags that are to be made, each with its commit, the oldest first: those of all versions that have none."""
-    found = []
+    tags = []
     for place, (version, date) in reversed(list(enumerate(dated))):
         tag = f"v{version}"
         tagged = output("git", "rev-parse", "--verify", "--quiet", f"{tag}^{{commit}}")
@@ -132,10 +129,10 @@ def missing(report, dated):
             report.hold(f"tag {tag}", f"it is there, at {tagged[:12]}")
         else:
             # with a head above it a version is older than what is checked out
-            commit = last_of(version, date) if place or is_open() else output("git", "rev-parse", "HEAD")
+            commit = last_of(version, date) if place or is_open else output("git", "rev-parse", "HEAD")
             report.line(f"commit of {tag}", None if commit else f"none of {date} has the version", f"{commit[:12]} of {date}")
-            found.append((tag, version, commit))
-    return found
+            tags.append((tag, version, commit))
+    return tags
 
 
 def make(tag, version, commit):
@@ -146,19 +143,18 @@ def make(tag, version, commit):
 
 
 def compare(report, bx):
-    """Compares what names the version. Answers the versions in CHANGELOG.md, the newest first."""
+    """Compares what names the version. Answers the versions in CHANGELOG.md, and whether it has what is in none yet."""
     version = version_of(read(SOURCE))
     report.line(f"version in {SOURCE}", None if re.fullmatch(r"\d+\.\d+\.\d+", version) else f"{version or 'none'}", version)
     report.same("bx --version", f"bx {version}", output(bx, "--version"))
-    dated = changes(report, version)
-    date, page = dated[0][1] if dated else "", man_date()
-    report.same("date of the man page", max(date, page) if is_open() else date, page)
-    holder = "".join(re.findall(r"^Copyright \(c\) (.*)$", read("LICENSE"), re.M))
-    name = re.sub(r"^[\d, -]+", "", holder)
-    authors = sorted(set(output("git", "log", "--format=%an%n%cn").splitlines()))
+    dated, is_open = changes(report, version)
+    date, page = dated[0][1] if dated else "", day_of(found(r"^\.Dd (.*)$", read("man/bx.1")), "%B %d, %Y")
+    report.same("date of the man page", max(date, page) if is_open else date, page)
+    holder = found(r"^Copyright \(c\) (.*)$", read("LICENSE"))
+    name, authors = re.sub(r"^[\d, -]+", "", holder), sorted(set(output("git", "log", "--format=%an%n%cn").splitlines()))
     report.line("authors of the commits", None if authors == [name] else f"{', '.join(authors)}, and in LICENSE {name}", name)
     package(report, bx, version, date, holder)
-    return dated
+    return dated, is_open
 
 
 def main():
@@ -170,9 +166,9 @@ def main():
     if output("git", "rev-parse", "--is-shallow-repository") != "false":
         print("skipped  all: no clone with its history")
         sys.exit(0 if report.dry else 1)
-    dated = compare(report, os.path.abspath(options.bx))
+    dated, is_open = compare(report, os.path.abspath(options.bx))
     report.hold("checkout", "files are changed that no commit has" if output("git", "status", "--porcelain") else None, "as committed")
-    tags = missing(report, dated)
+    tags = missing(report, dated, is_open)
     if dated and not report.held:
         report.hold("date of the commit", None if output("git", "log", "-1", "--format=%cs") == dated[0][1] else f"not {dated[0][1]}", dated[0][1])
     if report.failed or report.held and not report.dry:

@@ -38,12 +38,12 @@ One file by two names is refused there too.
   > revert -f dump -J own two
   > log -J own two
   > show -J own two
-  > revert -f dump -J one one
   > revert -f dump -J hard one
   > undo -J hard one
   > log -J hard one
   > show -J hard one
   > .
+  $ refused 'bad arguments' failing n 0 bx <<< 'revert -f dump -J one one'
   $ rm own.redo; refused '*' failing n 0 bx << .
   > revert -f dump -J own soft
   > undo -J own soft

@@ -99,6 +99,7 @@ Plain digits:
 A NUL byte, as a loss of power leaves one, is nothing:
 
   $ fresh ABxyEFGH '\0'; bx undo img
+  bx: recovered: an unfinished entry was dropped
   bx: only 0 changes to undo
   [1]
   $ holds ABxyEFGH
@@ -107,8 +108,11 @@ A NUL byte, as a loss of power leaves one, is nothing:
 
 It has 65,535 changes, here in the older form.
 
-  $ fresh '' ''; seq 65535 | xargs printf 'change %08x 00000000\nsave %1$08x\ndone %1$08x\n' > img.bxj
-  $ head -6 img.bxj
+  $ fresh '' ''
+  $ seq 65535 | awk '{ printf "change %08x 00000000\nsave %08x\ndone %08x\n", $1, $1, $1 }' > img.bxj; tail -3 img.bxj
+  change 0000ffff 00000000
+  save 0000ffff
+  done 0000ffff
   $ kept bx revert -f /dev/null img
   bx: journal is full
   [1]
@@ -170,7 +174,11 @@ Each prefix of one:
   $ bx undo img; holds ABCDEFGH '' "$unpatched${unpatched// 00000001/ 00000002}"
   0
   $ fresh ABxyEFGH "$patched" "$unpatched"; echo '1: 79' | bx revert img
-  $ holds AyxyEFGH "$patched${patched// 00000001/ 00000002}"
+  $ tail -4 img.bxj; holds AyxyEFGH "$patched$(tail -4 img.bxj)\n"
+  change2 00000002 0000000000000008
+  00000001: 42                                       B
+  save 00000002
+  done2 00000002 0000000000000008
   $ fresh ABCDEFGH '' "$unpatched"; bx redo img; holds ABxyEFGH "$patched"
   1
 
@@ -188,11 +196,13 @@ stands in the redo file, it is then empty.
   $ entry=$(printf %b "$patched" | wc -c) saved=$(printf %b "$stopped" | wc -c)
   $ for image in ABCDEFGH ABxDEFGH ABxyEFGH; do
   >   for n in $(seq $((entry - 1))); do
-  >     fresh $image - 'hello\n'; printf %b "$patched" | head -c $n > img.bxj; bx undo -k 0 img
+  >     fresh $image - 'hello\n'; printf %b "$patched" | head -c $n > img.bxj; bx undo -k 0 img || echo "[$?]"
   >     [ $n -lt $saved ] && holds $image || holds ABCDEFGH
   >   done
   > done 2>&1 | sort | uniq -c
-  $ echo $((3 * (saved - 1))) $((3 * (entry - saved)))
+      399 0
+      303 bx: recovered: an unfinished entry was dropped
+       96 bx: recovered: change 1 was taken back
 
 # What is shown of what is unfinished
 
@@ -216,6 +226,7 @@ No byte of a line is shown as it stands, so that none hides another line of a te
   1
   # change 1: undo writes 2 bytes at 2-3, keeps length 8
   00000002: 4344                                     CD
+  
   $ kept bx show -d img | grep -c $'[\r\e]'
   0
   [1]
