@@ -89,15 +89,6 @@ def left_out(why):
     print(f"left out: {why}", flush=True)
 
 
-def expect(name, words, fault="", stays=True, **how):
-    """A command and its fault, or none; image, journal and redo file stay, but where they need not."""
-    was, done = trio(), run(words, **how)
-    status = 2 if fault == "bad arguments" else int(fault != "" and not fault.startswith("recovered"))
-    well = (done.status, said(done)) == (status, fault) and (not stays or trio() == was)
-    say(well, name, f"status {done.status}{', ' * bool(done.err)}{said(done)}")
-    return done
-
-
 def cut(image, at, data):
     """An image with bytes at a place; what lies between is zeros."""
     return image[:at].ljust(at, b"\0") + data + image[at + len(data):]

@@ -108,3 +108,11 @@ failing() { # MODE AT COMMAND ..: AT is a number, or the name of an error
   [[ $at != E* ]] || at=$(python3 -c "import errno; print(errno.$at)")
   SHIM_MODE=$1 SHIM_AT=$at SHIM_COUNT=$PWD/../count LD_PRELOAD=$PWD/shim.so "${@:3}"
 }
+
+# A command that has to hold no more memory at any time.
+within() { # KIB COMMAND ..
+  python3 -c 'import resource, subprocess, sys
+status = subprocess.run(sys.argv[2:], stdout=subprocess.DEVNULL, stderr=subprocess.DEVNULL).returncode
+most = resource.getrusage(resource.RUSAGE_CHILDREN).ru_maxrss
+sys.exit(f"status {status}, {most} KiB" if status or most > int(sys.argv[1]) else 0)' "$@"
+}

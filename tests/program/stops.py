@@ -1,5 +1,4 @@
-"""Changes, undos and redos that are stopped: on a full disk, killed at a random moment, two at once."""
-import resource
+"""Changes, undos and redos that are killed at a random moment, and two at once."""
 import subprocess
 import time
 
@@ -15,22 +14,6 @@ def undone_all():
     log = run("log img")
     done = run(f"undo -k {len(log.out.splitlines())} img")
     return trio()[0], log.status == done.status == 0 and trio()[1] == b""
-
-
-def test_full_disk():
-    """A file may not grow past a size: a change, and an undo, which writes the redo file, stop, and opening finds the image."""
-    before = held(*bx)[0][:3000]
-    write("digits", "5" * 8000)
-    fresh(before)
-    run("revert -p -f digits img")
-    after = held("img", "img.bxj")
-    for words, start, blocks in (("revert -p -f digits img", [before], (1, 2, 3, 4, 5, 6)), ("undo img", after, (4, 8, 16, 18, 20))):
-        for most in blocks:
-            fresh(*start)
-            done = run(words, limits=[(resource.RLIMIT_FSIZE, most * 1024)])
-            image, is_opened = undone_all()
-            say(done.status <= 1 and image == before and is_opened, f"{words.split()[0]}, files of at most {most * 1024} bytes",
-                f"status {done.status}, {said(done)}")
 
 
 def test_killed():
