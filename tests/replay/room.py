@@ -56,22 +56,16 @@ def plain(text):
     return bytes.fromhex("".join(re.findall(r"\\x([0-9a-f]{2})", text)))
 
 
-def path_of(name, words, opened):
-    """The file that a call is on."""
-    if name in NAMED:
-        return plain(opened or re.search(r'"([^"]*)"', words)[1])
-    descriptor = re.match(r"\d+<([^>]*)>", words)
-    return plain(descriptor[1]) if descriptor else b""
-
-
 def calls_of(trace, room):
     """The calls on the files of a room: what is done, the file's letter, and of a write its place and bytes."""
     for name, words, result, opened in (call.groups() for call in map(LINE.match, trace) if call):
-        letter = PLACES.get(os.path.relpath(os.path.join(room, path_of(name, words, opened).decode()), room))
+        quoted, descriptor = re.search(r'"([^"]*)"', words), re.match(r"\d+<([^>]*)>", words)
+        path = plain(opened or quoted[1]) if name in NAMED else plain(descriptor[1]) if descriptor else b""
+        letter = PLACES.get(os.path.relpath(os.path.join(room, path.decode()), room))
         if letter is None:
             continue
         if name == "pwrite64":
-            yield "write", letter, int(words.split(", ")[-1]), plain(re.search(r'"([^"]*)"', words)[1])[:int(result)]
+            yield "write", letter, int(words.split(", ")[-1]), plain(quoted[1])[:int(result)]
         elif name == "ftruncate":
             yield "length", letter, int(words.split(", ")[-1])
         elif name in ("fsync", "fdatasync"):
