@@ -1,6 +1,7 @@
 """What the tests of the program share: it runs on files of a folder, what these hold, and a line for each case."""
 import argparse
 import collections
+import contextlib
 import os
 import pathlib
 import resource
@@ -94,18 +95,17 @@ def cut(image, at, data):
     return image[:at].ljust(at, b"\0") + data + image[at + len(data):]
 
 
-class folder:
+@contextlib.contextmanager
+def folder():
     """A folder that is made, entered and removed."""
-
-    def __enter__(self):
-        self.was, self.made = os.getcwd(), tempfile.TemporaryDirectory()
-        os.chmod(self.made.name, 0o755)
-        os.chdir(self.made.name)
-        return pathlib.Path(self.made.name)
-
-    def __exit__(self, *_):
-        os.chdir(self.was)
-        self.made.cleanup()
+    was = os.getcwd()
+    with tempfile.TemporaryDirectory() as made:
+        os.chmod(made, 0o755)
+        os.chdir(made)
+        try:
+            yield pathlib.Path(made)
+        finally:
+            os.chdir(was)
 
 
 def asked(doc, *arguments):

@@ -28,7 +28,7 @@ import sys
 import tempfile
 
 from common import ROOT, asked, folder, left_out, say, write
-from replay.fuse import CachedSession, Mount
+from replay.fuse import CachedSession, mounted
 from replay.judge import LOG, REFUSED, Judge, dd, redo, revert, undo
 from replay.room import Room
 from replay.session import Session
@@ -123,12 +123,12 @@ def replayed(judge, rng, options):
     return session
 
 
-def mounted(judge, rng, _options, is_unsynced=False):
+def on_mount(judge, rng, _options, is_unsynced=False):
     """A random session on images of some pages, on the file system."""
     with folder() as path:
         os.mkdir(path / "mounted")
-        with Mount(str(path / "mounted"), str(path / "told")) as mount:
-            session = CachedSession(judge, mount, rng.randbytes(rng.randint(0, 20000)))
+        with mounted(str(path / "mounted"), str(path / "told")) as news:
+            session = CachedSession(judge, str(path / "mounted"), news, rng.randbytes(rng.randint(0, 20000)))
             session.run(some_change(rng, session.state.stack[0], 200, 45), is_unsynced)
             for _ in range(rng.randint(5, 8)):
                 session.run(some_command(rng, session.state, 200, 45), is_unsynced)
@@ -189,15 +189,15 @@ def cache(judge, options):
         with folder() as path:
             if not why:
                 os.mkdir(path / "mounted")
-                with Mount(str(path / "mounted"), str(path / "told")):
+                with mounted(str(path / "mounted"), str(path / "told")):
                     pass
     except OSError as error:
         why = f"no file system can be mounted: {error.strerror}"
     if why:
         left_out(f"losses of power under a file system of its own ({why})")
         return 0
-    wrong = sessions(judge, options, mounted, "session on the page cache")
-    unlost = not sessions(judge, options, lambda *words: mounted(*words, True), "session with -U")
+    wrong = sessions(judge, options, on_mount, "session on the page cache")
+    unlost = not sessions(judge, options, lambda *words: on_mount(*words, True), "session with -U")
     say(not unlost, "with -U something is lost")
     return wrong + unlost
 

@@ -1,5 +1,6 @@
 """A file system in memory, which the kernel reaches by FUSE and whose writes wait in the kernel's page cache. It tells what
 reaches it: each name, write, length and sync, in order. Folders can't be listed, and there are no links. And sessions on it."""
+import contextlib
 import ctypes
 import errno
 import itertools
@@ -73,36 +74,33 @@ class Server:
         if code == INIT:
             return struct.pack("=4I2H2I2HI7I", 7, 31, 1 << 16, BIG_WRITES | WRITEBACK_CACHE, 16, 12, 1 << 16, 1, 16, 0, *[0] * 8)
         if code in (LOOKUP, UNLINK):
-            return self.named(code, node, body.rstrip(b"\0").decode())
+            found = node.names.get(body.rstrip(b"\0").decode())
+            if found and code == UNLINK:
+                del node.names[body.rstrip(b"\0").decode()]
+                self.tell("name", found.path, False)
+            return errno.ENOENT if not found else found.entry() if code == LOOKUP else b""
         if code in (MKDIR, CREATE):
             return self.make(code, node, body, user, group)
         if code in (GETATTR, SETATTR):
             return self.attributes(code, node, body)
         if code in (READ, WRITE):
-            return self.moved(code, node, body)
-        if code in (OPEN, OPENDIR):
-            return struct.pack("=QII", 0, 0, 0)
+            _, at, size = struct.unpack_from("=QQI", body)
+            if code == READ:
+                return bytes(node.data[at:at + size])
+            node.data[:] = cut(node.data, at, body[40:40 + size])
+            self.tell("write", node.path, at, body[40:40 + size])
+            return struct.pack("=II", size, 0)
         if code in (FSYNC, FSYNCDIR):
             self.tell("sync", node.path)
-            return b""
         if code == STATFS:
             return struct.pack("=5Q10I", 1 << 20, 1 << 20, 1 << 20, 1 << 20, 1 << 20, 4096, 255, 4096, *[0] * 7)
-        return b"" if code in (RELEASE, RELEASEDIR, FLUSH) else errno.ENOSYS
-
-    def named(self, code, folder, name):
-        if name not in folder.names:
-            return errno.ENOENT
-        node = folder.names[name]
-        if code == LOOKUP:
-            return node.entry()
-        del folder.names[name]
-        self.tell("name", node.path, False)
-        return b""
+        if code in (OPEN, OPENDIR):
+            return struct.pack("=QII", 0, 0, 0)
+        return b"" if code in (RELEASE, RELEASEDIR, FLUSH, FSYNC, FSYNCDIR) else errno.ENOSYS
 
     def make(self, code, folder, body, user, group):
-        front, kind = (8, stat.S_IFDIR) if code == MKDIR else (16, stat.S_IFREG)
-        mode = struct.unpack_from("=II", body)[0 if code == MKDIR else 1]
-        name = body[front:].rstrip(b"\0").decode()
+        front, kind, place = (8, stat.S_IFDIR, 0) if code == MKDIR else (16, stat.S_IFREG, 1)
+        mode, name = struct.unpack_from("=II", body)[place], body[front:].rstrip(b"\0").decode()
         node = Node(max(self.nodes) + 1, os.path.join(folder.path, name), kind | stat.S_IMODE(mode), user, group)
         self.nodes[node.number] = folder.names[name] = node
         self.tell("name", node.path, True)
@@ -118,53 +116,37 @@ class Server:
                 self.tell("length", node.path, size)
         return struct.pack("=QII", LONG, 0, 0) + node.attributes()
 
-    def moved(self, code, node, body):
-        _, at, size = struct.unpack_from("=QQI", body)
-        if code == READ:
-            return bytes(node.data[at:at + size])
-        data = body[40:40 + size]
-        node.data[:] = cut(node.data, at, data)
-        self.tell("write", node.path, at, data)
-        return struct.pack("=II", size, 0)
 
-
-class Mount:
-    """The file system, mounted on a folder up to the end of a `with`. `told` is a file for what reaches it."""
-
-    def __init__(self, path, told):
-        self.path, self.place = path, told
-
-    def __enter__(self):
-        device = os.open("/dev/fuse", os.O_RDWR)
-        options = f"fd={device},rootmode=40000,user_id=0,group_id=0,default_permissions,allow_other"
-        if LIBC.mount(b"bx", self.path.encode(), b"fuse", 0, options.encode()):
-            os.close(device)
-            raise OSError(ctypes.get_errno(), os.strerror(ctypes.get_errno()))
-        told = open(self.place, "wb")
-        self.server = os.fork()
-        if not self.server:
-            Server(device, told).serve()
+@contextlib.contextmanager
+def mounted(path, place):
+    """The file system, mounted on a folder up to the end of a `with`, by a process of its own; `place` is a file for what reaches it.
+    What it gives answers what reached it since the last time."""
+    device = os.open("/dev/fuse", os.O_RDWR)
+    options = f"fd={device},rootmode=40000,user_id=0,group_id=0,default_permissions,allow_other"
+    if LIBC.mount(b"bx", path.encode(), b"fuse", 0, options.encode()):
+        os.close(device)
+        raise OSError(ctypes.get_errno(), os.strerror(ctypes.get_errno()))
+    with open(place, "wb") as to, open(place, "rb") as told:
+        server = os.fork()
+        if not server:
+            Server(device, to).serve()
             os._exit(0)
         os.close(device)
-        told.close()
-        self.told = open(self.place, "rb")
-        return self
 
-    def news(self):
-        """What reached the file system since the last time."""
-        found = []
-        while True:
-            try:
-                found.append(pickle.load(self.told))
-            except EOFError:
-                return found
-
-    def __exit__(self, *_):
-        self.told.close()
-        if LIBC.umount2(self.path.encode(), 0):
-            LIBC.umount2(self.path.encode(), DETACH)
-        os.kill(self.server, signal.SIGKILL)
-        os.waitpid(self.server, 0)
+        def news():
+            found = []
+            while True:
+                try:
+                    found.append(pickle.load(told))
+                except EOFError:
+                    return found
+        try:
+            yield news
+        finally:
+            if LIBC.umount2(path.encode(), 0):
+                LIBC.umount2(path.encode(), DETACH)
+            os.kill(server, signal.SIGKILL)
+            os.waitpid(server, 0)
 
 
 class Store:
@@ -197,20 +179,20 @@ class Store:
 class CachedSession(Watched):
     """The commands run on the file system, and the power is lost after each request that reaches it."""
 
-    def __init__(self, judge, mount, image):
-        super().__init__(judge, Room(mount.path), image)
-        self.mount, self.store = mount, Store()
+    def __init__(self, judge, path, news, image):
+        super().__init__(judge, Room(path), image)
+        self.news, self.store = news, Store()
         self.room.put((image,))
         os.sync()
-        for what in mount.news():
+        for what in news():
             self.store.play(*what)
         self.store.loose.clear()
 
     def run(self, command, unsynced):
         steps = command.steps(self.state)
-        self.mount.news()
+        self.news()
         self.answers(command, unsynced, lambda *words, **how: (self.room.run(*words, **how), None))
-        for what in self.mount.news():
+        for what in self.news():
             if self.store.play(*what):
                 self.look(command.words, self.store.contents(), steps)
         self.state = steps[-1]
