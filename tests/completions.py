@@ -22,7 +22,7 @@ import tempfile
 import time
 
 from common import ROOT
-from transcript import steps
+from transcript import set_in, steps
 
 BASH = r"""
 . "$1"; shift
@@ -87,7 +87,7 @@ SHELLS = {"bash": (bash, "bx.bash"), "zsh": (zsh, "_bx"), "fish": (fish, "bx.fis
 def differences(shell):
     """How many offers of a shell differ, each of which is told."""
     text = (ROOT / "tests" / "completions.t").read_text(encoding="utf-8")
-    rows = [(line.removesuffix("<TAB>"), "".join(wanted)) for line, wanted in steps(line[2:] for line in text.splitlines() if line[:2] == "  ")]
+    rows = [(line.removesuffix("<TAB>"), "".join(wanted)) for line, wanted in steps(set_in(text))]
     rows = [row for row in rows if shell != "zsh" or not row[0].endswith("-")]
     offers, name = SHELLS[shell]
     with tempfile.TemporaryDirectory() as folder:

@@ -12,7 +12,7 @@ import subprocess
 import tempfile
 
 from common import ROOT, asked, finish, folder, say
-from transcript import outputs, steps
+from transcript import outputs, set_in, steps
 
 NAMES = ["plain-1.0_x+y,z:w@v%u]", "three words", "a\nb", "\n", "a\tb\rc\x1b[2Jd", "\x7f", "a\x01\x02b", "ain't", "ain't $HOME",
          "'", "a'b'c", "a\"b", "a$b", "a`b", "a\\b", "a!b", "a*b", "a?b", "a;b", "a&b", "a|b", "a<b", "a>b", "(a)", "[a", "a=b", "a^b",
@@ -72,7 +72,7 @@ def quoted(made):
 
 def main():
     options = asked(__doc__, ("--show", {"action": "store_true"}))
-    tour = steps(line[2:] for line in (ROOT / "tests" / "hints.t").read_text(encoding="utf-8").splitlines() if line.startswith("  "))
+    tour = steps(set_in((ROOT / "tests" / "hints.t").read_text(encoding="utf-8")))
     with tempfile.TemporaryDirectory() as made:
         front = [command for command, _ in tour if not re.search(r"\bbx ", command)]
         written = [*filter(None, outputs(front, options.bx, made))]

@@ -9,13 +9,12 @@ tool. A line for each case or section says `ok` or `WRONG`, one for what can't r
 one fails. It runs outside the gate."""
 import importlib
 import os
-import pathlib
 import re
 import shutil
 import traceback
 
 from common import ROOT, asked, bx, counts, finish, folder, left_out, say
-from transcript import differences, outputs, steps
+from transcript import differences, outputs, set_in, steps
 
 FOLDER = ROOT / "tests" / "program"
 SUBJECTS = sorted({path.stem for path in FOLDER.iterdir() if path.suffix in (".py", ".t")})
@@ -23,37 +22,36 @@ SUBJECTS = sorted({path.stem for path in FOLDER.iterdir() if path.suffix in (".p
 
 def play(subject, part):
     """Plays a section of a transcript: its head, and its lines."""
-    title, *lines = part.splitlines()
+    title = part.split("\n")[0]
     needs = "".join(re.findall(r" \(wants (.*)\)$", title)).split()
     missing = [need for need in needs if not (os.getuid() == 0 if need == "root" else os.path.ismount(need) or shutil.which(need))]
     if missing:
         left_out(f"{subject}: {title} (there is no {', '.join(missing)})")
         return
-    tour = steps([line[2:] for line in lines if line.startswith("  ")])
+    tour, head = steps(set_in(part)), (FOLDER / "head.sh").read_text(encoding="utf-8")
     with folder() as path:
-        tally = pathlib.Path(path, "tally")
+        tally = path / "tally"
         tally.touch()
         tally.chmod(0o666)
-        given = outputs([command for command, _ in tour], bx[0], path, (FOLDER / "head.sh").read_text(encoding="utf-8"), True,
-                        TALLY=str(tally), FOLDER=str(FOLDER))
+        given = outputs([command for command, _ in tour], bx[0], path, head, True, TALLY=str(tally), FOLDER=str(FOLDER))
         checks = len(tour) + tally.stat().st_size
-    if given and given[-1][-1:] and given[-1][-1].startswith("left out: "):
-        left_out(f"{subject}: {title} ({given[-1][-1][10:]})")
+    last = (given[-1:] or [[]])[0][-1:]
+    if last and last[0].startswith("left out: "):
+        left_out(f"{subject}: {title} ({last[0][10:]})")
         return
     wrong = list(differences(tour, given))
     say(not wrong, f"{subject}: {title}", "\n".join(["", *wrong]) if wrong else f"{checks} steps")
-    counts[True] += checks - len(wrong) - (not wrong)
-    counts[False] += max(len(wrong) - 1, 0)
+    counts.update({True: checks - max(len(wrong), 1), False: max(len(wrong) - 1, 0)})
 
 
 def main():
     options = asked(__doc__, ("subjects", {"nargs": "*", "choices": [[], *SUBJECTS]}))
     for subject in options.subjects or SUBJECTS:
-        transcript = FOLDER / f"{subject}.t"
-        for part in re.split(r"^# ", transcript.read_text(encoding="utf-8"), flags=re.M)[1:] if transcript.exists() else []:
-            play(subject, part)
-        script = importlib.import_module(f"program.{subject}") if (FOLDER / f"{subject}.py").exists() else None
-        for name, test in [(name, test) for name, test in vars(script or {}).items() if name.startswith("test_")] if script else []:
+        if (FOLDER / f"{subject}.t").exists():
+            for part in re.split(r"^# ", (FOLDER / f"{subject}.t").read_text(encoding="utf-8"), flags=re.M)[1:]:
+                play(subject, part)
+        tests = vars(importlib.import_module(f"program.{subject}")) if (FOLDER / f"{subject}.py").exists() else {}
+        for name, test in [row for row in tests.items() if row[0].startswith("test_")]:
             with folder():
                 try:
                     test()

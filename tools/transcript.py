@@ -8,6 +8,11 @@ import subprocess
 END = "== end of a command =="
 
 
+def set_in(text):
+    """The lines of a text that are set in by two spaces."""
+    return [line[2:] for line in text.split("\n") if line.startswith("  ")]
+
+
 def steps(lines):
     """The commands, each with the lines that are wanted below it."""
     found = []
