@@ -24,10 +24,9 @@ import os
 import random
 import re
 import shutil
-import sys
 import tempfile
 
-from common import ROOT, asked, folder, left_out, say, write
+from common import ROOT, asked, finish, folder, left_out, say, write
 from replay.fuse import CachedSession, mounted
 from replay.judge import LOG, REFUSED, Judge, dd, redo, revert, undo
 from replay.room import Room
@@ -62,15 +61,14 @@ def wrong_in(calls):
 
 
 def orders(_judge, _options):
-    """The orders of syncs: how many are wrong."""
-    bad, table = 0, rows("Orders")
-    for changes, undone, begun, words, status, order in table:
+    """The orders of syncs."""
+    for changes, undone, begun, words, status, order in rows("Orders"):
         with folder() as path:
             room, is_there = Room(path), changes != "none"
             write(room.place("dump"), "00000002: 7879\n")
             write(room.place("bad"), "none\n")
             room.put((IMAGE if is_there else None,))
-            for command in [*["revert -f dump IMAGE"] * int(changes) , f"undo -k {undone} IMAGE"] if is_there else []:
+            for command in [*["revert -f dump IMAGE"] * int(changes), f"undo -k {undone} IMAGE"] if is_there else []:
                 room.run(command)
             if begun:
                 image, journal, redo_text = room.get()
@@ -80,10 +78,7 @@ def orders(_judge, _options):
         wrong = None if " -U " in words else wrong_in(calls)
         wrong = wrong if found == order.replace(" ", "") else f"synced {found or 'nothing'}, and not {order or 'nothing'}"
         wrong = wrong if done.status == int(status) else f"status {done.status}"
-        bad += bool(wrong)
         say(not wrong, f"{changes} changes, {undone} undone{', one unfinished' * bool(begun)}: {words}", wrong or f"{len(found)} syncs")
-    print(f"{len(table) - bad} of {len(table)} commands sync in order")
-    return bad
 
 
 def some_bytes(rng, most):
@@ -135,13 +130,6 @@ def on_mount(judge, rng, _options, is_unsynced=False):
     return session
 
 
-def show(lost):
-    """A content that is lost."""
-    words, content, found, states = lost
-    return "\n      ".join([words, *(f"{name} {held!r}" for name, held in zip(("image", "journal", "redo file"), content)),
-                            str(found), f"not one of {states}"])
-
-
 def sessions(judge, options, play, name="session"):
     """Plays random sessions: how many contents are lost."""
     lost = commands = moments = opened = 0
@@ -150,7 +138,8 @@ def sessions(judge, options, play, name="session"):
         lost, commands, moments = lost + len(session.lost), commands + session.commands, moments + session.moments
         if "-U" not in name:
             say(not session.lost, f"{name} {number}", f"{session.commands} commands, {len(judge.seen) - opened} contents")
-            print(*map(show, session.lost[:1]), sep="\n      ", end="\n" if session.lost else "")
+            for words, content, found, states in session.lost[:1]:
+                print(words, *zip(("image", "journal", "redo file"), content), found, f"not one of {states}", sep="\n      ")
         opened = len(judge.seen)
     recovered = sum(found.recovered is True for found in judge.seen.values())
     print(f"{options.sessions} of {name}, {commands} commands, {moments} moments, {opened} contents ({recovered} recovered): "
@@ -171,19 +160,16 @@ def is_lost(judge, options, row, without):
 
 
 def replay(judge, options):
-    """Sessions under strace, and each sync left out: how many contents are lost, and how many syncs are not as known."""
-    wrong, table = sessions(judge, options, replayed), rows("Left out")
-    for row in table:
+    """Sessions under strace, and each sync left out: whether something is lost with it alone, but for those known to be safe."""
+    sessions(judge, options, replayed)
+    for row in rows("Left out"):
         lost_with, lost = is_lost(judge, options, row, None), is_lost(judge, options, row, row[3])
-        is_known = lost == (row[4] == "lost") and not lost_with
-        wrong += not is_known
-        say(is_known, f"without the sync of {row[0]}", f"{'' if lost else 'nothing '}lost{', and with it too' * lost_with}")
-    print(f"{len(table)} syncs left out, one at a time")
-    return wrong
+        say(lost == (row[4] == "lost") and not lost_with, f"without the sync of {row[0]}",
+            f"{'' if lost else 'nothing '}lost{', and with it too' * lost_with}")
 
 
 def cache(judge, options):
-    """Sessions on the file system, and with -U: whether something is lost, or nothing where it should be."""
+    """Sessions on the file system, and with -U, where something has to be lost."""
     why = "not root" if os.getuid() else None if os.path.exists("/dev/fuse") else "the kernel has no /dev/fuse"
     try:
         with folder() as path:
@@ -195,11 +181,9 @@ def cache(judge, options):
         why = f"no file system can be mounted: {error.strerror}"
     if why:
         left_out(f"losses of power under a file system of its own ({why})")
-        return 0
-    wrong = sessions(judge, options, on_mount, "session on the page cache")
-    unlost = not sessions(judge, options, lambda *words: on_mount(*words, True), "session with -U")
-    say(not unlost, "with -U something is lost")
-    return wrong + unlost
+        return
+    sessions(judge, options, on_mount, "session on the page cache")
+    say(sessions(judge, options, lambda *words: on_mount(*words, True), "session with -U"), "with -U something is lost")
 
 
 CHECKS = {"orders": orders, "replay": replay, "cache": cache}
@@ -209,14 +193,13 @@ def main():
     options = asked(__doc__, ("--sessions", {"type": int, "default": 30}), ("--seed", {"type": int, "default": 1}),
                     ("--limit", {"type": int, "default": 20, "help": "contents at a moment, about"}),
                     ("--jobs", {"type": int, "default": os.cpu_count()}), ("checks", {"nargs": "*", "choices": [[], *CHECKS]}))
-    wrong = 0
     for name in options.checks or CHECKS:
         if name != "cache" and not shutil.which("strace"):
             left_out(f"{name} (strace is not installed)")
             continue
         with tempfile.TemporaryDirectory() as path:
-            wrong += CHECKS[name](Judge(options.jobs, path), options)
-    sys.exit(1 if wrong else 0)
+            CHECKS[name](Judge(options.jobs, path), options)
+    finish()
 
 
 if __name__ == "__main__":
