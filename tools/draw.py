@@ -49,8 +49,10 @@ def terminal(lines):
     for number, (is_command, text) in enumerate(lines):
         place = f'x="{MARGIN}" y="{MARGIN + ROW * number + SIZE}"'
         front = f'<tspan fill="{PROMPT}">$ </tspan>' if is_command else ""
-        parts.append(f'<text {place} fill="{COMMAND if is_command else OUTPUT}" xml:space="preserve">{front}{html.escape(text, quote=False)}</text>')
-    width, height = round(2 * MARGIN + CHARACTER * max(len(text) + 2 * is_command for is_command, text in lines)), 2 * MARGIN + ROW * len(lines)
+        color, said = COMMAND if is_command else OUTPUT, html.escape(text, quote=False)
+        parts.append(f'<text {place} fill="{color}" xml:space="preserve">{front}{said}</text>')
+    longest = max(len(text) + 2 * is_command for is_command, text in lines)
+    width, height = round(2 * MARGIN + CHARACTER * longest), 2 * MARGIN + ROW * len(lines)
     return "\n".join([f'<svg xmlns="http://www.w3.org/2000/svg" width="{width}" height="{height}" viewBox="0 0 {width} {height}">',
                       f'<rect width="{width}" height="{height}" rx="8" fill="{DARK}"/>', *parts, "</g>", "</svg>", ""])
 

@@ -99,7 +99,8 @@ def test_calls():
     for name, data in (("dump", b"2: 7879\n20: 41\n"), ("plain", b"78 7\n9"), ("fix", b"length 8 to 9\n-2: 4344\n+2: 7879\n+8: 41\n"),
                        ("back", b"length 3 to 8\n+2: 7879\n-1: 4142\n")):
         write(name, data)
-    if subprocess.run(["sh", "-c", 'cc -shared -fPIC -O1 -o shim.so "$0" -ldl', pathlib.Path(__file__).with_name("shim.c")], check=False).returncode:
+    source = pathlib.Path(__file__).with_name("shim.c")
+    if subprocess.run(["sh", "-c", 'cc -shared -fPIC -O1 -o shim.so "$0" -ldl', source], check=False).returncode:
         left_out("each memory request, read and write (no C compiler)")
         return
     for words, start in REQUESTS:

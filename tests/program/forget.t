@@ -2,7 +2,7 @@
 
 # What is forgotten
 
-  $ forgotten() { bx forget img; holds "$1"; echo *; bx undo img; }
+  $ forgotten() { bx forget img || echo "[$?]"; holds "$1"; echo *; bx undo img; }
   $ fresh ABxyEFGH "$patched" "$unpatched"; forgotten ABxyEFGH
   img img.bxj img.bxj.redo
   bx: only 0 changes to undo

@@ -208,16 +208,20 @@ stands in the redo file, it is then empty.
 
 The line on it comes first, and nothing is written.
 
-  $ fresh ABxyEFGH "$stopped"; for words in '-k 0' '' '-k 3' '-d -k 65535' -r '-r -k 0'; do kept bx show $words img; done
+  $ fresh ABxyEFGH "$stopped"; for words in '-k 0' '' '-k 3' '-d -k 65535' -r '-r -k 0'; do kept bx show $words img || echo "[$?]"; done
   # change 1: unfinished, the next command takes it back
   # change 1: unfinished, the next command takes it back
   bx: only 0 changes to undo
+  [1]
   # change 1: unfinished, the next command takes it back
   bx: only 0 changes to undo
+  [1]
   # change 1: unfinished, the next command takes it back
   bx: only 0 changes to undo
+  [1]
   # change 1: unfinished, the next command takes it back
   bx: only 0 changes to redo
+  [1]
   # change 1: unfinished, the next command takes it back
 
 No byte of a line is shown as it stands, so that none hides another line of a terminal:

@@ -171,12 +171,14 @@ def compared(bx, texts):
             yield f"operands of {name}", operands, set(re.findall(r"\b(\w+)=(?=[ ':\\])", texts[name])) & set(OPERANDS)
             yield f"words of conv of {name}", words, {word for word in WORDS if re.search(rf"\b{word}\b", texts[name])}
     faults = fault_texts()
-    yield "faults in docs/FORMATS.md", faults, {int(n): text for n, text in re.findall(r"^\| (\d+) \| `(.*?)` \|$", read("docs/FORMATS.md"), re.M)}
+    table = re.findall(r"^\| (\d+) \| `(.*?)` \|$", read("docs/FORMATS.md"), re.M)
+    yield "faults in docs/FORMATS.md", faults, {int(n): text for n, text in table}
     yield "faults in the man page", faults, {int(n): text for n, text in re.findall(r"^\.It (\d+)  (.*)$", texts["man"], re.M)}
 
 
 def check(options):
-    files = {"man": "man/bx.1", "readme": "README.md", "zsh": "completions/_bx", "fish": "completions/bx.fish", "bash": "completions/bx.bash"}
+    files = {"man": "man/bx.1", "readme": "README.md",
+             "zsh": "completions/_bx", "fish": "completions/bx.fish", "bash": "completions/bx.bash"}
     with tempfile.TemporaryDirectory() as folder:
         rows = list(compared(Program(os.path.abspath(options.bx), folder), {name: read(path) for name, path in files.items()}))
     return [f"{what}: bx has {wanted}, but found {found}" for what, wanted, found in rows if wanted != found], \

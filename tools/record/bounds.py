@@ -153,8 +153,10 @@ def run(options):
     dumps = [row for number, case in enumerate(dump_cases(), 1) for row in dump_lines(number, *case, names)]
     for name, kind, about, lines in (
             ("dump_bounds", "words", "What is written of inputs around each block", dumps),
-            ("dd_lengths", "commands", "dd onto an image, for each length from 0 to 600", [line for lines in length_cases(names["dd"]) for line in filled(lines)]),
-            ("image_bounds", "commands", "Changes of images around each page and window", [line for lines in image_cases() for line in ["", *filled(lines)]])):
+            ("dd_lengths", "commands", "dd onto an image, for each length from 0 to 600",
+             [line for lines in length_cases(names["dd"]) for line in filled(lines)]),
+            ("image_bounds", "commands", "Changes of images around each page and window",
+             [line for lines in image_cases() for line in ["", *filled(lines)]])):
         front = [f"# {about}, recorded by tools/cases.py.", *(f"# {line}; {package}" for _, line, package in said.values())]
         form.write(name, [*front, "", f"kind: {kind}", *lines], options.out)
     return False

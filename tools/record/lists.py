@@ -71,7 +71,8 @@ class Images:
         words = [f"ibs={into}", f"obs={out}", f"seek={seek}"] + (["conv=notrunc"] if stays else [])
         rng.shuffle(words)
         counts = " ".join(f"{len(data) // size}+{int(len(data) % size > 0)}" for size in (into, out))
-        return self.changed(["dd: " + " ".join(words), *form.bytes_lines("input", data)], put(kept, out * seek, data), "copied", f" {counts} 0")
+        told = ["dd: " + " ".join(words), *form.bytes_lines("input", data)]
+        return self.changed(told, put(kept, out * seek, data), "copied", f" {counts} 0")
 
     def change(self):
         """A change of the image's end and of some places, or of the places alone."""

@@ -15,69 +15,54 @@ class Tools:
 
     def __init__(self):
         self.kept = tempfile.TemporaryDirectory()
-        self.folder = self.kept.name
-        os.mkdir(os.path.join(self.folder, "folder"))
+        self.folder = pathlib.Path(self.kept.name)
+        self.image = self.folder / "image"
+        (self.folder / "folder").mkdir()
 
     def run(self, command, data):
         """Output, messages and status. Each name that the command has holds the input, and so does standard input, which is a file."""
         for name in [*(name for name in NAMES if name in " ".join(command)), "stdin"]:
-            with open(os.path.join(self.folder, name), "wb") as out:
-                out.write(data)
-        with open(os.path.join(self.folder, "stdin"), "rb") as given:
-            done = subprocess.run(command, stdin=given, capture_output=True, env=ENV, cwd=self.folder, timeout=60)
+            (self.folder / name).write_bytes(data)
+        with open(self.folder / "stdin", "rb") as given:
+            done = subprocess.run(command, stdin=given, capture_output=True, env=ENV, cwd=self.folder, timeout=60, check=False)
         return done.stdout, done.stderr.decode(), done.returncode
 
     def record(self, case):
         """Fills in what the tool does. A tool that doesn't do what its list or its options say stops the recording."""
         if case.image is not None:
             case.made, (output, said, status) = self.onto(case.image, [case.tool, *case.words], case.data)
-            case.records = told_records(said)
-            return self.confirm(case, status == 0 and not output, said)
-        output, said, status = self.run([case.tool, *case.words], case.data or b"")
-        if case.tool == "od" and "cannot skip past end" in said:
-            case.fault = "skip is past the end of the input"
-        if case.refused or case.fault:
-            return self.confirm(case, status == 1 and not output, said)
-        case.output = output
-        if case.tool == "strings" and any(word.startswith("-t") for word in case.words):
-            case.output = re.sub(rb"^ +", b"", output, flags=re.M)
-        case.count, case.records = told_count(case), told_records(said) if case.tool == "dd" else None
-        return self.confirm(case, status == 0, said)
-
-    def image(self):
-        return pathlib.Path(self.folder, "image")
+            case.records, well = told_records(said), status == 0 and not output
+        else:
+            output, said, status = self.run([case.tool, *case.words], case.data or b"")
+            if case.tool == "od" and "cannot skip past end" in said:
+                case.fault = "skip is past the end of the input"
+            well = status == 1 and not output if case.fault else status == 0
+            if not case.fault:
+                is_padded = case.tool == "strings" and any(word.startswith("-t") for word in case.words)
+                case.output = re.sub(rb"^ +", b"", output, flags=re.M) if is_padded else output
+                case.count, case.records = told_count(case), told_records(said) if case.tool == "dd" else None
+        if not well:
+            sys.exit(f"{case.tool} {' '.join(case.words)}: the tool did something else: {said}")
 
     def onto(self, image, words, data):
         """What a command makes of an image, and what it says."""
-        self.image().write_bytes(image)
+        self.image.write_bytes(image)
         done = self.run([*words, "of=image"], data)
-        return self.image().read_bytes(), done
+        return self.image.read_bytes(), done
 
     def undone(self, bx):
         """The image once bx has taken its change back, without its texts."""
         self.run([bx, "undo", "image"], b"")
         for end in (".bxj", ".bxj.redo"):
-            os.remove(f"{self.image()}{end}")
-        return self.image().read_bytes()
-
-    @staticmethod
-    def confirm(case, is_right, said):
-        if not is_right:
-            sys.exit(f"{case.tool} {' '.join(case.words)}: the tool did something else: {said}")
+            os.remove(f"{self.image}{end}")
+        return self.image.read_bytes()
 
 
-def value_of(words, option):
-    """The value of an option of one letter, in the next word or in its own; None where it isn't given."""
-    for word, after in zip(words, words[1:] + [""]):
-        if word.startswith(option):
-            return word[2:] or after
-    return None
-
-
-def plain_number(text):
-    """A number as the tools read it: decimal, hexadecimal or octal."""
-    base = 16 if text.lower().startswith("0x") else 8 if text.startswith("0") and text != "0" else 10
-    return int(text, base)
+def number_of(words, option):
+    """The number behind an option of one letter, in the next word or in its own, as the tools read it: decimal, hexadecimal or octal;
+    0 where it isn't given."""
+    text = next((word[2:] or after for word, after in zip(words, words[1:] + [""]) if word.startswith(option)), "0")
+    return int(text, 16 if text.lower().startswith("0x") else 8 if text.startswith("0") and text != "0" else 10)
 
 
 def told_count(case):
@@ -86,10 +71,10 @@ def told_count(case):
     if case.tool == "xxd" and lines and lines[-1].startswith("unsigned int"):
         return int(lines[-1].split(" ")[-1].rstrip(";"))
     if case.tool == "hexdump" and lines:
-        return int(lines[-1], 16) - plain_number(value_of(case.words, "-s") or "0")
-    radix = value_of(case.words, "-A") or "o"
+        return int(lines[-1], 16) - number_of(case.words, "-s")
+    radix = next((word[2:] or after for word, after in zip(case.words, case.words[1:] + [""]) if word.startswith("-A")), "o")
     if case.tool == "od" and lines and radix != "n":
-        return int(lines[-1], {"d": 10, "o": 8, "x": 16}[radix]) - plain_number(value_of(case.words, "-j") or "0")
+        return int(lines[-1], {"d": 10, "o": 8, "x": 16}[radix]) - number_of(case.words, "-j")
     return None
 
 

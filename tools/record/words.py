@@ -33,7 +33,7 @@ class Case:
     """Words behind the tool's name, what they read, and what came of it."""
 
     def __init__(self, tool, words, data, about, fault=None):
-        self.tool, self.words, self.data, self.about, self.fault, self.refused = tool, words, data, about, fault, fault is not None
+        self.tool, self.words, self.data, self.about, self.fault = tool, words, data, about, fault
         self.output, self.count, self.records, self.image, self.made = b"", None, None, None, None
 
 
@@ -239,7 +239,8 @@ def differs(tools, bx, case):
 
 
 # Each file: its name, kind, tool, and what makes its cases.
-FILES = [*((tool, "words", tool, word_cases) for tool in ("xxd", "od", "hexdump", "strings", "dd")), ("dd_images", "commands", "dd", image_cases)]
+FILES = [*((tool, "words", tool, word_cases) for tool in ("xxd", "od", "hexdump", "strings", "dd")),
+         ("dd_images", "commands", "dd", image_cases)]
 
 
 def run(options):
