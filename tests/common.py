@@ -13,7 +13,6 @@ import tempfile
 
 ROOT = pathlib.Path(__file__).resolve().parent.parent
 sys.path.insert(0, str(ROOT / "tools"))
-from record import form  # noqa: E402  pylint: disable=wrong-import-position
 
 TRIO = ("img", "img.bxj", "img.bxj.redo")
 OPEN = "cannot open file"
@@ -69,15 +68,10 @@ def fresh(*contents):
             write(name, content)
 
 
-def entry(saved, number=1, length=8, ended=True):
-    """A change's entry in a journal, of the bytes that it saves at their places."""
-    lines = [f"change2 {number:08x} {length:016x}", *(form.dump_line(at, data) for at, data in saved), f"save {number:08x}"]
-    return "".join(f"{line}\n" for line in lines + [f"done2 {number:08x} {length:016x}"] * ended).encode()
-
-
-# the journal of two bytes at 2 of an image of 8, and the redo text once they are taken back
-PATCHED, UNPATCHED = entry([(2, b"CD")]), entry([(2, b"xy")])
-STOPPED = PATCHED[:-len("done2 00000001 0000000000000008\n")]
+# the journal of two bytes at 2 of an image of 8, as it is before its end line, and the redo text once they are taken back
+STOPPED = b"change2 00000001 0000000000000008\n00000002: 4344" + b" " * 37 + b"CD\nsave 00000001\n"
+PATCHED = STOPPED + b"done2 00000001 0000000000000008\n"
+UNPATCHED = PATCHED.replace(b"4344", b"7879").replace(b"CD", b"xy")
 
 
 def say(well, name, detail=""):

@@ -1,45 +1,11 @@
-"""Changes, undos and redos that are killed at a random moment, and two at once."""
+"""Two commands at once."""
 import subprocess
-import time
 
-from common import OPEN, bx, entry, fresh, held, run, said, say, trio, write
+from common import OPEN, bx, fresh, held, run, say, trio, write
 
 
 def scattered(step, text, count, below):
     return "".join(f"{i * step % below:x}: {text}\n" for i in range(count))
-
-
-def undone_all():
-    """Opens, and takes all changes back: the image, and whether nothing was refused."""
-    log = run("log img")
-    done = run(f"undo -k {len(log.out.splitlines())} img")
-    return trio()[0], log.status == done.status == 0 and trio()[1] == b""
-
-
-def test_killed():
-    """Killed at a random moment, the image comes back, and no redo file is then called damaged."""
-    before, length = bytes(3 * 10**6), 3 * 10**6
-    write("dump", scattered(7919, "41", 60000, length - 1))
-    other = entry([(0, b"A")], length=length)
-    fresh(before)
-    run("revert -f dump img")
-    changed = held("img", "img.bxj")
-    run("undo img")
-    undone = held("img", "img.bxj", "img.bxj.redo")
-    for words, start, step in (("revert -f dump img", (before, None, other), 4), ("undo img", (*changed, other), 3),
-                               ("redo img", undone, 3)):
-        kills = wrong = 0
-        for n in range(1, 31):
-            fresh(*start)
-            with subprocess.Popen([*bx, *words.split()], stdout=subprocess.DEVNULL, stderr=subprocess.DEVNULL) as child:
-                time.sleep(n * step / 1000)
-                kills += child.poll() is None
-                child.kill()
-            if held("img.bxj") == (None,):
-                wrong += held("img") != (before,)
-            else:
-                wrong += undone_all() != (before, True)
-        say(not wrong, f"killed in the middle of a {words.split()[0]}", f"{kills} of 30 were still running, {wrong} wrong")
 
 
 def test_two_at_once():

@@ -1,4 +1,4 @@
-Changes and undos that are stopped on a full disk; tests/program/stops.py kills them, and runs two at once.
+Changes, undos and redos that are stopped, on a full disk and by a kill; tests/program/stops.py runs two at once.
 
 # Files that may not grow past a size
 
@@ -16,3 +16,29 @@ A change, and an undo, which writes the redo file, stop, and opening finds the i
   > done 2>&1 | sort | uniq -c
         7 0
         3 bx: interrupted: open again to recover
+
+# Killed at a random moment
+
+The image comes back, and no redo file is then called damaged.
+
+  $ head -c 3000000 /dev/zero > before; seq 0 59999 | awk '{ printf "%x: 41\n", $1 * 7919 % 2999999 }' > dump
+  $ other=${patched//0000000000000008/00000000002dc6c0}
+  $ cp before img; bx revert -f dump img; cp img changed; cp img.bxj changed.bxj; bx undo img; cp img undone; cp img.bxj.redo undone.redo
+  0
+  $ restored() { bx undo -k $(bx log img 2> /dev/null | wc -l) img && cmp before img && [ ! -s img.bxj ]; }
+  $ killed() { # MILLISECONDS COMMAND ..
+  >   { timeout -s KILL 0.$(printf %03d $1) "${@:2}"; } > /dev/null 2>&1
+  >   if [ -e img.bxj ]; then restored; else cmp before img && echo 0; fi
+  > }
+  $ for n in $(seq 30); do
+  >   rm -f img*; cp before img; printf %b "$other" > img.bxj.redo; killed $((4 * n)) bx revert -f dump img
+  > done 2>&1 | sort | uniq -c
+       30 0
+  $ for n in $(seq 30); do
+  >   rm -f img*; cp changed img; cp changed.bxj img.bxj; printf %b "$other" > img.bxj.redo; killed $((3 * n)) bx undo img
+  > done 2>&1 | sort | uniq -c
+       30 0
+  $ for n in $(seq 30); do
+  >   rm -f img*; cp undone img; : > img.bxj; cp undone.redo img.bxj.redo; killed $((3 * n)) bx redo img
+  > done 2>&1 | sort | uniq -c
+       30 0
