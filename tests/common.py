@@ -4,7 +4,6 @@ import collections
 import contextlib
 import os
 import pathlib
-import resource
 import shlex
 import signal
 import subprocess
@@ -21,18 +20,12 @@ counts = collections.Counter()
 bx = [str(ROOT / "bx")]
 
 
-def run(words, given=b"", out=subprocess.PIPE, err=subprocess.PIPE, limits=(), before=None, program=None, front=(), **how):
-    """Runs bx: its status, and what it writes. `limits` are (resource, most); `before` is called between fork and exec."""
-    def begin():
-        signal.signal(signal.SIGXFSZ, signal.SIG_IGN)
-        for what, most in limits:
-            resource.setrlimit(what, (most, most))
-        if before:
-            before()
+def run(words, given=b"", out=subprocess.PIPE, err=subprocess.PIPE, program=None, front=(), **how):
+    """Runs bx: its status, and what it writes."""
     words = shlex.split(words) if isinstance(words, str) else [word if isinstance(word, bytes) else str(word) for word in words]
     source = {"stdin": given} if hasattr(given, "fileno") or isinstance(given, int) else {"input": given}
     done = subprocess.run([*front, program or bx[0], *words], **source, stdout=out, stderr=err, check=False, timeout=600,
-                          preexec_fn=begin if limits or before else None, **{"env": {**os.environ, "LC_ALL": "C"}, **how})
+                          **{"env": {**os.environ, "LC_ALL": "C"}, **how})
     return Done(done.returncode, done.stdout or b"", (done.stderr or b"").decode())
 
 

@@ -36,9 +36,14 @@ def outputs(commands, bx, folder, head="", with_status=False, **env):
     env = {**os.environ, "LC_ALL": "C", "PATH": os.path.join(folder, "bin") + ":" + os.environ["PATH"], **env}
     with open(os.path.join(folder, "commands"), "w", encoding="utf-8") as out:
         out.write(script)
-    done = subprocess.run(["bash", os.path.join(folder, "commands")], stdin=subprocess.DEVNULL, stdout=subprocess.PIPE,
-                          stderr=subprocess.STDOUT, cwd=os.path.join(folder, "work"), env=env, timeout=3600, check=False)
-    text = re.sub(r"[\0-\x08\x0b-\x1f\x7f]", lambda it: f"\\x{ord(it[0]):02x}", done.stdout.decode(errors="backslashreplace"))
+    with subprocess.Popen(["bash", os.path.join(folder, "commands")], stdin=subprocess.DEVNULL, stdout=subprocess.PIPE,
+                          stderr=subprocess.STDOUT, cwd=os.path.join(folder, "work"), env=env) as shell:
+        try:
+            written = shell.communicate(timeout=3600)[0]
+        except BaseException:
+            shell.terminate()  # what it traps puts devices and mounts away
+            raise
+    text = re.sub(r"[\0-\x08\x0b-\x1f\x7f]", lambda it: f"\\x{ord(it[0]):02x}", written.decode(errors="backslashreplace"))
     *parts, rest = re.split(f"{END} (\\d+)\n", text)
     given = [lines.removesuffix("\n").split("\n") if lines else [] for lines in parts[::2]]
     given = [lines + [f"[{status}]"] * (with_status and status != "0") for lines, status in zip(given, parts[1::2])]

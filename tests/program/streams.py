@@ -26,7 +26,7 @@ def test_closed_streams():
         for closed in ("", "0", "1", "2", "01", "02", "12", "012"):
             fresh(b"ABxyEFGH", journal)
             with open("input", "rb") as source:
-                done = run(words, source, before=lambda closed=closed: [os.close(int(number)) for number in closed])
+                done = run(words, source, preexec_fn=lambda closed=closed: [os.close(int(number)) for number in closed])
             hit = set(closed) & set(needs)
             fault = "read failed" if "0" in hit else "write failed after 0 bytes" if "1" in hit else ""
             well = done.status == int(bool(hit)) and trio() == (before if "0" in hit else after)
