@@ -63,7 +63,7 @@ refused() { # FAULT [FRONT ..]
     echo >> "$TALLY"
     out=$(eval "${*:-bx} $words" 2>&1 < /dev/null 9<&-)
     status=$?
-    [[ $status = $([[ $fault == bad* ]] && echo 2 || echo 1) && ${out##*$'\n'} == "bx: "$fault ]] || echo "$words: status $status, $out"
+    [[ $status = $([[ $fault == bad* ]] && echo 2 || echo 1) && $out == "bx: "$fault ]] || echo "$words: status $status, $out"
     [ "$(state)" = "$before" ] || { echo "$words: not as before"; before=$(state); }
   done 9<&0
 }
