@@ -6,8 +6,8 @@ Usage: bench/run.py [--bx PATH] [--before PATH] [--rounds N] [--mib N] [--quick]
 With --before it is timed beside a build of an earlier tree in place of the tools, in turn. --quick takes inputs of 32 MiB, else
 they have 64 MiB, 32 MiB where the real tool is slow, and 1 GiB for dd to a stream. --programs leaves out the calls of the
 libraries, which are proved first, and --word all rows without this word. What isn't installed is left out, and so is memory
-without a program `time`. The rows go to standard output, and to bench/out/run.tsv, from which bench/plot.py writes docs/SPEED.md.
-Run by hand, no part of the gate."""
+without a program `time`. The rows of bench/rows.txt go to standard output, and to bench/out/run.tsv, from which bench/plot.py
+writes docs/SPEED.md. Run by hand, no part of the gate."""
 import argparse
 import collections
 import itertools

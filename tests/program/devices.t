@@ -105,8 +105,9 @@ A device's texts are its user's alone; and once it is unmounted:
 
 Nothing is written or made. It may be looked at, but for a recovery. The partition begins at sector 1.
 
-  $ head -c 1M /dev/urandom > ../parts; echo '1be: 0000 0000 8300 0000 0100 0000 ff07 0000' | xxd -r - ../parts
-  $ (mega '\0' 48; printf '\125\252') | dd of=../parts bs=1 seek=462 conv=notrunc status=none; before=$(sha256sum < ../parts)
+  $ head -c 1M /dev/urandom > ../parts; table='\0\0\0\0\203\0\0\0\1\0\0\0\377\7\0\0'
+  $ (printf "$table"; mega '\0' 48; printf '\125\252') | dd of=../parts bs=1 seek=446 conv=notrunc status=none
+  $ before=$(sha256sum < ../parts)
   $ dev=$(losetup -r -f --show ../parts) || left_out 'there are no loop devices'
   $ trap 'partx -d $dev; losetup -d $dev' EXIT; partx -a $dev; echo '10: 4142' > dump
   $ for name in $dev ${dev}p1; do refused 'cannot open file' << .

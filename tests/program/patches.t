@@ -117,7 +117,7 @@ A missing image that should have bytes, a folder, and one that may only be read,
   +00000002: 787a                                     xz
   +00000008: 0000 0000 41                             ....A
   $ chmod 444 img; mkdir shut; mv img shut; chmod 555 shut; kept bx revert -n -f dump shut/img | cmp - ../patch
-  $ chmod 755 shut; mv shut/img img; chmod 644 img; bx patch -f ../patch img; xxd img
+  $ chmod 755 shut; mv shut/img img; chmod 644 img; bx patch -f ../patch img; bx xxd img
   00000000: 4142 787a 4546 4748 0000 0000 41         ABxzEFGH....A
 
 # What `show -p` says no to

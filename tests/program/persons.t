@@ -94,7 +94,7 @@ What is unfinished may be shown, and root's `log` recovers it:
 
 # Links in the home of user 1, to what only root may write or make (wants root)
 
-  $ umask 022; evil="change2 00000001 0000000000000008\n$(printf EVIL | xxd)\nsave 00000001\n"
+  $ umask 022; evil="change2 00000001 0000000000000008\n$(printf EVIL | bx xxd)\nsave 00000001\n"
   $ mkdir home system; put 0:0 600 system/kept kept; cd home; chown 1:1 .; put 1:1 644 a ABCDEFGH; put 1:1 644 dump '0: 58\n'
   $ for text in ../system/preload ../system/kept; do
   >   ln -s $text a.bxj; chown -h 1:1 a.bxj; opening a; opening a as 1 bx; rm a.bxj
@@ -120,7 +120,7 @@ An image behind another's link, missing; and root's file by another's link, with
 
 # Texts of a neighbour beside root's image, where everybody may put files (wants root)
 
-  $ umask 022; evil="change2 00000001 0000000000000008\n$(printf EVIL | xxd)\nsave 00000001\n"; chmod 1777 .; echo '0: 58' > dump
+  $ umask 022; evil="change2 00000001 0000000000000008\n$(printf EVIL | bx xxd)\nsave 00000001\n"; chmod 1777 .; echo '0: 58' > dump
   $ for bits in 600 644 664 666; do
   >   put 0:0 $bits img ABCDEFGH; put 65534:65534 $bits img.bxj "$evil"; opening img
   >   [ $bits -gt 644 ] || { chgrp 0 img.bxj; opening img; }
@@ -150,7 +150,7 @@ The group and the bits of an image of root, and those of an empty journal of roo
 Each of them goes on with what another one did. A folder where others may put files too gives them the group, so there it tells
 nothing.
 
-  $ echo '0: 58' > dump; evil="change2 00000001 0000000000000008\n$(printf EVIL | xxd)\nsave 00000001\n"
+  $ echo '0: 58' > dump; evil="change2 00000001 0000000000000008\n$(printf EVIL | bx xxd)\nsave 00000001\n"
   $ for folder in 2770 0770; do for mask in 002 007; do
   >   umask $mask; chown 0:7 .; chmod $folder .; rm -f img*
   >   as 1:1,7 bx revert -f dump img; chgrp 7 img img.bxj img.bxj.redo
