@@ -73,11 +73,6 @@ def closure(definitions, imports, named):
     return seen
 
 
-def listed(definitions):
-    """the items of the page for the definitions of one file"""
-    return [f"- `{d.name}`: {d.sentence}" if d.sentence else f"- `{d.name}`" for d in definitions]
-
-
 def by_place(some):
     places = {}
     for definition in some:
@@ -112,7 +107,7 @@ def filled(order, believed, told):
             if not here:
                 bad.append(f"part {part}: nothing of {line.strip()} stands there")
             sizes[part] += size(here)
-            lines += [f"### `{line.strip()}`", "", *listed(here), ""]
+            lines += [f"### `{line.strip()}`", "", *(f"- `{d.name}`" + (f": {d.sentence}" if d.sentence else "") for d in here), ""]
     bad += [f"docs/believe.txt doesn't name {place}" for place in sorted(left[False])]
     bad += [f"part {TOLD} of docs/believe.txt doesn't name {place}" for place in sorted(left[True])]
     return "\n".join(lines).rstrip("\n") + "\n", sizes, bad

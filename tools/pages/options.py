@@ -5,6 +5,7 @@ Compared both ways: subcommands; options, and whether they have a value; operand
 and the texts of faults with their numbers. Help has no line above 80 columns.
 """
 import os
+import pathlib
 import re
 import string
 import subprocess
@@ -49,12 +50,8 @@ class Program:
         self.path, self.folder = path, folder
 
     def run(self, *words):
-        for name in ("image", "other"):
-            with open(os.path.join(self.folder, name), "wb") as out:
-                out.write(b"ABCDEFGH\n")
-        for name in ("image.bxj", "1", "x", "x1"):
-            with open(os.path.join(self.folder, name), "wb"):
-                pass
+        for name in ("image", "other", "image.bxj", "1", "x", "x1"):
+            pathlib.Path(self.folder, name).write_bytes(b"ABCDEFGH\n" if name in ("image", "other") else b"")
         return subprocess.run([self.path, *words], stdin=subprocess.DEVNULL, capture_output=True, text=True,
                               cwd=self.folder, timeout=60)
 
@@ -75,17 +72,6 @@ class Program:
             elif any(self.takes(*rest, "-" + letter, value) for value in VALUES):
                 found[letter] = True
         return found
-
-    def commands(self):
-        return {name for name in COMMANDS if self.run(name, "--help").returncode == 0}
-
-    def operands(self):
-        values = ["1", "image", "notrunc"]
-        return {name for name in OPERANDS if any(self.takes("dd", f"{name}={value}", *(["of=image"] if name != "of" else []))
-                                                 for value in values)}
-
-    def words(self):
-        return {word for word in WORDS if self.takes("dd", "cbs=4", f"conv={word}")}
 
 
 def named(pattern, text):
@@ -144,7 +130,7 @@ def fault_texts():
 
 def compared(bx, texts):
     """What is compared: its name, what bx has, and what was found."""
-    commands, general = bx.commands(), bx.run("--help").stdout
+    commands, general = {name for name in COMMANDS if bx.run(name, "--help").returncode == 0}, bx.run("--help").stdout
     synopsis, sections = man_parts(texts["man"])
     yield "bx --help", commands, set(re.findall(r"^  (\w+)", general.split("Commands:")[1].split("\n\n")[0], re.M)) - {"help"}
     yield "synopsis of the man page", commands | {"help"}, set(synopsis)
@@ -164,7 +150,9 @@ def compared(bx, texts):
             yield place, set(taken) if isinstance(letters, set) else taken, letters
             yield f"long options of {place}", longer, set(names) - {"help"}
     if "dd" in commands:
-        operands, words = bx.operands(), bx.words()
+        operands = {name for name in OPERANDS if any(bx.takes("dd", f"{name}={value}", *(["of=image"] if name != "of" else []))
+                                                     for value in ("1", "image", "notrunc"))}
+        words = {word for word in WORDS if bx.takes("dd", "cbs=4", f"conv={word}")}
         yield "operands in bx dd --help", operands, set(re.findall(r"^  (\w+)=", bx.run("dd", "--help").stdout, re.M)) & set(OPERANDS)
         yield "operands in the man page", operands, set(re.findall(r"^\.It Cm (\w+)=", texts["man"], re.M))
         for name in ("bash", "zsh", "fish"):
