@@ -90,7 +90,8 @@ And what was undone:
 
 # What leaves the bytes
 
-It is refused nowhere: a newer time, copies of the four files, bytes that no change wrote, and no text.
+It is refused nowhere: a newer time, bytes that no change wrote, no text, and the four files in another place; there too another
+image is refused.
 
   $ changes '2: 7879' '4: 7a7a'; touch img; bx undo img; cat img
   1
@@ -98,13 +99,26 @@ It is refused nowhere: a newer time, copies of the four files, bytes that no cha
   $ bx redo img; cat img
   2
   ABxyzzGH
-  $ mkdir copy; cp img* copy; cd copy; bx undo -k 2 img; cat img
+  $ there() {
+  >   bx undo -k 2 img; cat img; echo; bx redo -k 2 img; cat img; echo
+  >   printf abcdefgh > img; refused 'the image was changed since' <<< 'undo img'
+  > }
+  $ mkdir copy; cp img* copy; (cd copy; there)
   0
   ABCDEFGH
-  $ bx redo -k 2 img; cat img; cd ..
   2
   ABxyzzGH
-  $ printf XXxyzzXX > img; bx undo img; cat img
+  $ git init -q .; git add img*; git -c user.name=a -c user.email=a commit -qm a; git clone -q . clone; rm -r .git; (cd clone; there)
+  0
+  ABCDEFGH
+  2
+  ABxyzzGH
+  $ place=$(mktemp -d -p /dev/shm); mv img* $place; (cd $place; there); rm -r $place
+  0
+  ABCDEFGH
+  2
+  ABxyzzGH
+  $ changes '2: 7879' '4: 7a7a'; printf XXxyzzXX > img; bx undo img; cat img
   1
   XXxyEFXX
   $ changes '2: 7879'; rm img.bxj.image; printf abcdefgh > img; bx undo img; cat img
@@ -116,15 +130,17 @@ It is refused nowhere: a newer time, copies of the four files, bytes that no cha
 # A build script that runs a hundred times
 
   $ echo '2: 7879' > dump; : > img
-  $ for n in $(seq 100); do mega $((n % 10)) 8 > img; bx revert -U --fresh -f dump img || echo "$n: $?"; done; bx log img
+  $ for n in $(seq 100); do mega $((n % 10)) 8 > img; bx revert -U --fresh -f dump img || echo "$n: $?"; done; bx log img; cut -c 1-25 img.bxj.image
   1 8 2
+  image1 00000001 00000000 
   $ bx undo img; cat img
   0
   00000000
 
 # Texts that say nothing
 
-One that begins as a line does, and isn't longer than one, is written anew by an undo, and so is an empty one; any other stays.
+One that isn't longer than a line, and begins as one does, is a front of its first word, or is zeros alone, is made anew by an undo; any
+other stays.
 
   $ zeros=$(mega 0 32)
   $ undone() { # TEXT: the undo goes on, and the text is written anew or stays
@@ -134,8 +150,14 @@ One that begins as a line does, and isn't longer than one, is written anew by an
   $ undone ''
   0 ABCDEFGH anew
   $ undone '\0'
-  0 ABCDEFGH stays
+  0 ABCDEFGH anew
   $ undone "$(mega '0' 117 | sed 's/0/\\0/g')"
+  0 ABCDEFGH anew
+  $ undone "$(mega '0' 118 | sed 's/0/\\0/g')"
+  0 ABCDEFGH stays
+  $ undone im
+  0 ABCDEFGH anew
+  $ undone imagine
   0 ABCDEFGH stays
   $ undone "$(mega x 117)"
   0 ABCDEFGH stays
@@ -159,6 +181,16 @@ One that begins as a line does, and isn't longer than one, is written anew by an
   0 ABCDEFGH anew
   $ undone "image1 ffffffff ffffffff ffffffffffffffff $zeros $zeros ffffffff\n"
   0 ABCDEFGH anew
+
+The line of another image, on as many changes of as many bytes, and a line that may only be read:
+
+  $ changes '2: 7879'; cp img.bxj.image line; changes '4: 7a7a'; cp line img.bxj.image; refused 'the image was changed since' <<< 'undo img'
+  $ bx undo --anyway img; cat img
+  0
+  ABCDEFGH
+  $ changes '2: 7879'; chmod 444 img.bxj.image; bx undo img; cut -c 1-25 img.bxj.image
+  0
+  image1 00000000 00000001 
 
 # Files in its place that aren't touched
 
