@@ -27,7 +27,7 @@ The image comes back, and no redo file is then called damaged.
   0
   $ restored() { bx undo -k $(bx log img 2> /dev/null | wc -l) img && cmp before img && [ ! -s img.bxj ]; }
   $ killed() { # MILLISECONDS COMMAND ..
-  >   { timeout -s KILL 0.$(printf %03d $1) "${@:2}"; } > /dev/null 2>&1
+  >   { timeout --foreground -s KILL 0.$(printf %03d $1) "${@:2}"; } > /dev/null 2>&1
   >   if [ -e img.bxj ]; then restored; else cmp before img && echo 0; fi
   > }
   $ for n in $(seq 30); do
