@@ -27,7 +27,7 @@ SLOW = [("xxd", "A" * 1000, ""), ("od -N 100000", "A" * 1000, "of 100[.]0 "), ("
 def run(command, made, terminal):
     """The status of a command in a copy of a folder, and what standard error got; standard output goes nowhere."""
     with tempfile.TemporaryDirectory() as work:
-        subprocess.run(["cp", "-a", f"{made}/work/.", work], check=True)
+        subprocess.run(["cp", "-a", os.path.join(made, "work", "."), work], check=True)
         ours, theirs = pty.openpty() if terminal else os.pipe()
         env = {**os.environ, "PATH": f"{made}/bin:{os.environ['PATH']}"}
         with subprocess.Popen(["bash", "-c", command], cwd=work, env=env, stdin=subprocess.DEVNULL, stdout=subprocess.DEVNULL,
