@@ -1,8 +1,9 @@
 -- Entries, and what names lead to.
-use Rattle.std.proofs.Common.{◌≡◌, ◌⊎◌, ◌<◌, ◌≤◌, ℕ, zero, suc, Bool, true, false, not, cond, Option, Some, None, List, [], ◌∷◌, length, get_or, drop, refl, subst, inl, inr, arith}
+use Rattle.std.proofs.Common.{◌≡◌, ◌⊎◌, ◌<◌, ◌≤◌, ◌-◌, ℕ, zero, suc, Bool, true, false, not, cond, Option, Some, None, List, [], ◌∷◌, length, get_or, drop, refl, sym, subst, inl, inr, arith, ◌∙◌}
+use Rattle.std.specs.Prelude.{slice_get}
 use Rattle.std.specs.Str.{bytes_eq}
 use Rattle.std.proofs.lemmas.Slice.Eq.{bytes_eq-Decides}
-use Rattle.bx_program_world.specs.MemoryFiles.{entry_named, follow, is_gone_at, is_link_of, is_link_to, is_taken, is_taken_by, leads_at, led, unless_gone}
+use Rattle.bx_program_world.specs.MemoryFiles.{end_led, entry_named, follow, free_end, is_gone_at, is_link_of, is_link_to, is_taken, is_taken_by, leads_at, led, unless_gone}
 use Rattle.bx_program_world.specs.declared.memory.files.Entry.{Entry}
 use Rattle.bx_program_world.specs.declared.memory.files.Leads.{Leads}
 use Rattle.bx_program_world.specs.declared.memory.files.Leads.TheVariants.{File, Link}
@@ -28,7 +29,13 @@ pub leads_none : (entries : List Entry) → leads_at entries (length entries) �
 leads_none [] = refl
 leads_none (x ∷ xs) = leads_none xs
 
+some_same : {X : Type 0} {x y : X} → Some x ≡ Some y → x ≡ y
+some_same e = grind (arith, e)
+
 module _ (files : List Stored) (entries : List Entry) (name : List ℕ) (n : ℕ) where
+  apart : (m : List ℕ) → bytes_eq name m ≡ false → m ≡ name → ⊥
+  apart m eq is = let same : bytes_eq name m ≡ true = (bytes_eq-Decides name m).1 (sym is) in let wrong : true ≡ false = sym same ∙ eq in absurd (cc)
+
   abbrev new_entry : Entry
   new_entry = record { name = name; leads = File n }
 
@@ -81,3 +88,71 @@ module _ (files : List Stored) (entries : List Entry) (name : List ℕ) (n : ℕ
 
   pub free_no_link : is_taken files entries name ≡ false → is_link_of entries name ≡ false
   free_no_link free = unlinked (entry_named entries name) free
+
+  -- where the new name is the one that a name leads to, a file or a link has it not
+  end_free_at : (onward : List ℕ → Option (List ℕ)) (m : List ℕ) (o : Option Leads) → entry_named entries m ≡ o → end_led files onward m o ≡ Some name
+      → ((target : List ℕ) → onward target ≡ Some name → is_taken files entries name ≡ false) → is_taken files entries name ≡ false
+  end_free_at onward m None leads e on =
+      let is : m ≡ name = some_same e in
+      subst (λ x. is_taken files entries x ≡ false) is (rw leads refl)
+  end_free_at onward m (Some (File g)) leads e on = unless_there (is_gone_at files g) refl e
+    where
+      unless_there : (b : Bool) → is_gone_at files g ≡ b → cond b (Some m) None ≡ Some name → is_taken files entries name ≡ false
+      unless_there true gone same =
+          let is : m ≡ name = some_same same in
+          subst (λ x. is_taken files entries x ≡ false) is (rw (leads, gone) refl)
+      unless_there false gone same = absurd (let wrong : None ≡ Some name = same in cc)
+  end_free_at onward m (Some (Link target)) leads e on = on target e
+
+  pub end_free : (steps : ℕ) (m : List ℕ) → free_end files entries steps m ≡ Some name → is_taken files entries name ≡ false
+  unfolding free_end
+  end_free zero m e = absurd (let wrong : None ≡ Some name = e in cc)
+  end_free (suc steps) m e = end_free_at (λ t. free_end files entries steps t) m (entry_named entries m) refl e (λ t more. end_free steps t more)
+
+  end_none_at : (onward : List ℕ → Option (List ℕ)) (before : List ℕ → Option ℕ) (m : List ℕ) (o : Option Leads) → end_led files onward m o ≡ Some name
+      → ((target : List ℕ) → onward target ≡ Some name → unless_gone files (before target) ≡ None) → unless_gone files (led before o) ≡ None
+  end_none_at onward before m None e on = refl
+  end_none_at onward before m (Some (File g)) e on = unless_there (is_gone_at files g) e
+    where
+      unless_there : (b : Bool) → cond b (Some m) None ≡ Some name → cond b None (Some g) ≡ None
+      unless_there true same = refl
+      unless_there false same = absurd (let wrong : None ≡ Some name = same in cc)
+  end_none_at onward before m (Some (Link target)) e on = on target e
+
+  -- a name that leads to a free one leads to no file
+  pub end_none : (steps : ℕ) (m : List ℕ) → free_end files entries steps m ≡ Some name → unless_gone files (follow entries steps m) ≡ None
+  unfolding follow free_end
+  end_none zero m e = refl
+  end_none (suc steps) m e =
+      end_none_at (λ t. free_end files entries steps t) (λ t. follow entries steps t) m (entry_named entries m) e (λ t more. end_none steps t more)
+
+  end_new_at : (onward : List ℕ → Option (List ℕ)) (after : List ℕ → Option ℕ) (m : List ℕ) (o : Option Leads) → end_led files onward m o ≡ Some name
+      → ((target : List ℕ) → onward target ≡ Some name → after target ≡ Some n)
+      → (b : Bool) → bytes_eq name m ≡ b → led after (cond b (Some (File n)) o) ≡ Some n
+  end_new_at onward after m o e on true eq = refl
+  end_new_at onward after m None e on false eq = absurd (apart m eq (some_same e))
+  end_new_at onward after m (Some (File g)) e on false eq = unless_there (is_gone_at files g) e
+    where
+      unless_there : (b : Bool) → cond b (Some m) None ≡ Some name → Some g ≡ Some n
+      unless_there true same = absurd (apart m eq (some_same same))
+      unless_there false same = absurd (let wrong : None ≡ Some name = same in cc)
+  end_new_at onward after m (Some (Link target)) e on false eq = on target e
+
+  -- and to the new file, once an entry leads there from the free name
+  pub end_new : (steps : ℕ) (m : List ℕ) → free_end files entries steps m ≡ Some name → follow (new_entry ∷ entries) steps m ≡ Some n
+  unfolding follow free_end
+  end_new zero m e = absurd (let wrong : None ≡ Some name = e in cc)
+  end_new (suc steps) m e =
+      end_new_at (λ t. free_end files entries steps t) (λ t. follow (new_entry ∷ entries) steps t) m (entry_named entries m) e (λ t more. end_new steps t more)
+      (bytes_eq name m) refl
+
+-- what an entry leads to
+pub leads_here : (entries : List Entry) (i : ℕ) (e : Entry) → slice_get entries i ≡ Some e → leads_at entries i ≡ Some e.leads
+leads_here entries i e got = rw got refl
+
+-- from a link it goes on with one step less
+pub end_onward : (files : List Stored) (entries : List Entry) (steps : ℕ) (name target : List ℕ) → 0 < steps → entry_named entries name ≡ Some (Link target)
+    → free_end files entries steps name ≡ free_end files entries (steps - 1) target
+unfolding free_end
+end_onward files entries zero name target some leads = absurd (omega arith)
+end_onward files entries (suc steps) name target some leads = let e : suc steps - 1 ≡ steps = omega arith in rw (e, leads) refl

@@ -1,5 +1,5 @@
 -- What a world in memory has.
-use Rattle.std.specs.Prelude.{◌≡◌, ◌⊎◌, ◌+◌, ℕ, Bool, true, false, cond, List, [], ◌∷◌, length}
+use Rattle.std.specs.Prelude.{◌≡◌, ◌⊎◌, ◌+◌, ℕ, Bool, true, false, cond, List, [], ◌∷◌, ◌++◌, length}
 use Rattle.std.specs.Option.{unwrap_or}
 use Rattle.bx_program_world.specs.World.{Sight}
 use Rattle.bx_program_world.specs.MemoryFiles.{bytes_at, file_named, is_gone_at, is_link_of, lent_trio, stat_of, synced_at}
@@ -8,7 +8,7 @@ use Rattle.bx_program_world.specs.declared.memory.Run.{Run}
 use Rattle.bx_program_world.specs.declared.memory.files.Entry.{Entry}
 use Rattle.bx_program_world.specs.declared.memory.files.Leads.TheVariants.{File}
 use Rattle.bx_program_world.specs.declared.memory.files.Stored.{Stored}
-use Rattle.bx_program_world.specs.declared.stat.Kind.TheVariants.{Other}
+use Rattle.bx_program_world.specs.declared.stat.Kind.TheVariants.{Other, Regular}
 use Rattle.bx_program_world.specs.declared.stat.Stat.{Stat}
 
 -- what the system says of a file that isn't there
@@ -23,6 +23,20 @@ no_stat = record {
   links = 0;
   is_mounted = false;
   is_read_only = false;
+}
+
+-- what the system says of a text that this user makes beside an image: the image's group and its classes, and the user owns it
+abbrev pub stat_beside : ℕ → Stat → Stat
+stat_beside caller image = record {
+  kind = Regular;
+  owner = caller;
+  group = image.group;
+  is_group_given = image.is_group_given;
+  reads = image.reads;
+  writes = image.writes;
+  links = 1;
+  is_mounted = image.is_mounted;
+  is_read_only = image.is_read_only;
 }
 
 -- what a person can see of files with their names, beside a run
@@ -45,6 +59,10 @@ sight_in files entries run = record {
 abbrev pub sight_of : MemoryWorld → Sight
 sight_of w = sight_in w.files.items w.entries.items w.run
 
+-- how many of its calls were refused
+abbrev pub refusals_of : MemoryWorld → ℕ
+refusals_of w = w.run.refusals.count.number
+
 -- what may be found of a file after a loss of power: what it has, or what was on its disk
 abbrev pub found_of : MemoryWorld → ℕ → List ℕ → Type 0
 found_of w n c = (c ≡ bytes_at w.files.items n) ⊎ (c ≡ synced_at w.files.items n)
@@ -59,7 +77,7 @@ pub record IsNoted (refused : Bool) (old new : MemoryWorld) : Type 0 where
   pub output : new.run.output ≡ old.run.output
   pub errors : new.run.errors ≡ old.run.errors
   pub stuck : new.run.stuck ≡ old.run.stuck
-  pub is_refused : new.run.is_refused ≡ cond refused true old.run.is_refused
+  pub refusals : refusals_of new ≡ cond refused (refusals_of old + 1) (refusals_of old)
 
 -- all but the bytes of one file is as it was
 pub record HasOtherBytes (n : ℕ) (old new : MemoryWorld) : Type 0 where
@@ -75,6 +93,16 @@ pub record HasOtherBytes (n : ℕ) (old new : MemoryWorld) : Type 0 where
 pub record NamesFile (old new : MemoryWorld) (name : List ℕ) (n : ℕ) : Type 0 where
   pub entries : new.entries.items ≡ record { name = name; leads = File n } ∷ old.entries.items
   pub files : new.files ≡ old.files
+  pub run : new.run ≡ old.run
+
+-- an empty file was added, and a name for it, and all else is as it was
+pub record AddsFile (name : List ℕ) (stat : Stat) (old new : MemoryWorld) : Type 0 where
+  pub added : Stored
+  pub told : added.stat ≡ stat
+  pub there : added.is_gone ≡ false
+  pub empty : added.contents.bytes.items ≡ []
+  pub files : new.files.items ≡ old.files.items ++ added ∷ []
+  pub entries : new.entries.items ≡ record { name = name; leads = File (length old.files.items) } ∷ old.entries.items
   pub run : new.run ≡ old.run
 
 -- no name was given, and all else is as it was
@@ -105,7 +133,7 @@ pub record Sticks (old new : MemoryWorld) : Type 0 where
   pub output : new.run.output ≡ old.run.output
   pub errors : new.run.errors ≡ old.run.errors
   pub stuck : new.run.stuck ≡ old.run.stuck + 1
-  pub is_refused : new.run.is_refused ≡ old.run.is_refused
+  pub refusals : refusals_of new ≡ refusals_of old
 
 abbrev pub BuriesOrSticks : ℕ → MemoryWorld → MemoryWorld → Type 0
 BuriesOrSticks n old new = BuriesEmpty n old new ⊎ Sticks old new

@@ -31,6 +31,21 @@ unfoldable pub follow : List Entry → ℕ → List ℕ → Option ℕ
 follow entries zero name = None
 follow entries (suc steps) name = led (λ target. follow entries steps target) (entry_named entries name)
 
+-- whether a file was taken away, or was never there
+abbrev pub is_gone_at : List Stored → ℕ → Bool
+is_gone_at files n = option_map_or (λ (s : Stored). s.is_gone) (slice_get files n) true
+
+-- the name itself, where neither a file nor a link has it, or where `onward` goes on from a link
+abbrev pub end_led : List Stored → (List ℕ → Option (List ℕ)) → List ℕ → Option Leads → Option (List ℕ)
+end_led files onward name None = Some name
+end_led files onward name (Some (File n)) = cond (is_gone_at files n) (Some name) None
+end_led files onward name (Some (Link target)) = onward target
+
+-- the name that a name leads to by fewer than `steps` links, where neither a file nor a link has it
+unfoldable pub free_end : List Stored → List Entry → ℕ → List ℕ → Option (List ℕ)
+free_end files entries zero name = None
+free_end files entries (suc steps) name = end_led files (λ target. free_end files entries steps target) name (entry_named entries name)
+
 abbrev pub is_link_to : Option Leads → Bool
 is_link_to None = false
 is_link_to (Some (File n)) = false
@@ -47,10 +62,6 @@ bytes_at files n = option_map_or (λ (s : Stored). s.contents.bytes.items) (slic
 -- what is on the disk of a file; of one that isn't there nothing
 abbrev pub synced_at : List Stored → ℕ → List ℕ
 synced_at files n = option_map_or (λ (s : Stored). s.contents.synced.items) (slice_get files n) []
-
--- whether a file was taken away, or was never there
-abbrev pub is_gone_at : List Stored → ℕ → Bool
-is_gone_at files n = option_map_or (λ (s : Stored). s.is_gone) (slice_get files n) true
 
 -- the file, unless it was taken away
 abbrev pub unless_gone : List Stored → Option ℕ → Option ℕ

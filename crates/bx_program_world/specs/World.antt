@@ -1,5 +1,5 @@
 -- The world of a program: files under names, and the standard streams.
-use Rattle.std.specs.Prelude.{◌≡◌, ◌⊎◌, ◌<◌, ◌≤◌, ◌+◌, ◌++◌, ℕ, Bool, true, false, List, [], length, Option, None, Some, Result, Ok, Err}
+use Rattle.std.specs.Prelude.{◌≡◌, ◌⊎◌, ◌<◌, ◌≤◌, ◌+◌, ◌++◌, ℕ, Bool, false, List, [], length, Option, None, Some, Result, Ok, Err}
 use Rattle.std.specs.Option.{option_map_or}
 use Rattle.bx_image.specs.Power.{NoMore}
 use Rattle.bx_program_world.specs.Rule.{image_unfit, text_unfit}
@@ -55,10 +55,13 @@ pub record KeepsStreams (old new : Sight) : Type 0 where
 abbrev pub IsOwnText : Sight → ℕ → ℕ → Type 0
 IsOwnText w image n = text_unfit w.caller (w.stat image) false (w.stat n) ≡ None
 
+-- the file may be an image that is changed, whether mounted devices may be or not
+abbrev pub IsAlwaysFit : Sight → ℕ → Type 0
+IsAlwaysFit w n = (mounted : Bool) → image_unfit mounted (w.stat n) ≡ None
+
 -- An empty file was made: the name leads to it, and so may names that were links to a missing file
 pub record Makes (old new : Sight) (name : List ℕ) (n : ℕ) : Type 0 where
   pub missing : old.named name ≡ None
-  pub no_link : old.is_link name ≡ false
   pub named : new.named name ≡ Some n
   pub others : (m : List ℕ) → (new.named m ≡ old.named m) ⊎ ((old.named m ≡ None) × (new.named m ≡ Some n))
   pub number : n ≡ old.there
@@ -158,11 +161,11 @@ MayBeImage mounted w name = (n : ℕ) → w.named name ≡ Some n → image_unfi
 abbrev pub MayBeText : ℕ → Sight → List ℕ → Type 0
 MayBeText image w name = (n : ℕ) → w.named name ≡ Some n → text_unfit w.caller (w.stat image) (w.is_link name) (w.stat n) ≡ None
 
--- that the system refused a call is noted; that a file is missing is no refusal
-abbrev pub NotesRefusal : {V : Type 0} → Result V Refusal → Bool → Bool → Type 0
-NotesRefusal (Ok v) old new = new ≡ old
-NotesRefusal (Err Missing) old new = new ≡ old
-NotesRefusal (Err e) old new = new ≡ true
+-- a call that the system refused is counted; that a file is missing is no refusal
+abbrev pub CountsRefusal : {V : Type 0} → Result V Refusal → ℕ → ℕ → Type 0
+CountsRefusal (Ok v) old new = new ≡ old
+CountsRefusal (Err Missing) old new = new ≡ old
+CountsRefusal (Err e) old new = new ≡ old + 1
 
 -- what a name's file holds; a file that is missing holds nothing
 abbrev pub held : Sight → List ℕ → List ℕ

@@ -9,6 +9,7 @@ mod world;
 
 pub use laws::readers_and_writers;
 pub use memory::image::LentImage;
+pub use memory::input::LentInput;
 pub use memory::text::LentText;
 pub use memory::{Fails, MemoryWorld, OpenFile, Plan};
 pub use rule::{Unfit, image_unfit, text_unfit};

@@ -4,16 +4,20 @@ ghost use Rattle.bx_program_world.specs.MemoryFiles.{IsConsistent, bytes_at, fil
 
 pub(crate) mod files;
 pub(crate) mod image;
+pub(crate) mod input;
+pub(crate) mod refusals;
 pub(crate) mod setup;
 pub(crate) mod text;
 
 use crate::memory::files::{
-    Contents, Entry, Leads, LentFiles, Stored, bury, exchange, file_named, has_no_bytes, is_link,
-    is_taken, stat_of,
+    Contents, Entry, Leads, LentFiles, MOST_LINKS, Stored, bury, copy_of_bytes, exchange,
+    file_named, free_end, has_no_bytes, is_link, is_taken, length_of, stat_of,
 };
 use crate::memory::image::LentImage;
+use crate::memory::input::LentInput;
+use crate::memory::refusals::Refusals;
 use crate::memory::text::LentText;
-use crate::stat::{Kind, Look, Stat};
+use crate::stat::{Classes, Kind, Look, Stat};
 use crate::{Refusal, Unwritten, World};
 use bx_image::{Device, Fuse, FuseImage, Part};
 use bx_journal_store::{CountedText, FuseText, TextStore};
@@ -57,6 +61,8 @@ pub struct Plan {
     pub journal: Fails,
     /// Those of the redo text.
     pub redo: Fails,
+    /// The reads of an input that fail, of each one that is lent.
+    pub input: Fuse,
 }
 
 impl Plan {
@@ -66,6 +72,7 @@ impl Plan {
         image: Fails::NEVER,
         journal: Fails::NEVER,
         redo: Fails::NEVER,
+        input: Fuse::Never,
     };
 }
 
@@ -78,7 +85,7 @@ pub struct Run {
     output: Vec<u8>,
     errors: Vec<u8>,
     stuck: u64,
-    is_refused: bool,
+    refusals: Refusals,
 }
 
 /// A world in memory. Its calls are refused where its plan says so, where a file is missing or there already, and for want of
@@ -100,11 +107,11 @@ pub struct OpenFile {
 }
 
 impl MemoryWorld {
-    ghost use Rattle.std.specs.Prelude.{IfOk, Err, Some};
+    ghost use Rattle.std.specs.Prelude.{IfOk, IfSome, Err, Some, string_bytes};
     ghost use Rattle.bx_program_world.specs.declared.world.Refusal.TheVariants.{Missing};
-    ghost use Rattle.bx_program_world.specs.World.{IsOwnText, Makes, NotesRefusal};
-    ghost use Rattle.bx_program_world.specs.MemoryFiles.{file_named, is_taken};
-    ghost use Rattle.bx_program_world.specs.Memory.{BuriesEmpty, BuriesOrSticks, HasOtherBytes, NamesFile, NamesNothing, IsNoted, sight_of};
+    ghost use Rattle.bx_program_world.specs.World.{CountsRefusal, IsAlwaysFit, IsOwnText, Makes};
+    ghost use Rattle.bx_program_world.specs.MemoryFiles.{file_named, free_end, is_taken};
+    ghost use Rattle.bx_program_world.specs.Memory.{AddsFile, BuriesEmpty, BuriesOrSticks, HasOtherBytes, NamesFile, NamesNothing, IsNoted, refusals_of, sight_of, stat_beside};
 
     /// A world without files, which this user runs a program in.
     pub fn new(alloc: Global, caller: u32) -> Self
@@ -122,7 +129,7 @@ impl MemoryWorld {
                 output: Vec::new(alloc),
                 errors: Vec::new(alloc),
                 stuck: 0,
-                is_refused: false,
+                refusals: Refusals::none(),
             },
             plan: Plan::NOTHING,
         }
@@ -134,7 +141,7 @@ impl MemoryWorld {
     {
         let refuses = self.plan.calls.blows();
         if refuses {
-            self.run.is_refused = true;
+            self.run.refusals.note();
         }
         refuses
     }
@@ -144,7 +151,7 @@ impl MemoryWorld {
         ensures kept { IsNoted true self.old self.new }
         ensures other { result ≡ Refusal.Other None }
     {
-        self.run.is_refused = true;
+        self.run.refusals.note();
         Refusal::Other(None)
     }
 
@@ -172,7 +179,7 @@ impl MemoryWorld {
         ensures missing { result ≡ Err Missing → file_named self.old.files.items self.old.entries.items name.now ≡ None }
         ensures files { self.new.files ≡ self.old.files }
         ensures same { sight_of self.new ≡ sight_of self.old }
-        ensures noted { NotesRefusal result self.old.run.is_refused self.new.run.is_refused }
+        ensures counted { CountsRefusal result (refusals_of self.old) (refusals_of self.new) }
     {
         if self.refuses() {
             return Err(Refusal::Other(None));
@@ -183,25 +190,17 @@ impl MemoryWorld {
         }
     }
 
-    /// Makes an empty text beside an image, whose classes it has, and which the caller owns.
-    fn add_text(&mut self, name: &str, image: usize) -> Result<OpenFile, Refusal>
+    /// Makes an empty file of a name that is free.
+    fn add_file(&mut self, name: &str, stat: Stat) -> Result<OpenFile, Refusal>
         requires free { is_taken self.old.files.items self.old.entries.items name.now ≡ false }
-        requires there { image < length self.old.files.items }
-        ensures ok { IfOk result (λ f. Makes (sight_of self.old) (sight_of self.new) name.now f.number) }
-        ensures own { IfOk result (λ f. IsOwnText (sight_of self.new) image f.number) }
+        ensures number { IfOk result (λ f. f.number ≡ length self.old.files.items) }
+        ensures ok { OnOk result (AddsFile name.now stat self.old self.new) }
         ensures err { OnErr result (sight_of self.new ≡ sight_of self.old) }
         ensures synced { (n : ℕ) → n < length self.old.files.items
             → synced_at self.new.files.items n ≡ synced_at self.old.files.items n }
-        ensures noted { self.new.run.is_refused ≡ self.old.run.is_refused }
+        ensures counted { refusals_of self.new ≡ refusals_of self.old }
     {
         let number = self.files.len();
-        let beside = stat_of(self.files.as_slice(), image).unwrap();
-        let stat = Stat {
-            kind: Kind::Regular,
-            owner: self.run.caller,
-            links: 1,
-            ..beside
-        };
         self.files.reserve(1).map_err(|_| Refusal::Other(None))?;
         self.name_file(name, number)?;
         let stored = Stored {
@@ -214,6 +213,81 @@ impl MemoryWorld {
         };
         self.files.push(stored).unwrap();
         Ok(OpenFile { number })
+    }
+
+    /// Makes an empty text beside an image, whose classes it has, and which the caller owns.
+    fn add_text(&mut self, name: &str, image: usize) -> Result<OpenFile, Refusal>
+        requires free { is_taken self.old.files.items self.old.entries.items name.now ≡ false }
+        requires there { image < length self.old.files.items }
+        ensures ok { IfOk result (λ f. Makes (sight_of self.old) (sight_of self.new) name.now f.number) }
+        ensures own { IfOk result (λ f. IsOwnText (sight_of self.new) image f.number) }
+        ensures err { OnErr result (sight_of self.new ≡ sight_of self.old) }
+        ensures synced { (n : ℕ) → n < length self.old.files.items
+            → synced_at self.new.files.items n ≡ synced_at self.old.files.items n }
+        ensures counted { refusals_of self.new ≡ refusals_of self.old }
+    {
+        let beside = stat_of(self.files.as_slice(), image).unwrap();
+        let stat = Stat {
+            kind: Kind::Regular,
+            owner: self.run.caller,
+            links: 1,
+            ..beside
+        };
+        match self.add_file(name, stat) {
+            Ok(file) => Ok(file),
+            Err(refusal) => Err(refusal),
+        }
+    }
+
+    /// What the system says of an image that the caller makes: the caller alone may write it.
+    fn stat_of_image(&self) -> Stat
+        ensures { result.kind ≡ Kind.Regular }
+    {
+        Stat {
+            kind: Kind::Regular,
+            owner: self.run.caller,
+            group: self.run.caller,
+            is_group_given: false,
+            reads: Classes {
+                group: true,
+                others: true,
+            },
+            writes: Classes {
+                group: false,
+                others: false,
+            },
+            links: 1,
+            is_mounted: false,
+            is_read_only: false,
+        }
+    }
+
+    /// The name that an image is made under: the one that links lead to. None where a file has it, or memory is short.
+    fn place_of_image(&self, name: &str) -> Option<String>
+        ensures { IfSome result (λ place. free_end self.now.files.items self.now.entries.items 40 name.now ≡ Some (string_bytes place)) }
+    {
+        let files = self.files.as_slice();
+        let place = free_end(files, self.entries.as_slice(), MOST_LINKS, name)?;
+        String::from_str(self.alloc, place).ok()
+    }
+
+    /// Makes an empty image of a name, or of the one that links lead to.
+    fn add_image(&mut self, name: &str) -> Result<OpenFile, Refusal>
+        ensures ok { IfOk result (λ f. Makes (sight_of self.old) (sight_of self.new) name.now f.number) }
+        ensures fit { IfOk result (λ f. IsAlwaysFit (sight_of self.new) f.number) }
+        ensures err { OnErr result (sight_of self.new ≡ sight_of self.old) }
+        ensures synced { (n : ℕ) → n < length self.old.files.items
+            → synced_at self.new.files.items n ≡ synced_at self.old.files.items n }
+        ensures counted { refusals_of self.new ≡ refusals_of self.old }
+    {
+        let Some(place) = self.place_of_image(name) else {
+            return Err(Refusal::Other(None));
+        };
+        let stat = self.stat_of_image();
+        match self.add_file(place.as_str(), stat) {
+            Ok(file) => Ok(file),
+            Err(refusal) => Err(refusal),
+        }
     }
 
     /// Takes a file away that is empty, unless its plan refuses that.
@@ -287,7 +361,7 @@ impl MemoryWorld {
 }
 
 impl World for MemoryWorld {
-    ghost use Rattle.bx_program_world.specs.Memory.{found_of, sight_of};
+    ghost use Rattle.bx_program_world.specs.Memory.{found_of, refusals_of, sight_of};
     ghost use Rattle.bx_program_world.specs.MemoryFiles.{file_within};
 
     type Image = FuseImage<LentImage>;
@@ -295,6 +369,8 @@ impl World for MemoryWorld {
     type Text = CountedText<FuseText<LentText>>;
 
     type File = OpenFile;
+
+    type Input = LentInput;
 
     ghost honest = { λ _. Unit {0} };
 
@@ -304,7 +380,7 @@ impl World for MemoryWorld {
 
     ghost number = { λ f. f.number };
 
-    ghost is_refused = { λ w. w.run.is_refused };
+    ghost refusals = { refusals_of };
 
     ghost begun = { λ w _. w.kept.before_there };
 
@@ -346,6 +422,41 @@ impl World for MemoryWorld {
             Err(_) => Err(self.refuse()),
         }
     }
+
+    fn make_image(&mut self, name: &str) -> Result<OpenFile, Refusal> {
+        if self.refuses() {
+            return Err(Refusal::Other(None));
+        }
+        match self.add_image(name) {
+            Ok(file) => Ok(file),
+            Err(_) => Err(self.refuse()),
+        }
+    }
+
+    fn open_input(&mut self, name: &str) -> Result<OpenFile, Refusal> {
+        self.open(name)
+    }
+
+    fn length(&mut self, file: &OpenFile) -> Option<u64> {
+        match stat_of(self.files.as_slice(), file.number)?.kind {
+            Kind::Regular | Kind::Block => {
+                Some(length_of(self.files.as_slice(), file.number) as u64)
+            }
+            Kind::Other => None,
+        }
+    }
+
+    fn lend_input(&mut self, file: OpenFile, passed: u64) -> Result<LentInput, Refusal> {
+        if self.refuses() {
+            return Err(Refusal::Other(None));
+        }
+        match copy_of_bytes(self.alloc, self.files.as_slice(), file.number) {
+            Ok(bytes) => Ok(LentInput::new(bytes, passed as usize, self.plan.input)),
+            Err(_) => Err(self.refuse()),
+        }
+    }
+
+    fn close_input(&mut self, _: LentInput) {}
 
     fn stat(&mut self, file: &OpenFile) -> Result<Stat, Refusal> {
         if self.refuses() {
@@ -437,7 +548,7 @@ impl World for MemoryWorld {
     }
 
     fn print(&mut self, bytes: &[u8]) -> Result<(), Unwritten> {
-        if self.refuses() {
+        if self.plan.calls.blows() {
             return Err(Unwritten { written: 0 });
         }
         match self.run.output.extend_from_slice(bytes) {

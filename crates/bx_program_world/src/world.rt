@@ -1,12 +1,13 @@
 //! The world that a program runs in.
-ghost use Rattle.std.specs.Prelude.{◌≡◌, ◌↔◌, ◌⊎◌, ◌+◌, ◌<◌, ◌≤◌, ◌^◌, ◌++◌, ℕ, List, Bool, true, Err, None, Some, IfOk, IfErr, OnOk, OnErr, length, take};
+ghost use Rattle.std.specs.Prelude.{◌≡◌, ◌↔◌, ◌⊎◌, ◌+◌, ◌<◌, ◌≤◌, ◌^◌, ◌++◌, ℕ, List, true, false, Err, None, Some, IfOk, IfErr, IfSome, OnOk, OnErr, drop, length, take};
 ghost use Rattle.bx_program_world.specs.declared.world.Refusal.TheVariants.{Locked, Missing};
-ghost use Rattle.bx_program_world.specs.World.{AreThreeFiles, ChangesOnly, NotesRefusal, GivesBack, IsEmptyUnder, IsOwnText, IsStuck, KeepsFiles, LeavesTrio, Lends, Makes, MayBeImage, MayBeText, NothingNewFound, NothingNewBelow, NothingNewOf, Sight, TakesAtMost, TakesAway, Trio, AddsFront, stat_named};
+ghost use Rattle.bx_program_world.specs.World.{AreThreeFiles, ChangesOnly, CountsRefusal, GivesBack, IsAlwaysFit, IsEmptyUnder, IsOwnText, IsStuck, KeepsFiles, LeavesTrio, Lends, Makes, MayBeImage, MayBeText, NothingNewFound, NothingNewBelow, NothingNewOf, Sight, TakesAtMost, TakesAway, Trio, AddsFront, stat_named};
 ghost use Rattle.bx_image.specs.Power.{NoMore};
 
 use crate::stat::{Look, Stat};
 use bx_image::Device;
 use bx_journal_store::TextStore;
+use std::io::Read;
 
 /// Why the system refused a call.
 #[derive(Clone, Copy, Debug, PartialEq, Eq)]
@@ -45,6 +46,9 @@ pub trait World {
     /// A file that is open.
     type File: Drop;
 
+    /// A file that is lent as an input.
+    type Input: Read + Drop;
+
     /// Nobody else changes files and names, and each call does what it answers.
     ghost honest: { Self → Type 0 };
 
@@ -57,8 +61,9 @@ pub trait World {
     /// The number of an open file.
     ghost number: { Self.File → ℕ };
 
-    /// Whether the system refused a call. That a file is missing is no refusal.
-    ghost is_refused: { Self → Bool };
+    /// How many calls the system refused. That a file is missing is no refusal, nor is it one where a file stays that was to be
+    /// taken away, or where a stream isn't written: of these the view tells.
+    ghost refusals: { Self → ℕ };
 
     /// Looks at what stands under a name, before it is opened.
     fn look(&mut self, name: &str) -> Result<Look, Refusal>
@@ -66,7 +71,7 @@ pub trait World {
         ensures found { honest self.old → IfOk result (λ l. l.found ≡ stat_named (sight self.old) name.now) }
         ensures there { honest self.old → result ≡ Err Missing → ⊥ }
         ensures same { honest self.old → sight self.new ≡ sight self.old }
-        ensures noted { honest self.old → NotesRefusal result (is_refused self.old) (is_refused self.new) }
+        ensures counted { honest self.old → CountsRefusal result (refusals self.old) (refusals self.new) }
         ensures survives { honest self.old → NothingNewFound (survives self.old) (survives self.new) }
         ensures honesty { honest self.new ↔ honest self.old };
 
@@ -81,7 +86,7 @@ pub trait World {
         ensures there { honest self.old → IfOk result (λ f. number f < (sight self.old).there) }
         ensures missing { honest self.old → result ≡ Err Missing → (sight self.old).named name.now ≡ None }
         ensures same { honest self.old → sight self.new ≡ sight self.old }
-        ensures noted { honest self.old → NotesRefusal result (is_refused self.old) (is_refused self.new) }
+        ensures counted { honest self.old → CountsRefusal result (refusals self.old) (refusals self.new) }
         ensures survives { honest self.old → NothingNewFound (survives self.old) (survives self.new) }
         ensures honesty { honest self.new ↔ honest self.old };
 
@@ -92,7 +97,7 @@ pub trait World {
         ensures there { honest self.old → IfOk result (λ f. number f < (sight self.old).there) }
         ensures missing { honest self.old → result ≡ Err Missing → (sight self.old).named name.now ≡ None }
         ensures same { honest self.old → sight self.new ≡ sight self.old }
-        ensures noted { honest self.old → NotesRefusal result (is_refused self.old) (is_refused self.new) }
+        ensures counted { honest self.old → CountsRefusal result (refusals self.old) (refusals self.new) }
         ensures survives { honest self.old → NothingNewFound (survives self.old) (survives self.new) }
         ensures honesty { honest self.new ↔ honest self.old };
 
@@ -101,11 +106,59 @@ pub trait World {
     fn make_text(&mut self, name: &str, image: &Self::File) -> Result<Self::File, Refusal>
         requires there { honest self.old → number image.now < (sight self.old).there }
         ensures made { honest self.old → IfOk result (λ f. Makes (sight self.old) (sight self.new) name.now (number f)) }
+        ensures no_link { honest self.old → OnOk result ((sight self.old).is_link name.now ≡ false) }
         ensures own { honest self.old → IfOk result (λ f. IsOwnText (sight self.new) (number image.now) (number f)) }
         ensures same { honest self.old → OnErr result (sight self.new ≡ sight self.old) }
         ensures missing { honest self.old → result ≡ Err Missing → ⊥ }
-        ensures noted { honest self.old → NotesRefusal result (is_refused self.old) (is_refused self.new) }
+        ensures counted { honest self.old → CountsRefusal result (refusals self.old) (refusals self.new) }
         ensures survives { honest self.old → NothingNewBelow (sight self.old).there (survives self.old) (survives self.new) }
+        ensures honesty { honest self.new ↔ honest self.old };
+
+    /// Makes an empty image, and opens it: a regular file, which a link may lead to.
+    fn make_image(&mut self, name: &str) -> Result<Self::File, Refusal>
+        ensures made { honest self.old → IfOk result (λ f. Makes (sight self.old) (sight self.new) name.now (number f)) }
+        ensures fit { honest self.old → IfOk result (λ f. IsAlwaysFit (sight self.new) (number f)) }
+        ensures same { honest self.old → OnErr result (sight self.new ≡ sight self.old) }
+        ensures missing { honest self.old → result ≡ Err Missing → ⊥ }
+        ensures counted { honest self.old → CountsRefusal result (refusals self.old) (refusals self.new) }
+        ensures survives { honest self.old → NothingNewBelow (sight self.old).there (survives self.old) (survives self.new) }
+        ensures honesty { honest self.new ↔ honest self.old };
+
+    /// Opens a file of any kind to read it alone.
+    fn open_input(&mut self, name: &str) -> Result<Self::File, Refusal>
+        ensures named { honest self.old → IfOk result (λ f. (sight self.old).named name.now ≡ Some (number f)) }
+        ensures there { honest self.old → IfOk result (λ f. number f < (sight self.old).there) }
+        ensures missing { honest self.old → result ≡ Err Missing → (sight self.old).named name.now ≡ None }
+        ensures same { honest self.old → sight self.new ≡ sight self.old }
+        ensures counted { honest self.old → CountsRefusal result (refusals self.old) (refusals self.new) }
+        ensures survives { honest self.old → NothingNewFound (survives self.old) (survives self.new) }
+        ensures honesty { honest self.new ↔ honest self.old };
+
+    /// How many bytes an open file has that has a place for each of them; none of another one, as a pipe, and where it doesn't
+    /// tell.
+    fn length(&mut self, file: &Self::File) -> Option<u64>
+        ensures told { honest self.old → IfSome result (λ n. n ≡ length ((sight self.old).bytes (number file.now))) }
+        ensures same { honest self.old → sight self.new ≡ sight self.old }
+        ensures counted { honest self.old → refusals self.new ≡ refusals self.old }
+        ensures survives { honest self.old → NothingNewFound (survives self.old) (survives self.new) }
+        ensures honesty { honest self.new ↔ honest self.old };
+
+    /// Lends an open file as an input, behind `passed` of its bytes; where any are passed, it has a place for each.
+    fn lend_input(&mut self, file: Self::File, passed: u64) -> Result<Self::Input, Refusal>
+        requires within { honest self.old → passed ≤ length ((sight self.old).bytes (number file)) }
+        ensures input { honest self.old
+            → IfOk result (λ r. Self.Input.remaining r ≡ Some (drop passed ((sight self.old).bytes (number file)))) }
+        ensures missing { honest self.old → result ≡ Err Missing → ⊥ }
+        ensures same { honest self.old → sight self.new ≡ sight self.old }
+        ensures counted { honest self.old → CountsRefusal result (refusals self.old) (refusals self.new) }
+        ensures survives { honest self.old → NothingNewFound (survives self.old) (survives self.new) }
+        ensures honesty { honest self.new ↔ honest self.old };
+
+    /// Takes an input back, which is closed.
+    fn close_input(&mut self, input: Self::Input)
+        ensures same { honest self.old → sight self.new ≡ sight self.old }
+        ensures counted { honest self.old → refusals self.new ≡ refusals self.old }
+        ensures survives { honest self.old → NothingNewFound (survives self.old) (survives self.new) }
         ensures honesty { honest self.new ↔ honest self.old };
 
     /// What the system tells of an open file.
@@ -113,7 +166,7 @@ pub trait World {
         ensures told { honest self.old → IfOk result (λ s. s ≡ (sight self.old).stat (number file.now)) }
         ensures missing { honest self.old → result ≡ Err Missing → ⊥ }
         ensures same { honest self.old → sight self.new ≡ sight self.old }
-        ensures noted { honest self.old → NotesRefusal result (is_refused self.old) (is_refused self.new) }
+        ensures counted { honest self.old → CountsRefusal result (refusals self.old) (refusals self.new) }
         ensures survives { honest self.old → NothingNewFound (survives self.old) (survives self.new) }
         ensures honesty { honest self.new ↔ honest self.old };
 
@@ -123,7 +176,7 @@ pub trait World {
         ensures locked { honest self.old → result ≡ Err Locked → number file.now < (sight self.old).before }
         ensures missing { honest self.old → result ≡ Err Missing → ⊥ }
         ensures same { honest self.old → sight self.new ≡ sight self.old }
-        ensures noted { honest self.old → NotesRefusal result (is_refused self.old) (is_refused self.new) }
+        ensures counted { honest self.old → CountsRefusal result (refusals self.old) (refusals self.new) }
         ensures survives { honest self.old → NothingNewFound (survives self.old) (survives self.new) }
         ensures honesty { honest self.new ↔ honest self.old };
 
@@ -132,7 +185,7 @@ pub trait World {
         ensures answer { honest self.old → IfOk result (λ is. (is ≡ true) ↔ (number a.now ≡ number b.now)) }
         ensures missing { honest self.old → result ≡ Err Missing → ⊥ }
         ensures same { honest self.old → sight self.new ≡ sight self.old }
-        ensures noted { honest self.old → NotesRefusal result (is_refused self.old) (is_refused self.new) }
+        ensures counted { honest self.old → CountsRefusal result (refusals self.old) (refusals self.new) }
         ensures survives { honest self.old → NothingNewFound (survives self.old) (survives self.new) }
         ensures honesty { honest self.new ↔ honest self.old };
 
@@ -142,14 +195,14 @@ pub trait World {
         ensures taken { honest self.old → IsEmptyUnder (sight self.old) name.now (number file.now)
             → TakesAway (sight self.old) (sight self.new) (number file.now) ⊎ IsStuck (sight self.old) (sight self.new) }
         ensures most { honest self.old → TakesAtMost (sight self.old) (sight self.new) (number file.now) }
-        ensures noted { honest self.old → is_refused self.new ≡ is_refused self.old }
+        ensures counted { honest self.old → refusals self.new ≡ refusals self.old }
         ensures survives { honest self.old → NothingNewFound (survives self.old) (survives self.new) }
         ensures honesty { honest self.new ↔ honest self.old };
 
     /// Puts the name of a file on the disk.
     fn keep_name(&mut self, name: &str) -> Result<(), Refusal>
         ensures missing { honest self.old → result ≡ Err Missing → ⊥ }
-        ensures noted { honest self.old → NotesRefusal result (is_refused self.old) (is_refused self.new) }
+        ensures counted { honest self.old → CountsRefusal result (refusals self.old) (refusals self.new) }
         ensures same { honest self.old → sight self.new ≡ sight self.old }
         ensures survives { honest self.old → NothingNewFound (survives self.old) (survives self.new) }
         ensures honesty { honest self.new ↔ honest self.old };
@@ -164,12 +217,12 @@ pub trait World {
         requires free { honest self.old → (sight self.old).lent ≡ None }
         requires apart { honest self.old → AreThreeFiles (sight self.old).there (record { image = number image; journal = number journal; redo = number redo }) }
         ensures image_failures { Self.Image.failures result.0 ≡ 0 }
-        ensures journal_failures { Self.Text.failures result.1 ≡ 0 }
-        ensures redo_failures { Self.Text.failures result.2 ≡ 2 ^ 32 }
+        ensures text_failures { (Self.Text.failures result.1 ≡ 0) × (Self.Text.failures result.2 ≡ 2 ^ 32) }
         ensures image { honest self.old → Self.Image.honest result.0 × (Self.Image.image result.0 ≡ (sight self.old).bytes (number image)) }
         ensures journal { honest self.old → Self.Text.honest result.1 × (Self.Text.text result.1 ≡ (sight self.old).bytes (number journal)) }
         ensures redo { honest self.old → Self.Text.honest result.2 × (Self.Text.text result.2 ≡ (sight self.old).bytes (number redo)) }
         ensures lent { honest self.old → Lends (record { image = number image; journal = number journal; redo = number redo }) (sight self.old) (sight self.new) }
+        ensures counted { honest self.old → refusals self.new ≡ refusals self.old }
         ensures survives { honest self.old → NothingNewOf (record { image = number image; journal = number journal; redo = number redo })
             (survives self.old) (survives self.new) }
         ensures image_survives { honest self.old → NoMore (survives self.old (number image)) (Self.Image.survives result.0) }
@@ -193,6 +246,7 @@ pub trait World {
         ensures survives { honest self.old → (t : Trio) → (sight self.old).lent ≡ Some t
             → LeavesTrio t (Self.Image.survives image) (Self.Text.survives journal) (Self.Text.survives redo) (survives self.new) }
         ensures others { honest self.old → (t : Trio) → (sight self.old).lent ≡ Some t → NothingNewOf t (survives self.old) (survives self.new) }
+        ensures counted { honest self.old → refusals self.new ≡ refusals self.old }
         ensures honesty { honest self.new ↔ honest self.old };
 
     /// Writes to standard output. What a fault leaves is a front of the bytes, with no fewer than it tells.
@@ -203,6 +257,7 @@ pub trait World {
             → IfErr result (λ e. AddsFront e.written (sight self.old).output (sight self.new).output bytes.now) }
         ensures errors { honest self.old → (sight self.new).errors ≡ (sight self.old).errors }
         ensures files { honest self.old → KeepsFiles (sight self.old) (sight self.new) }
+        ensures counted { honest self.old → refusals self.new ≡ refusals self.old }
         ensures survives { honest self.old → NothingNewFound (survives self.old) (survives self.new) }
         ensures honesty { honest self.new ↔ honest self.old };
 
@@ -211,7 +266,7 @@ pub trait World {
         ensures errors { honest self.old → (n : ℕ) × (sight self.new).errors ≡ (sight self.old).errors ++ take n bytes.now }
         ensures output { honest self.old → (sight self.new).output ≡ (sight self.old).output }
         ensures files { honest self.old → KeepsFiles (sight self.old) (sight self.new) }
-        ensures noted { honest self.old → is_refused self.new ≡ is_refused self.old }
+        ensures counted { honest self.old → refusals self.new ≡ refusals self.old }
         ensures survives { honest self.old → NothingNewFound (survives self.old) (survives self.new) }
         ensures honesty { honest self.new ↔ honest self.old };
 

@@ -1,9 +1,10 @@
 //! The files of a world in memory, and their names.
-ghost use Rattle.std.specs.Prelude.{◌≡◌, ◌↔◌, ◌<◌, ◌≤◌, [], ℕ, length, false, true, IfSome};
-ghost use Rattle.bx_program_world.specs.MemoryFiles.{bytes_at, entry_named, file_named, follow, is_gone_at, is_link_of, is_taken, leads_at, stat_of, synced_at};
+ghost use Rattle.std.specs.Prelude.{◌≡◌, ◌↔◌, ◌<◌, ◌≤◌, [], ℕ, length, false, true, Some, IfOk, IfSome};
+ghost use Rattle.bx_program_world.specs.MemoryFiles.{bytes_at, entry_named, file_named, follow, free_end, is_gone_at, is_link_of, is_taken, leads_at, stat_of, synced_at};
 
 use crate::stat::Stat;
 use bx_text::Name;
+use std::alloc::{AllocError, Global};
 use std::mem::replace;
 
 /// As many links in a row are followed, as Linux does.
@@ -123,6 +124,29 @@ pub fn file_named(files: &[Stored], entries: &[Entry], name: &str) -> Option<usi
     Some(number)
 }
 
+/// The name that a name leads to by fewer than `steps` links, where neither a file nor a link has it.
+#[tactic(auto, unfolding(crate::specs::MemoryFiles::free_end))]
+pub fn free_end<'a>(
+    files: &[Stored],
+    entries: &'a [Entry],
+    steps: u32,
+    name: &'a str,
+) -> Option<&'a str>
+    ensures { IfSome result (λ end. free_end files.now entries.now steps name.now ≡ Some end.now) }
+{
+    if steps == 0 {
+        return None;
+    }
+    match entries.get(place_of(entries, name)) {
+        None => Some(name),
+        Some(entry) => match &entry.leads {
+            Leads::File(number) if is_gone(files, *number) => Some(name),
+            Leads::File(_) => None,
+            Leads::Link(target) => free_end(files, entries, steps - 1, target.as_str()),
+        },
+    }
+}
+
 /// What the system tells of a file that is there.
 pub fn stat_of(files: &[Stored], number: usize) -> Option<Stat>
     ensures { result ≡ stat_of files.now number }
@@ -149,6 +173,26 @@ pub fn exchange(files: &mut [Stored], number: usize, contents: Contents) -> Cont
         replace(&mut files[number].contents, contents)
     } else {
         contents
+    }
+}
+
+/// A copy of the bytes of a file. One that isn't there has none.
+pub fn copy_of_bytes(alloc: Global, files: &[Stored], number: usize) -> Result<Vec<u8>, AllocError>
+    ensures { IfOk result (λ copy. copy.items ≡ bytes_at files.now number) }
+{
+    match files.get(number) {
+        Some(file) => Vec::from_slice(alloc, file.contents.bytes.as_slice()),
+        None => Ok(Vec::new(alloc)),
+    }
+}
+
+/// The count of bytes of a file. One that isn't there has none.
+pub fn length_of(files: &[Stored], number: usize) -> usize
+    ensures { result ≡ length (bytes_at files.now number) }
+{
+    match files.get(number) {
+        Some(file) => file.contents.bytes.len(),
+        None => 0,
     }
 }
 

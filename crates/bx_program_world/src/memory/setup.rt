@@ -1,9 +1,10 @@
 //! What cases do with a world in memory between runs.
-ghost use Rattle.std.specs.Prelude.{◌≡◌, ◌<◌, List, ℕ, length, false, None, IfOk, OnOk};
+ghost use Rattle.std.specs.Prelude.{◌≡◌, ◌==◌, ◌<◌, List, ℕ, length, not, None, IfOk, OnOk};
 ghost use Rattle.bx_program_world.specs.Loss.{HasLost};
 ghost use Rattle.bx_program_world.specs.MemoryFiles.{bytes_at, synced_at};
 
 use crate::memory::files::{Contents, Entry, Leads, Stored, file_named};
+use crate::memory::refusals::Refusals;
 use crate::memory::{MemoryWorld, Plan};
 use crate::stat::Stat;
 use crate::world::World;
@@ -91,7 +92,7 @@ impl MemoryWorld {
     pub fn begin(&mut self, plan: Plan)
         ensures free { (⟦<MemoryWorld as World>⟧.sight self.new).lent ≡ None }
         ensures begun { (⟦<MemoryWorld as World>⟧.sight self.new).before ≡ (⟦<MemoryWorld as World>⟧.sight self.new).there }
-        ensures calm { ⟦<MemoryWorld as World>⟧.is_refused self.new ≡ false }
+        ensures calm { ⟦<MemoryWorld as World>⟧.refusals self.new ≡ 0 }
         ensures named { (m : List ℕ) → (⟦<MemoryWorld as World>⟧.sight self.new).named m ≡ (⟦<MemoryWorld as World>⟧.sight self.old).named m }
         ensures bytes { (i : ℕ) → (⟦<MemoryWorld as World>⟧.sight self.new).bytes i ≡ (⟦<MemoryWorld as World>⟧.sight self.old).bytes i }
     {
@@ -100,7 +101,7 @@ impl MemoryWorld {
         self.run.output = Vec::new(self.alloc);
         self.run.errors = Vec::new(self.alloc);
         self.run.stuck = 0;
-        self.run.is_refused = false;
+        self.run.refusals = Refusals::none();
         self.plan = plan;
     }
 
@@ -145,8 +146,8 @@ impl MemoryWorld {
 
     /// Whether a call was refused since the run began.
     pub fn was_refused(&self) -> bool
-        ensures { result ≡ ⟦<MemoryWorld as World>⟧.is_refused self.now }
+        ensures { result ≡ not (⟦<MemoryWorld as World>⟧.refusals self.now == 0) }
     {
-        self.run.is_refused
+        self.run.refusals.is_any()
     }
 }
