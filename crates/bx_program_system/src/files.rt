@@ -2,6 +2,7 @@
 pub mod counted_file;
 pub mod devices;
 pub mod left;
+pub mod links;
 pub mod look;
 pub mod mode;
 pub mod open;

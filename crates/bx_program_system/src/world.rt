@@ -1,5 +1,5 @@
 //! The system as a world.
-ghost use Rattle.std.specs.Prelude.{◌≡◌, ◌≤◌, false, IfErr, length};
+ghost use Rattle.std.specs.Prelude.{◌≡◌, ◌≤◌, IfErr, length};
 ghost use Rattle.bx_program_system.specs.Unseen.{unseen};
 
 use crate::facts::alias::is_same;
@@ -8,20 +8,23 @@ use crate::facts::stat::{caller_of, is_group_given, stat_of};
 use crate::files::counted_file::CountedFile;
 use crate::files::devices::{held, image_of, size_of_texts};
 use crate::files::left::Left;
+use crate::files::links::{Misplaced, Unmade, make_image, refuse_among_devices};
 use crate::files::look::{is_in_place, look, look_at_text};
 use crate::files::mode::Permits;
-use crate::files::open::{fixed_length, lock, open_there, take_away};
+use crate::files::open::{fixed_length, length_of, lock, open_there, take_away};
 use crate::files::opened::{Known, OpenFile};
 use crate::folders::{folder_of, sync_folder};
-use crate::progress::Progress;
+use crate::noted::Noted;
+use crate::progress::{Counted, Progress};
 use crate::refusal::{refused, unmade, unopened};
 use crate::tally::Tally;
 use bx_image::FileImage;
 use bx_journal_store::FileText;
 use bx_program_world::{Look, Refusal, Stat, Unwritten, World};
 use bx_text::{IoFault, emit};
+use std::cell::Cell;
 use std::fs::{self, File, TryLockError};
-use std::io::{self, Write};
+use std::io::{self, Seek, SeekFrom, Write};
 use std::os::unix::fs::MetadataExt;
 use std::rt::Files;
 use std::time::Clock;
@@ -52,7 +55,10 @@ pub struct SystemWorld<'p, 'r, R> {
     progress: &'p Progress<'r, R>,
     // whether a sync waits until the disk has all
     waits: bool,
-    caller: u32,
+    // who runs the program, once that was asked for
+    caller: Cell<Option<u32>>,
+    // how many bytes of an input are read at most; none where that isn't known
+    most: Option<u64>,
     lent: Lent,
     kept: Option<Folder>,
     /// What the devices of the last session said.
@@ -61,6 +67,10 @@ pub struct SystemWorld<'p, 'r, R> {
     pub is_unkept: bool,
     /// The system's number for what standard output was refused.
     pub unwritten: Option<i32>,
+    /// The system's number for what the last input was refused.
+    pub unread: Option<i32>,
+    /// Why the last image that is missing wasn't made, where its place is none.
+    pub misplaced: Option<Misplaced>,
 }
 
 impl<'p, 'r, R> SystemWorld<'p, 'r, R>
@@ -74,9 +84,10 @@ where
             rt,
             progress,
             waits,
-            caller: caller_of(rt),
+            caller: Cell::new(None),
+            most: None,
             lent: Lent {
-                image: Known::of_image(None),
+                image: Known::of_image(None, false),
                 journal: Known::of_text(false, false),
                 redo: Known::of_text(false, false),
             },
@@ -84,6 +95,47 @@ where
             left: Left::NOTHING,
             is_unkept: false,
             unwritten: None,
+            unread: None,
+            misplaced: None,
+        }
+    }
+
+    /// The same for a program that reads at most `most` bytes of an input, as far as that is known.
+    pub fn reading(rt: &'r R, progress: &'p Progress<'r, R>, most: Option<u64>) -> Self {
+        let mut world = SystemWorld::new(rt, progress, false);
+        world.most = most;
+        world
+    }
+
+    /// How many bytes are read of an input behind `passed` of them, where somebody looks and as far as that is known.
+    fn most_of(&self, file: &File, passed: u64) -> Option<u64> {
+        if !self.progress.shows {
+            return None;
+        }
+        match (self.most, length_of(file)) {
+            (Some(most), Some(length)) => Some(most.min(length.saturating_sub(passed))),
+            (most, None) => most,
+            (None, Some(length)) => Some(length.saturating_sub(passed)),
+        }
+    }
+
+    /// An image that is open, and may be one of a length that stays.
+    fn image(&self, file: File, length: Option<u64>, made: bool) -> OpenFile<'p, 'r, R> {
+        OpenFile {
+            file: CountedFile::image(held(file, self.waits), self.progress),
+            known: Known::of_image(length, made),
+        }
+    }
+
+    /// The refusal of an image that wasn't made.
+    fn unmade_image(&mut self, why: Unmade) -> Refusal {
+        match why {
+            Unmade::NoMemory => Refusal::Other(None),
+            Unmade::Misplaced(misplaced) => {
+                self.misplaced = Some(misplaced);
+                Refusal::Other(None)
+            }
+            Unmade::System(error) => unmade(error),
         }
     }
 
@@ -139,6 +191,8 @@ where
 
     type File = OpenFile<'p, 'r, R>;
 
+    type Input = Noted<Counted<'p, 'r, File, R>>;
+
     ghost honest = { λ _. ⊥ };
 
     ghost sight = { λ _. unseen };
@@ -147,7 +201,7 @@ where
 
     ghost number = { λ _. 0 };
 
-    ghost is_refused = { λ _. false };
+    ghost refusals = { λ _. 0 };
 
     ghost begun = { λ _ honest. absurd honest };
 
@@ -158,16 +212,18 @@ where
     }
 
     fn caller(&self) -> u32 {
-        self.caller
+        if let Some(caller) = self.caller.get() {
+            return caller;
+        }
+        let caller = caller_of(self.rt);
+        self.caller.set(Some(caller));
+        caller
     }
 
     fn open_image(&mut self, name: &str, _: bool) -> Result<OpenFile<'p, 'r, R>, Refusal> {
         let file = open_there(self.rt, name, true).map_err(unopened)?;
         let length = fixed_length(&file).map_err(refused)?;
-        Ok(OpenFile {
-            file: CountedFile::image(held(file, self.waits), self.progress),
-            known: Known::of_image(length),
-        })
+        Ok(self.image(file, length, false))
     }
 
     fn open_text(
@@ -176,7 +232,7 @@ where
         image: &OpenFile<'p, 'r, R>,
     ) -> Result<OpenFile<'p, 'r, R>, Refusal> {
         let image = stat_of(&image.metadata()?, false);
-        let text = look_at_text(self.rt, name, self.caller, &image)?;
+        let text = look_at_text(self.rt, name, self.caller(), &image)?;
         let file = open_there(self.rt, name, true).map_err(unopened)?;
         Ok(self.text(file, text.is_group_given, false))
     }
@@ -198,6 +254,58 @@ where
             Err(_) => true,
         };
         Ok(self.text(file, is_group_given, true))
+    }
+
+    fn make_image(&mut self, name: &str) -> Result<OpenFile<'p, 'r, R>, Refusal> {
+        self.misplaced = None;
+        self.kept = None;
+        let outcome = match refuse_among_devices(self.rt, name) {
+            Ok(()) => make_image(self.rt, name, Permits::of_image()),
+            Err(why) => Err(why),
+        };
+        match outcome {
+            Ok((file, made)) => {
+                let length = if made {
+                    None
+                } else {
+                    fixed_length(&file).map_err(refused)?
+                };
+                Ok(self.image(file, length, made))
+            }
+            Err(why) => Err(self.unmade_image(why)),
+        }
+    }
+
+    fn open_input(&mut self, name: &str) -> Result<OpenFile<'p, 'r, R>, Refusal> {
+        let file = open_there(self.rt, name, false).map_err(unopened)?;
+        Ok(OpenFile {
+            file: CountedFile::image(held(file, self.waits), self.progress),
+            known: Known::of_input(),
+        })
+    }
+
+    fn length(&mut self, file: &OpenFile<'p, 'r, R>) -> Option<u64> {
+        length_of(file.system().ok()?)
+    }
+
+    fn lend_input(
+        &mut self,
+        file: OpenFile<'p, 'r, R>,
+        passed: u64,
+    ) -> Result<Self::Input, Refusal> {
+        let mut file = file.into_system()?;
+        let most = self.most_of(&file, passed);
+        if passed != 0 {
+            file.seek(SeekFrom::Start(passed)).map_err(refused)?;
+        }
+        self.unread = None;
+        self.progress.begin_reading(most);
+        Ok(Noted::new(Counted::new(file, self.progress)))
+    }
+
+    fn close_input(&mut self, input: Self::Input) {
+        self.unread = input.error;
+        self.progress.end();
     }
 
     fn stat(&mut self, file: &OpenFile<'p, 'r, R>) -> Result<Stat, Refusal> {

@@ -1,4 +1,4 @@
-//! A file of a session as a device holds it.
+//! A file of a session as a device holds it, or one that is to be read.
 ghost use Rattle.std.specs.Prelude.{[]};
 
 use crate::progress::Progress;
@@ -36,6 +36,11 @@ impl<'p, 'r, R: Clock + Eprint> CountedFile<'p, 'r, R> {
     /// The file; none where it is missing.
     pub fn file(&self) -> Option<&SystemFile> {
         self.file.as_ref()
+    }
+
+    /// The file, to hold it no more; none where it is missing.
+    pub fn into_file(self) -> Option<SystemFile> {
+        self.file
     }
 
     /// Its last call that failed; none where none did.

@@ -20,6 +20,19 @@ pub fn fixed_length(mut file: &File) -> io::Result<Option<u64>> {
     Ok(None)
 }
 
+/// How many bytes a file has that has a place for each of them, a regular file or a block device, and can be moved; none of
+/// another one, or where it doesn't tell. It stays where it stands.
+pub fn length_of(mut file: &File) -> Option<u64> {
+    let kind = file.metadata().ok()?.file_type();
+    if !kind.is_file() && !kind.is_block_device() {
+        return None;
+    }
+    let at = file.seek(SeekFrom::Current(0)).ok()?;
+    let length = file.seek(SeekFrom::End(0)).ok()?;
+    file.seek(SeekFrom::Start(at)).ok()?;
+    Some(length)
+}
+
 /// Where the file system has no locks it goes on without.
 fn where_there_are_locks(outcome: Result<(), TryLockError>) -> Result<(), TryLockError> {
     match outcome {

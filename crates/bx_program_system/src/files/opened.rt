@@ -42,13 +42,18 @@ pub struct Known {
 
 impl Known {
     /// Of an image of this length, where it can't have another one.
-    pub fn of_image(length: Option<u64>) -> Known {
+    pub fn of_image(length: Option<u64>, made: bool) -> Known {
         Known {
             role: Role::Image,
             length,
             is_group_given: false,
-            made: false,
+            made,
         }
+    }
+
+    /// Of an input, behind whatever links lead to it.
+    pub fn of_input() -> Known {
+        Known::of_image(None, false)
     }
 
     /// Of a text.
@@ -83,6 +88,14 @@ impl<R: Eprint + Clock> OpenFile<'_, '_, R> {
     /// What the system has of the file.
     pub fn metadata(&self) -> Result<Metadata, Refusal> {
         self.system()?.metadata().map_err(refused)
+    }
+
+    /// The system's file, to hold it no more.
+    pub fn into_system(self) -> Result<File, Refusal> {
+        match self.file.into_file() {
+            Some(file) => Ok(file.file),
+            None => Err(Refusal::Other(None)),
+        }
     }
 
     /// What the system tells of the file.

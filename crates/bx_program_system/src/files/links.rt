@@ -1,0 +1,120 @@
+//! Making an image that is missing, which links may lead to.
+use crate::facts::dev::is_among_devices;
+use crate::facts::stat::is_root_or_caller;
+use crate::files::mode::Permits;
+use crate::folders::folder_of;
+use std::alloc::AllocError;
+use std::fs::{self, File};
+use std::io::{self, ErrorKind};
+use std::os::unix::fs::MetadataExt;
+use std::rt::Files;
+
+/// As many links in a row are followed, as Linux does.
+const MOST_LINKS: u32 = 40;
+
+/// Why no image is made at a place that the system would make one at.
+#[derive(Clone, Copy, Debug, PartialEq, Eq)]
+pub enum Misplaced {
+    /// It is among the devices.
+    AmongDevices,
+    /// A link of another user leads there.
+    OfAnother,
+}
+
+/// Why an image that is missing wasn't made.
+#[derive(Drop)]
+pub enum Unmade {
+    /// Memory is short.
+    NoMemory,
+    /// Its place is none for an image.
+    Misplaced(Misplaced),
+    /// The system refused it.
+    System(io::Error),
+}
+
+impl From<AllocError> for Unmade {
+    fn from(_: AllocError) -> Self {
+        Unmade::NoMemory
+    }
+}
+
+/// Makes an image that is missing, and says whether this run made it: where another program made it by now, it is opened. Where
+/// the name is a link, the image is made where it leads to.
+///
+/// # Errors
+/// `Misplaced` where a link leads among the devices, or belongs to somebody else than the caller and root, who could choose by it
+/// what the caller makes.
+pub fn make_image<R>(rt: &R, name: &str, permits: Permits) -> Result<(File, bool), Unmade>
+where
+    R: Files<File = File> + AllocGlobal,
+{
+    match permits.make(rt, name) {
+        Ok(file) => Ok((file, true)),
+        // Another program made it by now, or a link leads to a file that is missing.
+        Err(e) if e.kind() == ErrorKind::AlreadyExists => make_linked(rt, name, permits),
+        Err(e) => Err(Unmade::System(e)),
+    }
+}
+
+/// Makes the image that a link leads to, and says whether this run made it: where another program made it by now, or its place
+/// has no name here, it is opened by the link's name.
+fn make_linked<R>(rt: &R, name: &str, permits: Permits) -> Result<(File, bool), Unmade>
+where
+    R: Files<File = File> + AllocGlobal,
+{
+    let mut link = String::from_str(rt.alloc(), name)?;
+    for _ in 0..MOST_LINKS {
+        refuse_of_another(rt, link.as_str())?;
+        let Some(place) = target_of(rt, link.as_str()) else {
+            break;
+        };
+        refuse_among_devices(rt, place.as_str())?;
+        match permits.make(rt, place.as_str()) {
+            Err(e) if e.kind() == ErrorKind::AlreadyExists => link = place,
+            Err(e) => return Err(Unmade::System(e)),
+            Ok(file) => return Ok((file, true)),
+        }
+    }
+    match permits.open(rt, name) {
+        Ok(file) => Ok((file, false)),
+        Err(e) => Err(Unmade::System(e)),
+    }
+}
+
+/// Refuses a place among the devices.
+pub fn refuse_among_devices<R>(rt: &R, place: &str) -> Result<(), Unmade>
+where
+    R: Files<File = File> + AllocGlobal,
+{
+    if is_among_devices(rt, folder_of(place)) {
+        return Err(Unmade::Misplaced(Misplaced::AmongDevices));
+    }
+    Ok(())
+}
+
+/// Refuses a link that belongs to somebody else than the caller and root.
+fn refuse_of_another<R>(rt: &R, link: &str) -> Result<(), Unmade>
+where
+    R: Files<File = File> + AllocGlobal,
+{
+    match fs::symlink_metadata(rt, link) {
+        Ok(found) if found.is_symlink() && !is_root_or_caller(rt, found.uid()) => {
+            Err(Unmade::Misplaced(Misplaced::OfAnother))
+        }
+        // one that can't be looked at can't be read or made either, which says so
+        Ok(_) | Err(_) => Ok(()),
+    }
+}
+
+/// The place that a link leads to; none where it is no link, or no name of a place here.
+fn target_of<R>(rt: &R, link: &str) -> Option<String>
+where
+    R: Files<File = File> + AllocGlobal,
+{
+    let target = fs::read_link(rt, link).ok()?.into_string();
+    if target.as_str().starts_with('/') {
+        return Some(target);
+    }
+    let folder = folder_of(link);
+    format!(in rt.alloc(); "{folder}/{target}").ok()
+}
