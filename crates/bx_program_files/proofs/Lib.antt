@@ -1,2 +1,4 @@
-pub mod Made
+pub mod Making
 pub mod Reasons
+pub mod Taken
+pub mod Three

@@ -2,12 +2,14 @@
 #![tactic(auto)]
 
 mod look;
+mod made;
 mod names;
 mod opened;
+mod ready;
 mod trio;
 mod unopened;
 
+pub use made::{Files, Made, unmake_all};
 pub use names::Names;
-pub use opened::unmake;
-pub use trio::{Files, open_trio};
+pub use trio::open_trio;
 pub use unopened::{Unopened, Which, Why};

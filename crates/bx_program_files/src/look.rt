@@ -1,20 +1,26 @@
 //! What stands under the three names, asked before a file is opened.
-ghost use Rattle.std.specs.Prelude.{◌≡◌, ◌↔◌, ℕ, None, false, IfErr, IfOk, OnOk};
-ghost use Rattle.bx_program_world.specs.World.{MayBeText};
-ghost use Rattle.bx_program_files.specs.Fit.{AreFit, IsFitImage, look_unfit};
-ghost use Rattle.bx_program_files.specs.Reasons.{IsRefusedFile, IsUnfitBeside, IsUnfitImage, MayRefuseOpening};
+ghost use Rattle.std.specs.Prelude.{◌≡◌, ◌↔◌, ◌<◌, ◌≤◌, ℕ, Some, None, false, IfErr, IfOk, OnOk};
+ghost use Rattle.bx_program_files.specs.Fit.{AreFit, AreFitBeside, IsFitImage, look_unfit, unfit_beside};
+ghost use Rattle.bx_program_files.specs.Reasons.{IsRefusedFile, IsUnfitBeside, IsUnfitImage, IsUnfitOrRefused, IsUnmade, MayRefuseOpening};
 ghost use Rattle.bx_program_files.specs.declared.unopened.Which.TheVariants.{Image};
 
 use crate::Names;
 use crate::unopened::{Unopened, Which};
 use bx_program_world::{Look, Refusal, Stat, Unfit, World, image_unfit, text_unfit};
 
-/// What the system tells of the image, which may be one that is changed.
-fn look_at_image<W: World>(world: &mut W, name: &str, mounted: bool) -> Result<Stat, Unopened>
-    ensures fit { W.honest world.old → IfOk result (λ image. IsFitImage name.now mounted image (W.sight world.old)) }
-    ensures why { W.honest world.old → IfErr result (IsRefusedFile Image ((W.sight world.old).named name.now ≡ None)
-        (IsUnfitImage mounted (W.sight world.old) name.now) ⊥ (W.is_refused world.new)) }
+/// What the system tells of the image, which may be one that is changed; none of one that is missing and is to be made.
+fn look_at_image<W: World>(
+    world: &mut W,
+    name: &str,
+    mounted: bool,
+    makes: bool,
+) -> Result<Option<Stat>, Unopened>
+    ensures fit { W.honest world.old → IfOk result (λ image. IsFitImage name.now mounted makes image (W.sight world.old)) }
+    ensures why { W.honest world.old → (least : ℕ) → least ≤ W.refusals world.old
+        → IfErr result (IsRefusedFile Image (IsUnmade makes (W.sight world.old) name.now)
+        (IsUnfitImage mounted (W.sight world.old) name.now) ⊥ (least < W.refusals world.new)) }
     ensures same { W.honest world.old → W.sight world.new ≡ W.sight world.old }
+    ensures counted { W.honest world.old → W.refusals world.old ≤ W.refusals world.new }
     ensures honesty { W.honest world.new ↔ W.honest world.old }
 {
     let look = match world.look(name) {
@@ -22,20 +28,24 @@ fn look_at_image<W: World>(world: &mut W, name: &str, mounted: bool) -> Result<S
         Err(refusal) => return Err(Which::Image.refused(refusal)),
     };
     let Some(image) = look.found else {
+        if makes {
+            return Ok(None);
+        }
         return Err(Which::Image.refused(Refusal::Missing));
     };
     match image_unfit(mounted, &image) {
-        None => Ok(image),
+        None => Ok(Some(image)),
         Some(unfit) => Err(Which::Image.unfit(unfit)),
     }
 }
 
-/// Why what stands under a name can't be a text of this image; none where it can, or where nothing stands there.
-fn unfit_of(caller: u32, image: &Stat, look: Look) -> Option<Unfit>
-    ensures { result ≡ look_unfit caller image.now look }
+/// Why what stands under a name can't be a text of this image; none where it can, or where nothing stands there. A text of an
+/// image that is missing is judged as its own image's.
+fn unfit_of(caller: u32, image: Option<Stat>, look: Look) -> Option<Unfit>
+    ensures { result ≡ look_unfit caller image look }
 {
     match look.found {
-        Some(text) => text_unfit(caller, image, look.is_link, &text),
+        Some(text) => text_unfit(caller, &image.unwrap_or(text), look.is_link, &text),
         None if look.is_link => Some(Unfit::Link),
         None => None,
     }
@@ -46,14 +56,15 @@ fn look_at_text<W: World>(
     world: &mut W,
     name: &str,
     which: Which,
-    image: &Stat,
+    image: Option<Stat>,
 ) -> Result<bool, Unopened>
-    ensures fit { W.honest world.old
-        → OnOk result ((n : ℕ) → (W.sight world.old).stat n ≡ image.now → MayBeText n (W.sight world.old) name.now) }
+    ensures fit { W.honest world.old → OnOk result (unfit_beside image (W.sight world.old) name.now ≡ None) }
     ensures missing { W.honest world.old → IfOk result (λ is_there. is_there ≡ false → (W.sight world.old).named name.now ≡ None) }
-    ensures why { W.honest world.old
-        → IfErr result (IsRefusedFile which ⊥ (IsUnfitBeside image.now (W.sight world.old) name.now) ⊥ (W.is_refused world.new)) }
+    ensures why { W.honest world.old → (least : ℕ) → least ≤ W.refusals world.old
+        → IfErr result (IsRefusedFile which ⊥ (IsUnfitBeside image (W.sight world.old) name.now) ⊥
+        (least < W.refusals world.new)) }
     ensures same { W.honest world.old → W.sight world.new ≡ W.sight world.old }
+    ensures counted { W.honest world.old → W.refusals world.old ≤ W.refusals world.new }
     ensures honesty { W.honest world.new ↔ W.honest world.old }
 {
     let look = match world.look(name) {
@@ -67,18 +78,46 @@ fn look_at_text<W: World>(
     }
 }
 
-/// Looks at all three before one is opened. The redo text may be missing.
-pub fn look_at_all<W: World>(world: &mut W, names: &Names, mounted: bool) -> Result<(), Unopened>
-    ensures fit { W.honest world.old → OnOk result (AreFit names.now mounted (W.sight world.old)) }
-    ensures why { W.honest world.old → IfErr result (MayRefuseOpening names.now mounted (W.is_refused world.new) (W.sight world.old)) }
+/// Looks at the texts beside an image that is there, or was made by now.
+pub fn look_beside<W: World>(world: &mut W, names: &Names, image: Stat) -> Result<(), Unopened>
+    ensures fit { W.honest world.old → OnOk result (AreFitBeside names.now image (W.sight world.old)) }
+    ensures why { W.honest world.old → (least : ℕ) → least ≤ W.refusals world.old
+        → IfErr result (λ u. IsUnfitOrRefused names.now image (least < W.refusals world.new)
+        (W.sight world.old) u) }
     ensures same { W.honest world.old → W.sight world.new ≡ W.sight world.old }
+    ensures counted { W.honest world.old → W.refusals world.old ≤ W.refusals world.new }
     ensures honesty { W.honest world.new ↔ W.honest world.old }
 {
-    let image = look_at_image(world, names.image.as_str(), mounted)?;
-    if !look_at_text(world, names.journal.as_str(), Which::Journal, &image)? {
-        return Err(Which::Journal.refused(Refusal::Missing));
+    look_at_text(world, names.journal.as_str(), Which::Journal, Some(image))?;
+    match look_at_text(world, names.redo.as_str(), Which::Redo, Some(image)) {
+        Ok(_) => Ok(()),
+        Err(unopened) => Err(unopened),
     }
-    match look_at_text(world, names.redo.as_str(), Which::Redo, &image) {
+}
+
+/// Looks at all three before one is opened. The redo text may be missing, and all three where they are to be made.
+pub fn look_at_all<W: World>(
+    world: &mut W,
+    names: &Names,
+    mounted: bool,
+    makes: bool,
+) -> Result<(), Unopened>
+    ensures fit { W.honest world.old → OnOk result (AreFit names.now mounted (W.sight world.old)) }
+    ensures why { W.honest world.old → (least : ℕ) → least ≤ W.refusals world.old
+        → IfErr result (MayRefuseOpening names.now mounted makes (least < W.refusals world.new)
+        (W.sight world.old)) }
+    ensures same { W.honest world.old → W.sight world.new ≡ W.sight world.old }
+    ensures counted { W.honest world.old → W.refusals world.old ≤ W.refusals world.new }
+    ensures honesty { W.honest world.new ↔ W.honest world.old }
+{
+    let image = look_at_image(world, names.image.as_str(), mounted, makes)?;
+    let is_there = look_at_text(world, names.journal.as_str(), Which::Journal, image)?;
+    if !is_there {
+        if !makes {
+            return Err(Which::Journal.refused(Refusal::Missing));
+        }
+    }
+    match look_at_text(world, names.redo.as_str(), Which::Redo, image) {
         Ok(_) => Ok(()),
         Err(unopened) => Err(unopened),
     }

@@ -1,234 +1,198 @@
-//! The three files of a session.
-ghost use Rattle.std.specs.Prelude.{◌≡◌, ◌↔◌, Some, false, OnOk, IfErr, IfOk, OnErr};
+//! The three files of a session, opened and made.
+ghost use Rattle.std.specs.Prelude.{◌≡◌, ◌↔◌, ◌<◌, ◌≤◌, ℕ, None, Some, true, false, OnOk, IfErr, IfOk, OnErr};
 ghost use Rattle.bx_program_world.specs.Rule.{image_unfit, text_unfit};
-ghost use Rattle.bx_program_files.specs.Files.{AreOpened, LeavesFiles};
-ghost use Rattle.bx_program_files.specs.Numbers.{numbers_of};
-ghost use Rattle.bx_program_files.specs.Reasons.{AreFitFiles, IsOneOf, IsReason, IsRefusedFile, MayRefuseOpening, NoneUnfit};
-ghost use Rattle.bx_program_files.specs.declared.unopened.Which.TheVariants.{Image};
+ghost use Rattle.bx_program_world.specs.World.{AreThreeFiles, MayBeText, Sight};
+ghost use Rattle.bx_program_files.specs.Files.{AreAllThere, AreOpened, AreTextsOpened, IsImageOpened, IsMadeFile, IsTextOpened, LeavesFiles, LeavesMade};
+ghost use Rattle.bx_program_files.specs.Fit.{AreFitBeside};
+ghost use Rattle.bx_program_files.specs.Numbers.{files_beside, made_beside, numbers_beside, numbers_of};
+ghost use Rattle.bx_program_files.specs.Reasons.{IsReason, IsUnfitOrRefused, LeadsToOther, MayRefuseOpening, NoneUnfit};
 
 use crate::Names;
-use crate::look::look_at_all;
-use crate::opened::{open_image, open_journal, open_redo, unmake};
+use crate::look::{look_at_all, look_beside};
+use crate::made::{Files, Made, unmake};
+use crate::opened::{Opened, open_image, open_text};
+use crate::ready::{are_ready, stat_of};
 use crate::unopened::{Unopened, Which};
-use bx_program_world::{Stat, World, image_unfit, text_unfit};
+use bx_program_world::World;
 
-/// The three files of a session: open, locked, and each a file of its own.
+/// The texts of an image.
 #[derive(Drop)]
-pub struct Files<F> {
-    /// The image.
-    pub image: F,
+pub struct Texts<F> {
     /// Its journal.
-    pub journal: F,
+    pub journal: Opened<F>,
     /// Its redo text.
-    pub redo: F,
-    /// Whether this run made the redo text.
-    pub made: bool,
+    pub redo: Opened<F>,
 }
 
-/// Refuses a file that is another one by a second name.
-fn is_apart<W: World>(
-    world: &mut W,
-    which: Which,
-    file: &W::File,
-    other: &W::File,
-) -> Result<(), Unopened>
-    ensures apart { W.honest world.old → OnOk result (W.number file.now ≡ W.number other.now → ⊥) }
-    ensures why { W.honest world.old
-        → IfErr result (IsRefusedFile which ⊥ NoneUnfit (W.number file.now ≡ W.number other.now) (W.is_refused world.new)) }
-    ensures same { W.honest world.old → W.sight world.new ≡ W.sight world.old }
-    ensures honesty { W.honest world.new ↔ W.honest world.old }
-{
-    match world.is_same(file, other) {
-        Ok(false) => Ok(()),
-        Ok(true) => Err(which.alias()),
-        Err(refusal) => Err(which.refused(refusal)),
-    }
-}
-
-/// What the system tells of an open file.
-fn stat_of<W: World>(world: &mut W, which: Which, file: &W::File) -> Result<Stat, Unopened>
-    ensures told { W.honest world.old → IfOk result (λ s. s ≡ (W.sight world.old).stat (W.number file.now)) }
-    ensures why { W.honest world.old → IfErr result (IsRefusedFile which ⊥ NoneUnfit ⊥ (W.is_refused world.new)) }
-    ensures same { W.honest world.old → W.sight world.new ≡ W.sight world.old }
-    ensures honesty { W.honest world.new ↔ W.honest world.old }
-{
-    match world.stat(file) {
-        Ok(stat) => Ok(stat),
-        Err(refusal) => Err(which.refused(refusal)),
-    }
-}
-
-/// Looks again at an image that is open, whose name may have been given to another file by now.
-fn look_again<W: World>(world: &mut W, image: &W::File, mounted: bool) -> Result<Stat, Unopened>
-    ensures told { W.honest world.old → IfOk result (λ s. s ≡ (W.sight world.old).stat (W.number image.now)) }
-    ensures why { W.honest world.old → IfErr result (IsRefusedFile Image ⊥
-        (λ unfit. image_unfit mounted ((W.sight world.old).stat (W.number image.now)) ≡ Some unfit) ⊥ (W.is_refused world.new)) }
-    ensures same { W.honest world.old → W.sight world.new ≡ W.sight world.old }
-    ensures honesty { W.honest world.new ↔ W.honest world.old }
-{
-    let stat = stat_of(world, Which::Image, image)?;
-    match image_unfit(mounted, &stat) {
-        None => Ok(stat),
-        Some(unfit) => Err(Which::Image.unfit(unfit)),
-    }
-}
-
-/// Looks again at a text that is open.
-fn look_again_at_text<W: World>(
-    world: &mut W,
-    which: Which,
-    text: &W::File,
-    image: &Stat,
-) -> Result<(), Unopened>
-    ensures why { W.honest world.old → IfErr result (IsRefusedFile which ⊥
-        (λ unfit. text_unfit (W.sight world.old).caller image.now false ((W.sight world.old).stat (W.number text.now)) ≡ Some unfit) ⊥
-        (W.is_refused world.new)) }
-    ensures same { W.honest world.old → W.sight world.new ≡ W.sight world.old }
-    ensures honesty { W.honest world.new ↔ W.honest world.old }
-{
-    let stat = stat_of(world, which, text)?;
-    let caller = world.caller();
-    match text_unfit(caller, image, false, &stat) {
-        None => Ok(()),
-        Some(unfit) => Err(which.unfit(unfit)),
-    }
-}
-
-/// Looks again at all three.
-fn are_fit<W: World>(
-    world: &mut W,
-    image: &W::File,
-    mounted: bool,
-    journal: &W::File,
-    redo: &W::File,
-) -> Result<(), Unopened>
-    ensures why { W.honest world.old
-        → AreFitFiles mounted (record { image = W.number image.now; journal = W.number journal.now; redo = W.number redo.now }) (W.sight world.old)
-        → IfErr result (λ u. IsReason ⊥ NoneUnfit ⊥ (W.is_refused world.new) u.why) }
-    ensures same { W.honest world.old → W.sight world.new ≡ W.sight world.old }
-    ensures honesty { W.honest world.new ↔ W.honest world.old }
-{
-    let stat = look_again(world, image, mounted)?;
-    look_again_at_text(world, Which::Journal, journal, &stat)?;
-    look_again_at_text(world, Which::Redo, redo, &stat)
-}
-
-/// Refuses three files where two are one.
-fn are_apart<W: World>(
-    world: &mut W,
-    image: &W::File,
-    journal: &W::File,
-    redo: &W::File,
-) -> Result<(), Unopened>
-    ensures journal { W.honest world.old → OnOk result (W.number journal.now ≡ W.number image.now → ⊥) }
-    ensures redo_of_image { W.honest world.old → OnOk result (W.number redo.now ≡ W.number image.now → ⊥) }
-    ensures redo_of_journal { W.honest world.old → OnOk result (W.number redo.now ≡ W.number journal.now → ⊥) }
-    ensures why { W.honest world.old
-        → IfErr result (λ u. IsReason ⊥ NoneUnfit
-        (IsOneOf (record { image = W.number image.now; journal = W.number journal.now; redo = W.number redo.now }) u.which)
-        (W.is_refused world.new) u.why) }
-    ensures same { W.honest world.old → W.sight world.new ≡ W.sight world.old }
-    ensures honesty { W.honest world.new ↔ W.honest world.old }
-{
-    is_apart(world, Which::Journal, journal, image)?;
-    is_apart(world, Which::Redo, redo, image)?;
-    is_apart(world, Which::Redo, redo, journal)
-}
-
-/// Refuses three open files that are not three, or none that may be opened.
-fn are_three<W: World>(
-    world: &mut W,
-    image: &W::File,
-    mounted: bool,
-    journal: &W::File,
-    redo: &W::File,
-) -> Result<(), Unopened>
-    ensures journal { W.honest world.old → OnOk result (W.number journal.now ≡ W.number image.now → ⊥) }
-    ensures redo_of_image { W.honest world.old → OnOk result (W.number redo.now ≡ W.number image.now → ⊥) }
-    ensures redo_of_journal { W.honest world.old → OnOk result (W.number redo.now ≡ W.number journal.now → ⊥) }
-    ensures why { W.honest world.old
-        → AreFitFiles mounted (record { image = W.number image.now; journal = W.number journal.now; redo = W.number redo.now }) (W.sight world.old)
-        → IfErr result (λ u. IsReason ⊥ NoneUnfit
-        (IsOneOf (record { image = W.number image.now; journal = W.number journal.now; redo = W.number redo.now }) u.which)
-        (W.is_refused world.new) u.why) }
-    ensures same { W.honest world.old → W.sight world.new ≡ W.sight world.old }
-    ensures honesty { W.honest world.new ↔ W.honest world.old }
-{
-    are_fit(world, image, mounted, journal, redo)?;
-    are_apart(world, image, journal, redo)
-}
-
-/// Puts the names of an image and its texts on the disk, whoever made them: a run that was killed may have, and their names be
-/// lost with the power.
-fn keep_names<W: World>(world: &mut W, names: &Names) -> Result<(), Unopened>
-    ensures why { W.honest world.old → IfErr result (λ u. IsReason ⊥ NoneUnfit ⊥ (W.is_refused world.new) u.why) }
-    ensures same { W.honest world.old → W.sight world.new ≡ W.sight world.old }
-    ensures honesty { W.honest world.new ↔ W.honest world.old }
-{
-    if let Err(refusal) = world.keep_name(names.journal.as_str()) {
-        return Err(Which::Journal.refused(refusal));
-    }
-    match world.keep_name(names.image.as_str()) {
-        Ok(()) => Ok(()),
-        Err(refusal) => Err(Which::Image.refused(refusal)),
-    }
-}
-
-/// Refuses three open files that are not three, that may not be opened, or whose names can't be put on the disk.
-fn are_ready<W: World>(
+/// Opens the redo text, or makes it where it is missing, beside an image and a journal that are open. It is taken away again where
+/// the three are not ready.
+fn open_redo<W: World>(
     world: &mut W,
     names: &Names,
     mounted: bool,
     image: &W::File,
     journal: &W::File,
-    redo: &W::File,
-) -> Result<(), Unopened>
-    ensures journal { W.honest world.old → OnOk result (W.number journal.now ≡ W.number image.now → ⊥) }
-    ensures redo_of_image { W.honest world.old → OnOk result (W.number redo.now ≡ W.number image.now → ⊥) }
-    ensures redo_of_journal { W.honest world.old → OnOk result (W.number redo.now ≡ W.number journal.now → ⊥) }
-    ensures why { W.honest world.old
-        → AreFitFiles mounted (record { image = W.number image.now; journal = W.number journal.now; redo = W.number redo.now }) (W.sight world.old)
+) -> Result<Opened<W::File>, Unopened>
+    requires image_there { W.honest world.old → W.number image.now < (W.sight world.old).there }
+    requires journal_there { W.honest world.old → W.number journal.now < (W.sight world.old).there }
+    requires image_fit { W.honest world.old → image_unfit mounted ((W.sight world.old).stat (W.number image.now)) ≡ None }
+    requires journal_fit { W.honest world.old → text_unfit (W.sight world.old).caller ((W.sight world.old).stat (W.number image.now)) false
+        ((W.sight world.old).stat (W.number journal.now)) ≡ None }
+    requires may { W.honest world.old → MayBeText (W.number image.now) (W.sight world.old) names.now.redo }
+    ensures ok { W.honest world.old → IfOk result
+        (λ o. IsTextOpened names.now.redo (W.number image.now) (W.number o.file) true o.made (W.sight world.old) (W.sight world.new)) }
+    ensures apart { W.honest world.old → IfOk result (λ o. AreThreeFiles (W.sight world.new).there
+        (record { image = W.number image.now; journal = W.number journal.now; redo = W.number o.file })) }
+    ensures err { W.honest world.old → OnErr result (LeavesFiles (W.sight world.old) (W.sight world.new)) }
+    ensures why { W.honest world.old → (least : ℕ) → least ≤ W.refusals world.old
         → IfErr result (λ u. IsReason ⊥ NoneUnfit
-        (IsOneOf (record { image = W.number image.now; journal = W.number journal.now; redo = W.number redo.now }) u.which)
-        (W.is_refused world.new) u.why) }
-    ensures same { W.honest world.old → W.sight world.new ≡ W.sight world.old }
+        (LeadsToOther names.now (W.number image.now) (W.number journal.now) (W.sight world.old) u.which)
+        (least < W.refusals world.new) u.why) }
+    ensures counted { W.honest world.old → W.refusals world.old ≤ W.refusals world.new }
     ensures honesty { W.honest world.new ↔ W.honest world.old }
 {
-    are_three(world, image, mounted, journal, redo)?;
-    keep_names(world, names)
+    let redo = open_text(world, names.redo.as_str(), Which::Redo, image, true)?;
+    match are_ready(world, names, mounted, image, journal, &redo.file) {
+        Ok(()) => Ok(redo),
+        Err(unopened) => {
+            unmake(world, names.redo.as_str(), &redo.file, redo.made);
+            Err(unopened)
+        }
+    }
 }
 
-/// Opens the image, its journal and its redo text, which is made where it is missing. All three are looked at before one is
-/// opened: a text is no link, has one name, belongs to somebody who may write the image, and has no reader or writer who is none
-/// of the image.
+/// Takes the journal away again, if this run made it.
+fn unmake_journal<W: World>(world: &mut W, names: &Names, journal: &Opened<W::File>)
+    requires made { W.honest world.old → journal.now.made ≡ true → (W.sight world.old).before ≤ W.number journal.now.file }
+    requires named { W.honest world.old → (W.sight world.old).named names.now.journal ≡ Some (W.number journal.now.file) }
+    ensures left { W.honest world.old → (first : Sight) → AreAllThere first
+        → LeavesMade (IsMadeFile journal.now.made (W.number journal.now.file)) first (W.sight world.old) → LeavesFiles first (W.sight world.new) }
+    ensures counted { W.honest world.old → W.refusals world.new ≡ W.refusals world.old }
+    ensures honesty { W.honest world.new ↔ W.honest world.old }
+{
+    unmake(world, names.journal.as_str(), &journal.file, journal.made);
+}
+
+/// Looks at the texts beside an image that was made; beside one that was there they were looked at before it was opened.
+fn look_beside_made<W: World>(
+    world: &mut W,
+    names: &Names,
+    image: &Opened<W::File>,
+) -> Result<(), Unopened>
+    requires fit { W.honest world.old → image.now.made ≡ false
+        → AreFitBeside names.now ((W.sight world.old).stat (W.number image.now.file)) (W.sight world.old) }
+    ensures fit { W.honest world.old
+        → OnOk result (AreFitBeside names.now ((W.sight world.old).stat (W.number image.now.file)) (W.sight world.old)) }
+    ensures made { W.honest world.old → OnErr result (image.now.made ≡ true) }
+    ensures why { W.honest world.old → (least : ℕ) → least ≤ W.refusals world.old
+        → IfErr result (IsUnfitOrRefused names.now ((W.sight world.old).stat (W.number image.now.file))
+        (least < W.refusals world.new) (W.sight world.old)) }
+    ensures same { W.honest world.old → W.sight world.new ≡ W.sight world.old }
+    ensures counted { W.honest world.old → W.refusals world.old ≤ W.refusals world.new }
+    ensures honesty { W.honest world.new ↔ W.honest world.old }
+{
+    if !image.made {
+        return Ok(());
+    }
+    let stat = stat_of(world, Which::Image, &image.file)?;
+    look_beside(world, names, stat)
+}
+
+/// Opens the journal and then the redo text, beside an image that is open; `makes` says whether a journal that is missing is made.
+/// One that was made is taken away again where the redo text is refused.
+fn open_texts<W: World>(
+    world: &mut W,
+    names: &Names,
+    mounted: bool,
+    makes: bool,
+    image: &Opened<W::File>,
+) -> Result<Texts<W::File>, Unopened>
+    requires there { W.honest world.old → W.number image.now.file < (W.sight world.old).there }
+    requires image_fit { W.honest world.old → image_unfit mounted ((W.sight world.old).stat (W.number image.now.file)) ≡ None }
+    requires fit { W.honest world.old → image.now.made ≡ false
+        → AreFitBeside names.now ((W.sight world.old).stat (W.number image.now.file)) (W.sight world.old) }
+    ensures ok { W.honest world.old → IfOk result (λ texts. AreTextsOpened names.now makes (numbers_beside W.number image.now texts)
+        (made_beside image.now texts) (W.sight world.old) (W.sight world.new)) }
+    ensures err { W.honest world.old → OnErr result (LeavesFiles (W.sight world.old) (W.sight world.new)) }
+    ensures why { W.honest world.old → (least : ℕ) → least ≤ W.refusals world.old
+        → (first : Sight) → AreAllThere first
+        → IsImageOpened names.now.image mounted makes image.now.made (W.number image.now.file) first (W.sight world.old)
+        → IfErr result (MayRefuseOpening names.now mounted makes (least < W.refusals world.new) first) }
+    ensures counted { W.honest world.old → W.refusals world.old ≤ W.refusals world.new }
+    ensures honesty { W.honest world.new ↔ W.honest world.old }
+{
+    look_beside_made(world, names, image)?;
+    let journal = open_text(
+        world,
+        names.journal.as_str(),
+        Which::Journal,
+        &image.file,
+        makes,
+    )?;
+    match open_redo(world, names, mounted, &image.file, &journal.file) {
+        Ok(redo) => Ok(Texts { journal, redo }),
+        Err(unopened) => {
+            unmake_journal(world, names, &journal);
+            Err(unopened)
+        }
+    }
+}
+
+/// Takes the image away again, if this run made it.
+fn unmake_image<W: World>(world: &mut W, names: &Names, image: &Opened<W::File>)
+    requires made { W.honest world.old → image.now.made ≡ true → (W.sight world.old).before ≤ W.number image.now.file }
+    requires named { W.honest world.old → (W.sight world.old).named names.now.image ≡ Some (W.number image.now.file) }
+    ensures left { W.honest world.old → (first : Sight) → AreAllThere first
+        → LeavesMade (IsMadeFile image.now.made (W.number image.now.file)) first (W.sight world.old) → LeavesFiles first (W.sight world.new) }
+    ensures counted { W.honest world.old → W.refusals world.new ≡ W.refusals world.old }
+    ensures honesty { W.honest world.new ↔ W.honest world.old }
+{
+    unmake(world, names.image.as_str(), &image.file, image.made);
+}
+
+/// The three, and which of them were made.
+fn files_of<F: Drop>(image: Opened<F>, texts: Texts<F>) -> Files<F>
+    ensures { result ≡ files_beside image texts }
+{
+    Files {
+        made: Made {
+            image: image.made,
+            journal: texts.journal.made,
+            redo: texts.redo.made,
+        },
+        image: image.file,
+        journal: texts.journal.file,
+        redo: texts.redo.file,
+    }
+}
+
+/// Opens the image, its journal and its redo text. A redo text that is missing is made, and where `makes` says so an image and a
+/// journal too. All three are looked at before one is opened or made: a text is no link, has one name, belongs to somebody who may
+/// write the image, and has no reader or writer who is none of the image; beside an image that was made they are looked at again.
 ///
 /// # Errors
-/// Where one can't be opened or locked, is none that may be opened, or is another one by a second name, and where its name can't
-/// be put on the disk. No file is then made or changed.
+/// Where one can't be opened, made or locked, is none that may be opened, or is another one by a second name, and where its name
+/// can't be put on the disk. No file is then changed, and what was made is taken away again, the latest first.
 pub fn open_trio<W: World>(
     world: &mut W,
     names: &Names,
     mounted: bool,
+    makes: bool,
 ) -> Result<Files<W::File>, Unopened>
-    ensures ok { W.honest world.old
-        → IfOk result (λ f. AreOpened names.now mounted (numbers_of W.number f) f.made (W.sight world.old) (W.sight world.new)) }
+    ensures ok { W.honest world.old → IfOk result
+        (λ f. AreOpened names.now mounted makes (numbers_of W.number f) f.made (W.sight world.old) (W.sight world.new)) }
     ensures err { W.honest world.old → OnErr result (LeavesFiles (W.sight world.old) (W.sight world.new)) }
-    ensures why { W.honest world.old → IfErr result (MayRefuseOpening names.now mounted (W.is_refused world.new) (W.sight world.old)) }
+    ensures why { W.honest world.old → IfErr result (MayRefuseOpening names.now mounted makes (W.refusals world.old < W.refusals world.new)
+        (W.sight world.old)) }
+    ensures counted { W.honest world.old → W.refusals world.old ≤ W.refusals world.new }
     ensures honesty { W.honest world.new ↔ W.honest world.old }
 {
-    look_at_all(world, names, mounted)?;
-    let image = open_image(world, names.image.as_str(), mounted)?;
-    let journal = open_journal(world, names.journal.as_str(), &image)?;
-    let redo = open_redo(world, names.redo.as_str(), &image)?;
-    match are_ready(world, names, mounted, &image, &journal, &redo.file) {
-        Ok(()) => Ok(Files {
-            image,
-            journal,
-            redo: redo.file,
-            made: redo.made,
-        }),
+    look_at_all(world, names, mounted, makes)?;
+    let image = open_image(world, names.image.as_str(), mounted, makes)?;
+    match open_texts(world, names, mounted, makes, &image) {
+        Ok(texts) => Ok(files_of(image, texts)),
         Err(unopened) => {
-            unmake(world, names.redo.as_str(), &redo.file, redo.made);
+            unmake_image(world, names, &image);
             Err(unopened)
         }
     }

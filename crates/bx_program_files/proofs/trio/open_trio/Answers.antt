@@ -1,62 +1,69 @@
-use Rattle.std.proofs.Common.{◌≡◌, ◌∙◌, Err, arith}
+use Rattle.std.proofs.Common.{◌≡◌, ◌≤◌, Err, refl, arith}
 use Rattle.std.proofs.lemmas.Grind.{common_steps}
 use Rattle.std.proofs.lemmas.Result.{err_from_is_err_and}
-use Rattle.bx_program_files.proofs.Reasons.{all_fit, image_may, journal_may, ready_may, redo_before, redo_may}
+use Rattle.bx_program_files.proofs.Making.{fresh_later}
+use Rattle.bx_program_files.proofs.Reasons.{image_may, none_is_fit}
+use Rattle.bx_program_files.proofs.Taken.{left_then}
+use Rattle.bx_program_files.proofs.Three.{all_opened, fit_there}
 use Rattle.bx_program_files.proofs.trio.open_trio.Goals as goal
-
-pub returns-in-Err-clause-err : goal.returns-in-Err-clause-err
-returns-in-Err-clause-err g c old =
-    let look = c.look_at_all.ensures.honesty.1 old in
-    let first = c.open_image.ensures.honesty.1 look in
-    let second = c.open_journal.ensures.honesty.1 first in
-    let opened = c.open_redo.ensures.honesty.1 second in
-    let third = c.are_ready.ensures.honesty.1 opened in
-    let same : g.W.World.sight c.open_journal.new.world ≡ g.W.World.sight c.args.world.now =
-    c.open_journal.ensures.same first ∙ c.open_image.ensures.same look ∙ c.look_at_all.ensures.same old in
-    rw (← same) (c.unmake.ensures.left third _ (λ name n e. g.met.W.World.within _ name n second e)
-    (rw (c.are_ready.ensures.same opened) (c.in_ok-redo.ensures.ok second).files))
 
 pub returns-in_err-image-clause-why : goal.returns-in_err-image-clause-why
 returns-in_err-image-clause-why g c old =
     let look = c.look_at_all.ensures.honesty.1 old in
+    let least = c.look_at_all.ensures.counted old in
     let found = err_from_is_err_and c.from_residual-in_err-image.result c.from_residual-in_err-image.ensures.1 in
     let is : c.from_residual-in_err-image.result ≡ Err c.in_err-image.field-0.0 = grind (arith, common_steps, found.1, found.2) in
-    let why = rw (c.look_at_all.ensures.same old, c.as_str.ensures) at (c.in_err-image.ensures.why look) in
-    rw is (image_may c.args.names.now c.args.mounted _ (g.W.World.sight c.args.world.now) _ why)
+    let why = rw (c.look_at_all.ensures.same old, c.as_str.ensures) at (c.in_err-image.ensures.why look (g.W.World.refusals c.args.world.now) least) in
+    rw is (image_may c.args.names.now c.args.mounted c.args.makes _ (g.W.World.sight c.args.world.now) _ _ _ (none_is_fit _)
+    (λ below. below) why)
 
-pub returns-in_err-journal-clause-why : goal.returns-in_err-journal-clause-why
-returns-in_err-journal-clause-why g c old =
-    let look = c.look_at_all.ensures.honesty.1 old in
-    let first = c.open_image.ensures.honesty.1 look in
-    let found = err_from_is_err_and c.from_residual-in_err-journal.result c.from_residual-in_err-journal.ensures.1 in
-    let is : c.from_residual-in_err-journal.result ≡ Err c.in_err-journal.field-0.0 = grind (arith, common_steps, found.1, found.2) in
-    let why = rw (c.open_image.ensures.same look ∙ c.look_at_all.ensures.same old, c.as_str-2.ensures) at (c.in_err-journal.ensures.why first) in
-    rw is (journal_may c.args.names.now c.args.mounted _ (g.W.World.sight c.args.world.now) _ why)
+pub open_texts-requires-clause-fit : goal.open_texts-requires-clause-fit
+open_texts-requires-clause-fit g c opening =
+    let look = c.open_image.ensures.honesty.0 opening in
+    let old = c.look_at_all.ensures.honesty.0 look in
+    let opened = rw (c.as_str.ensures) at (c.in_ok-image.ensures.ok look) in
+    fit_there c.args.names.now c.args.mounted _ _ _ _ (rw (c.look_at_all.ensures.same old) (c.in_ok-look_at_all.ensures.fit old)) opened.file.under
+    (c.in_ok-image.ensures.stays look)
 
-pub returns-in_err-redo-clause-why : goal.returns-in_err-redo-clause-why
-returns-in_err-redo-clause-why g c old =
+pub unmake_image-requires-clause-made : goal.unmake_image-requires-clause-made
+unmake_image-requires-clause-made g c refused is =
+    let opening = c.open_texts.ensures.honesty.0 refused in
+    let look = c.open_image.ensures.honesty.0 opening in
+    let left = c.in-Err.ensures.err opening in
+    rw left.streams.before (fresh_later _ _ _ _ (c.in_ok-image.ensures.ok look).file.files (is, refl) (g.met.W.World.begun _ look))
+
+pub unmake_image-requires-clause-named : goal.unmake_image-requires-clause-named
+unmake_image-requires-clause-named g c refused =
+    let opening = c.open_texts.ensures.honesty.0 refused in
+    let look = c.open_image.ensures.honesty.0 opening in
+    let opened = rw (c.as_str.ensures) at (c.in_ok-image.ensures.ok look) in
+    (c.in-Err.ensures.err opening).still _ _ opened.file.under.named
+
+pub returns-in-Ok-clause-ok : goal.returns-in-Ok-clause-ok
+returns-in-Ok-clause-ok g c old =
     let look = c.look_at_all.ensures.honesty.1 old in
-    let first = c.open_image.ensures.honesty.1 look in
-    let second = c.open_journal.ensures.honesty.1 first in
-    let found = err_from_is_err_and c.from_residual-in_err-redo.result c.from_residual-in_err-redo.ensures.1 in
-    let is : c.from_residual-in_err-redo.result ≡ Err c.in_err-redo.field-0.0 = grind (arith, common_steps, found.1, found.2) in
-    let why = c.in_err-redo.ensures.why second in
-    rw is (redo_may c.args.names.now c.args.mounted _ (g.W.World.sight c.args.world.now) _ why)
+    let opening = c.open_image.ensures.honesty.1 look in
+    let opened = rw (c.look_at_all.ensures.same old, c.as_str.ensures) at (c.in_ok-image.ensures.ok look) in
+    rw (c.files_of.ensures) (all_opened c.args.names.now c.args.mounted c.args.makes _ _ _ _ _ opened (c.in-Ok.ensures.ok opening)
+    (c.in_ok-look_at_all.ensures.fit old))
+
+pub returns-in-Err-clause-err : goal.returns-in-Err-clause-err
+returns-in-Err-clause-err g c old =
+    let look = c.look_at_all.ensures.honesty.1 old in
+    let opening = c.open_image.ensures.honesty.1 look in
+    let refused = c.open_texts.ensures.honesty.1 opening in
+    let opened = c.in_ok-image.ensures.ok look in
+    rw (← c.look_at_all.ensures.same old) (c.unmake_image.ensures.left refused _ (λ name n e. g.met.W.World.within _ name n look e)
+    (left_then _ _ _ _ opened.file.files (c.in-Err.ensures.err opening)))
 
 pub returns-in-Err-clause-why : goal.returns-in-Err-clause-why
 returns-in-Err-clause-why g c old =
     let look = c.look_at_all.ensures.honesty.1 old in
-    let first = c.open_image.ensures.honesty.1 look in
-    let second = c.open_journal.ensures.honesty.1 first in
-    let opened = c.open_redo.ensures.honesty.1 second in
-    let third = c.are_ready.ensures.honesty.1 opened in
-    let looked : g.W.World.sight c.look_at_all.new.world ≡ g.W.World.sight c.args.world.now = c.look_at_all.ensures.same old in
-    let imaged : g.W.World.sight c.open_image.new.world ≡ g.W.World.sight c.args.world.now = c.open_image.ensures.same look ∙ looked in
-    let same : g.W.World.sight c.open_journal.new.world ≡ g.W.World.sight c.args.world.now = c.open_journal.ensures.same first ∙ imaged in
-    let image = rw (looked, c.as_str.ensures) at (c.in_ok-image.ensures.there look) in
-    let journal = rw (imaged, c.as_str-2.ensures) at (c.in_ok-journal.ensures.there first) in
-    let redo = rw (same, c.as_str-3.ensures) at (c.in_ok-redo.ensures.ok second) in
-    let fit = all_fit _ _ _ _ _ _ (c.in_ok-look_at_all.ensures.fit old) image journal redo in
-    rw (c.unmake.ensures.noted third)
-    (ready_may c.args.names.now c.args.mounted _ (g.W.World.sight c.args.world.now) _ image.named journal.named
-    (redo_before _ _ _ _ _ image journal redo) _ (c.in-Err.ensures.why opened fit))
+    let opening = c.open_image.ensures.honesty.1 look in
+    let refused = c.open_texts.ensures.honesty.1 opening in
+    let opened = rw (c.as_str.ensures) at (c.in_ok-image.ensures.ok look) in
+    let first = c.look_at_all.ensures.counted old in
+    let second = c.open_image.ensures.counted look in
+    let least : g.W.World.refusals c.args.world.now ≤ g.W.World.refusals c.open_image.new.world = omega (arith, first, second) in
+    rw (← c.look_at_all.ensures.same old, c.unmake_image.ensures.counted refused)
+    (c.in-Err.ensures.why opening (g.W.World.refusals c.args.world.now) least _ (λ name n e. g.met.W.World.within _ name n look e) opened)
