@@ -1,5 +1,5 @@
 -- What an undo and a redo answer, from what their commands make of the files.
-use Rattle.std.proofs.Common.{◌≡◌, ◌⊎◌, ◌∙◌, ◌≤◌, ℕ, Bool, List, Option, Some, None, refl, sym, ap, subst, inl, inr}
+use Rattle.std.proofs.Common.{◌≡◌, ◌⊎◌, ◌∙◌, ◌≤◌, ℕ, List, Option, Some, None, refl, sym, ap, subst, inl, inr}
 use Rattle.std.specs.Prelude.{Result, Ok, Err, IfOk, IfErr, IfSome, OnErr}
 use Rattle.bx_journal.specs.Fault.{DeviceFault}
 use Rattle.bx_journal.specs.Images.{Images, redo_of, undo_of}
@@ -24,6 +24,7 @@ use Rattle.bx_cli_commands.specs.declared.fault.Fault.TheVariants.{OpenFailed, S
 use Rattle.bx_program_sessions.specs.Contents.{Contents, EndsAt, FindsIn, IsUnopened, StepsTo, recovered_as}
 use Rattle.bx_program_sessions.specs.Moves.{Course, IsMoved, MayNotMove, RefusesMove, again, back, command_by, stepped}
 use Rattle.bx_program_sessions.specs.Named.{MayRefuse, NothingDone, contents_of}
+use Rattle.bx_program_sessions.specs.declared.task.Task.TheVariants.{Run}
 
 abbrev number_or : ℕ → Result ℕ Fault → ℕ
 number_or m (Ok n) = n
@@ -204,12 +205,12 @@ module _ (s : Images) (k : ℕ) where
       answers_err s k (again s) redo_of Redone RedoStep (λ i. refl) (λ n. refl) (λ n new step. (step.0, step.1))
       (redo_refuses s k) names u old new reply steps leaves why
 
-module _ {R : Type 0} (A : Type 0) (remaining : R → Option (List ℕ)) where
+module _ {R : Type 0} (remaining : R → Option (List ℕ)) where
   abbrev Steps : Way → Images → ℕ → Reply → Contents → Type 0
-  Steps way s k reply c = StepsTo remaining s (command_by {R = R} {A = A} way k) reply c
+  Steps way s k reply c = StepsTo remaining s (Run (command_by {R = R} way k)) reply c
 
   abbrev Refuses : Way → Images → ℕ → Reply → Type 0
-  Refuses way s k reply = MayRefuse remaining s (command_by {R = R} {A = A} way k) reply
+  Refuses way s k reply = MayRefuse remaining s (Run (command_by {R = R} way k)) reply
 
   -- changes that were moved one way
   pub moved_ok : (way : Way) (s : Images) (k : ℕ) (reply : Reply) (c : Contents) → ((IsWholeRefusal reply → ⊥) → Steps way s k reply c)
@@ -233,7 +234,7 @@ module _ {R : Type 0} (A : Type 0) (remaining : R → Option (List ℕ)) where
   moved_found way s k (Some h) reply c steps = moved_ok way (recovered_as h s) k reply c (λ _. steps h refl)
 
 -- why files weren't opened, behind what was said of the rest
-pub why_kept : {V : Type 0} (u : Option Unopened) (standing : Result V Fault) (how : Option How) (left : Type 0) (noted told new : Bool) (W : Bool → Unopened → Type 0)
+pub why_kept : {V : Type 0} (u : Option Unopened) (standing : Result V Fault) (how : Option How) (left : Type 0) (noted told new : ℕ) (W : ℕ → Unopened → Type 0)
     → IfSome u (λ _. (standing ≡ Err OpenFailed) × (how ≡ None) × left) → told ≡ noted → OnErr standing (new ≡ told)
     → IfSome u (W noted) → IfSome u (W new)
 why_kept None standing how left noted told new W un keeps is why = tt

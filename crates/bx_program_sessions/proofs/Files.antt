@@ -1,10 +1,10 @@
 -- What becomes of the files of these names, from the names to their bytes and back.
-use Rattle.std.proofs.Common.{◌≡◌, ◌⊎◌, ◌∙◌, ◌<◌, ◌≤◌, ℕ, Bool, true, false, Option, Some, None, List, [], refl, sym, ap, subst, inl, inr, arith}
-use Rattle.std.specs.Prelude.{IfSome}
+use Rattle.std.proofs.Common.{◌≡◌, ◌∙◌, ◌<◌, ◌≤◌, ℕ, Bool, true, false, Some, None, List, [], refl, sym, ap, subst, inl, inr, arith}
 use Rattle.std.specs.Option.{unwrap_or}
 use Rattle.std.proofs.lemmas.Bool.{cases_eq}
-use Rattle.bx_program_world.specs.World.{ChangesOnly, Sight, TakesAtMost, Trio, held}
-use Rattle.bx_program_files.specs.Files.{AreOpened, HasMade, AreAllThere, LeavesFiles, if_made}
+use Rattle.bx_program_world.specs.World.{ChangesOnly, Sight, Trio, held}
+use Rattle.bx_program_files.specs.Files.{AreAllThere, AreOpened, HasMade, IsOneOfMade, IsOpenUnder, LeavesFiles, TakesOnly}
+use Rattle.bx_program_files.specs.declared.made.Made.{Made}
 use Rattle.bx_program_files.specs.declared.names.Names.{Names}
 use Rattle.bx_program_sessions.specs.Named.{LeadTo, KeepsOthers, bytes_of_files, contents_of}
 
@@ -14,55 +14,38 @@ some_injective {m} {n} is = ap (λ o. unwrap_or o m) is
 none_is_not_some : (n : ℕ) → None ≡ Some n → ⊥
 none_is_not_some n wrong = cc
 
--- a name that leads to a file leads to it still, when a file was made
-pub still : (made : Option ℕ) (old new : Sight) (m : List ℕ) (n : ℕ) → HasMade made old new → old.named m ≡ Some n → new.named m ≡ Some n
+-- a name that leads to a file leads to it still, when files were made
+still : (made : ℕ → Type 0) (old new : Sight) (m : List ℕ) (n : ℕ) → HasMade made old new → old.named m ≡ Some n → new.named m ≡ Some n
 still made old new m n has named = elim (has.named m) [
   | inl same ↦ same ∙ named
-  | inr is_new ↦ absurd (none_is_not_some n (sym is_new.0 ∙ named))
+  | inr is_new ↦ absurd (none_is_not_some n (sym is_new.1 ∙ named))
 ]
 
--- what a file held under its name, before the three were opened
-held_before : (made : Option ℕ) (old new : Sight) (name : List ℕ) (n : ℕ) → AreAllThere old → HasMade made old new → old.named name ≡ Some n
-    → new.bytes n ≡ held old name
-held_before made old new name n within has named = rw named (has.bytes n (within name n named))
+-- what a file held under its name, before it was opened: nothing, where it was made
+held_before : (files : ℕ → Type 0) (old new : Sight) (name : List ℕ) (made : Bool) (n : ℕ) → AreAllThere old → HasMade files old new
+    → IsOpenUnder name made n old new → new.bytes n ≡ held old name
+held_before files old new name true n within has under = let was : old.named name ≡ None = under.was in rw was (under.empty refl)
+held_before files old new name false n within has under =
+    let was : old.named name ≡ Some n = under.was in rw was (has.bytes n (within name n was))
 
--- of the redo text too, which may have been made
-redo_before : (names : Names) (mounted : Bool) (t : Trio) (made : Bool) (old new : Sight) → AreAllThere old → AreOpened names mounted t made old new
-    → new.bytes t.redo ≡ held old names.redo
-redo_before names mounted t made old new within opened = elim (opened.files.named names.redo) [
-  | inl same ↦ held_before _ old new names.redo t.redo within opened.files (sym same ∙ opened.redo)
-  | inr is_new ↦ rw is_new.0 (made_empty made (sym is_new.1 ∙ opened.redo) opened.files)
-]
-  where
-    made_empty : (b : Bool) → if_made b t.redo ≡ Some t.redo → HasMade (if_made b t.redo) old new → new.bytes t.redo ≡ []
-    made_empty true is has = has.fresh.2
-    made_empty false is has = absurd (none_is_not_some t.redo is)
+module _ (names : Names) (mounted makes : Bool) (t : Trio) (made : Made) (old mid : Sight) (within : AreAllThere old)
+    (opened : AreOpened names mounted makes t made old mid) where
+  -- the three hold when they are open what they held under their names
+  pub contents_before : bytes_of_files t mid ≡ contents_of names old
+  contents_before =
+      rw (
+        held_before _ old mid names.image made.image t.image within opened.files opened.image,
+        held_before _ old mid names.journal made.journal t.journal within opened.files opened.journal,
+        held_before _ old mid names.redo made.redo t.redo within opened.files opened.redo,
+      ) refl
 
--- the three hold when they are open what they held under their names
-pub contents_before : (names : Names) (mounted : Bool) (t : Trio) (made : Bool) (old new : Sight) → AreAllThere old → AreOpened names mounted t made old new
-    → bytes_of_files t new ≡ contents_of names old
-contents_before names mounted t made old new within opened =
-    rw (
-      held_before _ old new names.image t.image within opened.files opened.image,
-      held_before _ old new names.journal t.journal within opened.files opened.journal,
-      redo_before names mounted t made old new within opened,
-    ) refl
-
--- the names lead to the three while they are open
-pub named_open : (names : Names) (mounted : Bool) (t : Trio) (made : Bool) (old new : Sight) → AreOpened names mounted t made old new → LeadTo names t new
-named_open names mounted t made old new opened = record {
-  image = still _ old new names.image t.image opened.files opened.image;
-  journal = still _ old new names.journal t.journal opened.files opened.journal;
-  redo = opened.redo;
-}
-
--- and behind the command
-pub named_behind : (names : Names) (t : Trio) (mid new : Sight) → LeadTo names t mid → ChangesOnly t mid new → LeadTo names t new
-named_behind names t mid new named only = record {
-  image = only.named names.image ∙ named.image;
-  journal = only.named names.journal ∙ named.journal;
-  redo = only.named names.redo ∙ named.redo;
-}
+  -- the names lead to the three while they are open, and behind the task
+  pub named_behind : (new : Sight) → ChangesOnly t mid new → LeadTo names t new
+  named_behind new only = record {
+    image = only.named names.image ∙ opened.image.named;
+    journal = only.named names.journal ∙ opened.journal.named;
+    redo = only.named names.redo ∙ opened.redo.named;
+  }
 
 one_file : (name : List ℕ) (m n : ℕ) (v w : Sight) → v.named name ≡ Some m → w.named name ≡ Some n → v ≡ w → m ≡ n
 one_file name m n v w one other same = some_injective (sym one ∙ subst (λ (u : Sight). u.named name ≡ Some n) (sym same) other)
@@ -80,22 +63,23 @@ same_trio names a b v w one other same = (
 pub contents_named : (names : Names) (t : Trio) (w : Sight) → LeadTo names t w → contents_of names w ≡ bytes_of_files t w
 contents_named names t w named = rw (named.image, named.journal, named.redo) refl
 
-held_cleared : (last new : Sight) (name : List ℕ) (n r : ℕ) → last.named name ≡ Some n → TakesAtMost last new r → held new name ≡ last.bytes n
-held_cleared last new name n r named most = elim (most.named name) [
+held_cleared : (files : ℕ → Type 0) (last new : Sight) (name : List ℕ) (n : ℕ) → last.named name ≡ Some n → TakesOnly files last new
+    → held new name ≡ last.bytes n
+held_cleared files last new name n named most = elim (most.named name) [
   | inl same ↦ rw (same ∙ named) (most.bytes n)
   | inr gone ↦
-      let is : n ≡ r = some_injective (sym named ∙ gone.0) in
-      rw gone.2 (subst (λ k. [] ≡ last.bytes k) (sym is) (sym gone.1))
+      let is : n ≡ gone.0 = some_injective (sym named ∙ gone.2) in
+      rw gone.4 (subst (λ k. [] ≡ last.bytes k) (sym is) (sym gone.3))
 ]
 
--- what is held under the names is what the files had, also where an empty redo text was taken away
-pub contents_cleared : (names : Names) (t : Trio) (last new : Sight) → LeadTo names t last → TakesAtMost last new t.redo
+-- what is held under the names is what the files had, also where empty ones were taken away
+pub contents_cleared : (files : ℕ → Type 0) (names : Names) (t : Trio) (last new : Sight) → LeadTo names t last → TakesOnly files last new
     → contents_of names new ≡ bytes_of_files t last
-contents_cleared names t last new named most =
+contents_cleared files names t last new named most =
     rw (
-      held_cleared last new names.image t.image t.redo named.image most,
-      held_cleared last new names.journal t.journal t.redo named.journal most,
-      held_cleared last new names.redo t.redo t.redo named.redo most,
+      held_cleared files last new names.image t.image named.image most,
+      held_cleared files last new names.journal t.journal named.journal most,
+      held_cleared files last new names.redo t.redo named.redo most,
     ) refl
 
 -- where the three hold what they held, so do all files
@@ -116,83 +100,76 @@ same_bytes t mid new only same i =
       ]
     ]
 
-fresh_behind : (made : Bool) (r : ℕ) (old mid new : Sight) → HasMade (if_made made r) old mid → new.there ≡ mid.there → new.bytes r ≡ mid.bytes r
-    → IfSome (if_made made r) (λ n. (old.there ≤ n) × (n < new.there) × (new.bytes n ≡ []))
-fresh_behind true r old mid new has there bytes = let fresh = has.fresh in (fresh.0, (rw there fresh.1), bytes ∙ fresh.2)
-fresh_behind false r old mid new has there bytes = tt
-
--- where the three hold what they held, no more was made than the redo text
-pub made_behind : (names : Names) (mounted : Bool) (t : Trio) (made : Bool) (old mid new : Sight) → AreOpened names mounted t made old mid
-    → ChangesOnly t mid new → old.lent ≡ None → new.lent ≡ None → bytes_of_files t new ≡ bytes_of_files t mid → HasMade (if_made made t.redo) old new
-made_behind names mounted t made old mid new opened only free lent same =
-    let files = opened.files in
-    let there = only.there in
-    let least = files.there in
-    record {
-      named = λ m. elim (files.named m) [
-        | inl as_before ↦ inl (only.named m ∙ as_before)
-        | inr is_new ↦ inr (is_new.0, only.named m ∙ is_new.1)
-      ];
-      bytes = λ i below. same_bytes t mid new only same i ∙ files.bytes i below;
-      stat = λ i below. only.stat i ∙ files.stat i below;
-      fresh = fresh_behind made t.redo old mid new files there (same_bytes t mid new only same t.redo);
-      there = rw there least;
-      stuck = only.stuck ∙ files.stuck;
-      streams = record {
-        is_link = λ m. only.is_link m ∙ files.streams.is_link m;
-        caller = only.caller ∙ files.streams.caller;
-        output = only.output ∙ files.streams.output;
-        errors = only.errors ∙ files.streams.errors;
-        before = only.before ∙ files.streams.before;
-        lent = lent ∙ sym free;
-      };
-    }
-
 -- a file that was made is none of those that were there
-made_apart : (made : Bool) (r n : ℕ) (old new : Sight) → HasMade (if_made made r) old new → made ≡ true → n < old.there → n ≡ r → ⊥
-made_apart true r n old new has _ below is = let fresh = has.fresh.0 in omega (arith, fresh, below, is)
-made_apart false r n old new has wrong below is = let no : false ≡ true = wrong in cc
+made_apart : (files : ℕ → Type 0) (n : ℕ) (old new : Sight) → HasMade files old new → n < old.there → files n → ⊥
+made_apart files n old new has below is = let fresh = (has.fresh n is).0 in omega (arith, fresh, below)
 
--- the redo text was there, or it was made
-redo_was : (names : Names) (mounted : Bool) (t : Trio) (made : Bool) (old mid : Sight) → AreOpened names mounted t made old mid
-    → (old.named names.redo ≡ Some t.redo) ⊎ (made ≡ true)
-redo_was names mounted t true old mid opened = inr refl
-redo_was names mounted t false old mid opened = elim (opened.files.named names.redo) [
-  | inl same ↦ inl (sym same ∙ opened.redo)
-  | inr is_new ↦ absurd (none_is_not_some t.redo (sym is_new.1 ∙ opened.redo))
-]
+-- nor is one that no name of the three led to
+no_other : (files : ℕ → Type 0) (name : List ℕ) (made : Bool) (n i : ℕ) (old mid : Sight) → HasMade files old mid → IsOpenUnder name made n old mid
+    → (made ≡ true → files n) → i < old.there → (old.named name ≡ Some i → ⊥) → i ≡ n → ⊥
+no_other files name true n i old mid has under is_made below unnamed is =
+    let fresh = (has.fresh n (is_made refl)).0 in omega (arith, fresh, below, is)
+no_other files name false n i old mid has under is_made below unnamed is =
+    let was : old.named name ≡ Some n = under.was in unnamed (was ∙ ap Some (sym is))
 
--- a name that led to a file leads to it still, when the redo text was taken away
-still_behind : (made : Bool) (r : ℕ) (old mid last new : Sight) (m : List ℕ) (n : ℕ) → AreAllThere old → HasMade (if_made made r) old mid
-    → old.named m ≡ Some n → last.named m ≡ Some n → TakesAtMost last new r → (made ≡ false → new ≡ last) → new.named m ≡ Some n
-still_behind false r old mid last new m n within has named stands most unmade = rw (unmade refl) stands
-still_behind true r old mid last new m n within has named stands most unmade = elim (most.named m) [
-  | inl same ↦ same ∙ stands
-  | inr gone ↦ absurd (made_apart true r n old mid has refl (within m n named) (some_injective (sym stands ∙ gone.0)))
-]
+module _ (names : Names) (mounted makes : Bool) (t : Trio) (made : Made) (old mid last : Sight) (within : AreAllThere old)
+    (opened : AreOpened names mounted makes t made old mid) (only : ChangesOnly t mid last) where
+  abbrev IsMade : ℕ → Type 0
+  IsMade n = IsOneOfMade made t n
 
--- what the system tells of a file that was there stays, when the redo text was taken away
-stat_behind : (made : Bool) (r n : ℕ) (old mid last new : Sight) → HasMade (if_made made r) old mid → n < old.there → last.stat n ≡ old.stat n
-    → TakesAtMost last new r → (made ≡ false → new ≡ last) → new.stat n ≡ old.stat n
-stat_behind false r n old mid last new has below stands most unmade = rw (unmade refl) stands
-stat_behind true r n old mid last new has below stands most unmade = most.stat n (λ is. made_apart true r n old mid has refl below is) ∙ stands
+  -- where the three hold what they held, no more was made than was opened
+  pub made_behind : old.lent ≡ None → last.lent ≡ None → bytes_of_files t last ≡ bytes_of_files t mid → HasMade (IsOneOfMade made t) old last
+  made_behind free lent same =
+      let files = opened.files in
+      let there = only.there in
+      let least = files.there in
+      record {
+        named = λ m. elim (files.named m) [
+          | inl as_before ↦ inl (only.named m ∙ as_before)
+          | inr is_new ↦ inr (is_new.0, is_new.1, is_new.2, only.named m ∙ is_new.3)
+        ];
+        bytes = λ i below. same_bytes t mid last only same i ∙ files.bytes i below;
+        stat = λ i below. only.stat i ∙ files.stat i below;
+        fresh = λ n is. let fresh = files.fresh n is in (fresh.0, rw there fresh.1, same_bytes t mid last only same n ∙ fresh.2);
+        there = rw there least;
+        stuck = only.stuck ∙ files.stuck;
+        streams = record {
+          is_link = λ m. only.is_link m ∙ files.streams.is_link m;
+          caller = only.caller ∙ files.streams.caller;
+          output = only.output ∙ files.streams.output;
+          errors = only.errors ∙ files.streams.errors;
+          before = only.before ∙ files.streams.before;
+          lent = lent ∙ sym free;
+        };
+      }
 
--- no other file is changed
-pub others_of : (names : Names) (mounted : Bool) (t : Trio) (made : Bool) (old mid last new : Sight) → AreAllThere old → AreOpened names mounted t made old mid
-    → ChangesOnly t mid last → TakesAtMost last new t.redo → (made ≡ false → new ≡ last) → KeepsOthers names old new
-others_of names mounted t made old mid last new within opened only most unmade = record {
-  bytes = λ n below no_image no_journal no_redo. most.bytes n ∙ only.bytes n (
-    λ is. no_image (opened.image ∙ ap Some (sym is)),
-    λ is. no_journal (opened.journal ∙ ap Some (sym is)),
-    λ is. elim (redo_was names mounted t made old mid opened) [
-      | inl was ↦ no_redo (was ∙ ap Some (sym is))
-      | inr was ↦ made_apart made t.redo n old mid opened.files was below is
-    ],
-  ) ∙ opened.files.bytes n below;
-  stat = λ n below. stat_behind made t.redo n old mid last new opened.files below (only.stat n ∙ opened.files.stat n below) most unmade;
-  named = λ m n named. still_behind made t.redo old mid last new m n within opened.files named
-      (only.named m ∙ still _ old mid m n opened.files named) most unmade;
-}
+  -- what was made wasn't there when the run began
+  pub made_by_run : old.before ≤ old.there → (n : ℕ) → IsOneOfMade made t n → last.before ≤ n
+  made_by_run begun n is =
+      let fresh = (opened.files.fresh n is).0 in
+      let before = only.before ∙ opened.files.streams.before in
+      omega (arith, fresh, before, begun)
+
+  pub others_of : (new : Sight) → TakesOnly (IsOneOfMade made t) last new → KeepsOthers names old new
+  others_of new most = record {
+    bytes = λ n below no_image no_journal no_redo. most.bytes n ∙ only.bytes n (
+      no_other IsMade names.image made.image t.image n old mid opened.files opened.image (λ is. inl (is, refl)) below no_image,
+      no_other IsMade names.journal made.journal t.journal n old mid opened.files opened.journal (λ is. inr (inl (is, refl))) below no_journal,
+      no_other IsMade names.redo made.redo t.redo n old mid opened.files opened.redo (λ is. inr (inr (is, refl))) below no_redo,
+    ) ∙ opened.files.bytes n below;
+    stat = λ n below. most.stat n (made_apart IsMade n old mid opened.files below) ∙ only.stat n ∙ opened.files.stat n below;
+    named = λ m n named. still_behind new most m n named;
+  }
+    where
+      still_behind : (new : Sight) → TakesOnly (IsOneOfMade made t) last new → (m : List ℕ) (n : ℕ) → old.named m ≡ Some n → new.named m ≡ Some n
+      still_behind new most m n named =
+          let stands : last.named m ≡ Some n = only.named m ∙ still IsMade old mid m n opened.files named in
+          elim (most.named m) [
+            | inl same ↦ same ∙ stands
+            | inr gone ↦
+                let is : n ≡ gone.0 = some_injective (sym stands ∙ gone.2) in
+                absurd (made_apart IsMade n old mid opened.files (within m n named) (subst IsMade (sym is) gone.1))
+          ]
 
 -- of files that are as they were no other is changed
 pub others_left : (names : Names) (old new : Sight) → LeavesFiles old new → KeepsOthers names old new

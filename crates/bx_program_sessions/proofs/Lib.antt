@@ -3,3 +3,4 @@ pub mod Refused
 pub mod Files
 pub mod Answered
 pub mod Lines
+pub mod Parts

@@ -2,17 +2,18 @@
 use Rattle.std.proofs.Common.{◌≡◌, ◌∙◌, ◌++◌, ◌≤◌, ◌+◌, ℕ, zero, suc, List, [], Option, Some, None, take, length, refl, sym, ap, subst, inl, inr, append_assoc, append-nil, length-append, arith}
 use Rattle.std.specs.Prelude.{Result, Ok, Err, OnOk, IfOk, IfErr, IfSome}
 use Rattle.std.specs.Option.{option_map_or}
-use Rattle.bx_program_world.specs.World.{KeepsFiles, Sight, held}
+use Rattle.bx_program_world.specs.World.{KeepsFiles, Sight, Trio, held}
 use Rattle.bx_program_files.specs.Files.{LeavesFiles}
 use Rattle.bx_program_files.specs.declared.names.Names.{Names}
 use Rattle.bx_program_files.specs.declared.unopened.Unopened.{Unopened}
 use Rattle.bx_journal.specs.How.{How}
 use Rattle.bx_journal.specs.SessionFault.TheVariants.{Interrupted}
+use Rattle.bx_cli_commands.specs.declared.command.Reply.{Reply}
 use Rattle.bx_cli_commands.specs.declared.fault.Fault.{Fault}
 use Rattle.bx_cli_commands.specs.declared.fault.Fault.TheVariants.{OpenFailed, Session}
 use Rattle.bx_program_sessions.specs.Contents.{FindsIn, Holds}
 use Rattle.bx_program_sessions.specs.Moves.{Course, IsMoved, Moves, RefusesMove, StopsLine, StopsMove, StopsPart, TellsRecovered, number_line, recovered_line}
-use Rattle.bx_program_sessions.specs.Named.{IsUnrecovered, KeepsOthers, contents_of}
+use Rattle.bx_program_sessions.specs.Named.{IsUnrecovered, KeepsOthers, LeadTo, NothingDone, contents_of}
 
 -- the first part couldn't be written
 pub stops_first : (first second old new : List ℕ) (e : Fault) → StopsPart 0 first old new e → StopsLine (first ++ second) old new e
@@ -52,7 +53,7 @@ held_kept mid new name keeps = at_name (mid.named name) (keeps.named name)
     at_name None is = rw is refl
     at_name (Some n) is = rw is (keeps.bytes n)
 
-contents_kept : (names : Names) (mid new : Sight) → KeepsFiles mid new → contents_of names new ≡ contents_of names mid
+pub contents_kept : (names : Names) (mid new : Sight) → KeepsFiles mid new → contents_of names new ≡ contents_of names mid
 contents_kept names mid new keeps =
     rw (held_kept mid new names.image keeps, held_kept mid new names.journal keeps, held_kept mid new names.redo keeps) refl
 
@@ -192,3 +193,24 @@ pub recovered_behind : (names : Names) (k : ℕ) (course : How → Course) (old 
 recovered_behind names k course old mid told new None standing r moved first second before between line refused = tt
 recovered_behind names k course old mid told new (Some h) standing r moved first second before between line refused =
     done_behind names k (course h) old mid told new standing r moved first second before between line refused
+
+-- files that were left, where nothing was recovered and so nothing is said of it
+pub leaves_silent : (how : Option How) (old mid new : Sight) → IsUnrecovered how → LeavesFiles old mid → KeepsFiles mid new → new.output ≡ mid.output
+    → TellsRecovered how mid.errors new.errors → LeavesFiles old new
+leaves_silent how old mid new is left keeps output tells = leaves_kept old mid new left keeps output (silent_line how mid.errors new.errors is tells)
+
+-- files that weren't opened, where nothing is said
+pub nothing_kept : (u : Option Unopened) (reply : Reply) (how : Option How) (old mid new : Sight) → IfSome u (λ _. NothingDone reply how old mid)
+    → KeepsFiles mid new → new.output ≡ mid.output → TellsRecovered how mid.errors new.errors → IfSome u (λ _. NothingDone reply how old new)
+nothing_kept None reply how old mid new none keeps output tells = tt
+nothing_kept (Some u) reply how old mid new none keeps output tells =
+    let unrecovered : IsUnrecovered how = rw none.1 tt in
+    (none.0, none.1, leaves_silent how old mid new unrecovered none.2 keeps output tells)
+
+-- names lead to the files that they led to
+pub leads_back : (names : Names) (t : Trio) (mid new : Sight) → KeepsFiles mid new → LeadTo names t new → LeadTo names t mid
+leads_back names t mid new keeps leads = record {
+  image = sym (keeps.named names.image) ∙ leads.image;
+  journal = sym (keeps.named names.journal) ∙ leads.journal;
+  redo = sym (keeps.named names.redo) ∙ leads.redo;
+}

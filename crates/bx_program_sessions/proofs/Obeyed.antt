@@ -1,4 +1,4 @@
--- What a command that was obeyed makes of the contents of its devices.
+-- What a task that was obeyed makes of the contents of its devices.
 use Rattle.std.proofs.Common.{◌≡◌, ◌<◌, ◌≤◌, ◌+◌, ◌^◌, ℕ, Bool, true, false, cond, Option, List, sym, subst, arith}
 use Rattle.bx_image.specs.declared.device.Device.{Ghosts as DeviceViews}
 use Rattle.bx_journal_store.specs.declared.store.TextStore.{Ghosts as StoreViews}
@@ -9,15 +9,16 @@ use Rattle.bx_journal.specs.Redo.{IsRedoOf}
 use Rattle.bx_journal.specs.Session.{HasUndone, IsReady}
 use Rattle.bx_journal.specs.SessionView.{SessionView, devices_of}
 use Rattle.bx_journal.specs.SessionFault.{SessionFault}
-use Rattle.bx_cli_commands.specs.declared.command.Command.{Command}
 use Rattle.bx_cli_commands.specs.declared.command.Reply.{Reply}
 use Rattle.bx_cli_commands.specs.declared.command.Reply.TheVariants.{Refused}
 use Rattle.bx_cli_commands.specs.declared.fault.Fault.TheVariants.{Session}
 use Rattle.bx_cli_commands.specs.Obeys.{Obeys}
 use Rattle.bx_cli_commands.specs.Refusal.{IsWholeRefusal}
-use Rattle.bx_cli_commands.specs.Run.{CommandStep, is_failure}
+use Rattle.bx_cli_commands.specs.Run.{is_failure}
 use Rattle.bx_cli_commands.specs.Standing.{CountsBy, HoldsAt, Standing}
 use Rattle.bx_cli_commands.proofs.Steps.{counts_least, counts_rise}
+use Rattle.bx_program_sessions.specs.declared.task.Task.{Task}
+use Rattle.bx_program_sessions.specs.Task.{TaskStep}
 use Rattle.bx_program_sessions.specs.Contents.{AreFresh, AreHonest, AreInPlace, EndsAt, StepsTo, Survives, held_by}
 
 -- counts that rose by no more than one stand where they began
@@ -42,21 +43,21 @@ module _ {D T : Type 0} (d : DeviceViews D) (t : StoreViews T) where
       (ready.rest, subst (λ n. IsRedoOf (t.text new.redo) (d.image new.image) n s.undone) (sym changes) h.3.1.redo)
   ends_at new (Standing.Down s) h = h.3.1
 
-  -- behind a command
+  -- behind a task
   pub placed_behind : (old new : SessionView D T) (b : Bool) → CountsBy d t old new (cond b 1 0) → AreFresh d t (devices_of old)
       → AreInPlace d t (devices_of new)
   placed_behind old new b counts fresh =
       placed b _ _ _ _ _ _ counts.image_least counts.journal_least counts.redo_least counts.rise fresh.0 fresh.1 fresh.2
 
-module _ {D T R A : Type 0} (d : DeviceViews D) (t : StoreViews T) (remaining : R → Option (List ℕ)) where
-  pub steps_of : (old new : SessionView D T) (c : Command R A) (reply : Reply) → Obeys d t old new reply (λ before. CommandStep remaining before c)
+module _ {D T R : Type 0} (d : DeviceViews D) (t : StoreViews T) (remaining : R → Option (List ℕ)) where
+  pub steps_of : (old new : SessionView D T) (c : Task R) (reply : Reply) → Obeys d t old new reply (λ before. TaskStep remaining before c)
       → AreHonest d t (devices_of old) → (s : Images) → IsReady d.image t.text old s.stack → HasUndone d.image t.text old s.undone
       → StepsTo remaining s c reply (held_by d t (devices_of new))
   steps_of old new c reply obeys honest s ready undone =
       let made = obeys.step (Standing.Up s) (honest.0, honest.1, honest.2, (ready, undone)) in
       (made.0, made.2, ends_at d t new made.0 made.1)
 
-  pub survives_of : (old new : SessionView D T) (c : Command R A) (reply : Reply) → Obeys d t old new reply (λ before. CommandStep remaining before c)
+  pub survives_of : (old new : SessionView D T) (c : Task R) (reply : Reply) → Obeys d t old new reply (λ before. TaskStep remaining before c)
       → AreHonest d t (devices_of old) → (s : Images) → IsReady d.image t.text old s.stack → HasUndone d.image t.text old s.undone
       → (IsWholeRefusal reply → ⊥) → Survives remaining s c reply (d.survives new.image) (t.survives new.journal) (t.survives new.redo)
   survives_of old new c reply obeys honest s ready undone stopped x text redo_text there text_there redo_there =

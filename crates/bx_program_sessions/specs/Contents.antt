@@ -1,4 +1,4 @@
--- What a command makes of the contents of an image, its journal and its redo text.
+-- What a task makes of the contents of an image, its journal and its redo text.
 use Rattle.std.specs.Prelude.{◌≡◌, ◌↔◌, ◌⊎◌, ◌<◌, ◌≤◌, ◌^◌, ℕ, Option, None, Some, List, []}
 use Rattle.bx_image.specs.declared.device.Device.{Ghosts as DeviceViews}
 use Rattle.bx_journal_store.specs.declared.store.TextStore.{Ghosts as StoreViews}
@@ -13,12 +13,12 @@ use Rattle.bx_journal.specs.How.{How}
 use Rattle.bx_journal.specs.SessionFault.{SessionFault}
 use Rattle.bx_journal.specs.Devices.{Devices}
 use Rattle.bx_cli_commands.specs.Power.{images_of}
-use Rattle.bx_cli_commands.specs.Run.{CommandStep}
 use Rattle.bx_cli_commands.specs.Standing.{Standing}
-use Rattle.bx_cli_commands.specs.declared.command.Command.{Command}
 use Rattle.bx_cli_commands.specs.declared.command.Reply.{Reply}
 use Rattle.bx_cli_commands.specs.declared.command.Reply.TheVariants.{Refused}
 use Rattle.bx_cli_commands.specs.declared.fault.Fault.TheVariants.{Session}
+use Rattle.bx_program_sessions.specs.declared.task.Task.{Task}
+use Rattle.bx_program_sessions.specs.Task.{TaskStep}
 
 -- What an image, its journal and its redo text hold
 pub record Contents : Type 0 where
@@ -38,39 +38,39 @@ FindsIn c s = Finds c.journal c.image c.redo s
 abbrev pub FoundIn : Contents → Images → Type 0
 FoundIn c s = Found c.journal c.image c.redo s
 
--- the three hold the images, or, where a command was stopped, opening finds them
+-- the three hold the images, or, where a task was stopped, opening finds them
 abbrev pub EndsAt : Contents → Standing → Type 0
 EndsAt c (Standing.Up s) = Holds c s
 EndsAt c (Standing.Down s) = FindsIn c s
 
--- a command on three contents that hold images made the machine's step
-abbrev pub StepsTo : {R A : Type 0} → (R → Option (List ℕ)) → Images → Command R A → Reply → Contents → Type 0
-StepsTo remaining s command reply new = (after : Standing) × CommandStep remaining (Standing.Up s) command reply after × EndsAt new after
+-- a task on three contents that hold images made the machine's step
+abbrev pub StepsTo : {R : Type 0} → (R → Option (List ℕ)) → Images → Task R → Reply → Contents → Type 0
+StepsTo remaining s task reply new = (after : Standing) × TaskStep remaining (Standing.Up s) task reply after × EndsAt new after
 
 -- opening was refused by a device, or for want of memory
 abbrev pub IsUnopened : Reply → Type 0
 IsUnopened reply = (e : SessionFault) × (reply ≡ Refused (Session e)) × DeviceFault e
 
--- A command on three contents that hold images: its opening was refused, or it made the machine's step
-abbrev pub Does : {R A : Type 0} → (R → Option (List ℕ)) → Images → Command R A → Reply → Contents → Type 0
-Does remaining s command reply new = (IsUnopened reply × Holds new s) ⊎ StepsTo remaining s command reply new
+-- A task on three contents that hold images: its opening was refused, or it made the machine's step
+abbrev pub Does : {R : Type 0} → (R → Option (List ℕ)) → Images → Task R → Reply → Contents → Type 0
+Does remaining s task reply new = (IsUnopened reply × Holds new s) ⊎ StepsTo remaining s task reply new
 
 -- the images that opening makes of those that it finds: where something is unfinished nothing is undone any more
 abbrev pub recovered_as : How → Images → Images
 recovered_as how s = record { stack = s.stack; undone = found_undone how s.undone }
 
--- A command on three contents in which opening finds images: it made the machine's step from what was recovered, or opening was refused, and
+-- A task on three contents in which opening finds images: it made the machine's step from what was recovered, or opening was refused, and
 -- finds them again, behind an interruption without those that were undone
-abbrev pub DoesFound : {R A : Type 0} → (R → Option (List ℕ)) → Images → Command R A → Option How → Reply → Contents → Type 0
-DoesFound remaining s command (Some how) reply new = StepsTo remaining (recovered_as how s) command reply new
-DoesFound remaining s command None reply new =
+abbrev pub DoesFound : {R : Type 0} → (R → Option (List ℕ)) → Images → Task R → Option How → Reply → Contents → Type 0
+DoesFound remaining s task (Some how) reply new = StepsTo remaining (recovered_as how s) task reply new
+DoesFound remaining s task None reply new =
     (e : SessionFault) × (reply ≡ Refused (Session e)) × AfterFault e (FoundIn new (record { stack = s.stack; undone = [] })) (FoundIn new s)
 
--- whatever is found of the three after a loss of power, opening finds the images of an end of the command
-abbrev pub Survives : {R A : Type 0} → (R → Option (List ℕ)) → Images → Command R A → Reply
+-- whatever is found of the three after a loss of power, opening finds the images of an end of the task
+abbrev pub Survives : {R : Type 0} → (R → Option (List ℕ)) → Images → Task R → Reply
     → (List ℕ → Type 0) → (List ℕ → Type 0) → (List ℕ → Type 0) → Type 0
-Survives remaining s command reply image journal redo = (x text redo_text : List ℕ) → image x → journal text → redo redo_text
-    → (after : Standing) × CommandStep remaining (Standing.Up s) command reply after × Found text x redo_text (images_of after)
+Survives remaining s task reply image journal redo = (x text redo_text : List ℕ) → image x → journal text → redo redo_text
+    → (after : Standing) × TaskStep remaining (Standing.Up s) task reply after × Found text x redo_text (images_of after)
 
 -- what three devices hold
 abbrev pub held_by : {D T : Type 0} → DeviceViews D → StoreViews T → Devices D T → Contents

@@ -1,4 +1,4 @@
--- What one command makes of the files of an image, and of all others.
+-- What one task makes of the files of an image, and of all others.
 use Rattle.std.specs.Prelude.{◌≡◌, ◌⊎◌, ◌<◌, ℕ, Option, None, Some, IfSome, List}
 use Rattle.bx_program_world.specs.World.{Sight, Trio, held}
 use Rattle.bx_program_files.specs.Files.{LeavesFiles}
@@ -6,13 +6,13 @@ use Rattle.bx_program_files.specs.declared.names.Names.{Names}
 use Rattle.bx_journal.specs.Images.{Images}
 use Rattle.bx_journal.specs.How.{How}
 use Rattle.bx_journal.specs.How.TheVariants.{Clean}
-use Rattle.bx_cli_commands.specs.Run.{CommandStep}
 use Rattle.bx_cli_commands.specs.Standing.{Standing}
-use Rattle.bx_cli_commands.specs.declared.command.Command.{Command}
 use Rattle.bx_cli_commands.specs.declared.command.Reply.{Reply}
 use Rattle.bx_cli_commands.specs.declared.command.Reply.TheVariants.{Refused}
 use Rattle.bx_cli_commands.specs.declared.fault.Fault.TheVariants.{OpenFailed}
+use Rattle.bx_program_sessions.specs.declared.task.Task.{Task}
 use Rattle.bx_program_sessions.specs.Contents.{Contents, IsUnopened}
+use Rattle.bx_program_sessions.specs.Task.{TaskStep}
 
 -- what the files of these numbers hold
 abbrev pub bytes_of_files : Trio → Sight → Contents
@@ -40,10 +40,10 @@ pub record KeepsOthers (names : Names) (old new : Sight) : Type 0 where
 abbrev pub IsUnrecovered : Option How → Type 0
 IsUnrecovered how = IfSome how (λ h. h ≡ Clean)
 
--- Files weren't opened: the command is refused for that, nothing was recovered, and all files are as they were
+-- Files weren't opened: the task is refused for that, nothing was recovered, and all files are as they were
 abbrev pub NothingDone : Reply → Option How → Sight → Sight → Type 0
 NothingDone reply how old new = (reply ≡ Refused OpenFailed) × (how ≡ None) × LeavesFiles old new
 
--- Why a command on files that were opened was refused: a device or want of memory stopped the opening, or the machine refuses it
-abbrev pub MayRefuse : {R A : Type 0} → (R → Option (List ℕ)) → Images → Command R A → Reply → Type 0
-MayRefuse remaining s command reply = IsUnopened reply ⊎ ((after : Standing) × CommandStep remaining (Standing.Up s) command reply after)
+-- Why a task on files that were opened was refused: a device or want of memory stopped the opening, or the machine refuses it
+abbrev pub MayRefuse : {R : Type 0} → (R → Option (List ℕ)) → Images → Task R → Reply → Type 0
+MayRefuse remaining s task reply = IsUnopened reply ⊎ ((after : Standing) × TaskStep remaining (Standing.Up s) task reply after)

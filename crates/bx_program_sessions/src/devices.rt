@@ -1,21 +1,22 @@
-//! A command on three devices, which are opened as a session and handed back.
+//! A task on three devices, which are opened as a session and handed back.
 ghost use Rattle.std.specs.Prelude.{◌≡◌, Some};
 ghost use Rattle.bx_journal.specs.Images.{Images};
 ghost use Rattle.bx_journal.specs.Session.{HasUndone, IsReady};
 ghost use Rattle.bx_journal.specs.SessionView.{devices_of};
-ghost use Rattle.bx_cli_commands.specs.Command.{IsNear};
 ghost use Rattle.bx_cli_commands.specs.Refusal.{IsWholeRefusal};
 ghost use Rattle.bx_program_sessions.specs.Contents.{AreFresh, AreHonest, AreInPlace, Does, DoesFound, FoundIn, Holds, KeepHonesty, StepsTo, Survives, held_by};
 ghost use Rattle.bx_program_sessions.specs.Named.{IsUnrecovered};
+ghost use Rattle.bx_program_sessions.specs.Task.{IsNearTask};
 
-use bx_cli_commands::{Command, Fault, Reply, run_one};
+use crate::task::{Task, do_task};
+use bx_cli_commands::{Fault, Reply};
 use bx_image::Device;
 use bx_journal::{Devices, How, Session};
 use bx_journal_store::TextStore;
 use std::alloc::Global;
 use std::io::Read;
 
-/// Three devices behind a command, and the reply to it.
+/// Three devices behind a task, and the reply to it.
 pub struct Closed<D: Device, T: TextStore> {
     /// The image, its journal and its redo text.
     pub devices: Devices<D, T>,
@@ -25,29 +26,29 @@ pub struct Closed<D: Device, T: TextStore> {
     pub how: Option<How>,
 }
 
-/// Runs a command on a session, and closes it.
-fn run_opened<D: Device, T: TextStore, R: Read>(
+/// Does a task on a session, and closes it.
+fn run_opened<D: Device, T: TextStore, R: Read + Drop>(
     alloc: Global,
     mut session: Session<D, T>,
     how: How,
-    command: &mut Command<R>,
+    task: Task<R>,
 ) -> Closed<D, T>
-    requires near { IsNear command.old }
+    requires near { IsNearTask task }
     requires fresh { AreFresh D.Device T.TextStore (devices_of session) }
     ensures order { AreInPlace D.Device T.TextStore result.devices }
     ensures honesty { KeepHonesty D.Device T.TextStore (devices_of session) result.devices }
     ensures how { result.how ≡ Some how }
     ensures does { AreHonest D.Device T.TextStore (devices_of session) → (s : Images)
         → IsReady D.image T.text session s.stack → HasUndone D.image T.text session s.undone
-        → StepsTo R.remaining s command.old result.reply (held_by D.Device T.TextStore result.devices) }
+        → StepsTo R.remaining s task result.reply (held_by D.Device T.TextStore result.devices) }
     ensures whole { AreHonest D.Device T.TextStore (devices_of session) → IsWholeRefusal result.reply
         → held_by D.Device T.TextStore result.devices ≡ held_by D.Device T.TextStore (devices_of session) }
     ensures survives { AreHonest D.Device T.TextStore (devices_of session) → (s : Images)
         → IsReady D.image T.text session s.stack → HasUndone D.image T.text session s.undone → (IsWholeRefusal result.reply → ⊥)
-        → Survives R.remaining s command.old result.reply
+        → Survives R.remaining s task result.reply
         (D.survives result.devices.image) (T.survives result.devices.journal) (T.survives result.devices.redo) }
 {
-    let reply = run_one(&alloc, &mut session, command);
+    let reply = do_task(alloc, &mut session, task);
     let (image, journal, redo) = session.close();
     Closed {
         devices: Devices {
@@ -60,39 +61,39 @@ fn run_opened<D: Device, T: TextStore, R: Read>(
     }
 }
 
-/// Opens three devices as a session, runs a command, and hands them back. The journal's failures count from 0 and those of the
+/// Opens three devices as a session, does a task, and hands them back. The journal's failures count from 0 and those of the
 /// redo text from 2^32, so that none is handed back in the other's place.
-pub fn run_on<D: Device, T: TextStore, R: Read>(
+pub fn run_on<D: Device, T: TextStore, R: Read + Drop>(
     alloc: Global,
     devices: Devices<D, T>,
-    command: &mut Command<R>,
+    task: Task<R>,
 ) -> Closed<D, T>
-    requires near { IsNear command.old }
+    requires near { IsNearTask task }
     requires fresh { AreFresh D.Device T.TextStore devices }
     ensures order { AreInPlace D.Device T.TextStore result.devices }
     ensures honesty { KeepHonesty D.Device T.TextStore devices result.devices }
 
-    // On devices that hold images nothing is recovered, and the command makes the machine's step, unless its opening was refused.
+    // On devices that hold images nothing is recovered, and the task makes the machine's step, unless its opening was refused.
     ensures how { AreHonest D.Device T.TextStore devices → (s : Images) → Holds (held_by D.Device T.TextStore devices) s → IsUnrecovered result.how }
     ensures does { AreHonest D.Device T.TextStore devices → (s : Images) → Holds (held_by D.Device T.TextStore devices) s
-        → Does R.remaining s command.old result.reply (held_by D.Device T.TextStore result.devices) }
+        → Does R.remaining s task result.reply (held_by D.Device T.TextStore result.devices) }
 
     // On devices in which opening finds images it is done on what is recovered.
     ensures found { AreHonest D.Device T.TextStore devices → (s : Images) → FoundIn (held_by D.Device T.TextStore devices) s
-        → DoesFound R.remaining s command.old result.how result.reply (held_by D.Device T.TextStore result.devices) }
+        → DoesFound R.remaining s task result.how result.reply (held_by D.Device T.TextStore result.devices) }
 
     // One that is refused leaves what was held, byte for byte.
     ensures whole { AreHonest D.Device T.TextStore devices → (s : Images) → Holds (held_by D.Device T.TextStore devices) s
         → IsWholeRefusal result.reply → held_by D.Device T.TextStore result.devices ≡ held_by D.Device T.TextStore devices }
 
-    // Behind a loss of power opening finds an end of the command.
+    // Behind a loss of power opening finds an end of the task.
     ensures survives { AreHonest D.Device T.TextStore devices → (s : Images) → Holds (held_by D.Device T.TextStore devices) s
         → (IsWholeRefusal result.reply → ⊥)
-        → Survives R.remaining s command.old result.reply
+        → Survives R.remaining s task result.reply
         (D.survives result.devices.image) (T.survives result.devices.journal) (T.survives result.devices.redo) }
 {
     match Session::open_devices(alloc, devices) {
-        Ok((session, found)) => run_opened(alloc, session, found.how, command),
+        Ok((session, found)) => run_opened(alloc, session, found.how, task),
         Err((devices, fault)) => Closed {
             devices,
             reply: Reply::Refused(Fault::Session(fault)),

@@ -1,57 +1,59 @@
-//! A command on three files, which are lent as devices and given back.
+//! A task on three files, which are lent as devices and given back.
 ghost use Rattle.std.specs.Prelude.{◌≡◌, ◌↔◌, None};
 ghost use Rattle.bx_journal.specs.Images.{Images};
-ghost use Rattle.bx_cli_commands.specs.Command.{IsNear};
 ghost use Rattle.bx_cli_commands.specs.Refusal.{IsWholeRefusal};
 ghost use Rattle.bx_program_files.specs.Numbers.{numbers_of};
 ghost use Rattle.bx_program_world.specs.World.{AreThreeFiles, ChangesOnly};
 ghost use Rattle.bx_program_sessions.specs.Contents.{Does, DoesFound, FoundIn, Holds, Survives};
 ghost use Rattle.bx_program_sessions.specs.Named.{IsUnrecovered, bytes_of_files};
+ghost use Rattle.bx_program_sessions.specs.Task.{IsNearTask};
 
 use crate::devices::{Closed, run_on};
-use bx_cli_commands::{Command, Reply};
+use crate::task::Task;
+use bx_cli_commands::Reply;
 use bx_journal::{Devices, How};
 use bx_program_files::Files;
 use bx_program_world::World;
 use std::alloc::Global;
 use std::io::Read;
 
-/// What a command left, beside the files.
+/// What a task left.
 #[derive(Drop)]
 pub struct Done<F> {
-    /// The redo text.
-    pub redo: F,
+    /// The files.
+    pub files: Files<F>,
     /// The reply.
     pub reply: Reply,
     /// What opening found unfinished; none where it was refused.
     pub how: Option<How>,
 }
 
-/// Lends three files as devices, runs a command on them, and takes them back.
-pub fn run_lent<W: World, R: Read>(
+/// Lends three files as devices, does a task on them, and takes them back.
+pub fn run_lent<W: World, R: Read + Drop>(
     world: &mut W,
     alloc: Global,
     files: Files<W::File>,
-    command: &mut Command<R>,
+    task: Task<R>,
 ) -> Done<W::File>
-    requires near { IsNear command.old }
+    requires near { IsNearTask task }
     requires free { W.honest world.old → (W.sight world.old).lent ≡ None }
     requires apart { W.honest world.old → AreThreeFiles (W.sight world.old).there (numbers_of W.number files) }
     ensures only { W.honest world.old → ChangesOnly (numbers_of W.number files) (W.sight world.old) (W.sight world.new) }
     ensures free { W.honest world.old → (W.sight world.new).lent ≡ None }
-    ensures redo { W.honest world.old → W.number result.redo ≡ W.number files.redo }
+    ensures files { W.honest world.old → numbers_of W.number result.files ≡ numbers_of W.number files }
+    ensures made { result.files.made ≡ files.made }
     ensures how { W.honest world.old → (s : Images) → Holds (bytes_of_files (numbers_of W.number files) (W.sight world.old)) s
         → IsUnrecovered result.how }
     ensures does { W.honest world.old → (s : Images) → Holds (bytes_of_files (numbers_of W.number files) (W.sight world.old)) s
-        → Does R.remaining s command.old result.reply (bytes_of_files (numbers_of W.number files) (W.sight world.new)) }
+        → Does R.remaining s task result.reply (bytes_of_files (numbers_of W.number files) (W.sight world.new)) }
     ensures found { W.honest world.old → (s : Images) → FoundIn (bytes_of_files (numbers_of W.number files) (W.sight world.old)) s
-        → DoesFound R.remaining s command.old result.how result.reply (bytes_of_files (numbers_of W.number files) (W.sight world.new)) }
+        → DoesFound R.remaining s task result.how result.reply (bytes_of_files (numbers_of W.number files) (W.sight world.new)) }
     ensures whole { W.honest world.old → (s : Images) → Holds (bytes_of_files (numbers_of W.number files) (W.sight world.old)) s
         → IsWholeRefusal result.reply
         → bytes_of_files (numbers_of W.number files) (W.sight world.new) ≡ bytes_of_files (numbers_of W.number files) (W.sight world.old) }
     ensures survives { W.honest world.old → (s : Images) → Holds (bytes_of_files (numbers_of W.number files) (W.sight world.old)) s
         → (IsWholeRefusal result.reply → ⊥)
-        → Survives R.remaining s command.old result.reply (W.survives world.new (W.number files.image))
+        → Survives R.remaining s task result.reply (W.survives world.new (W.number files.image))
         (W.survives world.new (W.number files.journal)) (W.survives world.new (W.number files.redo)) }
     ensures honesty { W.honest world.new ↔ W.honest world.old }
 {
@@ -59,7 +61,7 @@ pub fn run_lent<W: World, R: Read>(
         image,
         journal,
         redo,
-        made: _,
+        made,
     } = files;
     let (image, journal, redo) = world.lend(image, journal, redo);
     let devices = Devices {
@@ -67,7 +69,7 @@ pub fn run_lent<W: World, R: Read>(
         journal,
         redo,
     };
-    let closed = run_on(alloc, devices, command);
+    let closed = run_on(alloc, devices, task);
     let Closed {
         devices,
         reply,
@@ -78,6 +80,12 @@ pub fn run_lent<W: World, R: Read>(
         journal,
         redo,
     } = devices;
-    let (_, _, redo) = world.give_back(image, journal, redo);
-    Done { redo, reply, how }
+    let (image, journal, redo) = world.give_back(image, journal, redo);
+    let files = Files {
+        image,
+        journal,
+        redo,
+        made,
+    };
+    Done { files, reply, how }
 }

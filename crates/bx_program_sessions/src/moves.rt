@@ -1,15 +1,17 @@
 //! An undo and a redo on files, with the number that they write.
-ghost use Rattle.std.specs.Prelude.{◌≡◌, ◌↔◌, ◌++◌, ◌+◌, ◌<◌, ◌^◌, ℕ, decimal, length, Err, None, IfOk, IfErr, IfSome, OnErr, OnOk};
+ghost use Rattle.std.specs.Prelude.{◌≡◌, ◌↔◌, ◌++◌, ◌+◌, ◌<◌, ◌^◌, decimal, false, length, Err, None, IfOk, IfErr, IfSome, OnErr, OnOk};
 ghost use Rattle.bx_journal.specs.Images.{Images};
-ghost use Rattle.bx_program_world.specs.World.{KeepsFiles, KeepsStreams};
-ghost use Rattle.bx_cli_commands.specs.Command.{IsNear};
+ghost use Rattle.bx_program_world.specs.World.{KeepsFiles, KeepsStreams, NothingNewFound};
 ghost use Rattle.bx_program_files.specs.Fit.{AreFit};
 ghost use Rattle.bx_program_files.specs.Reasons.{MayRefuseOpening};
 ghost use Rattle.bx_program_sessions.specs.Contents.{FoundIn, Holds, recovered_as};
 ghost use Rattle.bx_program_sessions.specs.Named.{IsUnrecovered, KeepsOthers, contents_of};
 ghost use Rattle.bx_program_sessions.specs.Moves.{IsMoved, Moves, NothingMoved, RefusesMove, StopsLine, StopsMove, StopsPart, TellsRecovered, command_by, number_line, recovered_line, stepped};
+ghost use Rattle.bx_program_sessions.specs.Task.{IsNearTask};
+ghost use Rattle.bx_program_sessions.specs.declared.task.Task.TheVariants.{Run};
 
-use crate::named::run_command;
+use crate::named::run_task;
+use crate::task::Task;
 use bx_cli_commands::{Command, Fault};
 use bx_journal::{How, Way};
 use bx_program_files::{Names, Unopened};
@@ -80,7 +82,7 @@ fn tell_number<W: World>(world: &mut W, standing: Result<u32, Fault>) -> Result<
     ensures lost { W.honest world.old
         → IfOk standing (λ left. IfErr result (StopsLine (number_line left) (W.sight world.old).output (W.sight world.new).output)) }
     ensures refused { W.honest world.old → IfErr standing (λ e. (result ≡ Err e) × (W.sight world.new ≡ W.sight world.old)) }
-    ensures noted { W.honest world.old → OnErr standing (W.is_refused world.new ≡ W.is_refused world.old) }
+    ensures noted { W.honest world.old → OnErr standing (W.refusals world.new ≡ W.refusals world.old) }
     ensures errors { W.honest world.old → (W.sight world.new).errors ≡ (W.sight world.old).errors }
     ensures files { W.honest world.old → KeepsFiles (W.sight world.old) (W.sight world.new) }
     ensures honesty { W.honest world.new ↔ W.honest world.old }
@@ -112,9 +114,10 @@ fn line_of(how: Option<How>) -> ShortText<64>
 }
 
 /// Says on standard error what opening found unfinished.
-fn tell_recovered<W: World>(world: &mut W, how: Option<How>)
+pub fn tell_recovered<W: World>(world: &mut W, how: Option<How>)
     ensures errors { W.honest world.old → TellsRecovered how (W.sight world.old).errors (W.sight world.new).errors }
-    ensures noted { W.honest world.old → W.is_refused world.new ≡ W.is_refused world.old }
+    ensures noted { W.honest world.old → W.refusals world.new ≡ W.refusals world.old }
+    ensures survives { W.honest world.old → NothingNewFound (W.survives world.old) (W.survives world.new) }
     ensures output { W.honest world.old → (W.sight world.new).output ≡ (W.sight world.old).output }
     ensures files { W.honest world.old → KeepsFiles (W.sight world.old) (W.sight world.new) }
     ensures honesty { W.honest world.new ↔ W.honest world.old }
@@ -123,14 +126,14 @@ fn tell_recovered<W: World>(world: &mut W, how: Option<How>)
     world.complain(line.as_bytes());
 }
 
-/// The command that moves as many changes one way.
-fn command_by(way: Way, count: u32) -> Command<Empty>
-    ensures is { result ≡ command_by way count }
-    ensures near { IsNear result }
+/// The task that moves as many changes one way.
+fn task_by(way: Way, count: u32) -> Task<Empty>
+    ensures is { result ≡ Run (command_by way count) }
+    ensures near { IsNearTask result }
 {
     match way {
-        Way::Undo => Command::Undo { k: count },
-        Way::Redo => Command::Redo { j: count },
+        Way::Undo => Task::Run(Command::Undo { k: count }),
+        Way::Redo => Task::Run(Command::Redo { j: count }),
     }
 }
 
@@ -150,7 +153,8 @@ fn moved_by<W: World>(
         → IfErr result.outcome (RefusesMove names.now count (stepped way s) result.unopened (W.sight world.old) (W.sight world.new)) }
     ensures unopened { W.honest world.old → IfSome result.unopened (λ _. NothingMoved result (W.sight world.old) (W.sight world.new)) }
     ensures why_unopened { W.honest world.old
-        → IfSome result.unopened (MayRefuseOpening names.now mounted (W.is_refused world.new) (W.sight world.old)) }
+        → IfSome result.unopened (MayRefuseOpening names.now mounted false (W.refusals world.old < W.refusals world.new)
+        (W.sight world.old)) }
     ensures fit { W.honest world.old → result.unopened ≡ None → AreFit names.now mounted (W.sight world.old) }
     ensures how { W.honest world.old → (s : Images) → Holds (contents_of names.now (W.sight world.old)) s → IsUnrecovered result.how }
     ensures recovered { W.honest world.old → (s : Images) → FoundIn (contents_of names.now (W.sight world.old)) s → result.unopened ≡ None
@@ -160,9 +164,8 @@ fn moved_by<W: World>(
     ensures silent { W.honest world.old → KeepsStreams (W.sight world.old) (W.sight world.new) }
     ensures honesty { W.honest world.new ↔ W.honest world.old }
 {
-    let mut command = command_by(way, count);
-    let answer = run_command(world, alloc, names, mounted, &mut command);
-    drop(command);
+    let task = task_by(way, count);
+    let answer = run_task(world, alloc, names, mounted, false, task);
     Moved {
         outcome: answer.reply.standing(),
         unopened: answer.unopened,
@@ -190,7 +193,8 @@ pub fn move_changes<W: World>(
         → IfErr result.outcome (StopsMove names.now count (stepped way s) result.unopened (W.sight world.old) (W.sight world.new)) }
     ensures unopened { W.honest world.old → IfSome result.unopened (λ _. NothingMoved result (W.sight world.old) (W.sight world.new)) }
     ensures why_unopened { W.honest world.old
-        → IfSome result.unopened (MayRefuseOpening names.now mounted (W.is_refused world.new) (W.sight world.old)) }
+        → IfSome result.unopened (MayRefuseOpening names.now mounted false (W.refusals world.old < W.refusals world.new)
+        (W.sight world.old)) }
     ensures fit { W.honest world.old → result.unopened ≡ None → AreFit names.now mounted (W.sight world.old) }
     ensures how { W.honest world.old → (s : Images) → Holds (contents_of names.now (W.sight world.old)) s → IsUnrecovered result.how }
     ensures recovered { W.honest world.old → (s : Images) → FoundIn (contents_of names.now (W.sight world.old)) s → result.unopened ≡ None

@@ -1,24 +1,26 @@
-//! One command on the files of these names.
-ghost use Rattle.std.specs.Prelude.{◌≡◌, ◌↔◌, ◌≤◌, None, IfSome, true, false};
+//! One task on the files of these names.
+ghost use Rattle.std.specs.Prelude.{◌≡◌, ◌↔◌, ◌<◌, ◌≤◌, ℕ, None, IfSome, true, false};
 ghost use Rattle.bx_journal.specs.Images.{Images};
-ghost use Rattle.bx_cli_commands.specs.Command.{IsNear};
 ghost use Rattle.bx_cli_commands.specs.Refusal.{IsWholeRefusal};
-ghost use Rattle.bx_program_world.specs.World.{KeepsStreams, Sight, TakesAtMost, Trio};
-ghost use Rattle.bx_program_files.specs.Files.{HasMade, AreAllThere, LeavesFiles, if_made};
+ghost use Rattle.bx_program_world.specs.World.{AreThreeFiles, KeepsStreams, Sight, Trio};
+ghost use Rattle.bx_program_files.specs.Files.{AreAllThere, HasMade, IsOneOfMade, LeavesFiles, TakesOnly};
 ghost use Rattle.bx_program_files.specs.Fit.{AreFit};
+ghost use Rattle.bx_program_files.specs.Numbers.{numbers_of};
 ghost use Rattle.bx_program_files.specs.Reasons.{MayRefuseOpening};
 ghost use Rattle.bx_program_sessions.specs.Contents.{DoesFound, FoundIn, Holds, StepsTo, Survives};
 ghost use Rattle.bx_program_sessions.specs.Named.{LeadTo, IsUnrecovered, KeepsOthers, MayRefuse, NothingDone, contents_of};
+ghost use Rattle.bx_program_sessions.specs.Task.{IsNearTask};
 
 use crate::lent::{Done, run_lent};
-use bx_cli_commands::{Command, Fault, Reply};
+use crate::task::Task;
+use bx_cli_commands::{Fault, Reply};
 use bx_journal::{How, SessionFault};
-use bx_program_files::{Names, Unopened, open_trio, unmake};
+use bx_program_files::{Names, Unopened, open_trio, unmake_all};
 use bx_program_world::World;
 use std::alloc::Global;
 use std::io::Read;
 
-/// What a command on files answers.
+/// What a task on files answers.
 #[derive(Clone, Copy, Debug, PartialEq, Eq)]
 pub struct Answer {
     /// The reply.
@@ -29,7 +31,7 @@ pub struct Answer {
     pub how: Option<How>,
 }
 
-/// Whether a command was refused, and no device stopped it in the middle of writing.
+/// Whether a task was refused, and no device stopped it in the middle of writing.
 fn is_whole_refusal(reply: &Reply) -> bool
     ensures { (result ≡ true) ↔ IsWholeRefusal reply.now }
 {
@@ -53,46 +55,51 @@ fn is_unrecovered(how: Option<How>) -> bool
     }
 }
 
-/// Takes the redo text away again that this run made, where the command was refused and nothing was recovered.
-fn clear<W: World>(world: &mut W, name: &str, done: &Done<W::File>, made: bool)
-    requires made { W.honest world.old → made ≡ true → (W.sight world.old).before ≤ W.number done.now.redo }
-    requires named { W.honest world.old → (W.sight world.old).named name.now ≡ Some (W.number done.now.redo) }
+/// Takes the files away again that this run made, where the task was refused and nothing was recovered.
+fn clear<W: World>(world: &mut W, names: &Names, done: &Done<W::File>)
+    requires made { W.honest world.old
+        → (n : ℕ) → IsOneOfMade done.now.files.made (numbers_of W.number done.now.files) n → (W.sight world.old).before ≤ n }
+    requires apart { W.honest world.old → AreThreeFiles (W.sight world.old).there (numbers_of W.number done.now.files) }
+    requires named { W.honest world.old → LeadTo names.now (numbers_of W.number done.now.files) (W.sight world.old) }
     ensures left { W.honest world.old → IsWholeRefusal done.now.reply → IsUnrecovered done.now.how → (first : Sight) → AreAllThere first
-        → HasMade (if_made made (W.number done.now.redo)) first (W.sight world.old) → LeavesFiles first (W.sight world.new) }
+        → HasMade (IsOneOfMade done.now.files.made (numbers_of W.number done.now.files)) first (W.sight world.old)
+        → LeavesFiles first (W.sight world.new) }
     ensures stays { W.honest world.old → (IsWholeRefusal done.now.reply → ⊥) → W.sight world.new ≡ W.sight world.old }
     ensures survives { W.honest world.old → (IsWholeRefusal done.now.reply → ⊥) → world.new ≡ world.old }
-    ensures unmade { W.honest world.old → made ≡ false → W.sight world.new ≡ W.sight world.old }
-    ensures most { W.honest world.old → TakesAtMost (W.sight world.old) (W.sight world.new) (W.number done.now.redo) }
+    ensures most { W.honest world.old
+        → TakesOnly (IsOneOfMade done.now.files.made (numbers_of W.number done.now.files)) (W.sight world.old) (W.sight world.new) }
     ensures honesty { W.honest world.new ↔ W.honest world.old }
 {
     if is_whole_refusal(&done.reply) && is_unrecovered(done.how) {
-        unmake(world, name, &done.redo, made);
+        unmake_all(world, names, &done.files);
     }
 }
 
-/// Opens the files of these names, runs one command on them, and closes them. A redo text that was missing is made, and taken
-/// away again where the command is refused. `mounted` says whether the image may be a device that is mounted.
-pub fn run_command<W: World, R: Read>(
+/// Opens the files of these names, does one task on them, and closes them. A redo text that is missing is made, and where `makes`
+/// says so an image and a journal too; they are taken away again where the task is refused. `mounted` says whether the image may be
+/// a device that is mounted.
+pub fn run_task<W: World, R: Read + Drop>(
     world: &mut W,
     alloc: Global,
     names: &Names,
     mounted: bool,
-    command: &mut Command<R>,
+    makes: bool,
+    task: Task<R>,
 ) -> Answer
-    requires near { IsNear command.old }
+    requires near { IsNearTask task }
     requires free { W.honest world.old → (W.sight world.old).lent ≡ None }
 
-    // A command that is done, or stopped in the middle, makes the machine's step of what the files held.
+    // A task that is done, or stopped in the middle, makes the machine's step of what the files held.
     ensures done { W.honest world.old → (s : Images) → Holds (contents_of names.now (W.sight world.old)) s → (IsWholeRefusal result.reply → ⊥)
-        → StepsTo R.remaining s command.old result.reply (contents_of names.now (W.sight world.new)) }
+        → StepsTo R.remaining s task result.reply (contents_of names.now (W.sight world.new)) }
 
     // So it is behind a loss of power.
     ensures survives { W.honest world.old → (s : Images) → Holds (contents_of names.now (W.sight world.old)) s → (IsWholeRefusal result.reply → ⊥)
         → (t : Trio) → LeadTo names.now t (W.sight world.new)
-        → Survives R.remaining s command.old result.reply
+        → Survives R.remaining s task result.reply
         (W.survives world.new t.image) (W.survives world.new t.journal) (W.survives world.new t.redo) }
 
-    // A command that is refused leaves all files as they were, byte for byte, and makes none; and so do files that are not opened.
+    // A task that is refused leaves all files as they were, byte for byte, and makes none; and so do files that are not opened.
     ensures refused { W.honest world.old → (s : Images) → Holds (contents_of names.now (W.sight world.old)) s → IsWholeRefusal result.reply
         → LeavesFiles (W.sight world.old) (W.sight world.new) }
     ensures unopened { W.honest world.old
@@ -100,24 +107,25 @@ pub fn run_command<W: World, R: Read>(
 
     // Why files were not opened.
     ensures why_unopened { W.honest world.old
-        → IfSome result.unopened (MayRefuseOpening names.now mounted (W.is_refused world.new) (W.sight world.old)) }
+        → IfSome result.unopened (MayRefuseOpening names.now mounted makes (W.refusals world.old < W.refusals world.new)
+        (W.sight world.old)) }
 
     // Why it was refused, where the files were opened, which may be so only with files that may be changed.
     ensures why { W.honest world.old → (s : Images) → Holds (contents_of names.now (W.sight world.old)) s → result.unopened ≡ None
-        → IsWholeRefusal result.reply → MayRefuse R.remaining s command.old result.reply }
+        → IsWholeRefusal result.reply → MayRefuse R.remaining s task result.reply }
     ensures fit { W.honest world.old → result.unopened ≡ None → AreFit names.now mounted (W.sight world.old) }
 
     // After a crash it is done on what opening recovers; of files that hold images nothing is recovered.
     ensures how { W.honest world.old → (s : Images) → Holds (contents_of names.now (W.sight world.old)) s → IsUnrecovered result.how }
     ensures recovered { W.honest world.old → (s : Images) → FoundIn (contents_of names.now (W.sight world.old)) s → result.unopened ≡ None
-        → DoesFound R.remaining s command.old result.how result.reply (contents_of names.now (W.sight world.new)) }
+        → DoesFound R.remaining s task result.how result.reply (contents_of names.now (W.sight world.new)) }
 
-    // No other file is changed, whatever the files hold and whatever becomes of the command, and nothing is written.
+    // No other file is changed, whatever the files hold and whatever becomes of the task, and nothing is written.
     ensures others { W.honest world.old → KeepsOthers names.now (W.sight world.old) (W.sight world.new) }
     ensures silent { W.honest world.old → KeepsStreams (W.sight world.old) (W.sight world.new) }
     ensures honesty { W.honest world.new ↔ W.honest world.old }
 {
-    let files = match open_trio(world, names, mounted) {
+    let files = match open_trio(world, names, mounted, makes) {
         Ok(files) => files,
         Err(unopened) => {
             return Answer {
@@ -127,9 +135,8 @@ pub fn run_command<W: World, R: Read>(
             };
         }
     };
-    let made = files.made;
-    let done = run_lent(world, alloc, files, command);
-    clear(world, names.redo.as_str(), &done, made);
+    let done = run_lent(world, alloc, files, task);
+    clear(world, names, &done);
     Answer {
         reply: done.reply,
         unopened: None,

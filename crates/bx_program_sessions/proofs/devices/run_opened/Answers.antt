@@ -1,48 +1,42 @@
 use Rattle.std.proofs.Common.{refl}
 use Rattle.bx_cli_commands.specs.Run.{is_failure}
-use Rattle.bx_cli_commands.proofs.SessionRuns.{obeys_command}
 use Rattle.bx_program_sessions.proofs.Obeyed.{placed_behind, steps_of, survives_of}
 use Rattle.bx_program_sessions.proofs.devices.run_opened.Goals as goal
 
 pub returns-clause-order : goal.returns-clause-order
 returns-clause-order g c =
-    let behind = c.run_one-reply.new in
-    let obeys = obeys_command g.D.Device g.T.TextStore g.R.Read.remaining c.args.session behind.session c.args.command.now behind.command
-    c.run_one-reply.result c.run_one-reply.ensures.runs in
+    let behind = c.do_task-reply.new in
+    let obeys = c.do_task-reply.ensures.obeys in
     rw (c.close-image.ensures.journal, c.close-image.ensures.redo)
-    (placed_behind g.D.Device g.T.TextStore c.args.session behind.session (is_failure c.run_one-reply.result) obeys.counts c.requires.fresh)
+    (placed_behind g.D.Device g.T.TextStore c.args.session behind.session (is_failure c.do_task-reply.result) obeys.counts c.requires.fresh)
 
 pub returns-clause-honesty : goal.returns-clause-honesty
 returns-clause-honesty g c =
-    let behind = c.run_one-reply.new in
-    let obeys = obeys_command g.D.Device g.T.TextStore g.R.Read.remaining c.args.session behind.session c.args.command.now behind.command
-    c.run_one-reply.result c.run_one-reply.ensures.runs in
+    let behind = c.do_task-reply.new in
+    let obeys = c.do_task-reply.ensures.obeys in
     rw (c.close-image.ensures.image, c.close-image.ensures.journal, c.close-image.ensures.redo)
     (obeys.image_honesty, obeys.journal_honesty, obeys.redo_honesty)
 
 pub returns-clause-does : goal.returns-clause-does
 returns-clause-does g c honest s ready undone =
-    let behind = c.run_one-reply.new in
-    let obeys = obeys_command g.D.Device g.T.TextStore g.R.Read.remaining c.args.session behind.session c.args.command.now behind.command
-    c.run_one-reply.result c.run_one-reply.ensures.runs in
+    let behind = c.do_task-reply.new in
+    let obeys = c.do_task-reply.ensures.obeys in
     rw (c.close-image.ensures.image, c.close-image.ensures.journal, c.close-image.ensures.redo)
-    (steps_of g.D.Device g.T.TextStore g.R.Read.remaining c.args.session behind.session c.args.command.now c.run_one-reply.result obeys
+    (steps_of g.D.Device g.T.TextStore g.R.Read.remaining c.args.session behind.session c.args.task c.do_task-reply.result obeys
     honest s ready undone)
 
 pub returns-clause-whole : goal.returns-clause-whole
 returns-clause-whole g c honest whole =
-    let behind = c.run_one-reply.new in
-    let obeys = obeys_command g.D.Device g.T.TextStore g.R.Read.remaining c.args.session behind.session c.args.command.now behind.command
-    c.run_one-reply.result c.run_one-reply.ensures.runs in
+    let behind = c.do_task-reply.new in
+    let obeys = c.do_task-reply.ensures.obeys in
     let same = obeys.same whole honest.0 honest.1 in
     rw (c.close-image.ensures.image, c.close-image.ensures.journal, c.close-image.ensures.redo)
     (rw (same.image_same, same.text_same, (obeys.redo_same honest.2 whole).text_same) refl)
 
 pub returns-clause-survives : goal.returns-clause-survives
 returns-clause-survives g c honest s ready undone stopped =
-    let behind = c.run_one-reply.new in
-    let obeys = obeys_command g.D.Device g.T.TextStore g.R.Read.remaining c.args.session behind.session c.args.command.now behind.command
-    c.run_one-reply.result c.run_one-reply.ensures.runs in
+    let behind = c.do_task-reply.new in
+    let obeys = c.do_task-reply.ensures.obeys in
     rw (c.close-image.ensures.image, c.close-image.ensures.journal, c.close-image.ensures.redo)
-    (survives_of g.D.Device g.T.TextStore g.R.Read.remaining c.args.session behind.session c.args.command.now c.run_one-reply.result obeys
+    (survives_of g.D.Device g.T.TextStore g.R.Read.remaining c.args.session behind.session c.args.task c.do_task-reply.result obeys
     honest s ready undone stopped)

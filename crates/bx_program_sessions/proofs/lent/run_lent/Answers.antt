@@ -1,4 +1,4 @@
-use Rattle.std.proofs.Common.{◌∙◌}
+use Rattle.std.proofs.Common.{◌∙◌, refl}
 use Rattle.bx_program_files.specs.Numbers.{numbers_of}
 use Rattle.bx_program_world.specs.World.{ChangesOnly, Sight, Trio}
 use Rattle.bx_program_sessions.proofs.lent.run_lent.Goals as goal
@@ -21,18 +21,18 @@ only_then t old mid new first second = record {
 pub returns-clause-only : goal.returns-clause-only
 returns-clause-only g c h =
     let lends = c.lend-image.ensures.lent h in
-    let given = c.give_back-redo.ensures.given (c.lend-image.ensures.honesty.1 h) (numbers_of g.W.World.number c.args.files) lends.lent in
+    let given = c.give_back-image.ensures.given (c.lend-image.ensures.honesty.1 h) (numbers_of g.W.World.number c.args.files) lends.lent in
     only_then _ _ _ _ lends.only given.only
 
 pub returns-clause-free : goal.returns-clause-free
 returns-clause-free g c h =
     let lends = c.lend-image.ensures.lent h in
-    (c.give_back-redo.ensures.given (c.lend-image.ensures.honesty.1 h) (numbers_of g.W.World.number c.args.files) lends.lent).lent
+    (c.give_back-image.ensures.given (c.lend-image.ensures.honesty.1 h) (numbers_of g.W.World.number c.args.files) lends.lent).lent
 
 pub returns-clause-does : goal.returns-clause-does
 returns-clause-does g c h s holds =
     let lends = c.lend-image.ensures.lent h in
-    let given = c.give_back-redo.ensures.given (c.lend-image.ensures.honesty.1 h) (numbers_of g.W.World.number c.args.files) lends.lent in
+    let given = c.give_back-image.ensures.given (c.lend-image.ensures.honesty.1 h) (numbers_of g.W.World.number c.args.files) lends.lent in
     let image = c.lend-image.ensures.image h in
     let journal = c.lend-image.ensures.journal h in
     let redo = c.lend-image.ensures.redo h in
@@ -49,7 +49,7 @@ returns-clause-how g c h s holds =
 pub returns-clause-whole : goal.returns-clause-whole
 returns-clause-whole g c h s holds whole =
     let lends = c.lend-image.ensures.lent h in
-    let given = c.give_back-redo.ensures.given (c.lend-image.ensures.honesty.1 h) (numbers_of g.W.World.number c.args.files) lends.lent in
+    let given = c.give_back-image.ensures.given (c.lend-image.ensures.honesty.1 h) (numbers_of g.W.World.number c.args.files) lends.lent in
     let image = c.lend-image.ensures.image h in
     let journal = c.lend-image.ensures.journal h in
     let redo = c.lend-image.ensures.redo h in
@@ -59,7 +59,7 @@ returns-clause-whole g c h s holds whole =
 pub returns-clause-found : goal.returns-clause-found
 returns-clause-found g c h s found =
     let lends = c.lend-image.ensures.lent h in
-    let given = c.give_back-redo.ensures.given (c.lend-image.ensures.honesty.1 h) (numbers_of g.W.World.number c.args.files) lends.lent in
+    let given = c.give_back-image.ensures.given (c.lend-image.ensures.honesty.1 h) (numbers_of g.W.World.number c.args.files) lends.lent in
     let image = c.lend-image.ensures.image h in
     let journal = c.lend-image.ensures.journal h in
     let redo = c.lend-image.ensures.redo h in
@@ -69,9 +69,15 @@ returns-clause-found g c h s found =
 pub returns-clause-survives : goal.returns-clause-survives
 returns-clause-survives g c h s holds stopped x text redo_text there text_there redo_there =
     let lends = c.lend-image.ensures.lent h in
-    let survives = c.give_back-redo.ensures.survives (c.lend-image.ensures.honesty.1 h) (numbers_of g.W.World.number c.args.files) lends.lent in
+    let survives = c.give_back-image.ensures.survives (c.lend-image.ensures.honesty.1 h) (numbers_of g.W.World.number c.args.files) lends.lent in
     let image = c.lend-image.ensures.image h in
     let journal = c.lend-image.ensures.journal h in
     let redo = c.lend-image.ensures.redo h in
     c.run_on-closed.ensures.survives (image.0, journal.0, redo.0) s (rw (image.1, journal.1, redo.1) holds) stopped x text redo_text
     (survives.image_found x there) (survives.journal_found text text_there) (survives.redo_found redo_text redo_there)
+
+pub returns-clause-files : goal.returns-clause-files
+returns-clause-files g c h =
+    let lends = c.lend-image.ensures.lent h in
+    let back = c.give_back-image.ensures.files (c.lend-image.ensures.honesty.1 h) (numbers_of g.W.World.number c.args.files) lends.lent in
+    rw (back.0, back.1, back.2) refl

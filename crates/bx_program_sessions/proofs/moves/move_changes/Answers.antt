@@ -1,3 +1,4 @@
+use Rattle.std.specs.Prelude.{◌<◌, false}
 use Rattle.bx_program_files.specs.Reasons.{MayRefuseOpening}
 use Rattle.bx_program_sessions.specs.Contents.{recovered_as}
 use Rattle.bx_program_sessions.specs.Moves.{stepped}
@@ -37,7 +38,8 @@ returns-clause-why_unopened g c old =
     let moved = c.moved_by-moved.ensures in
     let behind = moved.honesty.1 old in
     let told = c.tell_recovered.ensures.honesty.1 behind in
-    why_kept _ _ _ _ _ _ _ (λ noted u. MayRefuseOpening c.args.names.now c.args.mounted noted (g.W.World.sight c.args.world.now) u)
+    why_kept _ _ _ _ _ _ _ (λ count u. MayRefuseOpening c.args.names.now c.args.mounted false (g.W.World.refusals c.args.world.now < count)
+    (g.W.World.sight c.args.world.now) u)
     (moved.unopened old) (c.tell_recovered.ensures.noted behind) (c.tell_number-outcome.ensures.noted told) (moved.why_unopened old)
 
 pub returns-clause-recovered : goal.returns-clause-recovered

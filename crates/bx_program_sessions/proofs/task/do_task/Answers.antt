@@ -1,0 +1,7 @@
+use Rattle.bx_program_sessions.proofs.task.do_task.Goals as goal
+
+pub returns-in-Run : goal.returns-in-Run
+returns-in-Run g c = record { obeys = rw c.in-Run.is c.run_whole.ensures.obeys }
+
+pub returns-in-Put : goal.returns-in-Put
+returns-in-Put g c = record { obeys = rw c.in-Put.is c.change_if_read.ensures.obeys }

@@ -1,0 +1,76 @@
+//! A change of the files of an image, which are made where they are missing.
+ghost use Rattle.std.specs.Prelude.{◌≡◌, ◌↔◌, ◌<◌, None, IfOk, IfSome, true};
+ghost use Rattle.bx_journal.specs.Images.{Images};
+ghost use Rattle.bx_journal.specs.SessionFault.TheVariants.{Interrupted};
+ghost use Rattle.bx_program_world.specs.World.{Trio};
+ghost use Rattle.bx_cli_commands.specs.Refusal.{IsWholeRefusal};
+ghost use Rattle.bx_cli_commands.specs.Replies.{stands_by};
+ghost use Rattle.bx_cli_commands.specs.declared.command.Reply.TheVariants.{Refused};
+ghost use Rattle.bx_cli_commands.specs.declared.fault.Fault.TheVariants.{Session};
+ghost use Rattle.bx_program_files.specs.Fit.{AreFit};
+ghost use Rattle.bx_program_files.specs.Reasons.{MayRefuseOpening};
+ghost use Rattle.bx_program_sessions.specs.Changes.{Changes, InterruptsChange, RefusesChange, SaysRecovered};
+ghost use Rattle.bx_program_sessions.specs.Contents.{DoesFound, FoundIn, Holds, Survives};
+ghost use Rattle.bx_program_sessions.specs.Named.{IsUnrecovered, KeepsOthers, LeadTo, NothingDone, contents_of};
+ghost use Rattle.bx_program_sessions.specs.Task.{IsNearTask};
+
+use crate::moves::tell_recovered;
+use crate::named::{Answer, run_task};
+use crate::task::Task;
+use bx_program_files::Names;
+use bx_program_world::World;
+use std::alloc::Global;
+use std::io::Read;
+
+/// Opens the files of these names, does one task on them, closes them, and says on standard error what was recovered. An image, a
+/// journal and a redo text that are missing are made, and taken away again where the task is refused. `mounted` says whether the
+/// image may be a device that is mounted.
+pub fn change_files<W: World, R: Read + Drop>(
+    world: &mut W,
+    alloc: Global,
+    names: &Names,
+    mounted: bool,
+    task: Task<R>,
+) -> Answer
+    requires near { IsNearTask task }
+    requires free { W.honest world.old → (W.sight world.old).lent ≡ None }
+
+    // A task that is done makes the machine's step on what the files held, and the answer is how many changes stand.
+    ensures done { W.honest world.old → (s : Images) → Holds (contents_of names.now (W.sight world.old)) s
+        → IfOk (stands_by result.reply) (Changes R.remaining s task result.reply (contents_of names.now (W.sight world.new))) }
+
+    // One that is refused leaves all files as they were, byte for byte, and makes none.
+    ensures refused { W.honest world.old → (s : Images) → Holds (contents_of names.now (W.sight world.old)) s → IsWholeRefusal result.reply
+        → RefusesChange R.remaining s task result.reply result.unopened (W.sight world.old) (W.sight world.new) }
+
+    // Behind one that was stopped in the middle opening finds the images before or behind it.
+    ensures interrupted { W.honest world.old → (s : Images) → Holds (contents_of names.now (W.sight world.old)) s
+        → result.reply ≡ Refused (Session Interrupted) → InterruptsChange R.remaining s task (contents_of names.now (W.sight world.new)) }
+
+    // So it does behind a loss of power, of an end of the task.
+    ensures survives { W.honest world.old → (s : Images) → Holds (contents_of names.now (W.sight world.old)) s → (IsWholeRefusal result.reply → ⊥)
+        → (t : Trio) → LeadTo names.now t (W.sight world.new)
+        → Survives R.remaining s task result.reply
+        (W.survives world.new t.image) (W.survives world.new t.journal) (W.survives world.new t.redo) }
+
+    // Files that are not opened are as they were, and why they are not; others may be changed.
+    ensures unopened { W.honest world.old
+        → IfSome result.unopened (λ _. NothingDone result.reply result.how (W.sight world.old) (W.sight world.new)) }
+    ensures why_unopened { W.honest world.old
+        → IfSome result.unopened (MayRefuseOpening names.now mounted true (W.refusals world.old < W.refusals world.new) (W.sight world.old)) }
+    ensures fit { W.honest world.old → result.unopened ≡ None → AreFit names.now mounted (W.sight world.old) }
+
+    // After a crash the task is done on what opening recovers; of files that hold images nothing is recovered.
+    ensures how { W.honest world.old → (s : Images) → Holds (contents_of names.now (W.sight world.old)) s → IsUnrecovered result.how }
+    ensures recovered { W.honest world.old → (s : Images) → FoundIn (contents_of names.now (W.sight world.old)) s → result.unopened ≡ None
+        → DoesFound R.remaining s task result.how result.reply (contents_of names.now (W.sight world.new)) }
+
+    // No other file is changed, whatever the files hold and whatever becomes of the task, and nothing is written but what was recovered.
+    ensures others { W.honest world.old → KeepsOthers names.now (W.sight world.old) (W.sight world.new) }
+    ensures streams { W.honest world.old → SaysRecovered result.how (W.sight world.old) (W.sight world.new) }
+    ensures honesty { W.honest world.new ↔ W.honest world.old }
+{
+    let answer = run_task(world, alloc, names, mounted, true, task);
+    tell_recovered(world, answer.how);
+    answer
+}
