@@ -2,9 +2,9 @@
 pub mod left;
 pub mod pairs;
 
-use crate::devices::left::{differs, length_of, stopped_by};
+use crate::devices::left::{differs, has_others, length_of, stopped_by};
 use crate::files::Made;
-use crate::stopped::{Reason, Row, Stopped};
+use crate::stopped::Stopped;
 use bx_cli::{Fault, Target};
 use bx_image::{FileImage, RandomAccess};
 use bx_journal::{Devices, SessionFault};
@@ -12,7 +12,6 @@ use bx_journal_store::FileText;
 use bx_patch::Other;
 use bx_program_system::{CountedFile, Left, take_away};
 use std::fs::File;
-use std::os::unix::fs::FileExt;
 use std::rt::Files;
 use std::time::Clock;
 
@@ -86,19 +85,5 @@ impl<'a, 'p, 'r, R: Clock + Eprint> Named<'a, CountedFile<'p, 'r, R>> {
             }
             (fault, _) => stopped_by(self.target, &Left::of(image, journal, redo, 0), fault),
         }
-    }
-}
-
-/// The image, which has other bytes than a patch expects.
-pub fn has_others<'a>(name: &'a str, file: &File, fault: Fault, at: u64) -> Stopped<'a> {
-    let mut bytes = [0u8; 16];
-    let room = 16 - (at % 16) as usize;
-    match file.read_at(&mut bytes[..room], at) {
-        Ok(count) => Stopped {
-            fault,
-            file: Some(name),
-            reason: Reason::There(Row { at, bytes, count }),
-        },
-        Err(error) => Stopped::by(fault, name, error.raw_os_error()),
     }
 }

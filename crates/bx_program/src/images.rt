@@ -11,7 +11,7 @@ use crate::devices::{FileDevices, ImageFile, Named, TextFile};
 use crate::files::folders::keep_names;
 use crate::files::look::{Makes, Use, look_at_all};
 use crate::files::open::Purpose;
-use crate::files::{Made, SessionFiles, existing, trio};
+use crate::files::{Made, SessionFiles, existing};
 use crate::stopped::Stopped;
 use crate::streams::paged::Paged;
 use bx_cli::{
@@ -42,31 +42,6 @@ pub struct SessionOn<'p, 'r, R, F: RandomAccess> {
     session: Session<FileImage<F>, FileText<F>>,
     made: Made,
     progress: &'p Progress<'r, R>,
-}
-
-/// Opens the image and its texts for a command that may change them, and puts their names on the disk. The files are locked up
-/// to the session's end. `progress` counts what is read of the texts, and then what the command writes.
-pub fn open_session<'a, 'p, 'r, R>(
-    rt: &R,
-    target: &'a Target,
-    make: bool,
-    progress: &'p Progress<'r, R>,
-) -> Result<OpenSession<'p, 'r, R>, Stopped<'a>>
-where
-    R: Files<File = File> + Eprint + Clock + AllocGlobal,
-    ensures image { IfOk result (λ o. ⟦<FileImage<CountedFile<'p, 'r, R>> as Device>⟧.failures o.session.image ≡ 0) }
-    ensures journal { IfOk result (λ o. ⟦<FileText<CountedFile<'p, 'r, R>> as TextStore>⟧.failures o.session.journal ≡ 0) }
-    ensures redo { IfOk result (λ o. ⟦<FileText<CountedFile<'p, 'r, R>> as TextStore>⟧.failures o.session.redo ≡ 0) }
-{
-    let files = trio(rt, target, make)?;
-    let durability = target.access.durability;
-    if durability == Durability::Synced {
-        if let Err(stopped) = keep_names(rt, target) {
-            files.unmake(rt, target);
-            return Err(stopped);
-        }
-    }
-    session_of(rt, files, target, durability, progress)
 }
 
 /// Opens the image and its texts for a command that only reads what stands: without writing anything, where nothing is

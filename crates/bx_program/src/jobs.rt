@@ -1,39 +1,42 @@
 //! The jobs, and one run of the program.
-ghost use Rattle.bx_cli_commands.specs.jobs.Passing.{CanPass, skip_of};
-
 mod copies;
 mod diff;
+mod named;
 mod patch;
 mod previews;
 mod steps;
 
 use crate::advice::Advice;
+use crate::files::unopened::number_of;
 use crate::hints::remarks::Remarks;
 use crate::hints::seen::{Seen, Watched};
 use crate::hints::show_fault;
 use crate::images::forget::{forget, open_fresh, open_to_forget};
 use crate::images::shown::show_changes;
-use crate::images::{finish_read, log, log_places, open_session, open_to_look};
+use crate::images::{finish_read, log, log_places, open_to_look};
 use crate::jobs::copies::{copy_onto, most_of_dd, tell};
+use crate::jobs::named::change_image;
 use crate::jobs::previews::{preview_copy, preview_read};
 use crate::jobs::steps::take_steps;
 use crate::stopped::{Noted, STANDARD_INPUT, Stopped};
 use crate::streams::closed::Held;
-use crate::streams::input::{MOST_INPUT, Placed, file, open, size_of, standard};
+use crate::streams::input::{MOST_INPUT, open, size_of};
 use bx_cli::{
     ChangeJob, DdImageJob, Done, DumpJob, Fault, ForgetJob, Form, Job, LogJob, LookJob, RevertJob,
-    ShowJob, change_from, plan_words, run_dump,
+    ShowJob, Target, change_from, plan_words, run_dump,
 };
 use bx_dd::Counts;
 use bx_image::Change;
 use bx_journal::{Steps, Way};
-use bx_program_system::{Counted, Progress, Tally, Terminals};
+use bx_program_dumps::{Undumped, dump_file};
+use bx_program_sessions::Task;
+use bx_program_system::{Counted, Progress, SystemWorld, Tally, Terminals};
 use bx_read::ReadFault;
 use bx_text::{IoFault, Source, Words, emit};
 use std::alloc::Global;
 use std::env;
 use std::fs::File;
-use std::io::{self, Read, Write};
+use std::io::{self, Empty, Read, Write};
 use std::rt::{Env, Files};
 use std::time::Clock;
 
@@ -213,7 +216,7 @@ fn copy<'a, R, W: Write>(
     remarks: &mut Remarks,
 ) -> Result<Option<Counts>, Stopped<'a>>
 where
-    R: Files<File = File> + Input + Eprint + Clock + AllocGlobal,
+    R: Files<File = File> + Input + Print + Eprint + Clock + AllocGlobal,
 {
     if job.dry_run {
         return match preview_copy(rt, job, remarks, out) {
@@ -301,7 +304,7 @@ fn revert<'a, R, W: Write>(
     remarks: &mut Remarks,
 ) -> Result<(), Stopped<'a>>
 where
-    R: Files<File = File> + Input + Eprint + Clock + AllocGlobal,
+    R: Files<File = File> + Input + Print + Eprint + Clock + AllocGlobal,
 {
     let mut seen = remarks.seen_of(rt.alloc(), job.plain);
     let read = read_dump(rt, job, &mut seen, remarks)?;
@@ -358,25 +361,42 @@ fn put_dump<'a, R, W: Write>(
     remarks: &mut Remarks,
 ) -> Result<(), Stopped<'a>>
 where
-    R: Files<File = File> + Eprint + Clock + AllocGlobal,
+    R: Files<File = File> + Print + Eprint + Clock + AllocGlobal,
 {
     if job.dry_run {
         return preview_read(rt, &job.target, read, remarks, out);
     }
     let progress = remarks.progress_of_input(rt, None);
     let advice = Advice::before(rt, &job.target, job.fresh);
-    let session = if job.fresh && read.is_ok() {
-        open_fresh(rt, &job.target, &progress)?
-    } else {
-        open_session(rt, &job.target, true, &progress)?
-    };
-    if let Ok(change) = &read {
-        remarks.look_at_change(rt, &job.target, change);
+    match read {
+        Ok(change) if job.fresh => put_anew(rt, &job.target, change, &progress, remarks)?,
+        read => {
+            if let Ok(change) = &read {
+                remarks.look_at_change(rt, &job.target, change);
+            }
+            let task: Task<Empty> = Task::Put(read);
+            change_image(rt, &job.target, task, &progress, remarks)?;
+        }
     }
-    finish_read(rt, session, read, &job.target)?;
     advice.keep(rt, &job.target);
     remarks.look_at_advice(advice.is_changed());
     Ok(())
+}
+
+/// Makes a change with which the history of the image begins.
+fn put_anew<'a, R>(
+    rt: &R,
+    target: &'a Target,
+    change: Change,
+    progress: &Progress<'_, R>,
+    remarks: &mut Remarks,
+) -> Result<(), Stopped<'a>>
+where
+    R: Files<File = File> + Eprint + Clock + AllocGlobal,
+{
+    let session = open_fresh(rt, target, progress)?;
+    remarks.look_at_change(rt, target, &change);
+    finish_read(rt, session, Ok(change), target)
 }
 
 /// The change of the dump that an input gives, or the dump's fault.
@@ -420,11 +440,11 @@ fn dump<'a, R, W: Write>(
     remarks: &Remarks,
 ) -> Result<Option<Counts>, Stopped<'a>>
 where
-    R: Files<File = File> + Input + Eprint + Clock + AllocGlobal,
+    R: Files<File = File> + Input + Print + Eprint + Clock + AllocGlobal,
 {
     let done = match job.input() {
-        Some(name) => dump_from(rt, job, file(rt, job.skip(), name)?, out, remarks)?,
-        None => dump_from(rt, job, standard(rt, job.skip()), out, remarks)?,
+        Some(name) => dump_named(rt, job, name.as_str(), out, remarks)?,
+        None => dump_standard(rt, job, out, remarks)?,
     };
     match done {
         Done::Dumped(_) => Ok(None),
@@ -432,32 +452,50 @@ where
     }
 }
 
-/// Dumps or copies an input, behind the bytes that were passed.
-fn dump_from<'a, R, I: Read + Drop, W: Write>(
+/// Dumps or copies a file by its name.
+fn dump_named<'a, R, W: Write>(
     rt: &R,
     job: &DumpJob,
-    input: Placed<'a, I>,
+    name: &'a str,
     out: &mut W,
     remarks: &Remarks,
 ) -> Result<Done, Stopped<'a>>
 where
-    R: Eprint + Clock + AllocGlobal,
-    requires { CanPass input.passed (skip_of job.now) }
+    R: Files<File = File> + Print + Eprint + Clock + AllocGlobal,
 {
-    let progress = remarks.progress_of_dump(rt, input.most(most_of(job)));
-    let Placed {
-        name,
-        reader,
-        passed,
-        ..
-    } = input;
-    let mut reader = Noted::new(reader);
+    let progress = remarks.progress_of_dump(rt, None);
+    let mut world = SystemWorld::reading(rt, &progress, most_of(job));
+    match dump_file(&mut world, rt.alloc(), job, name, out) {
+        Ok(done) => Ok(done),
+        Err(Undumped::Unopened(refusal)) => {
+            Err(Stopped::by(Fault::OpenFailed, name, number_of(refusal)))
+        }
+        Err(Undumped::Unplaced(refusal)) => {
+            let fault = Fault::Io(IoFault::ReadFailed);
+            Err(Stopped::by(fault, name, number_of(refusal)))
+        }
+        Err(Undumped::Stopped(fault)) => Err(Stopped::from(fault).on_input(name, world.unread)),
+    }
+}
+
+/// Dumps or copies standard input, which has no seek: what is skipped is read.
+fn dump_standard<R, W: Write>(
+    rt: &R,
+    job: &DumpJob,
+    out: &mut W,
+    remarks: &Remarks,
+) -> Result<Done, Stopped<'static>>
+where
+    R: Input + Eprint + Clock + AllocGlobal,
+{
+    let progress = remarks.progress_of_dump(rt, most_of(job));
+    let mut reader = Noted::new(rt.reader());
     let mut counted = Counted::new(&mut reader, &progress);
-    let outcome = run_dump(rt.alloc(), job, passed, &mut counted, out);
+    let outcome = run_dump(rt.alloc(), job, job.skip().passable(0), &mut counted, out);
     progress.end();
     match outcome {
         Ok(done) => Ok(done),
-        Err(fault) => Err(Stopped::from(fault).on_input(name, reader.error)),
+        Err(fault) => Err(Stopped::from(fault).on_input(STANDARD_INPUT, reader.error)),
     }
 }
 

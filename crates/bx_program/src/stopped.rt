@@ -4,9 +4,10 @@ use bx_dd::DdFault;
 use bx_image::FailedCall;
 use bx_journal::SessionFault;
 use bx_patch::PatchFault;
+pub use bx_program_system::Noted;
 use bx_read::ReadFault;
 use bx_text::IoFault;
-use std::io::{self, ErrorKind, Read};
+use std::io::{self, ErrorKind};
 
 /// What is said in place of a file's name.
 pub const STANDARD_INPUT: &str = "standard input";
@@ -290,29 +291,4 @@ fn is_unwritable(code: i32) -> bool {
         io::Error::from_raw_os_error(code).kind(),
         ErrorKind::PermissionDenied | ErrorKind::ReadOnlyFilesystem
     )
-}
-
-/// A reader that keeps the system's number of its last error.
-#[derive(Drop)]
-pub struct Noted<I> {
-    input: I,
-    /// The number; none where no read failed.
-    pub error: Option<i32>,
-}
-
-impl<I: Read> Noted<I> {
-    /// A reader; no read of it has failed yet.
-    pub fn new(input: I) -> Noted<I> {
-        Noted { input, error: None }
-    }
-}
-
-impl<I: Read> Read for Noted<I> {
-    fn read(&mut self, buf: &mut [u8]) -> io::Result<usize> {
-        let outcome = self.input.read(buf);
-        if let Err(error) = &outcome {
-            self.error = error.raw_os_error();
-        }
-        outcome
-    }
 }

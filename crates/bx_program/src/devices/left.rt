@@ -1,10 +1,11 @@
 //! Which device stopped a session, by what the three said of their calls.
-use crate::stopped::{Reason, Stopped};
+use crate::stopped::{Reason, Row, Stopped};
 use bx_cli::{Fault, Target};
 use bx_journal::SessionFault;
 use bx_program_system::{Left, open_there};
 use std::fs::File;
 use std::io::{self, Seek, SeekFrom};
+use std::os::unix::fs::FileExt;
 use std::rt::Files;
 
 /// What stopped a session on the files of a target, whose devices said this.
@@ -67,6 +68,17 @@ where
     }
 }
 
+/// The image of this name, which has other bytes than a patch expects.
+pub fn has_others_by_name<'a, R>(rt: &R, name: &'a str, fault: Fault, at: u64) -> Stopped<'a>
+where
+    R: Files<File = File>,
+{
+    match open_there(rt, name, false) {
+        Ok(file) => has_others(name, &file, fault, at),
+        Err(error) => Stopped::by(fault, name, error.raw_os_error()),
+    }
+}
+
 /// The same of a file, by the length that was asked for.
 pub fn differs<'a>(
     name: &'a str,
@@ -87,4 +99,18 @@ pub fn differs<'a>(
 /// How many bytes a file or a device has.
 pub fn length_of(mut file: &File) -> io::Result<u64> {
     file.seek(SeekFrom::End(0))
+}
+
+/// The image, which has other bytes than a patch expects.
+pub fn has_others<'a>(name: &'a str, file: &File, fault: Fault, at: u64) -> Stopped<'a> {
+    let mut bytes = [0u8; 16];
+    let room = 16 - (at % 16) as usize;
+    match file.read_at(&mut bytes[..room], at) {
+        Ok(count) => Stopped {
+            fault,
+            file: Some(name),
+            reason: Reason::There(Row { at, bytes, count }),
+        },
+        Err(error) => Stopped::by(fault, name, error.raw_os_error()),
+    }
 }

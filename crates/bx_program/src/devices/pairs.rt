@@ -1,8 +1,8 @@
 //! An image that two devices read at once, as the patch of a change that isn't made wants it.
 ghost use Rattle.std.specs.Prelude.{◌≡◌, None, IfOk};
 
-use crate::devices::left::{differs, length_of};
-use crate::devices::{ImageFile, has_others};
+use crate::devices::ImageFile;
+use crate::devices::left::{differs, has_others, length_of};
 use crate::files::look::{Holds, look};
 use crate::stopped::{Reason, Stopped};
 use bx_cli::Fault;

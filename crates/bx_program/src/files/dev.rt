@@ -5,7 +5,7 @@ use std::fs::File;
 use std::rt::Files;
 
 /// What is said of an image that would be made there.
-const NO_DEVICE: &str = "there is no such device, and no file is made among the devices";
+pub const NO_DEVICE: &str = "there is no such device, and no file is made among the devices";
 
 /// What is said of a text that would be.
 pub const NO_TEXT: &str =

@@ -5,7 +5,7 @@ use crate::files::mounts::refuse_in_use;
 use crate::files::unfit::unfit_image;
 use crate::stopped::Stopped;
 use bx_cli::Target;
-use bx_program_system::stat_of;
+use bx_program_system::{fixed_length, open_there, stat_of};
 use bx_program_world::image_unfit;
 use std::fs::{self, File, Metadata};
 use std::io::{self, ErrorKind};
@@ -79,6 +79,14 @@ where
 /// Whether a block device has this name.
 pub fn is_device<R: Files<File = File>>(rt: &R, name: &str) -> bool {
     fs::metadata(rt, name).is_ok_and(|file| file.file_type().is_block_device())
+}
+
+/// How many bytes a block device of this name has; none of another file, or where it doesn't tell.
+pub fn device_length<R: Files<File = File>>(rt: &R, name: &str) -> Option<u64> {
+    if !is_device(rt, name) {
+        return None;
+    }
+    fixed_length(&open_there(rt, name, false).ok()?).ok()?
 }
 
 /// The journal of a block device has a name of its own, since the folder of devices is no place that lasts.

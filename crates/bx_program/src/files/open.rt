@@ -1,8 +1,8 @@
 //! Opening one file, and taking away what was made.
-use crate::files::links::make_linked;
+use crate::files::links::unmade;
 use crate::files::look::{Holds, look};
 use crate::stopped::Stopped;
-use bx_program_system::{Permits, is_same, lock, lock_shared, open_there, take_away};
+use bx_program_system::{Permits, is_same, lock, lock_shared, make_image, open_there, take_away};
 use std::fs::{File, TryLockError};
 use std::io::ErrorKind;
 use std::rt::Files;
@@ -39,11 +39,9 @@ where
         Err(e) if e.kind() == ErrorKind::NotFound => {}
         Err(e) => return Err(Stopped::unopened(name, e)),
     }
-    match permits.make(rt, name) {
-        Ok(file) => Ok((file, true)),
-        // Another program made it by now, or a link leads to a file that is missing.
-        Err(e) if e.kind() == ErrorKind::AlreadyExists => make_linked(rt, name, permits),
-        Err(e) => Err(Stopped::unopened(name, e)),
+    match make_image(rt, name, permits) {
+        Ok(made) => Ok(made),
+        Err(why) => Err(unmade(name, why)),
     }
 }
 

@@ -1,6 +1,7 @@
 //! What is said of the files of a session that weren't opened, by what opening them answered.
 use crate::files::dev::NO_TEXT;
 use crate::files::guard::bits_left;
+use crate::files::links::told;
 use crate::files::look::NO_JOURNAL;
 use crate::files::mounts::IS_UNKNOWN;
 use crate::files::open::{HELD, IS_ALIAS, IS_MOVED};
@@ -8,7 +9,9 @@ use crate::files::unfit::{unfit_image, unfit_text};
 use crate::stopped::Stopped;
 use bx_cli::{Fault, Target};
 use bx_program_files::{Unopened, Which, Why};
-use bx_program_system::{Unknown, folder_of, is_among_devices, is_mounted, stat_of};
+use bx_program_system::{
+    Misplaced, SystemWorld, Unknown, folder_of, is_among_devices, is_mounted, stat_of,
+};
 use bx_program_world::{Refusal, Unfit};
 use std::fs::{self, File};
 use std::rt::Files;
@@ -18,12 +21,12 @@ const MISSING: i32 = 2;
 
 const IS_THERE: i32 = 17;
 
-/// What stopped a command whose files weren't opened. `is_unkept` says whether a name wasn't put on the disk.
+/// What stopped a command whose files weren't opened in this world.
 pub fn not_opened<'a, R>(
     rt: &R,
     target: &'a Target,
     unopened: Unopened,
-    is_unkept: bool,
+    world: &SystemWorld<'_, '_, R>,
 ) -> Stopped<'a>
 where
     R: Files<File = File> + AllocGlobal,
@@ -34,12 +37,23 @@ where
         Which::Redo => target.texts.redo.as_str(),
     };
     match unopened.why {
-        Why::System(Refusal::Other(code)) if is_unkept => {
+        Why::System(Refusal::Other(code)) if world.is_unkept => {
             Stopped::by(Fault::OpenFailed, folder_of(name), code)
         }
+        Why::System(Refusal::Other(None)) => unmade(rt, name, unopened.which, world.misplaced),
         Why::System(refusal) => refused(rt, name, unopened.which, refusal),
         Why::Unfit(unfit) => unfit_file(rt, target.image.as_str(), name, unopened.which, unfit),
         Why::Alias => Stopped::refused(name, IS_ALIAS),
+    }
+}
+
+/// The system's number for a refusal, where it has one.
+pub fn number_of(refusal: Refusal) -> Option<i32> {
+    match refusal {
+        Refusal::Missing => Some(MISSING),
+        Refusal::Taken => Some(IS_THERE),
+        Refusal::Locked | Refusal::Moved => None,
+        Refusal::Other(code) => code,
     }
 }
 
@@ -54,10 +68,23 @@ where
         Refusal::Taken => Stopped::by(Fault::OpenFailed, name, Some(IS_THERE)),
         Refusal::Locked => Stopped::refused(name, HELD),
         Refusal::Moved => Stopped::refused(name, IS_MOVED),
-        Refusal::Other(None) if which == Which::Redo && is_among_devices(rt, folder_of(name)) => {
+        Refusal::Other(code) => Stopped::by(Fault::OpenFailed, name, code),
+    }
+}
+
+/// By a file that is missing and isn't made, since its place is none for it.
+fn unmade<'a, R>(rt: &R, name: &'a str, which: Which, misplaced: Option<Misplaced>) -> Stopped<'a>
+where
+    R: Files<File = File> + AllocGlobal,
+{
+    match (which, misplaced) {
+        (Which::Image, Some(misplaced)) => Stopped::refused(name, told(misplaced)),
+        (Which::Journal | Which::Redo, _) if is_among_devices(rt, folder_of(name)) => {
             Stopped::refused(name, NO_TEXT)
         }
-        Refusal::Other(code) => Stopped::by(Fault::OpenFailed, name, code),
+        (Which::Image | Which::Journal | Which::Redo, _) => {
+            Stopped::by(Fault::OpenFailed, name, None)
+        }
     }
 }
 

@@ -2,9 +2,9 @@
 use bx_image::Change;
 use bx_text::Piece;
 use std::alloc::Global;
-use std::fs::File;
-use std::io::{Seek, SeekFrom};
-use std::os::unix::fs::FileExt;
+use std::fs::{self, File};
+use std::io::{self, ErrorKind, Seek, SeekFrom};
+use std::os::unix::fs::{FileExt, FileTypeExt};
 use std::rt::Files;
 
 /// A gap of more bytes than this is worth a hint.
@@ -27,13 +27,13 @@ pub struct Effect {
 }
 
 impl Effect {
-    /// What a change will make of an image that is open elsewhere; none where the image can't be read.
+    /// What a change will make of an image, where one that is missing is as an empty one; none where the image can't be read.
     pub fn new<R>(rt: &R, image: &str, change: &Change) -> Option<Effect>
     where
         R: Files<File = File> + AllocGlobal,
     {
-        let file = File::open(rt, image).ok()?;
-        let before = (&file).seek(SeekFrom::End(0)).ok()?;
+        let file = opened(rt, image).ok()?;
+        let before = length_of(&file).ok()?;
         let mut after = before;
         let mut given = 0u64;
         for write in change.writes.as_slice() {
@@ -55,6 +55,27 @@ impl Effect {
     }
 }
 
+/// The image, to be read; none where it is missing. To open anything but a regular file or a block device may already do
+/// something to it.
+fn opened<R: Files<File = File>>(rt: &R, image: &str) -> io::Result<Option<File>> {
+    match fs::metadata(rt, image) {
+        Ok(found) if found.is_file() || found.file_type().is_block_device() => {
+            Ok(Some(File::open(rt, image)?))
+        }
+        Ok(_) => Err(io::Error::from(ErrorKind::Unsupported)),
+        Err(error) if error.kind() == ErrorKind::NotFound => Ok(None),
+        Err(error) => Err(error),
+    }
+}
+
+/// How many bytes it has.
+fn length_of(image: &Option<File>) -> io::Result<u64> {
+    match image {
+        Some(file) => (&*file).seek(SeekFrom::End(0)),
+        None => Ok(0),
+    }
+}
+
 /// Where a write ends; 0 of one that is empty.
 fn end_of(write: &Piece) -> u64 {
     match write.bytes.as_slice().len() as u64 {
@@ -63,8 +84,11 @@ fn end_of(write: &Piece) -> u64 {
     }
 }
 
-/// Whether a file has the bytes of a change already.
-fn are_there(alloc: Global, file: &File, change: &Change) -> bool {
+/// Whether an image has the bytes of a change already; one that is missing has those of a change without any.
+fn are_there(alloc: Global, image: &Option<File>, change: &Change) -> bool {
+    let Some(file) = image else {
+        return true;
+    };
     let Ok(mut page) = vec![in alloc; 0u8; PAGE] else {
         return false;
     };

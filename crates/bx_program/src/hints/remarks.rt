@@ -99,11 +99,14 @@ impl Remarks {
         }
     }
 
-    /// Takes what opening found unfinished: recovery writes the journal last.
+    /// Takes what opening found unfinished: recovery writes the journal last, and makes another image than was looked at.
     pub fn look_at_recovered(&mut self, how: Option<How>) {
         match how {
             None | Some(How::Clean) => {}
-            Some(How::Dropped | How::Restored { .. }) => self.is_later = false,
+            Some(How::Dropped | How::Restored { .. }) => {
+                self.is_later = false;
+                self.effect = None;
+            }
         }
     }
 
@@ -131,7 +134,7 @@ impl Remarks {
         self.is_empty = !changes;
     }
 
-    /// Looks what the change of a dump will make of the image, which is open and not yet written.
+    /// Looks what the change of a dump will make of the image, which is not yet written.
     pub fn look_at_change<R>(&mut self, rt: &R, target: &Target, change: &Change)
     where
         R: Files<File = File> + AllocGlobal,

@@ -2,15 +2,16 @@
 ghost use Rattle.bx_cli_commands.specs.jobs.Passing.{CanPass, plan_skip};
 
 use crate::advice::Advice;
-use crate::files::look::is_device;
+use crate::files::look::{device_length, is_device};
 use crate::hints::remarks::Remarks;
 use crate::images::forget::{finish_copy, open_to_renew, renewed};
-use crate::images::{finish, open_session};
+use crate::jobs::named::change_image;
 use crate::stopped::{Noted, Stopped};
 use crate::streams::fitting::Fitting;
 use crate::streams::input::{Placed, file, standard};
 use bx_cli::{Command, DdImageJob, Fault, change_of_plan, plan_rest};
 use bx_dd::{Counts, Plan, report};
+use bx_program_sessions::Task;
 use bx_program_system::Progress;
 use bx_text::IoFault;
 use std::fs::File;
@@ -26,11 +27,11 @@ pub fn copy_onto<'a, R>(
     remarks: &mut Remarks,
 ) -> Result<(), Stopped<'a>>
 where
-    R: Files<File = File> + Input + Eprint + Clock + AllocGlobal,
+    R: Files<File = File> + Input + Print + Eprint + Clock + AllocGlobal,
 {
     let progress = remarks.progress_of_input(rt, None);
     let advice = Advice::before(rt, &job.target, job.fresh);
-    let counts = copy_input(rt, job, &progress)?;
+    let counts = copy_input(rt, job, &progress, remarks)?;
     advice.keep(rt, &job.target);
     remarks.look_at_advice(advice.is_changed());
     if let Some(counts) = counts {
@@ -46,14 +47,15 @@ fn copy_input<'a, R>(
     rt: &R,
     job: &'a DdImageJob,
     progress: &Progress<'_, R>,
+    remarks: &mut Remarks,
 ) -> Result<Option<Counts>, Stopped<'a>>
 where
-    R: Files<File = File> + Input + Eprint + Clock + AllocGlobal,
+    R: Files<File = File> + Input + Print + Eprint + Clock + AllocGlobal,
 {
     let skip = job.skip();
     match &job.plan.input {
-        Some(name) => copy_from(rt, job, file(rt, skip, name)?, progress),
-        None => copy_from(rt, job, standard(rt, skip), progress),
+        Some(name) => copy_from(rt, job, file(rt, skip, name)?, progress, remarks),
+        None => copy_from(rt, job, standard(rt, skip), progress, remarks),
     }
 }
 
@@ -74,25 +76,25 @@ fn copy_from<'a, R, I: Read + Drop>(
     job: &'a DdImageJob,
     input: Placed<'a, I>,
     progress: &Progress<'_, R>,
+    remarks: &mut Remarks,
 ) -> Result<Option<Counts>, Stopped<'a>>
 where
-    R: Files<File = File> + Eprint + Clock + AllocGlobal,
+    R: Files<File = File> + Print + Eprint + Clock + AllocGlobal,
     requires { CanPass input.passed (plan_skip job.now.plan) }
 {
     if job.fresh {
         return copy_anew(rt, job, input, progress);
     }
-    let keeps_length = is_device(rt, job.target.image.as_str());
-    let session = open_session(rt, &job.target, true, progress)?;
+    let image = job.target.image.as_str();
     let (from, passed) = (input.name, input.passed);
-    let plan = plan_for(&job.plan, passed, keeps_length);
+    let plan = plan_for(&job.plan, passed, is_device(rt, image));
     let input = Noted::new(input.reader);
-    let mut fitting = Fitting::new(input, &job.plan, passed, session.length);
+    let mut fitting = Fitting::new(input, &job.plan, passed, device_length(rt, image));
     let asked = Command::Copy {
         plan,
         input: &mut fitting,
     };
-    match finish(rt, session, asked, &job.target) {
+    match change_image(rt, &job.target, Task::Run(asked), progress, remarks) {
         Ok(reply) => Ok(reply.counts()),
         Err(stopped) if fitting.is_full() => Err(stopped.on_more_input()),
         Err(stopped) => Err(stopped.on_input(from, fitting.input.error)),

@@ -1,14 +1,18 @@
 //! A patch, read and applied to an image.
+ghost use Rattle.bx_cli_commands.specs.Command.{IsNear};
+
 use crate::advice::Advice;
 use crate::files::look::is_device;
 use crate::hints::remarks::Remarks;
+use crate::images::finish;
 use crate::images::forget::open_agreeing;
-use crate::images::{finish, open_session};
+use crate::jobs::named::change_image;
 use crate::jobs::previews::preview_patch;
 use crate::stopped::{Noted, STANDARD_INPUT, Stopped};
 use crate::streams::input::{MOST_INPUT, open, size_of};
 use bx_cli::{Command, Fault, PatchJob};
 use bx_patch::{Patch, read_patch};
+use bx_program_sessions::Task;
 use bx_program_system::{Counted, Progress};
 use bx_text::Source;
 use std::alloc::Global;
@@ -25,7 +29,7 @@ pub fn patch<'a, R, W: Write>(
     remarks: &mut Remarks,
 ) -> Result<(), Stopped<'a>>
 where
-    R: Files<File = File> + Input + Eprint + Clock + AllocGlobal,
+    R: Files<File = File> + Input + Print + Eprint + Clock + AllocGlobal,
 {
     let patch = read_named(rt, job, remarks)?;
     let resizes = changes_length(&patch);
@@ -39,16 +43,23 @@ where
         return preview_patch(rt, &job.target, patch, &progress, out);
     }
     let advice = Advice::before(rt, &job.target, job.fresh);
-    let session = if job.fresh {
-        open_agreeing(rt, &job.target, &patch, &progress)?
+    let target = &job.target;
+    if job.fresh {
+        let session = open_agreeing(rt, target, &patch, &progress)?;
+        finish(rt, session, asking(patch), target)?;
     } else {
-        open_session(rt, &job.target, true, &progress)?
-    };
-    let asked: Command<Empty> = Command::Patch { patch };
-    finish(rt, session, asked, &job.target)?;
+        change_image(rt, target, Task::Run(asking(patch)), &progress, remarks)?;
+    }
     advice.keep(rt, &job.target);
     remarks.look_at_advice(advice.is_changed());
     Ok(())
+}
+
+/// The command that makes a patch's change.
+fn asking(patch: Patch) -> Command<Empty>
+    ensures { IsNear result }
+{
+    Command::Patch { patch }
 }
 
 /// Whether a patch brings the image to another length.

@@ -1,42 +1,16 @@
 //! The jobs that take changes back, and that make them again.
-ghost use Rattle.std.specs.Prelude.{◌≡◌, IfOk};
-
 use crate::advice::Advice;
-use crate::devices::left::{differs_by_name, stopped_by};
 use crate::files::look::refuse_without_journal;
-use crate::files::unopened::not_opened;
 use crate::hints::remarks::Remarks;
-use crate::stopped::{STANDARD_OUTPUT, Stopped};
-use bx_cli::{Durability, Fault, StepsJob, Target};
-use bx_journal::{SessionFault, Way};
-use bx_program_files::{Names, Unopened};
+use crate::jobs::named::{names_of, stopped, world_of};
+use crate::stopped::Stopped;
+use bx_cli::{Fault, StepsJob};
+use bx_journal::Way;
 use bx_program_sessions::move_changes;
-use bx_program_system::SystemWorld;
-use bx_text::{IoFault, Name};
-use std::alloc::{AllocError, Global};
+use bx_text::IoFault;
 use std::fs::File;
 use std::rt::Files;
 use std::time::Clock;
-
-/// A name once more.
-fn copied(alloc: Global, name: &Name) -> Result<Name, AllocError>
-    ensures { IfOk result (λ n. n ≡ name.now) }
-{
-    Ok(Name::from_string(String::from_str(alloc, name.as_str())?))
-}
-
-/// The names of an image and its texts.
-fn names_of(alloc: Global, target: &Target) -> Result<Names, Fault>
-    ensures image { IfOk result (λ n. n.image ≡ target.now.image) }
-    ensures journal { IfOk result (λ n. n.journal ≡ target.now.texts.journal) }
-    ensures redo { IfOk result (λ n. n.redo ≡ target.now.texts.redo) }
-{
-    Ok(Names {
-        image: copied(alloc, &target.image)?,
-        journal: copied(alloc, &target.texts.journal)?,
-        redo: copied(alloc, &target.texts.redo)?,
-    })
-}
 
 /// Takes changes back or makes undone ones again, and shows how many changes then stand.
 pub fn take_steps<'a, R>(
@@ -57,8 +31,7 @@ where
     }
     let names = names_of(rt.alloc(), target)?;
     let progress = remarks.progress_of_input(rt, None);
-    let waits = target.access.durability == Durability::Synced;
-    let mut world = SystemWorld::new(rt, &progress, waits);
+    let mut world = world_of(rt, target, &progress);
     let mounted = target.access.mounted;
     let moved = move_changes(&mut world, rt.alloc(), &names, mounted, way, job.count);
     drop(names);
@@ -77,30 +50,5 @@ fn is_moved(outcome: &Result<(), Fault>) -> bool {
     match outcome {
         Ok(()) | Err(Fault::Io(IoFault::WriteFailed { .. })) => true,
         Err(_) => false,
-    }
-}
-
-/// What stopped an undo or a redo, and the file or the stream that did it.
-fn stopped<'a, R>(
-    rt: &R,
-    target: &'a Target,
-    world: &SystemWorld<'_, '_, R>,
-    unopened: Option<Unopened>,
-    fault: Fault,
-) -> Stopped<'a>
-where
-    R: Files<File = File> + Print + Eprint + Clock + AllocGlobal,
-{
-    if let Some(unopened) = unopened {
-        return not_opened(rt, target, unopened, world.is_unkept);
-    }
-    match fault {
-        Fault::Io(IoFault::WriteFailed { .. }) => {
-            Stopped::by(fault, STANDARD_OUTPUT, world.unwritten)
-        }
-        Fault::Session(SessionFault::LengthDiffers { expected }) => {
-            differs_by_name(rt, target.image.as_str(), fault, expected)
-        }
-        fault => stopped_by(target, &world.left, fault),
     }
 }
