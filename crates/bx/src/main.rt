@@ -1,14 +1,32 @@
 //! The program's start, and its exit status.
 #![tactic(auto)]
 
+ghost use Rattle.std.specs.Prelude.{◌≡◌};
+ghost use Rattle.bx.specs.Status.{status_by};
+
 use bx_cli::Fault;
 use bx_program::Terminals;
 use std::io::IsTerminal;
 use std::process::ExitCode;
 
-/// 2 where the words are wrong, and 1 at any other fault.
-fn status(fault: Fault) -> u8 {
-    if fault == Fault::Usage { 2 } else { 1 }
+/// 0 where all is done, 2 where the words are wrong, and 1 at any other fault.
+fn status(outcome: Result<(), Fault>) -> u8
+    ensures { result ≡ status_by outcome }
+{
+    match outcome {
+        Ok(()) => 0,
+        Err(Fault::Usage) => 2,
+        Err(
+            Fault::Io(_)
+            | Fault::Read(_)
+            | Fault::Dd(_)
+            | Fault::Patch(_)
+            | Fault::Disagrees(_)
+            | Fault::Session(_)
+            | Fault::ChangedSince
+            | Fault::OpenFailed,
+        ) => 1,
+    }
 }
 
 fn main(rt: HostRuntime) -> ExitCode {
@@ -16,8 +34,5 @@ fn main(rt: HostRuntime) -> ExitCode {
         output: rt.stdout().is_terminal(),
         errors: rt.stderr().is_terminal(),
     };
-    match bx_program::run(&rt, terminals) {
-        Ok(()) => ExitCode::SUCCESS,
-        Err(fault) => ExitCode::from(status(fault)),
-    }
+    ExitCode::from(status(bx_program::run(&rt, terminals)))
 }
