@@ -1,15 +1,27 @@
-//! What an undo or a redo leaves: files, and what was written.
-use crate::plays::Play;
+//! What a command leaves: files, and what was written.
+use crate::changes::is_answer;
+use crate::moves::move_in;
+use crate::plays::{Asked, Ended, Play};
 use crate::report::Wrong;
-use crate::setting::{Held, has_other, has_redo, held_by, run, world_of};
-use bx_cli_commands::Fault;
-use bx_journal::{SessionFault, Way};
-use bx_program_sessions::Moved;
+use crate::setting::{Held, There, has_other, held_by, there_in, world_of};
+use bx_cli_commands::{Fault, Reply};
+use bx_dd::DdFault;
+use bx_journal::{How, SessionFault, Way};
 use bx_program_world::{MemoryWorld, Plan};
 use bx_text::IoFault;
-use test_case_files::Opening;
 
-/// How many of the changes may be found moved.
+/// What fails in a play, as far as it decides which faults may be.
+#[derive(Clone, Copy, Debug, PartialEq, Eq)]
+pub enum Cause {
+    /// Calls of the world.
+    World,
+    /// Calls of a device.
+    Device,
+    /// Reads of an input.
+    Input,
+}
+
+/// How many of the changes may be found moved or made.
 #[derive(Clone, Copy)]
 pub struct Reach {
     pub least: u32,
@@ -17,10 +29,10 @@ pub struct Reach {
 }
 
 /// No fewer and no more.
-fn exactly(moved: u32) -> Reach {
+fn exactly(steps: u32) -> Reach {
     Reach {
-        least: moved,
-        most: moved,
+        least: steps,
+        most: steps,
     }
 }
 
@@ -36,8 +48,13 @@ fn is_told(told: &Option<Vec<u8>>, found: &[u8]) -> bool {
     }
 }
 
+/// The three files are there, and nothing else.
+fn are_there(world: &MemoryWorld) -> Result<(), Wrong> {
+    same(there_in(world) == There::ALL, Wrong::Files)
+}
+
 /// The files hold what the last line of the case tells.
-fn are_moved(play: &Play<'_>, world: &MemoryWorld) -> Result<(), Wrong> {
+fn are_as_told(play: &Play<'_>, world: &MemoryWorld) -> Result<(), Wrong> {
     let Some(row) = play.last() else {
         return Err(Wrong::Unknown);
     };
@@ -45,23 +62,31 @@ fn are_moved(play: &Play<'_>, world: &MemoryWorld) -> Result<(), Wrong> {
     let is_same = held.image == row.left.image.as_slice()
         && is_told(&row.left.journal, held.journal)
         && is_told(&row.left.redo, held.redo);
-    same(is_same && has_redo(world), Wrong::Files)
+    same(is_same, Wrong::Files)?;
+    are_there(world)
 }
 
-/// The files hold what they held, and none is there that wasn't; but an empty redo text may be left that the system refused to
-/// take away.
+/// The files hold what they held, and none is there that wasn't but those that the world refused to take away.
 fn are_kept(play: &Play<'_>, world: &MemoryWorld) -> Result<(), Wrong> {
-    let first = play.first();
-    let is_made = first.redo.is_empty() && has_redo(world);
+    let news = there_in(world).news(play.there);
     same(
-        held_by(world).is_same(first) && (!is_made || world.stuck() > 0),
+        held_by(world).is_same(play.first()) && news == Some(world.stuck()),
         Wrong::Files,
     )
 }
 
+/// The image is the one that opening recovers, and its texts are there.
+fn are_recovered(play: &Play<'_>, world: &MemoryWorld) -> Result<(), Wrong> {
+    same(
+        play.image_behind(0) == Some(held_by(world).image),
+        Wrong::Files,
+    )?;
+    are_there(world)
+}
+
 /// A front of the number of changes that stand is written; all of it, where it is whole.
 fn has_number(play: &Play<'_>, world: &MemoryWorld, is_whole: bool) -> Result<(), Wrong> {
-    let number = play.standing_behind(play.count);
+    let number = play.standing_behind(play.count());
     let line = format!(in play.alloc; "{number}\n")?;
     let output = world.output();
     let is_same = if is_whole {
@@ -72,26 +97,52 @@ fn has_number(play: &Play<'_>, world: &MemoryWorld, is_whole: bool) -> Result<()
     same(is_same, Wrong::Streams)
 }
 
-/// What was recovered is said, where the files were opened, and nothing else.
-fn has_recovered(play: &Play<'_>, world: &MemoryWorld, is_opened: bool) -> Result<(), Wrong> {
-    let line = match play.case.opening {
-        Opening::Clean { .. } => format!(in play.alloc; "")?,
-        Opening::Dropped { .. } => {
-            format!(in play.alloc; "bx: recovered: an unfinished entry was dropped\n")?
-        }
-        Opening::Restored { number, .. } => {
-            format!(in play.alloc; "bx: recovered: change {number} was taken back\n")?
-        }
+/// The reply to a change is what the case tells, and nothing is written.
+fn has_reply(play: &Play<'_>, world: &MemoryWorld, reply: Option<Reply>) -> Result<(), Wrong> {
+    let (Some(row), Some(reply)) = (play.last(), reply) else {
+        return Err(Wrong::Outcome);
     };
-    let wanted: &[u8] = if is_opened { line.as_bytes() } else { b"" };
-    same(world.errors() == wanted, Wrong::Streams)
+    same(is_answer(&row.answer, reply), Wrong::Outcome)?;
+    same(world.output().is_empty(), Wrong::Streams)
+}
+
+/// What a command answers that is done: a move on standard output, a change by its reply.
+fn has_answer(play: &Play<'_>, world: &MemoryWorld, reply: Option<Reply>) -> Result<(), Wrong> {
+    match play.asked {
+        Asked::Moves { .. } => has_number(play, world, true),
+        Asked::Change(_) => has_reply(play, world, reply),
+    }
+}
+
+/// What is said of a recovery.
+fn recovered_text(play: &Play<'_>, how: How) -> Result<String, Wrong> {
+    match how {
+        How::Clean => Ok(String::new(play.alloc)),
+        How::Dropped => {
+            Ok(format!(in play.alloc; "bx: recovered: an unfinished entry was dropped\n")?)
+        }
+        How::Restored { number } => {
+            Ok(format!(in play.alloc; "bx: recovered: change {number} was taken back\n")?)
+        }
+    }
+}
+
+/// What was recovered is what the case tells, and is said; where the files weren't opened nothing is.
+fn has_recovered(play: &Play<'_>, world: &MemoryWorld, how: Option<How>) -> Result<(), Wrong> {
+    let Some(how) = how else {
+        return same(world.errors().is_empty(), Wrong::Streams);
+    };
+    same(how == play.how(), Wrong::Outcome)?;
+    let line = recovered_text(play, how)?;
+    same(world.errors() == line.as_bytes(), Wrong::Streams)
 }
 
 /// Whether the fault is the one that the case tells, or that of a call which failed.
-fn is_due(play: &Play<'_>, world: &MemoryWorld, fault: Fault) -> Result<bool, Wrong> {
+fn is_due(play: &Play<'_>, cause: Cause, ended: &Ended, fault: Fault) -> Result<bool, Wrong> {
     match fault {
-        Fault::OpenFailed => Ok(world.was_refused()),
-        Fault::Session(SessionFault::DeviceFailed) => Ok(true),
+        Fault::OpenFailed => Ok(cause == Cause::World && ended.unopened.is_some()),
+        Fault::Session(SessionFault::DeviceFailed) => Ok(cause == Cause::Device),
+        Fault::Dd(DdFault::ReadFailed) => Ok(cause == Cause::Input),
         fault => {
             let text = format!(in play.alloc; "{fault}")?;
             Ok(play.fault() == Some(text.as_str()))
@@ -100,54 +151,94 @@ fn is_due(play: &Play<'_>, world: &MemoryWorld, fault: Fault) -> Result<bool, Wr
 }
 
 /// The command was refused: files are as they were, unless something was recovered.
-fn is_refused(play: &Play<'_>, world: &MemoryWorld, fault: Fault) -> Result<Reach, Wrong> {
-    same(is_due(play, world, fault)?, Wrong::Outcome)?;
+fn is_refused(
+    play: &Play<'_>,
+    world: &MemoryWorld,
+    cause: Cause,
+    ended: &Ended,
+    fault: Fault,
+) -> Result<Reach, Wrong> {
+    same(is_due(play, cause, ended, fault)?, Wrong::Outcome)?;
     same(world.output().is_empty(), Wrong::Streams)?;
-    if play.is_clean() || fault == Fault::OpenFailed {
-        are_kept(play, world)?;
+    match ended.how {
+        None | Some(How::Clean) => are_kept(play, world)?,
+        Some(How::Dropped | How::Restored { .. }) => are_recovered(play, world)?,
     }
     Ok(exactly(0))
 }
 
 /// The command is done.
-fn is_done(play: &Play<'_>, world: &MemoryWorld, is_whole: bool) -> Result<Reach, Wrong> {
-    same(play.fault().is_none(), Wrong::Outcome)?;
-    has_number(play, world, is_whole)?;
-    are_moved(play, world)?;
-    Ok(exactly(play.count))
+fn is_done(play: &Play<'_>, world: &MemoryWorld, ended: &Ended) -> Result<Reach, Wrong> {
+    same(
+        play.fault().is_none() && ended.how.is_some(),
+        Wrong::Outcome,
+    )?;
+    are_as_told(play, world)?;
+    Ok(exactly(play.count()))
+}
+
+/// The command was stopped in the middle: nothing that it made is taken away.
+fn is_interrupted(play: &Play<'_>, world: &MemoryWorld, cause: Cause) -> Result<Reach, Wrong> {
+    same(cause == Cause::Device, Wrong::Outcome)?;
+    same(world.output().is_empty(), Wrong::Streams)?;
+    are_there(world)?;
+    let most = match play.fault() {
+        Some(_) => 0,
+        None => play.count(),
+    };
+    Ok(Reach { least: 0, most })
+}
+
+/// The number of a move that is done can't be written in full.
+fn is_unwritten(
+    play: &Play<'_>,
+    world: &MemoryWorld,
+    cause: Cause,
+    ended: &Ended,
+) -> Result<Reach, Wrong> {
+    let is_move = matches!(play.asked, Asked::Moves { .. });
+    same(is_move && cause == Cause::World, Wrong::Outcome)?;
+    has_number(play, world, false)?;
+    is_done(play, world, ended)
 }
 
 /// The command ended as it may, by its outcome.
-fn ended(play: &Play<'_>, world: &MemoryWorld, outcome: Result<(), Fault>) -> Result<Reach, Wrong> {
-    match outcome {
-        Ok(()) => is_done(play, world, true),
-        Err(Fault::Io(IoFault::WriteFailed { .. })) => is_done(play, world, false),
-        Err(Fault::Session(SessionFault::Interrupted)) => {
-            same(world.output().is_empty(), Wrong::Streams)?;
-            Ok(Reach {
-                least: 0,
-                most: play.count,
-            })
+fn ended_so(
+    play: &Play<'_>,
+    world: &MemoryWorld,
+    cause: Cause,
+    ended: &Ended,
+) -> Result<Reach, Wrong> {
+    match ended.outcome {
+        Ok(reply) => {
+            has_answer(play, world, reply)?;
+            is_done(play, world, ended)
         }
-        Err(fault) => is_refused(play, world, fault),
+        Err(Fault::Io(IoFault::WriteFailed { .. })) => is_unwritten(play, world, cause, ended),
+        Err(Fault::Session(SessionFault::Interrupted)) => is_interrupted(play, world, cause),
+        Err(fault) => is_refused(play, world, cause, ended, fault),
     }
 }
 
 /// A command ended as it may, and left what it may. Tells what may be found behind it.
-pub fn judge(play: &Play<'_>, world: &MemoryWorld, moved: &Moved<()>) -> Result<Reach, Wrong> {
+pub fn judge(
+    play: &Play<'_>,
+    world: &MemoryWorld,
+    cause: Cause,
+    ended: &Ended,
+) -> Result<Reach, Wrong> {
     same(has_other(world), Wrong::Files)?;
-    same(
-        moved.unopened.is_none() || world.was_refused(),
-        Wrong::Unopened,
-    )?;
-    has_recovered(play, world, moved.how.is_some())?;
-    ended(play, world, moved.outcome)
+    let is_unopened = ended.outcome.err() == Some(Fault::OpenFailed);
+    same(ended.unopened.is_some() == is_unopened, Wrong::Unopened)?;
+    same(!is_unopened || world.was_refused(), Wrong::Unopened)?;
+    has_recovered(play, world, ended.how)?;
+    ended_so(play, world, cause, ended)
 }
 
 /// Whether no call failed, and the command ended as the case tells.
-pub fn is_as_told(play: &Play<'_>, world: &MemoryWorld, moved: &Moved<()>) -> Result<bool, Wrong> {
-    let is_told = match moved.outcome {
-        Ok(()) => true,
+pub fn is_as_told(play: &Play<'_>, world: &MemoryWorld, ended: &Ended) -> Result<bool, Wrong> {
+    let is_told = match ended.outcome {
+        Ok(_) => true,
         Err(fault) => {
             let text = format!(in play.alloc; "{fault}")?;
             play.fault() == Some(text.as_str())
@@ -156,17 +247,17 @@ pub fn is_as_told(play: &Play<'_>, world: &MemoryWorld, moved: &Moved<()>) -> Re
     Ok(is_told && !world.was_refused() && world.stuck() == 0)
 }
 
-/// Whether opening found the first `moved` changes moved: the number that stands, and the image behind them.
-fn is_behind(play: &Play<'_>, world: &MemoryWorld, moved: u32) -> Result<bool, Wrong> {
-    let number = play.standing_behind(moved);
+/// Whether opening found the first `steps` changes moved or made: the number that stands, and the image behind them.
+fn is_behind(play: &Play<'_>, world: &MemoryWorld, steps: u32) -> Result<bool, Wrong> {
+    let number = play.standing_behind(steps);
     let line = format!(in play.alloc; "{number}\n")?;
     let image = Some(held_by(world).image);
-    Ok(world.output() == line.as_bytes() && image == play.image_behind(moved))
+    Ok(world.output() == line.as_bytes() && image == play.image_behind(steps))
 }
 
 /// Opens what is left in a world, by an undo of no change, which finds an image that it may.
 fn finds_in(play: &Play<'_>, world: &mut MemoryWorld, reach: Reach) -> Result<(), Wrong> {
-    let moved = run(world, play.alloc, &play.names, Plan::NOTHING, Way::Undo, 0);
+    let moved = move_in(world, play.alloc, &play.names, Plan::NOTHING, Way::Undo, 0);
     same(moved.outcome.is_ok(), Wrong::Found)?;
     for steps in reach.least..reach.most.saturating_add(1) {
         if is_behind(play, world, steps)? {

@@ -1,25 +1,35 @@
-//! Plays undos and redos of named files in a world in memory, over cases of the kind `commands`. The lines of a case are one undo
-//! or redo of as many changes; a first `undo: 0` tells what opening recovers.
+//! Plays commands on named files in a world in memory, over cases of the kind `commands`. The lines of a case are one undo or redo of
+//! as many changes; or the last one is a change, a revert, dd or a patch. A first `undo: 0` tells what opening recovers.
+//!
+//! A change is asked for whole, and once more as the program does it, by what was read before. A text without bytes is missing, and so
+//! is an image whose journal has none either: they are made, and taken away again where the change is refused. Asked for whole it is
+//! played once more where the image's name is a link to nothing, and where all three are there, and stay.
 //!
 //! Each call of the world in turn is refused, alone or with all behind it, and each write, cut or sync of the image, of the journal
-//! and of the redo text fails (none, half or all of it taking effect, once or for good), and each read of them with all behind it, until
-//! no call does. Outcome, streams and
-//! files have to be those of the case, or as before with nothing made; of an interrupted command an opening decides. Then the power
-//! is lost: of each of the three what it has or what is on its disk is left, in all combinations, and opening finds the image behind
-//! some of the changes: behind all where the command is done, behind none where it is refused. A line of the output has a case, and
-//! how often it was played with each; before them stand the files of
-//! `odd.rt` that may not be opened, in the first case.
+//! and of the redo text fails (none, half or all of it taking effect, once or for good), each read of them with all behind it, and each
+//! read of what dd reads (once or for good), until no call does. Answer, streams and files have to be those of the case, or as before
+//! with nothing made and a fault of what failed; of an interrupted command an opening decides. Then the power is lost: of each of the
+//! three what it has or what is on its disk is left, in all combinations, and opening finds the image behind some of the changes: behind
+//! all where the command is done, behind none where it is refused.
+//!
+//! A line of the output has a case, and how often it was played with each that fails; before them stand the files of `oddities.rt` that
+//! may not be opened: in the first case, in the first change, and in the first one whose files are made.
 #![tactic(auto)]
 
+mod changes;
 mod left;
+mod moves;
 mod odd;
+mod oddities;
 mod plays;
 mod report;
 mod setting;
 mod sweeps;
 
-use crate::odd::{ODDS, Odd, play_refused};
-use crate::plays::Play;
+use crate::changes::Manner;
+use crate::odd::play_refused;
+use crate::oddities::{ODDS, ODDS_OF_MADE, Odd, Oddity, names_of_odd};
+use crate::plays::{Play, Setting};
 use crate::report::Wrong;
 use crate::sweeps::{Failing, play_sweep};
 use std::fs;
@@ -48,46 +58,101 @@ fn play_told(rt: &HostRuntime, play: &Play<'_>, failing: Failing) -> bool {
     }
 }
 
-/// Plays a case in each way. Tells whether all are right.
-fn play_case(rt: &HostRuntime, case: &Case) -> Result<bool, Wrong> {
+/// Plays a case, as it is asked for, in each way. Tells whether all are right.
+fn play_ways(rt: &HostRuntime, play: &Play<'_>) -> bool {
+    let mut right = true;
+    for failing in Failing::EACH {
+        if failing.is_in(play) {
+            right = play_told(rt, play, *failing) && right;
+        }
+    }
+    let _ = println!(rt; "");
+    right
+}
+
+/// Plays a case, as it is asked for in a manner, in each setting. Tells whether all are right.
+fn play_settings(rt: &HostRuntime, case: &Case, manner: Manner) -> Result<bool, Wrong> {
     let Test::Commands(commands) = &case.test else {
         return Err(Wrong::Unknown);
     };
-    let play = Play::new(rt.alloc(), commands)?;
-    let _ = print!(rt; "{}", case.name);
     let mut right = true;
-    for failing in Failing::EACH {
-        right = play_told(rt, &play, *failing) && right;
+    for setting in Setting::EACH {
+        if let Some(play) = Play::new(rt.alloc(), commands, manner, *setting)? {
+            let _ = print!(rt; "{}{}{}", case.name, manner.text(), setting.text());
+            right = play_ways(rt, &play) && right;
+        }
     }
-    let _ = println!(rt; "");
+    Ok(right)
+}
+
+/// Plays a case in each manner. Tells whether all are right.
+fn play_case(rt: &HostRuntime, case: &Case) -> Result<bool, Wrong> {
+    let mut right = true;
+    for manner in Manner::EACH {
+        right = play_settings(rt, case, *manner)? && right;
+    }
     Ok(right)
 }
 
 /// Plays a case with a file that may not be opened. Tells whether it is right.
-fn play_odd(rt: &HostRuntime, play: &Play<'_>, odd: &Odd) -> bool {
+fn play_odd(rt: &HostRuntime, play: &Play<'_>, odd: &Odd, what: &str) -> bool {
     let (name, _, _, _) = *odd;
     match play_refused(play, odd) {
         Ok(plays) => {
-            let _ = println!(rt; "{name}, not opened {plays}");
+            let _ = println!(rt; "{name}, {what} {plays}");
             true
         }
         Err(failure) => {
-            let what = failure.wrong.text();
-            let _ = println!(rt; "{name}, call {}: {what}", failure.call);
+            let wrong = failure.wrong.text();
+            let _ = println!(rt; "{name}, {what}, call {}: {wrong}", failure.call);
             false
         }
     }
 }
 
-/// Plays the first case with each file that may not be opened. Tells whether all are right.
+/// The play of the first case that has one in this setting, as it is asked for whole.
+fn first_in<'a>(rt: &HostRuntime, cases: &'a [Case], setting: Setting) -> Result<Play<'a>, Wrong> {
+    for case in cases {
+        let Test::Commands(commands) = &case.test else {
+            return Err(Wrong::Unknown);
+        };
+        if let Some(play) = Play::new(rt.alloc(), commands, Manner::Whole, setting)? {
+            return Ok(play);
+        }
+    }
+    Err(Wrong::Unknown)
+}
+
+/// Plays the first case, whose files are there, with each file that may not be opened. Tells whether all are right.
 fn play_odds(rt: &HostRuntime, cases: &[Case]) -> Result<bool, Wrong> {
-    let Some(Test::Commands(commands)) = cases.first().map(|case| &case.test) else {
-        return Err(Wrong::Unknown);
-    };
-    let play = Play::new(rt.alloc(), commands)?;
+    let play = first_in(rt, cases, Setting::Bare)?;
     let mut right = true;
     for odd in &ODDS {
-        right = play_odd(rt, &play, odd) && right;
+        right = play_odd(rt, &play, odd, "not opened") && right;
+    }
+    Ok(right)
+}
+
+/// Plays the first change, with all three files there, with each of them that may not be opened. Tells whether all are right.
+fn play_odds_of_change(rt: &HostRuntime, cases: &[Case]) -> Result<bool, Wrong> {
+    let play = first_in(rt, cases, Setting::Full)?;
+    let mut right = true;
+    for odd in &ODDS {
+        let (_, _, oddity, _) = *odd;
+        if oddity != Oddity::Missing {
+            right = play_odd(rt, &play, odd, "not changed") && right;
+        }
+    }
+    Ok(right)
+}
+
+/// Plays the first case whose files are made, behind a link, with each file that may not be opened. Tells whether all are right.
+fn play_odds_of_made(rt: &HostRuntime, cases: &[Case]) -> Result<bool, Wrong> {
+    let mut play = first_in(rt, cases, Setting::Linked)?;
+    let mut right = true;
+    for odd in &ODDS_OF_MADE {
+        play.names = names_of_odd(rt.alloc(), odd)?;
+        right = play_odd(rt, &play, odd, "nothing made") && right;
     }
     Ok(right)
 }
@@ -95,6 +160,8 @@ fn play_odds(rt: &HostRuntime, cases: &[Case]) -> Result<bool, Wrong> {
 /// Plays these cases. Tells whether all are right.
 fn play_each(rt: &HostRuntime, cases: &[Case]) -> Result<bool, Wrong> {
     let mut right = play_odds(rt, cases)?;
+    right = play_odds_of_change(rt, cases)? && right;
+    right = play_odds_of_made(rt, cases)? && right;
     for case in cases {
         right = play_case(rt, case)? && right;
     }

@@ -1,38 +1,97 @@
-//! A case as it is played: one undo or redo of as many changes as its lines tell, one after another.
+//! A case as it is played: one undo or redo of as many changes as its lines tell, one after another; or the change of its last line.
+use crate::changes::{Manner, change, has_manner, task_of};
+use crate::moves::{count_of_all, image_behind, move_in, way_of};
 use crate::report::Wrong;
-use crate::setting::{Held, names};
-use bx_journal::Way;
-use bx_program_files::Names;
+use crate::setting::{Held, There, names, world_with};
+use bx_cli_commands::{Fault, Reply};
+use bx_journal::{How, Way};
+use bx_program_files::{Names, Unopened};
+use bx_program_sessions::Moved;
+use bx_program_world::{MemoryWorld, Plan};
 use std::alloc::Global;
 use test_case_files::{Answer, Ask, CommandsCase, Opening, Row};
 
-/// A case, with what it asks for.
+/// What a case asks for.
+#[derive(Clone, Copy, Debug, PartialEq, Eq)]
+pub enum Asked {
+    /// As many changes are moved one way.
+    Moves { way: Way, count: u32 },
+    /// A change is made, which is asked for in this manner.
+    Change(Manner),
+}
+
+/// Which files of a case are there: those that have bytes, and of the others some.
+#[derive(Clone, Copy, Debug, PartialEq, Eq)]
+pub enum Setting {
+    /// A text without bytes is missing, and an image whose journal has none either. Of an undo and a redo it is the redo text alone.
+    Bare,
+    /// The same of a change to an image without bytes, which is missing: its name is a link to nothing.
+    Linked,
+    /// All three are there before a change that makes some of them else.
+    Full,
+}
+
+impl Setting {
+    pub const EACH: &'static [Setting] = &[Setting::Bare, Setting::Linked, Setting::Full];
+
+    /// What is said of it.
+    pub fn text(self) -> &'static str {
+        match self {
+            Setting::Bare => "",
+            Setting::Linked => ", by a link to nothing",
+            Setting::Full => ", all three there",
+        }
+    }
+}
+
+/// A case, with what it asks for and where.
 #[derive(Drop)]
 pub struct Play<'a> {
     pub alloc: Global,
     pub case: &'a CommandsCase,
     pub names: Names,
-    pub way: Way,
-    /// How many changes are moved.
-    pub count: u32,
+    pub asked: Asked,
+    /// Which files are there before.
+    pub there: There,
+    /// Whether the image's name is a link.
+    pub is_linked: bool,
     /// How many changes stand before.
-    pub standing: u32,
+    standing: u32,
 }
 
-/// Which way a line moves changes.
-fn way_of(row: &Row) -> Result<Way, Wrong> {
-    match &row.ask {
-        Ask::Undo(_) => Ok(Way::Undo),
-        Ask::Redo(_) => Ok(Way::Redo),
-        _ => Err(Wrong::Unknown),
+/// How a command ended.
+#[derive(Clone, Copy)]
+pub struct Ended {
+    /// The reply to a change; none of a move, which writes what it has to tell. Or the fault that stopped it.
+    pub outcome: Result<Option<Reply>, Fault>,
+    /// Why the files were not opened; none where they were.
+    pub unopened: Option<Unopened>,
+    /// What opening found unfinished; none where it was refused, and where the files were not opened.
+    pub how: Option<How>,
+}
+
+/// How a move ended.
+fn end_of_move(moved: Moved<()>) -> Ended {
+    Ended {
+        outcome: moved.outcome.map(|()| None),
+        unopened: moved.unopened,
+        how: moved.how,
     }
 }
 
-/// How many changes a line moves.
-fn count_of(row: &Row) -> u32 {
-    match &row.ask {
-        Ask::Undo(count) | Ask::Redo(count) => *count,
-        _ => 0,
+/// How a change ended.
+fn end_of_change(answer: bx_program_sessions::Answer) -> Ended {
+    let outcome = match answer.reply {
+        Reply::Refused(fault) => Err(fault),
+        Reply::Changed { .. }
+        | Reply::Copied { .. }
+        | Reply::Undone { .. }
+        | Reply::Redone { .. } => Ok(Some(answer.reply)),
+    };
+    Ended {
+        outcome,
+        unopened: answer.unopened,
+        how: answer.how,
     }
 }
 
@@ -45,28 +104,92 @@ fn standing_of(opening: Opening) -> u32 {
     }
 }
 
+/// The lines before the last one.
+fn all_but_last(rows: &[Row]) -> &[Row] {
+    match rows.split_last() {
+        Some((_, before)) => before,
+        None => rows,
+    }
+}
+
+/// What a case asks for in this manner; none where it can't be asked for so.
+fn asked_of(alloc: Global, case: &CommandsCase, manner: Manner) -> Result<Option<Asked>, Wrong> {
+    let Some(last) = case.rows.last() else {
+        return Err(Wrong::Unknown);
+    };
+    if let Some(way) = way_of(last) {
+        let count = count_of_all(case.rows.as_slice(), way)?;
+        let is_first = manner == Manner::Whole;
+        return Ok(if is_first {
+            Some(Asked::Moves { way, count })
+        } else {
+            None
+        });
+    }
+    if count_of_all(all_but_last(case.rows.as_slice()), Way::Undo)? != 0 {
+        return Err(Wrong::Unknown);
+    }
+    let is_asked = has_manner(alloc, &last.ask, manner);
+    Ok(if is_asked {
+        Some(Asked::Change(manner))
+    } else {
+        None
+    })
+}
+
+/// Which files of a case are there before what it asks for, where those are missing that may be.
+fn there_bare(case: &CommandsCase, asked: Asked) -> There {
+    let mut there = There::ALL;
+    there.redo = !case.redo.is_empty();
+    if let Asked::Change(_) = asked {
+        there.journal = !case.journal.is_empty();
+        there.image = there.journal || !case.image.is_empty();
+    }
+    there
+}
+
+/// Which files of a case are there in a setting; none where that is another one's.
+fn there_of(case: &CommandsCase, asked: Asked, setting: Setting) -> Option<There> {
+    let mut there = there_bare(case, asked);
+    let is_other = match (setting, asked) {
+        (Setting::Bare, _) => false,
+        (_, Asked::Moves { .. } | Asked::Change(Manner::Read)) => true,
+        (Setting::Linked, Asked::Change(Manner::Whole)) => !case.image.is_empty(),
+        (Setting::Full, Asked::Change(Manner::Whole)) => there == There::ALL,
+    };
+    match setting {
+        Setting::Bare => {}
+        Setting::Linked => there.image = false,
+        Setting::Full => there = There::ALL,
+    }
+    if is_other { None } else { Some(there) }
+}
+
 impl<'a> Play<'a> {
-    /// All lines of a case are undos, or all redos, of one change each; or there is one.
-    pub fn new(alloc: Global, case: &'a CommandsCase) -> Result<Self, Wrong> {
-        let Some(first) = case.rows.first() else {
-            return Err(Wrong::Unknown);
+    /// A case as it is asked for in this manner and setting; none where that is no other play. What was read before is played with what
+    /// may be missing alone. All lines of a case are undos, or all
+    /// redos, of one change each, or there is one; or the last is a change, and those before move none.
+    pub fn new(
+        alloc: Global,
+        case: &'a CommandsCase,
+        manner: Manner,
+        setting: Setting,
+    ) -> Result<Option<Self>, Wrong> {
+        let Some(asked) = asked_of(alloc, case, manner)? else {
+            return Ok(None);
         };
-        let way = way_of(first)?;
-        let mut count = 0u32;
-        for row in &case.rows {
-            if way_of(row)? != way {
-                return Err(Wrong::Unknown);
-            }
-            count = count.saturating_add(count_of(row));
-        }
-        Ok(Play {
+        let Some(there) = there_of(case, asked, setting) else {
+            return Ok(None);
+        };
+        Ok(Some(Play {
             alloc,
             case,
             names: names(alloc)?,
-            way,
-            count,
+            asked,
+            there,
+            is_linked: there.image || setting == Setting::Linked,
             standing: standing_of(case.opening),
-        })
+        }))
     }
 
     /// What the files hold before.
@@ -82,7 +205,11 @@ impl<'a> Play<'a> {
     pub fn fault(&self) -> Option<&str> {
         match &self.case.rows.last()?.answer {
             Answer::Refused(text) => Some(text.as_str()),
-            _ => None,
+            Answer::Changed(_)
+            | Answer::Copied(_, _)
+            | Answer::Undone(_)
+            | Answer::Redone(_)
+            | Answer::Opened(_) => None,
         }
     }
 
@@ -91,32 +218,100 @@ impl<'a> Play<'a> {
         self.case.rows.last()
     }
 
-    /// Whether opening finds finished entries alone.
-    pub fn is_clean(&self) -> bool {
-        matches!(self.case.opening, Opening::Clean { .. })
+    /// Whether an input is read while the files are open.
+    pub fn reads_input(&self) -> bool {
+        match self.last() {
+            Some(row) => matches!(&row.ask, Ask::Dd { .. }),
+            None => false,
+        }
     }
 
-    /// The image behind the first `steps` changes; where something is unfinished, a first line that moves none tells it of the opening.
-    pub fn image_behind(&self, steps: u32) -> Option<&'a [u8]> {
-        let mut moved = 0u32;
-        for row in &self.case.rows {
-            moved = moved.saturating_add(count_of(row));
-            if moved == steps {
-                return Some(row.left.image.as_slice());
-            }
+    /// What opening finds unfinished.
+    pub fn how(&self) -> How {
+        match self.case.opening {
+            Opening::Clean { .. } => How::Clean,
+            Opening::Dropped { .. } => How::Dropped,
+            Opening::Restored { number, .. } => How::Restored { number },
         }
+    }
+
+    /// How many changes are moved or made, where the command is done.
+    pub fn count(&self) -> u32 {
+        match self.asked {
+            Asked::Moves { count, .. } => count,
+            Asked::Change(_) => 1,
+        }
+    }
+
+    /// What opening finds where nothing is moved or made: what a first line tells that moves none, or the image as it is.
+    fn image_before(&self) -> &'a [u8] {
+        match image_behind(self.rows_of_moves(), 0) {
+            Some(image) => image,
+            None => self.case.image.as_slice(),
+        }
+    }
+
+    /// The lines that move changes: all of them, or all but the last.
+    fn rows_of_moves(&self) -> &'a [Row] {
+        let rows = self.case.rows.as_slice();
+        match self.asked {
+            Asked::Moves { .. } => rows,
+            Asked::Change(_) => all_but_last(rows),
+        }
+    }
+
+    /// The image behind the first `steps` of the changes that are moved, or of the one that is made.
+    pub fn image_behind(&self, steps: u32) -> Option<&'a [u8]> {
         if steps == 0 {
-            Some(self.case.image.as_slice())
-        } else {
-            None
+            return Some(self.image_before());
+        }
+        match self.asked {
+            Asked::Moves { .. } => image_behind(self.rows_of_moves(), steps),
+            Asked::Change(_) => Some(self.last()?.left.image.as_slice()),
         }
     }
 
     /// How many changes stand behind the first `steps` of them.
     pub fn standing_behind(&self, steps: u32) -> u32 {
-        match self.way {
-            Way::Undo => self.standing.saturating_sub(steps),
-            Way::Redo => self.standing.saturating_add(steps),
+        match self.asked {
+            Asked::Moves { way: Way::Undo, .. } => self.standing.saturating_sub(steps),
+            Asked::Moves { way: Way::Redo, .. } | Asked::Change(_) => {
+                self.standing.saturating_add(steps)
+            }
+        }
+    }
+
+    /// A world with the files of the case.
+    pub fn world(&self) -> Result<MemoryWorld, Wrong> {
+        Ok(world_with(self.alloc, self.first(), self.there, self.is_linked)?)
+    }
+
+    /// The change of the last line, in a world that does what its plan says.
+    fn change_in(
+        &self,
+        world: &mut MemoryWorld,
+        plan: Plan,
+        manner: Manner,
+    ) -> Result<Ended, Wrong> {
+        let Some(row) = self.last() else {
+            return Err(Wrong::Unknown);
+        };
+        let task = task_of(self.alloc, &row.ask, manner, plan.input)?;
+        Ok(end_of_change(change(world, self.alloc, &self.names, plan, task)))
+    }
+
+    /// Does what the case asks for in a world that does what its plan says.
+    pub fn run(&self, world: &mut MemoryWorld, plan: Plan) -> Result<Ended, Wrong> {
+        match self.asked {
+            Asked::Moves { way, count } => Ok(end_of_move(move_in(
+                world,
+                self.alloc,
+                &self.names,
+                plan,
+                way,
+                count,
+            ))),
+            Asked::Change(manner) => self.change_in(world, plan, manner),
         }
     }
 }

@@ -18,6 +18,8 @@ pub enum Wrong {
     Unopened,
     /// What was left opens to another image, or not at all.
     Found,
+    /// A command that was refused for a call that failed isn't done where it is asked for again.
+    Again,
     /// A call fails still behind the most that a case makes.
     Calls,
 }
@@ -32,6 +34,7 @@ impl Wrong {
             Wrong::Files => "other files",
             Wrong::Unopened => "not opened, and nothing refused",
             Wrong::Found => "opens to another image",
+            Wrong::Again => "not done when asked again",
             Wrong::Calls => "too many calls",
         }
     }

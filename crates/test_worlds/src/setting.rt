@@ -1,9 +1,6 @@
-//! The files of a case in a world in memory: the image by a link, its texts, and another file. A redo text without bytes is
-//! missing.
-use bx_journal::Way;
+//! The files of a case in a world in memory: the image by a link, its texts, and another file.
 use bx_program_files::Names;
-use bx_program_sessions::{Moved, move_changes};
-use bx_program_world::{Classes, Kind, MemoryWorld, Plan, Stat};
+use bx_program_world::{Classes, Kind, MemoryWorld, Stat};
 use bx_text::{Name, NoMemory};
 use std::alloc::{AllocError, Global};
 
@@ -19,6 +16,9 @@ pub const OTHER: &str = "other.img";
 
 /// What the other file holds.
 pub const OTHER_BYTES: &[u8] = b"another image";
+
+/// Where a link leads that is none of the three names.
+pub const ELSEWHERE: &str = "elsewhere";
 
 /// Who runs the program, and has the files.
 pub const CALLER: u32 = 1000;
@@ -83,35 +83,113 @@ impl Kept {
     }
 }
 
+/// Which of the three files are there, and whether something is where a link may lead.
+#[derive(Clone, Copy, Debug, PartialEq, Eq)]
+pub struct There {
+    pub image: bool,
+    pub journal: bool,
+    pub redo: bool,
+    pub elsewhere: bool,
+}
+
+/// 1 for a file that is there now, and wasn't before.
+fn one_new(before: bool, now: bool) -> u64 {
+    if now && !before { 1 } else { 0 }
+}
+
+impl There {
+    /// The three, and nothing elsewhere.
+    pub const ALL: There = There {
+        image: true,
+        journal: true,
+        redo: true,
+        elsewhere: false,
+    };
+
+    /// Whether all that was there before is there now.
+    fn has_each(self, before: There) -> bool {
+        (self.image || !before.image)
+            && (self.journal || !before.journal)
+            && (self.redo || !before.redo)
+            && (self.elsewhere || !before.elsewhere)
+    }
+
+    /// How many are there that weren't before; none where one is gone.
+    pub fn news(self, before: There) -> Option<u64> {
+        if !self.has_each(before) {
+            return None;
+        }
+        Some(
+            one_new(before.image, self.image)
+                .saturating_add(one_new(before.journal, self.journal))
+                .saturating_add(one_new(before.redo, self.redo))
+                .saturating_add(one_new(before.elsewhere, self.elsewhere)),
+        )
+    }
+}
+
 fn name_of(alloc: Global, text: &str) -> Result<Name, AllocError> {
     Ok(Name::from_string(String::from_str(alloc, text)?))
 }
 
-/// The names by which the files are opened.
-pub fn names(alloc: Global) -> Result<Names, AllocError> {
+/// These names, by which files are opened.
+pub fn names_of(
+    alloc: Global,
+    image: &str,
+    journal: &str,
+    redo: &str,
+) -> Result<Names, AllocError> {
     Ok(Names {
-        image: name_of(alloc, LINK)?,
-        journal: name_of(alloc, JOURNAL)?,
-        redo: name_of(alloc, REDO)?,
+        image: name_of(alloc, image)?,
+        journal: name_of(alloc, journal)?,
+        redo: name_of(alloc, redo)?,
     })
 }
 
-/// Puts these files into a world.
-fn fill(world: &mut MemoryWorld, held: Held<'_>) -> Result<(), NoMemory> {
-    world.put_file(IMAGE, held.image, STAT)?;
-    world.put_link(LINK, IMAGE)?;
-    world.put_file(JOURNAL, held.journal, STAT)?;
-    if !held.redo.is_empty() {
+/// The names by which the files are opened.
+pub fn names(alloc: Global) -> Result<Names, AllocError> {
+    names_of(alloc, LINK, JOURNAL, REDO)
+}
+
+/// Puts those files into a world that are there, and where it is to be so the link.
+fn fill(
+    world: &mut MemoryWorld,
+    held: Held<'_>,
+    there: There,
+    is_linked: bool,
+) -> Result<(), NoMemory> {
+    if there.image {
+        world.put_file(IMAGE, held.image, STAT)?;
+    }
+    if is_linked {
+        world.put_link(LINK, IMAGE)?;
+    }
+    if there.journal {
+        world.put_file(JOURNAL, held.journal, STAT)?;
+    }
+    if there.redo {
         world.put_file(REDO, held.redo, STAT)?;
     }
     world.put_file(OTHER, OTHER_BYTES, STAT)
 }
 
-/// A world with these files.
-pub fn world_of(alloc: Global, held: Held<'_>) -> Result<MemoryWorld, NoMemory> {
+/// A world with those of the files that are there, and a link to the image or to nothing, or none.
+pub fn world_with(
+    alloc: Global,
+    held: Held<'_>,
+    there: There,
+    is_linked: bool,
+) -> Result<MemoryWorld, NoMemory> {
     let mut world = MemoryWorld::new(alloc, CALLER);
-    fill(&mut world, held)?;
+    fill(&mut world, held, there, is_linked)?;
     Ok(world)
+}
+
+/// A world with these files, where a redo text without bytes is missing.
+pub fn world_of(alloc: Global, held: Held<'_>) -> Result<MemoryWorld, NoMemory> {
+    let mut there = There::ALL;
+    there.redo = !held.redo.is_empty();
+    world_with(alloc, held, there, true)
 }
 
 /// What the three files of a world hold.
@@ -123,25 +201,17 @@ pub fn held_by(world: &MemoryWorld) -> Held<'_> {
     }
 }
 
-/// Whether a redo text is there.
-pub fn has_redo(world: &MemoryWorld) -> bool {
-    world.bytes_of(REDO).is_some()
+/// Which files are there in a world.
+pub fn there_in(world: &MemoryWorld) -> There {
+    There {
+        image: world.bytes_of(LINK).is_some(),
+        journal: world.bytes_of(JOURNAL).is_some(),
+        redo: world.bytes_of(REDO).is_some(),
+        elsewhere: world.bytes_of(ELSEWHERE).is_some(),
+    }
 }
 
 /// Whether the other file holds what it held.
 pub fn has_other(world: &MemoryWorld) -> bool {
     world.bytes_of(OTHER) == Some(OTHER_BYTES)
-}
-
-/// Takes changes back or makes them again in a world that does what its plan says.
-pub fn run(
-    world: &mut MemoryWorld,
-    alloc: Global,
-    names: &Names,
-    plan: Plan,
-    way: Way,
-    count: u32,
-) -> Moved<()> {
-    world.begin(plan);
-    move_changes(world, alloc, names, false, way, count)
 }

@@ -1,16 +1,17 @@
 //! The ways in which a case is played: which calls fail.
-use crate::left::{Reach, finds, is_as_told, judge};
-use crate::plays::Play;
+use crate::left::{Cause, Reach, finds, is_as_told, judge};
+use crate::plays::{Ended, Play};
 use crate::report::{Failure, Wrong};
-use crate::setting::{Held, Kept, held_by, run, world_of};
+use crate::setting::{Held, Kept, held_by};
 use bx_image::{Fuse, Part};
+use bx_journal::How;
 use bx_program_world::{Fails, MemoryWorld, Plan};
 
 /// More calls than a case makes.
 pub const MOST_CALLS: u64 = 200;
 
-/// What fails: calls of the world, or those of a device that write, or that read.
-#[derive(Clone, Copy)]
+/// What fails: calls of the world, those of a device that write, or that read, or reads of an input.
+#[derive(Clone, Copy, Debug, PartialEq, Eq)]
 pub enum Failing {
     World,
     Image,
@@ -19,6 +20,7 @@ pub enum Failing {
     ImageReads,
     JournalReads,
     RedoReads,
+    Input,
 }
 
 impl Failing {
@@ -30,6 +32,7 @@ impl Failing {
         Failing::ImageReads,
         Failing::JournalReads,
         Failing::RedoReads,
+        Failing::Input,
     ];
 
     pub fn name(self) -> &'static str {
@@ -41,28 +44,49 @@ impl Failing {
             Failing::ImageReads => "image reads",
             Failing::JournalReads => "journal reads",
             Failing::RedoReads => "redo text reads",
+            Failing::Input => "input reads",
         }
     }
 
     /// In how many ways a call of it fails.
     fn ways(self) -> u32 {
         match self {
-            Failing::World => 2,
+            Failing::World | Failing::Input => 2,
             Failing::Image | Failing::Journal | Failing::Redo => 6,
             Failing::ImageReads | Failing::JournalReads | Failing::RedoReads => 1,
         }
     }
 
-    /// Whether it is reads that fail.
+    /// Whether it is reads of a device that fail.
     fn on_reads(self) -> bool {
         match self {
-            Failing::World | Failing::Image | Failing::Journal | Failing::Redo => false,
+            Failing::World | Failing::Image | Failing::Journal | Failing::Redo | Failing::Input =>
+                false,
             Failing::ImageReads | Failing::JournalReads | Failing::RedoReads => true,
         }
     }
 
+    /// Which faults may come of it.
+    fn cause(self) -> Cause {
+        match self {
+            Failing::World => Cause::World,
+            Failing::Image
+            | Failing::Journal
+            | Failing::Redo
+            | Failing::ImageReads
+            | Failing::JournalReads
+            | Failing::RedoReads => Cause::Device,
+            Failing::Input => Cause::Input,
+        }
+    }
+
+    /// Whether a play has any such call.
+    pub fn is_in(self, play: &Play<'_>) -> bool {
+        self != Failing::Input || play.reads_input()
+    }
+
     /// The plan by which `pass` calls are passed first: in an even way one call fails, in an odd one all from it on; and of a write
-    /// nothing takes effect, or half, or all. Of reads all fail from one on.
+    /// nothing takes effect, or half, or all. Of reads of a device all fail from one on.
     fn plan(self, way: u32, pass: u64) -> Plan {
         let once = way & 1 == 0;
         let part = match way {
@@ -83,6 +107,7 @@ impl Failing {
             Failing::Image | Failing::ImageReads => plan.image = fails,
             Failing::Journal | Failing::JournalReads => plan.journal = fails,
             Failing::Redo | Failing::RedoReads => plan.redo = fails,
+            Failing::Input => plan.input = Fuse::new(pass, once),
         }
         plan
     }
@@ -113,25 +138,54 @@ fn lose(play: &Play<'_>, world: &mut MemoryWorld, reach: Reach) -> Result<(), Wr
     finds_each(play, &kept, held_by(world), reach)
 }
 
+/// Whether a command was refused for a call that failed, and nothing is left of it.
+fn is_undone(play: &Play<'_>, ended: &Ended, reach: Reach) -> bool {
+    let is_clean = match ended.how {
+        None | Some(How::Clean) => true,
+        Some(How::Dropped | How::Restored { .. }) => false,
+    };
+    is_clean && reach.most == 0 && play.fault().is_none()
+}
+
+/// Where no call fails any more, a case does what it tells, in a world in which it was refused: an empty file that couldn't be taken
+/// away is in nobody's way.
+fn play_again(play: &Play<'_>, world: &mut MemoryWorld) -> Result<(), Wrong> {
+    let ended = play.run(world, Plan::NOTHING)?;
+    judge(play, world, Cause::World, &ended)?;
+    if is_as_told(play, world, &ended)? {
+        Ok(())
+    } else {
+        Err(Wrong::Again)
+    }
+}
+
 /// Plays a case in a world with a plan. Tells whether no call failed.
-fn play_in(play: &Play<'_>, world: &mut MemoryWorld, plan: Plan) -> Result<bool, Wrong> {
-    let moved = run(world, play.alloc, &play.names, plan, play.way, play.count);
-    let reach = judge(play, world, &moved)?;
-    let is_passed = is_as_told(play, world, &moved)?;
+fn play_in(
+    play: &Play<'_>,
+    world: &mut MemoryWorld,
+    cause: Cause,
+    plan: Plan,
+) -> Result<bool, Wrong> {
+    let ended = play.run(world, plan)?;
+    let reach = judge(play, world, cause, &ended)?;
+    let is_passed = is_as_told(play, world, &ended)?;
     lose(play, world, reach)?;
+    if is_undone(play, &ended, reach) && play.count() > 0 {
+        play_again(play, world)?;
+    }
     Ok(is_passed)
 }
 
 /// Plays a case with a plan. Tells whether no call failed.
-fn play_planned(play: &Play<'_>, plan: Plan) -> Result<bool, Wrong> {
-    let mut world = world_of(play.alloc, play.first())?;
-    play_in(play, &mut world, plan)
+fn play_planned(play: &Play<'_>, cause: Cause, plan: Plan) -> Result<bool, Wrong> {
+    let mut world = play.world()?;
+    play_in(play, &mut world, cause, plan)
 }
 
 /// Plays a case in one way: one call after another fails, until none does. Tells how often.
 fn play_way(play: &Play<'_>, failing: Failing, way: u32) -> Result<u64, Failure> {
     for call in 0..MOST_CALLS {
-        match play_planned(play, failing.plan(way, call)) {
+        match play_planned(play, failing.cause(), failing.plan(way, call)) {
             Ok(false) => {}
             Ok(true) => return Ok(call.saturating_add(1)),
             Err(wrong) => return Err(Failure { way, call, wrong }),

@@ -1,0 +1,72 @@
+//! Undos and redos, as a case asks for them.
+use crate::report::Wrong;
+use bx_journal::Way;
+use bx_program_files::Names;
+use bx_program_sessions::{Moved, move_changes};
+use bx_program_world::{MemoryWorld, Plan};
+use std::alloc::Global;
+use test_case_files::{Ask, Row};
+
+/// Which way a line moves changes; none where it is no move.
+pub fn way_of(row: &Row) -> Option<Way> {
+    match &row.ask {
+        Ask::Undo(_) => Some(Way::Undo),
+        Ask::Redo(_) => Some(Way::Redo),
+        Ask::Revert { .. }
+        | Ask::Plain { .. }
+        | Ask::Dd { .. }
+        | Ask::Patch { .. }
+        | Ask::Change { .. }
+        | Ask::Open => None,
+    }
+}
+
+/// How many changes a line moves.
+pub fn count_of(row: &Row) -> u32 {
+    match &row.ask {
+        Ask::Undo(count) | Ask::Redo(count) => *count,
+        Ask::Revert { .. }
+        | Ask::Plain { .. }
+        | Ask::Dd { .. }
+        | Ask::Patch { .. }
+        | Ask::Change { .. }
+        | Ask::Open => 0,
+    }
+}
+
+/// How many changes these lines move, all of them this way.
+pub fn count_of_all(rows: &[Row], way: Way) -> Result<u32, Wrong> {
+    let mut count = 0u32;
+    for row in rows {
+        if way_of(row) != Some(way) {
+            return Err(Wrong::Unknown);
+        }
+        count = count.saturating_add(count_of(row));
+    }
+    Ok(count)
+}
+
+/// The image behind the first `steps` changes that these lines move, one after another.
+pub fn image_behind<'a>(rows: &'a [Row], steps: u32) -> Option<&'a [u8]> {
+    let mut moved = 0u32;
+    for row in rows {
+        moved = moved.saturating_add(count_of(row));
+        if moved == steps {
+            return Some(row.left.image.as_slice());
+        }
+    }
+    None
+}
+
+/// Takes changes back or makes them again in a world that does what its plan says.
+pub fn move_in(
+    world: &mut MemoryWorld,
+    alloc: Global,
+    names: &Names,
+    plan: Plan,
+    way: Way,
+    count: u32,
+) -> Moved<()> {
+    world.begin(plan);
+    move_changes(world, alloc, names, false, way, count)
+}
