@@ -43,13 +43,13 @@ package: all
 # The tags of the versions that have none, where version, CHANGELOG.md, man page, authors and package agree.
 # make release DRY=1 says which.
 release: $(built)
-	tools/release.py $(if $(DRY),--dry-run) --bx $(program)
+	tools/release.sh $(if $(DRY),--dry-run) $(program)
 
 .PHONY: check-package check-completions
 
 # The package, installed, upgraded and removed in a root of its own. As root, or by fakeroot; it needs lintian.
 check-package: $(built)
-	tests/package.sh $(program)
+	tests/hostile.py --bx $(program) package
 
 # What follows is run by hand and is no part of the gate.
 
@@ -59,8 +59,7 @@ check: $(built)
 
 # The commands of README.md and of the recipes, and what they write.
 tour: $(built)
-	tools/docs.py --bx $(program) tour
-	tools/docs.py --bx $(program) tour docs/RECIPES.md
+	tools/docs.py --bx $(program) tour recipes
 
 # The pictures of docs/pictures, each drawn from what its commands write.
 pictures: $(built)
@@ -70,6 +69,7 @@ pictures: $(built)
 # docs/generated; the words and names of documents; which room imports which; the sizes of definitions, functions and contracts.
 check-docs: $(built)
 	tools/docs.py --bx $(program)
+	tests/hostile.py --bx $(program) options
 
 # The pages of docs/generated, and what other pages quote, written again.
 docs:
@@ -81,7 +81,7 @@ check-completions:
 
 # The real tools beside bx, on random inputs and options; SEED draws others.
 compare: $(built)
-	tools/cases.py --bx $(program) --seed $(or $(SEED),2)
+	tools/cases.py --compare --bx $(program) --seed $(or $(SEED),2)
 	tests/hostile.py --bx $(program) seeks
 
 # The case files that hold what the real tools do, and random lists of commands, written again.

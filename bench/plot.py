@@ -3,18 +3,19 @@
 
 Usage: bench/plot.py [RUN [PAGE [PICTURE]]]
 
-RUN is bench/out/run.tsv by default, PAGE docs/SPEED.md and PICTURE docs/pictures/speed.svg. Of PAGE the part between its two
-marks is written again. It needs matplotlib (Debian: python3-matplotlib).
-"""
-import argparse
+RUN is bench/out/run.tsv by default, PAGE docs/SPEED.md and PICTURE docs/pictures/speed.svg. Of PAGE the part between
+its two marks is written again. It needs matplotlib (Debian: python3-matplotlib)."""
 import html
 import os
 import pathlib
+import sys
 
 TOP = pathlib.Path(__file__).resolve().parent.parent
-DEFAULTS = {"run": "bench/out/run.tsv", "page": "docs/SPEED.md", "picture": "docs/pictures/speed.svg"}
+DEFAULTS = [TOP / "bench/out/run.tsv", TOP / "docs/SPEED.md", TOP / "docs/pictures/speed.svg"]
 BEGIN, END = "<!-- written by bench/plot.py -->", "<!-- up to here -->"
 FIELDS = ["group", "name", "beside", "goal", "ours", "there", "cat", "our_memory", "their_memory", "same"]
+COLUMNS = ["`bx`", "Beside", "`bx`, ms", "There, ms", "Times as fast", "`cat` of the text, ms", "`bx`, MiB",
+           "There, MiB", "Same bytes"]
 SLOWER, FASTER = "#c2703d", "#3d6b99"
 
 
@@ -27,12 +28,9 @@ def read(name):
     return [line[2:] for line in lines if line.startswith("# ")], rows
 
 
-def milliseconds(us):
-    return "" if us == "-" else f"{int(us) / 1000:,.1f}"
-
-
-def mebibytes(kib):
-    return "" if kib == "-" else f"{int(kib) / 1024:,.1f}"
+def in_units(text, of):
+    """A number of milliseconds by microseconds (1000), or of MiB by KiB (1024); nothing where there is none."""
+    return "" if text == "-" else f"{int(text) / of:,.1f}"
 
 
 def times(ratio):
@@ -48,11 +46,12 @@ def table(rows):
     lines = []
     for group in dict.fromkeys(row["group"] for row in rows):
         lines += ["", f"### {group[0].upper()}{group[1:]}", "",
-                  "| `bx` | Beside | `bx`, ms | There, ms | Times as fast | `cat` of the text, ms | `bx`, MiB | There, MiB | Same bytes |",
-                  "|---|---|---:|---:|---:|---:|---:|---:|---|"]
+                  f"| {' | '.join(COLUMNS)} |", "|---|---|---:|---:|---:|---:|---:|---:|---|"]
         for row in (row for row in rows if row["group"] == group):
-            said = [cell(row["name"]), cell(row["beside"]), milliseconds(row["ours"]), milliseconds(row["there"]), times(row["ratio"]),
-                    milliseconds(row["cat"]), mebibytes(row["our_memory"]), mebibytes(row["their_memory"]), row["same"].strip("-")]
+            ours, there, cat = (in_units(row[field], 1000) for field in ("ours", "there", "cat"))
+            memory = [in_units(row[field], 1024) for field in ("our_memory", "their_memory")]
+            said = [cell(row["name"]), cell(row["beside"]), ours, there, times(row["ratio"]), cat, *memory,
+                    row["same"].strip("-")]
             lines.append(f"| {' | '.join(said)} |")
     return lines
 
@@ -62,7 +61,8 @@ def draw(rows, picture):
     import matplotlib
     matplotlib.use("svg")
     from matplotlib import pyplot
-    matplotlib.rcParams.update({"svg.hashsalt": "bx", "svg.fonttype": "none", "font.size": 9, "font.family": "DejaVu Sans"})
+    matplotlib.rcParams.update({"svg.hashsalt": "bx", "svg.fonttype": "none", "font.size": 9,
+                                "font.family": "DejaVu Sans"})
     shown = list(reversed(rows))
     figure, axes = pyplot.subplots(figsize=(9.5, 0.6 + 0.23 * len(shown)))
     places = range(len(shown))
@@ -75,7 +75,8 @@ def draw(rows, picture):
     axes.set_yticks(list(places), [f"{row['name']}   beside   {row['beside']}" for row in shown])
     axes.set_ylim(-0.7, len(shown) - 0.3)
     for place, row in zip(places, shown):
-        axes.annotate(times(row["ratio"]), (row["ratio"], place), xytext=(4 if row["ratio"] >= 1 else -4, 0), fontsize=8,
+        axes.annotate(times(row["ratio"]), (row["ratio"], place), xytext=(4 if row["ratio"] >= 1 else -4, 0),
+                      fontsize=8,
                       textcoords="offset points", va="center", ha="left" if row["ratio"] >= 1 else "right")
     for number, row in enumerate(shown[:-1]):
         if row["group"] != shown[number + 1]["group"]:
@@ -89,15 +90,14 @@ def draw(rows, picture):
 
 
 def main():
-    parser = argparse.ArgumentParser(description=__doc__.split("\n", maxsplit=1)[0])
-    for name, default in DEFAULTS.items():
-        parser.add_argument(name, nargs="?", type=pathlib.Path, default=TOP / default)
-    run, page, picture = vars(parser.parse_args()).values()
+    given = [pathlib.Path(word) for word in sys.argv[1:]]
+    run, page, picture = given + DEFAULTS[len(given):]
     notes, rows = read(run)
     draw(rows, picture)
     front, rest = page.read_text(encoding="utf-8").split(BEGIN)
     shown = os.path.relpath(picture, page.parent)
-    lines = ["", f"![How many times as fast each row is]({shown})", "", *(f"- {cell(note)}" for note in notes), *table(rows), ""]
+    lines = ["", f"![How many times as fast each row is]({shown})", "", *(f"- {cell(note)}" for note in notes),
+             *table(rows), ""]
     page.write_text(front + BEGIN + "\n".join(lines) + "\n" + END + rest.split(END)[1], encoding="utf-8")
 
 

@@ -3,12 +3,11 @@
 
 Usage: bench/run.py [--bx PATH] [--before PATH] [--rounds N] [--mib N] [--quick] [--programs] [--word WORD]
 
-With --before it is timed beside a build of an earlier tree in place of the tools, in turn. --quick takes inputs of 32 MiB, else
-they have 64 MiB, 32 MiB where the real tool is slow, and 1 GiB for dd to a stream. --programs leaves out the calls of the
-libraries, which are proved first, and --word all rows without this word. What isn't installed is left out, and so is memory
-without a program `time`. The rows of bench/rows.txt go to standard output, and to bench/out/run.tsv, from which bench/plot.py
-writes docs/SPEED.md. Run by hand, no part of the gate."""
-import argparse
+With --before it is timed beside a build of an earlier tree in place of the tools, in turn. --quick takes inputs of 32
+MiB, else they have 64 MiB, 32 MiB where the real tool is slow, and 1 GiB for dd to a stream. --programs leaves out the
+calls of the libraries, which are proved first, and --word all rows without this word. What isn't installed is left
+out, and so is memory without a program `time`. The rows of bench/rows.txt go to standard output, and to
+bench/out/run.tsv, from which bench/plot.py writes docs/SPEED.md. Run by hand, no part of the gate."""
 import collections
 import itertools
 import os
@@ -16,11 +15,17 @@ import pathlib
 import re
 import shutil
 import subprocess
+import sys
 import tempfile
 import time
 
 TOP = pathlib.Path(__file__).resolve().parent.parent
-# the group, the goal, bx's words, those of what stands beside it, its name, what comes first, and the file that both leave
+sys.path.insert(0, str(TOP / "tools"))
+
+from shared import asked, read  # pylint: disable=wrong-import-position
+
+# the group, the goal, bx's words, those of what stands beside it, its name, what comes first, and the file that both
+# leave
 Row = collections.namedtuple("Row", "group goal ours real name before made", defaults=("", "", ""))
 FILES = r"(if=)?\b(long|prose|random|less|few|zeros|text)\b"
 
@@ -28,7 +33,7 @@ FILES = r"(if=)?\b(long|prose|random|less|few|zeros|text)\b"
 def table():
     """The rows of bench/rows.txt, by their groups."""
     set_to, found, group = {}, {}, None
-    for line in (TOP / "bench" / "rows.txt").read_text(encoding="utf-8").splitlines():
+    for line in read("bench/rows.txt").splitlines():
         name = re.match(r"([A-Z]+) = (.*)", line)
         if name:
             set_to[name[1]] = re.sub(r"^[A-Z]+\b", lambda word: set_to[word[0]], name[2])
@@ -44,14 +49,16 @@ def table():
 
 def shell(words, out=subprocess.DEVNULL):
     """Runs a line of the shell; a program whose reader goes away may fail."""
-    return subprocess.run(words, shell=True, stdin=subprocess.DEVNULL, stdout=out, stderr=subprocess.DEVNULL, check=False, text=True).stdout
+    return subprocess.run(words, shell=True, stdin=subprocess.DEVNULL, stdout=out, stderr=subprocess.DEVNULL,
+                          check=False, text=True).stdout
 
 
 def make(big, mid, stream):
     """The inputs, in the current folder."""
     for line in (f"head -c {stream}M /dev/urandom > long; head -c {stream * 3 // 4}M long | base64 > prose",
-                 f"head -c {big}M /dev/urandom > random; head -c {mid}M random > less; head -c {big}M /dev/zero > zeros",
-                 f"head -c {mid}M zeros > few; head -c {big * 3 // 4}M random | base64 > text",
+                 f"head -c {big}M /dev/urandom > random; head -c {mid}M random > less",
+                 f"head -c {big}M /dev/zero > zeros; head -c {mid}M zeros > few",
+                 f"head -c {big * 3 // 4}M random | base64 > text",
                  "xxd less > dump; xxd -p less > plain"):
         shell(line)
     pathlib.Path("byte").write_text("0: 41", encoding="ascii")
@@ -104,17 +111,19 @@ def named(words):
 def is_there(words):
     """Whether a tool is installed, and busybox has the applet."""
     tool, applet, *_ = words.split() + [""]
-    return shutil.which(tool) and (tool != "busybox" or applet in (shell("busybox --list", subprocess.PIPE) or "").split())
+    applets = shell("busybox --list", subprocess.PIPE).split() if tool == "busybox" else [applet]
+    return shutil.which(tool) and applet in applets
 
 
 def tell(run, group, name, beside, goal, ours, there, *more):
-    """Writes a row: group, name, what stands beside it, goal, microseconds of both and of cat, KiB of both, and whether they are
-    the same."""
+    """Writes a row: group, name, what stands beside it, goal, microseconds of both and of cat, KiB of both, and
+    whether they are the same."""
     more = [*more, *["-"] * (4 - len(more))]
     print("\t".join(map(str, (group, name, beside, goal, ours, there, *more))), file=run, flush=True)
     print(f"{name:34} {beside:26} bx {ours:9} us  there {there:9} us  ratio {there / max(ours, 1):7.2f}  goal {goal:<4}"
           + (f"  times cat {ours / max(more[0], 1):.2f}" if more[0] != "-" else "")
-          + (f"  KiB {more[1]} and {more[2]}" if more[1] != "-" else "") + "  other text" * (more[3] == "no"), flush=True)
+          + (f"  KiB {more[1]} and {more[2]}" if more[1] != "-" else "") + "  other text" * (more[3] == "no"),
+          flush=True)
 
 
 def time_row(row, options, run):
@@ -127,21 +136,22 @@ def time_row(row, options, run):
     is_same = same(row, commands, options.bx)
     ours, there, *cat = best(options.rounds, commands + ["cat one"] * (row.group == "dumps"), row.before, options.bx)
     used = [memory(words, row.before, options.bx) for words in commands]
-    tell(run, row.group, name, "before" if options.before else named(row.real), row.goal, ours, there, *(cat or ["-"]), *used, is_same)
+    tell(run, row.group, name, "before" if options.before else named(row.real), row.goal, ours, there, *(cat or ["-"]),
+         *used, is_same)
 
 
 def build_calls(calls):
-    """Single calls of the libraries, which bx makes only together with others: bench/calls.rt.in is proved and built in a folder
-    of its own over copies of the crates, since the gate proves every crate that stands in the repository. It stays in
-    bench/out."""
-    listed = (TOP / "crates.txt").read_text(encoding="utf-8").splitlines()
-    crates = ["bx_text", "bx_read", "bx_image", "bx_patch", *(f"bx_journal{part}" for part in ("_store", "_format", "_read", "_protocol", ""))]
+    """Single calls of the libraries, which bx makes only together with others: bench/calls.rt.in is proved and built
+    in a folder of its own over copies of the crates, since the gate proves every crate that stands in the repository.
+    It stays in bench/out."""
+    crates = ["bx_text", "bx_read", "bx_image", "bx_patch", "bx_journal_store", "bx_journal_format", "bx_journal_read",
+              "bx_journal_protocol", "bx_journal"]
     for crate in crates:
         shutil.copytree(TOP / "crates" / crate, f"room/crates/{crate}")
     os.makedirs("room/crates/calls/src")
     shutil.copy(TOP / "HANDLES", "room")
     shutil.copy(TOP / "bench" / "calls.rt.in", "room/crates/calls/src/main.rt")
-    lines = [line for line in listed if line.split(":")[0] in crates]
+    lines = [line for line in read("crates.txt").splitlines() if line.split(":")[0] in crates]
     lines.append("calls: bx_text bx_read bx_image bx_journal_store bx_journal anyhow")
     pathlib.Path("room/crates.txt").write_text("\n".join(lines) + "\n", encoding="utf-8")
     subprocess.run(["rt", "run", "--", "none"], cwd="room/crates/calls", check=True, stdout=subprocess.DEVNULL)
@@ -152,35 +162,41 @@ BESIDE = {"plain": "the same plainly", "call": "perform", "undo": "undo", "besid
 
 
 def library_calls(options, run, table_of_calls):
-    """Times the calls; the bytes that reading a dump and scattered saves took, of each line and each write; and huge pages, where
-    the system gives them to who asks: most of an undo is memory touched for the first time."""
+    """Times the calls; the bytes that reading a dump and scattered saves took, of each line and each write; and huge
+    pages, where the system gives them to who asks: most of an undo is memory touched for the first time."""
     calls = TOP / "bench" / "out" / "calls"
     build_calls(calls)
     shell("cp zeros changed; cp few applied; shuf -i 0-33554431 -n 1000000 > addresses")
     for words, rows in itertools.groupby(table_of_calls, lambda row: row[0]):
         front = "GLIBC_TUNABLES=glibc.malloc.hugetlb=1 " if words.endswith(" huge") else ""
-        told = [line.split() for line in shell(f"{front}{calls} {words.removesuffix(' huge')}", subprocess.PIPE).splitlines()]
+        lines = shell(f"{front}{calls} {words.removesuffix(' huge')}", subprocess.PIPE).splitlines()
+        told = [line.split() for line in lines]
         fields = {line[0]: int(line[1]) for line in told if len(line) == 2}
         for _, goal, field, name, beside in rows:
             there = fields[beside] if beside in fields else best(options.rounds, [beside], "", options.bx)[0]
             tell(run, "calls", name, BESIDE.get(beside, beside), goal, fields[field], there)
-        used = {line[1]: int(line[2]) for line in told if len(line) == 4 and line[:2] in (["before", "VmRSS:"], ["after", "VmHWM:"])}
+        used = {line[1]: int(line[2]) for line in told if len(line) == 4
+                and line[:2] in (["before", "VmRSS:"], ["after", "VmHWM:"])}
         if used:
             units, held = fields.get("writes", fields["units"]), 0 if "writes" in fields else os.path.getsize("less")
-            print(f"{words.split()[0]}, memory: {((used['VmHWM:'] - used['VmRSS:']) * 1024 - held) / units:.1f} bytes each "
-                  f"beside the bytes")
+            each = ((used["VmHWM:"] - used["VmRSS:"]) * 1024 - held) / units
+            print(f"{words.split()[0]}, memory: {each:.1f} bytes each beside the bytes")
+
+
+def told_of(options, big, mid, stream):
+    """The lines at the head: the machine, the inputs, and the versions of all tools."""
+    model = re.search(r"^model name[^:]*: (.*)$", pathlib.Path("/proc/cpuinfo").read_text(encoding="utf-8"), re.M)
+    yield f"{model[1] if model else 'a processor'}, {os.cpu_count()} processors, Linux {os.uname().release}"
+    yield (f"inputs of {big} MiB, of {mid} MiB for od, hexdump, busybox and changes, and of {stream} MiB for copies to "
+           f"a stream; the least of {options.rounds}")
+    for tool in (options.bx, "xxd", "od", "hexdump", "strings", "rg", "busybox"):
+        said = shell(f"{tool} --version 2>&1", subprocess.PIPE) if shutil.which(tool) else ""
+        yield from said.splitlines()[:1]
 
 
 def main():
-    parser = argparse.ArgumentParser(description=__doc__.split("\n", maxsplit=1)[0])
-    for name in ("--bx", "--before"):
-        parser.add_argument(name, type=os.path.abspath, default="bx" if name == "--bx" else None)
-    parser.add_argument("--rounds", type=int, default=3)
-    parser.add_argument("--mib", type=int, default=64)
-    for name in ("--quick", "--programs"):
-        parser.add_argument(name, action="store_true")
-    parser.add_argument("--word", default="")
-    options = parser.parse_args()
+    options = asked(__doc__, rounds=3, mib=64, word="")
+    options.before = options.before and os.path.abspath(options.before)
     big, mid, stream = (32, 32, 32) if options.quick else (options.mib, max(options.mib // 2, 1), options.mib * 16)
     os.environ["LC_ALL"] = "C"
     to = TOP / "bench" / "out" / ("before.tsv" if options.before else "run.tsv")
@@ -188,13 +204,7 @@ def main():
     with tempfile.TemporaryDirectory() as work, open(to, "w", encoding="utf-8") as run:
         os.chdir(work)
         make(big, mid, stream)
-        model = re.search(r"^model name[^:]*: (.*)$", pathlib.Path("/proc/cpuinfo").read_text(encoding="utf-8"), re.M)
-        print(f"# {model[1] if model else 'a processor'}, {os.cpu_count()} processors, Linux {os.uname().release}", file=run)
-        print(f"# inputs of {big} MiB, of {mid} MiB for od, hexdump, busybox and changes, and of {stream} MiB for copies to a stream; "
-              f"the least of {options.rounds}", file=run)
-        for tool in (options.bx, "xxd", "od", "hexdump", "strings", "rg", "busybox"):
-            said = shell(f"{tool} --version 2>&1", subprocess.PIPE) if shutil.which(tool) else ""
-            print(f"# {said.splitlines()[0]}\n" if said else "", end="", file=run)
+        run.writelines(f"# {line}\n" for line in told_of(options, big, mid, stream))
         rows, calls = table()
         for row in rows:
             time_row(row, options, run)

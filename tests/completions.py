@@ -1,14 +1,12 @@
 #!/usr/bin/env python3
 """Has each shell complete the command lines of tests/completions.t, and compares what it offers.
 
-Usage: tests/completions.py [SHELL ...]
+Usage: tests/completions.py [SHELL ..]
 
-The shells are bash, zsh and fish, each with its file of completions/; one that isn't installed is named and left out. The
-function of bash is called with the words as bash cuts them, zsh is asked at a terminal of its own, fish by `complete -C`.
-It exits 1 where an offer differs, or where no shell was asked. What bx takes is compared with the same files by
-tools/pages/options.py.
-"""
-import argparse
+The shells are bash, zsh and fish, each with its file of completions/; one that isn't installed is named and left out.
+The function of bash is called with the words as bash cuts them, zsh is asked at a terminal of its own, fish by
+`complete -C`. It exits 1 where an offer differs, or where no shell was asked. What bx takes is compared with the same
+files by tests/options.t."""
 import os
 import pathlib
 import pty
@@ -18,10 +16,10 @@ import shlex
 import shutil
 import subprocess
 import sys
-import tempfile
 import time
 
-from common import ROOT
+from common import ROOT, asked, folder
+from shared import read
 from transcript import set_in, steps
 
 BASH = r"""
@@ -53,8 +51,8 @@ def bash(lines, source):
 
 def fish(lines, source):
     for line in lines:
-        done = subprocess.run(["fish", "--no-config", "-c", f"source {source}; complete -C '{line}'"], stdout=subprocess.PIPE, text=True,
-                              check=True, env={**os.environ, "HOME": os.getcwd()})
+        done = subprocess.run(["fish", "--no-config", "-c", f"source {source}; complete -C '{line}'"],
+                              stdout=subprocess.PIPE, text=True, check=True, env={**os.environ, "HOME": os.getcwd()})
         yield [word.split("\t")[0].replace("\\ ", " ") for word in done.stdout.splitlines()]
 
 
@@ -75,7 +73,8 @@ def zsh(lines, source):
         ask(". ../start.zsh\n", b"=ready=\r")
         for line in lines:
             ask(line + "\x18", b"=asked=")
-            yield [word.replace("\\ ", " ") for word in pathlib.Path("../hits").read_text(encoding="utf-8").split("\n") if word]
+            hits = pathlib.Path("../hits").read_text(encoding="utf-8").split("\n")
+            yield [word.replace("\\ ", " ") for word in hits if word]
     finally:
         os.close(terminal)
         os.waitpid(child, 0)
@@ -86,19 +85,19 @@ SHELLS = {"bash": (bash, "bx.bash"), "zsh": (zsh, "_bx"), "fish": (fish, "bx.fis
 
 def differences(shell):
     """How many offers of a shell differ, each of which is told."""
-    text = (ROOT / "tests" / "completions.t").read_text(encoding="utf-8")
-    rows = [(line.removesuffix("<TAB>"), "".join(wanted)) for line, wanted in steps(set_in(text))]
+    rows = [(line.removesuffix("<TAB>"), "".join(wanted))
+            for line, wanted in steps(set_in(read("tests/completions.t")))]
     rows = [row for row in rows if shell != "zsh" or not row[0].endswith("-")]
     offers, name = SHELLS[shell]
-    with tempfile.TemporaryDirectory() as folder:
-        os.mkdir(f"{folder}/work")
-        os.chdir(f"{folder}/work")
+    with folder():
+        os.mkdir("work")
+        os.chdir("work")
         for file in ("a file", "image", "image.bxj", "image.bxj.redo"):
             pathlib.Path(file).touch()
         given, bad = list(offers([line for line, _ in rows], ROOT / "completions" / name)), 0
-        os.chdir(ROOT)
     for (line, wanted), words in zip(rows, given, strict=True):
-        got = {re.sub(r"^\w+=(?=.)", "", word).rsplit(",", 1)[-1] for word in words} - {"-h", "--help", "-V", "--version"}
+        got = {re.sub(r"^\w+=(?=.)", "", word).rsplit(",", 1)[-1] for word in words}
+        got -= {"-h", "--help", "-V", "--version"}
         if got != set(shlex.split(wanted)):
             bad += 1
             print(f"{shell}, {line!r}: wanted {wanted}, got {sorted(got)}")
@@ -107,15 +106,10 @@ def differences(shell):
 
 
 def main():
-    parser = argparse.ArgumentParser(description=__doc__.split("\n", maxsplit=1)[0])
-    parser.add_argument("shells", nargs="*", metavar="SHELL", default=list(SHELLS))
-    shells, asked = parser.parse_args().shells, []
-    for shell in shells:
-        if shutil.which(shell):
-            asked.append(differences(shell))
-        else:
-            print(f"{shell} isn't installed: not asked")
-    sys.exit(1 if any(asked) or not asked else 0)
+    chosen = asked(__doc__, names=SHELLS).names
+    print("".join(f"{shell} isn't installed: not asked\n" for shell in chosen if not shutil.which(shell)), end="")
+    bad = [differences(shell) for shell in chosen if shutil.which(shell)]
+    sys.exit(1 if any(bad) or not bad else 0)
 
 
 if __name__ == "__main__":

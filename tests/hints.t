@@ -1,5 +1,6 @@
 What standard error gets at each fault, and after a success. On a terminal it is all that stands below a command, in a pipe the lines
-that don't begin with `hint: `; standard output goes nowhere. tests/hints.py plays each command in a folder of its own.
+that don't begin with `hint: `; standard output goes nowhere. tests/hints.py plays each command in a folder of its own. `(re)` stands
+behind a line that is a regular expression.
 
 # What stands in the folder
 
@@ -14,7 +15,7 @@ An image of two changed bytes, its journal, and what is undone:
 Texts that are damaged, twice there, begun, and of an image that something else changed:
 
   $ printf "$change"'what is this\n' > bad.bxj; : > bad.redo.bxj; echo 'what is this' > bad.redo.bxj.redo
-  $ printf "$change" > twin.bxj; : > twin.bxj.bxj; ln -s twin.bxj soft; ln second.bxj second.too; mkdir dir
+  $ printf "$change" > twin.bxj; : > twin.bxj.bxj; ln -s twin.bxj soft; ln second.bxj second.too; mkdir dir; mkfifo pipe
   $ printf ABxyEFGH > begun; printf "${change%done2*}" > begun.bxj; printf abcdefgh > other; printf "$change" > other.bxj
   $ line='image1 00000001 00000000 0000000000000008 3e44107170a520582ade522fa73c1d15 d41d8cd98f00b204e9800998ecf8427e'
   $ echo "$line 00000000" > other.bxj.image; echo "$line 00000001" > older.bxj.image
@@ -246,6 +247,10 @@ Dumps and a patch:
   $ bx revert dir <<< '0: 41'
   bx: cannot open file
   hint: dir: it is no regular file and no block device
+  [1]
+  $ bx revert pipe <<< '0: 41'
+  bx: cannot open file
+  hint: pipe: it is no regular file and no block device
   [1]
   $ bx revert -J dir new <<< '0: 41'
   bx: cannot open file
@@ -652,3 +657,169 @@ A limit on the size of files, a full device, and pipes that nobody reads:
   $ bx dd if=/dev/null count=2x10 skip=10
   0+0 records in
   0+0 records out
+
+# Names of files, as `ls --quoting-style=shell-escape` of coreutils 9.1 shows them
+
+Each was a file in a folder; the last three have a character that turns the order of others or takes no place, which ls shows as it is.
+
+  $ bx xxd plain-1.0_x+y,z:w@v%u]
+  bx: cannot open file
+  hint: plain-1.0_x+y,z:w@v%u]: No such file or directory
+  [1]
+  $ bx xxd 'three words'
+  bx: cannot open file
+  hint: 'three words': No such file or directory
+  [1]
+  $ bx xxd $'a\nb'
+  bx: cannot open file
+  hint: 'a'$'\n''b': No such file or directory
+  [1]
+  $ bx xxd $'\n'
+  bx: cannot open file
+  hint: ''$'\n': No such file or directory
+  [1]
+  $ bx xxd $'a\tb\rc\033[2Jd'
+  bx: cannot open file
+  hint: 'a'$'\t''b'$'\r''c'$'\033''[2Jd': No such file or directory
+  [1]
+  $ bx xxd $'\177'
+  bx: cannot open file
+  hint: ''$'\177': No such file or directory
+  [1]
+  $ bx xxd $'a\001\002b'
+  bx: cannot open file
+  hint: 'a'$'\001\002''b': No such file or directory
+  [1]
+  $ bx xxd $'ain\'t'
+  bx: cannot open file
+  hint: "ain't": No such file or directory
+  [1]
+  $ bx xxd $'ain\'t $HOME'
+  bx: cannot open file
+  hint: 'ain'\''t $HOME': No such file or directory
+  [1]
+  $ bx xxd $'\''
+  bx: cannot open file
+  hint: "'": No such file or directory
+  [1]
+  $ bx xxd $'a\'b\'c'
+  bx: cannot open file
+  hint: "a'b'c": No such file or directory
+  [1]
+  $ bx xxd 'a"b'
+  bx: cannot open file
+  hint: 'a"b': No such file or directory
+  [1]
+  $ bx xxd 'a$b'
+  bx: cannot open file
+  hint: 'a$b': No such file or directory
+  [1]
+  $ bx xxd 'a`b'
+  bx: cannot open file
+  hint: 'a`b': No such file or directory
+  [1]
+  $ bx xxd 'a\b'
+  bx: cannot open file
+  hint: 'a\b': No such file or directory
+  [1]
+  $ bx xxd 'a!b'
+  bx: cannot open file
+  hint: 'a!b': No such file or directory
+  [1]
+  $ bx xxd 'a*b'
+  bx: cannot open file
+  hint: 'a*b': No such file or directory
+  [1]
+  $ bx xxd 'a?b'
+  bx: cannot open file
+  hint: 'a?b': No such file or directory
+  [1]
+  $ bx xxd 'a;b'
+  bx: cannot open file
+  hint: 'a;b': No such file or directory
+  [1]
+  $ bx xxd 'a&b'
+  bx: cannot open file
+  hint: 'a&b': No such file or directory
+  [1]
+  $ bx xxd 'a|b'
+  bx: cannot open file
+  hint: 'a|b': No such file or directory
+  [1]
+  $ bx xxd 'a<b'
+  bx: cannot open file
+  hint: 'a<b': No such file or directory
+  [1]
+  $ bx xxd 'a>b'
+  bx: cannot open file
+  hint: 'a>b': No such file or directory
+  [1]
+  $ bx xxd '(a)'
+  bx: cannot open file
+  hint: '(a)': No such file or directory
+  [1]
+  $ bx xxd '[a'
+  bx: cannot open file
+  hint: '[a': No such file or directory
+  [1]
+  $ bx xxd 'a=b'
+  bx: cannot open file
+  hint: 'a=b': No such file or directory
+  [1]
+  $ bx xxd 'a^b'
+  bx: cannot open file
+  hint: 'a^b': No such file or directory
+  [1]
+  $ bx xxd $'\303\244'
+  bx: cannot open file
+  hint: ä: No such file or directory
+  [1]
+  $ bx xxd $'\303\244 b'
+  bx: cannot open file
+  hint: 'ä b': No such file or directory
+  [1]
+  $ bx xxd $'\342\202\254\302\205x'
+  bx: cannot open file
+  hint: '€'$'\302\205''x': No such file or directory
+  [1]
+  $ bx xxd $'\302\205'
+  bx: cannot open file
+  hint: ''$'\302\205': No such file or directory
+  [1]
+  $ bx xxd ' '
+  bx: cannot open file
+  hint: ' ': No such file or directory
+  [1]
+  $ bx xxd $'a\007\010\013\014'
+  bx: cannot open file
+  hint: 'a'$'\a\b\v\f': No such file or directory
+  [1]
+  $ bx xxd $'a\342\200\256b'
+  bx: cannot open file
+  hint: 'a'$'\342\200\256''b': No such file or directory
+  [1]
+  $ bx xxd $'\342\200\213x'
+  bx: cannot open file
+  hint: ''$'\342\200\213''x': No such file or directory
+  [1]
+  $ bx xxd $'a\357\273\277'
+  bx: cannot open file
+  hint: 'a'$'\357\273\277': No such file or directory
+  [1]
+
+# Work on an input that comes slowly
+
+  $ for n in 1 2 3 4 5 6 7 8; do printf %01000d 0; sleep 0.25; done | bx xxd
+  (\\x1b\[Kbx: [0-9]+[.][0-9] [kM]B)+\\x1b\[K (re)
+  $ for n in 1 2 3 4 5 6 7 8; do printf %01000d 0; sleep 0.25; done | bx od -N 100000
+  (\\x1b\[Kbx: [0-9]+[.][0-9] of 100[.]0 [kM]B)+\\x1b\[K (re)
+  $ for n in 1 2 3 4 5 6 7 8; do printf %01000d 0; sleep 0.25; done | bx hexdump -C -n 4500000
+  (\\x1b\[Kbx: [0-9]+[.][0-9] of 4[.]5 [kM]B)+\\x1b\[K (re)
+  $ for n in 1 2 3 4 5 6 7 8; do printf %01000d 0; sleep 0.25; done | bx dd bs=1000000
+  (\\x1b\[Kbx: [0-9]+[.][0-9] [kM]B)+\\x1b\[K0\+1 records in (re)
+  0+1 records out
+  $ for n in 1 2 3 4 5 6 7 8; do printf %01000d 0; sleep 0.25; done | bx dd bs=1000000 count=2
+  (\\x1b\[Kbx: [0-9]+[.][0-9] of 2[.]0 [kM]B)+\\x1b\[K0\+1 records in (re)
+  0+1 records out
+  $ for n in 1 2 3 4 5 6 7 8; do printf '0: 42\n'; sleep 0.25; done | bx revert new
+  (\\x1b\[Kbx: [0-9]+[.][0-9] [kM]B)+\\x1b\[K (re)

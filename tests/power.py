@@ -1,47 +1,49 @@
 #!/usr/bin/env python3
 """Loses the power under bx, and checks that no image is lost.
 
-Usage: tests/power.py [--bx PATH] [--sessions N] [--seed N] [--jobs N] [--limit N] [orders|replay|cache ..]
+Usage: tests/power.py [--bx PATH] [--sessions N] [--seed N] [--jobs N] [--limit N] [NAME ..]
 
-orders: what each command syncs, and in which order, by the calls that strace sees it make, as tests/power.txt has them, beside the
-table in docs/FORMATS.md, "Order of device calls"; that a file that was written is synced before another one is written, and the
-folders of the names before the first.
+orders: what each command syncs, and in which order, by the calls that strace sees it make, as tests/power.txt has
+them, beside the table in docs/FORMATS.md, "Order of device calls"; that a file that was written is synced before
+another one is written, and the folders of the names before the first.
 
-replay: random sessions of reverts, dd, undos and redos run under strace, on small images. Their calls are replayed. Before each
-sync and after each answer what a loss of power may leave (replay/losses.py), or a sample of it, is written into files. `bx log`
-opens them: it has to find the images before the command, after it, or after some of its steps, and `bx undo` of all changes has
-to lead back to the first image. Some commands are killed or run with -U; and now and then the power is lost, and the session goes
-on with what was found. Then each sync is left out in turn: some content has to be lost, but for two syncs with no known loss.
+replay: random sessions of reverts, dd, undos and redos run under strace, on small images. Their calls are replayed.
+Before each sync and after each answer what a loss of power may leave (replay/losses.py), or a sample of it, is written
+into files. `bx log` opens them: it has to find the images before the command, after it, or after some of its steps,
+and `bx undo` of all changes has to lead back to the first image. Some commands are killed or run with -U; and now and
+then the power is lost, and the session goes on with what was found. Then each sync is left out in turn: some content
+has to be lost, but for two syncs with no known loss.
 
-cache: the same on a file system in memory, mounted by FUSE with a cache that writes back. What bx writes stays in the kernel's
-page cache, and reaches the file system at a sync, or when the kernel chooses. After each request that changes the file system,
-what it holds is what a loss of power leaves, also without a name whose folder wasn't synced since. With -U something has to be
-lost. As root, where the kernel has FUSE.
+cache: the same on a file system in memory, mounted by FUSE with a cache that writes back. What bx writes stays in the
+kernel's page cache, and reaches the file system at a sync, or when the kernel chooses. After each request that changes
+the file system, what it holds is what a loss of power leaves, also without a name whose folder wasn't synced since.
+With -U something has to be lost. As root, where the kernel has FUSE.
 
-Outside the gate. Without a name all run, and a line says what is left out. It exits 1 where something is lost, or nothing where
-it should be."""
+Outside the gate. Without a name all run, with about N contents at a moment (--limit), and a line says what is left
+out. It exits 1 where something is lost, or nothing where it should be."""
 import os
 import random
 import re
 import shutil
 import tempfile
 
-from common import ROOT, asked, finish, folder, left_out, say, write
+from common import asked, finish, folder, left_out, say
 from replay.fuse import CachedSession, mounted
 from replay.judge import LOG, REFUSED, Judge, dd, redo, revert, undo
 from replay.room import Room
 from replay.session import Session
+from shared import read
 
 IMAGE = b"ABCDEFGH"
 HEAD = "change2 0000000{} 0000000000000008\n"
-BEGUN = {"": "", "head": HEAD, "saved": HEAD + "00000000: 41                                       A\nsave 0000000{}\n"}
-COMMANDS = {"change": revert((2, b"xy")), "other": revert((6, b"z")), "third": revert((0, b"q")), "undo": undo(1), "undo of two": undo(2),
-            "redo": redo(1), "log": LOG}
+BEGUN = {"head": HEAD, "saved": HEAD + "00000000: 41                                       A\nsave 0000000{}\n"}
+COMMANDS = {"change": revert((2, b"xy")), "other": revert((6, b"z")), "third": revert((0, b"q")), "undo": undo(1),
+            "undo of two": undo(2), "redo": redo(1), "log": LOG}
 
 
 def rows(head):
     """The rows of a table of tests/power.txt."""
-    text = (ROOT / "tests" / "power.txt").read_text(encoding="utf-8").split(f"# {head}\n")[1].split("\n# ")[0]
+    text = read("tests/power.txt").split(f"# {head}\n")[1].split("\n# ")[0]
     return [[cell.strip() for cell in line.split("|")] for line in text.splitlines() if "|" in line][1:]
 
 
@@ -60,25 +62,27 @@ def wrong_in(calls):
     return f"{left} is not on the disk at the end" if left else None
 
 
-def orders(_judge, _options):
+def orders(judge, _options):
     """The orders of syncs."""
     for changes, undone, begun, words, status, order in rows("Orders"):
         with folder() as path:
-            room, is_there = Room(path), changes != "none"
-            write(room.place("dump"), "00000002: 7879\n")
-            write(room.place("bad"), "none\n")
+            room, is_there = Room(judge.bx, path), changes != "none"
+            (path / "dump").write_text("00000002: 7879\n", encoding="ascii")
+            (path / "bad").write_text("none\n", encoding="ascii")
             room.put((IMAGE if is_there else None,))
             for command in [*["revert -f dump IMAGE"] * int(changes), f"undo -k {undone} IMAGE"] if is_there else []:
                 room.run(command)
             if begun:
                 image, journal, redo_text = room.get()
-                room.put((image, (journal or b"") + BEGUN[begun].replace("{}", "2" if journal else "1").encode(), redo_text))
+                room.put((image, (journal or b"") + BEGUN[begun].replace("{}", "2" if journal else "1").encode(),
+                          redo_text))
             done, calls = room.trace(words)
-        found = "".join(letter for what, letter, *_ in calls if what == "sync")
-        wrong = None if " -U " in words else wrong_in(calls)
-        wrong = wrong if found == order.replace(" ", "") else f"synced {found or 'nothing'}, and not {order or 'nothing'}"
-        wrong = wrong if done.status == int(status) else f"status {done.status}"
-        say(not wrong, f"{changes} changes, {undone} undone{', one unfinished' * bool(begun)}: {words}", wrong or f"{len(found)} syncs")
+        found, order = "".join(letter for what, letter, *_ in calls if what == "sync"), order.replace(" ", "")
+        wrong = f"status {done.status}" if done.status != int(status) else None
+        wrong = wrong or (wrong_in(calls) if " -U " not in words else None)
+        wrong = wrong or (f"synced {found or 'nothing'}, and not {order or 'nothing'}" if found != order else None)
+        name = f"{changes} changes, {undone} undone{', one unfinished' * bool(begun)}: {words}"
+        say(not wrong, name, wrong or f"{len(found)} syncs")
 
 
 def some_bytes(rng, most):
@@ -103,11 +107,11 @@ def some_command(rng, state, most, count):
 
 
 def replayed(judge, rng, options):
-    """A random session. The first command is a change that isn't killed and waits for the disk: no later one syncs the name of
-    an image that it made, and an opening syncs no names."""
+    """A random session. The first command is a change that isn't killed and waits for the disk: no later one syncs the
+    name of an image that it made, and an opening syncs no names."""
     with folder() as path:
         image = None if rng.randrange(5) == 0 else rng.randbytes(rng.randint(0, 40))
-        session = Session(judge, Room(path), rng, options.limit, image)
+        session = Session(judge, Room(judge.bx, path), rng, options.limit, image)
         session.run(some_change(rng, session.state.stack[0], 20, 3))
         for _ in range(rng.randint(5, 8)):
             command, how = some_command(rng, session.state, 20, 3), rng.randrange(8)
@@ -120,13 +124,11 @@ def replayed(judge, rng, options):
 
 def on_mount(judge, rng, _options, is_unsynced=False):
     """A random session on images of some pages, on the file system."""
-    with folder() as path:
-        os.mkdir(path / "mounted")
-        with mounted(str(path / "mounted"), str(path / "told")) as news:
-            session = CachedSession(judge, str(path / "mounted"), news, rng.randbytes(rng.randint(0, 20000)))
-            session.run(some_change(rng, session.state.stack[0], 200, 45), is_unsynced)
-            for _ in range(rng.randint(5, 8)):
-                session.run(some_command(rng, session.state, 200, 45), is_unsynced)
+    with folder() as path, mounted(path) as news:
+        session = CachedSession(judge, path / "mounted", news, rng.randbytes(rng.randint(0, 20000)))
+        session.run(some_change(rng, session.state.stack[0], 200, 45), is_unsynced)
+        for _ in range(rng.randint(5, 8)):
+            session.run(some_command(rng, session.state, 200, 45), is_unsynced)
     return session
 
 
@@ -137,13 +139,15 @@ def sessions(judge, options, play, name="session"):
         session = play(judge, random.Random(f"{options.seed} {number}"), options)
         lost, commands, moments = lost + len(session.lost), commands + session.commands, moments + session.moments
         if "-U" not in name:
-            say(not session.lost, f"{name} {number}", f"{session.commands} commands, {len(judge.seen) - opened} contents")
+            say(not session.lost, f"{name} {number}",
+                f"{session.commands} commands, {len(judge.seen) - opened} contents")
             for words, content, found, states in session.lost[:1]:
-                print(words, *zip(("image", "journal", "redo file"), content), found, f"not one of {states}", sep="\n      ")
+                print(words, *zip(("image", "journal", "redo file"), content), found, f"not one of {states}",
+                      sep="\n      ")
         opened = len(judge.seen)
     recovered = sum(found.recovered is True for found in judge.seen.values())
-    print(f"{options.sessions} of {name}, {commands} commands, {moments} moments, {opened} contents ({recovered} recovered): "
-          f"{lost or 'none'} lost", flush=True)
+    print(f"{options.sessions} of {name}, {commands} commands, {moments} moments, {opened} contents "
+          f"({recovered} recovered): {lost or 'none'} lost", flush=True)
     return lost
 
 
@@ -152,7 +156,7 @@ def is_lost(judge, options, row, without):
     what, before, command, *_ = row
     with folder() as path:
         image = None if what == "the name of an image that is made" else IMAGE
-        session = Session(judge, Room(path), random.Random(options.seed), 4 * options.limit, image)
+        session = Session(judge, Room(judge.bx, path), random.Random(options.seed), 4 * options.limit, image)
         for name, is_unsynced, until in re.findall(r"(\w[\w ]*?)( -U)?(?: until (\S+))?(?:, |$)", before):
             session.run(COMMANDS[name], unsynced=is_unsynced != "", until=until or None)
         session.run(COMMANDS[command], left_out=without)
@@ -160,7 +164,8 @@ def is_lost(judge, options, row, without):
 
 
 def replay(judge, options):
-    """Sessions under strace, and each sync left out: whether something is lost with it alone, but for those known to be safe."""
+    """Sessions under strace, and each sync left out: whether something is lost with it alone, but for those known to
+    be safe."""
     sessions(judge, options, replayed)
     for row in rows("Left out"):
         lost_with, lost = is_lost(judge, options, row, None), is_lost(judge, options, row, row[3])
@@ -170,17 +175,11 @@ def replay(judge, options):
 
 def cache(judge, options):
     """Sessions on the file system, and with -U, where something has to be lost."""
-    why = "not root" if os.getuid() else None if os.path.exists("/dev/fuse") else "the kernel has no /dev/fuse"
     try:
-        with folder() as path:
-            if not why:
-                os.mkdir(path / "mounted")
-                with mounted(str(path / "mounted"), str(path / "told")):
-                    pass
+        with folder() as path, mounted(path):
+            pass
     except OSError as error:
-        why = f"no file system can be mounted: {error.strerror}"
-    if why:
-        left_out(f"losses of power under a file system of its own ({why})")
+        left_out(f"losses of power under a file system of its own (none can be mounted: {error.strerror})")
         return
     sessions(judge, options, on_mount, "session on the page cache")
     say(sessions(judge, options, lambda *words: on_mount(*words, True), "session with -U"), "with -U something is lost")
@@ -190,15 +189,13 @@ CHECKS = {"orders": orders, "replay": replay, "cache": cache}
 
 
 def main():
-    options = asked(__doc__, ("--sessions", {"type": int, "default": 30}), ("--seed", {"type": int, "default": 1}),
-                    ("--limit", {"type": int, "default": 20, "help": "contents at a moment, about"}),
-                    ("--jobs", {"type": int, "default": os.cpu_count()}), ("checks", {"nargs": "*", "choices": [[], *CHECKS]}))
-    for name in options.checks or CHECKS:
+    options = asked(__doc__, sessions=30, seed=1, limit=20, jobs=os.cpu_count(), names=CHECKS)
+    for name in options.names:
         if name != "cache" and not shutil.which("strace"):
             left_out(f"{name} (strace is not installed)")
             continue
         with tempfile.TemporaryDirectory() as path:
-            CHECKS[name](Judge(options.jobs, path), options)
+            CHECKS[name](Judge(options.bx, options.jobs, path), options)
     finish()
 
 

@@ -1,25 +1,23 @@
 #!/usr/bin/env python3
 """Draws the pictures of docs/pictures from what bx writes, as SVG.
 
-Usage: tools/draw.py [--bx PATH] [session|states ..]
+Usage: tools/draw.py [--bx PATH] [NAME ..]
 
-session: a terminal with the commands of docs/pictures/session.txt, a line each, and what they write. They are run by bash, one
-after another, in one folder, in which the file `image` holds the letters A to P.
+session: a terminal with the commands of docs/pictures/session.txt, a line each, and what they write. They are run by
+bash, one after another, in one folder, in which the file `image` holds the letters A to P.
 
-states: the states of a pair of image and journal, and what opening does in each. docs/pictures/states.t has the commands, and what
-they have to write, else this fails; the words in the picture are those that bx wrote, in the places of docs/pictures/states.in.
+states: the states of a pair of image and journal, and what opening does in each. docs/pictures/states.t has the
+commands, and what they have to write, else this fails; the words in the picture are those that bx wrote, in the places
+of docs/pictures/states.in.
 
 Without a name both are drawn. bench/plot.py draws the chart of speed with its tables.
 """
-import argparse
 import html
-import os
-import pathlib
 import sys
 import tempfile
 import textwrap
 
-from sources import ROOT
+from shared import ROOT, asked
 from transcript import differences, outputs, set_in, steps
 
 PICTURES = ROOT / "docs" / "pictures"
@@ -49,7 +47,8 @@ def terminal(lines):
         parts.append(f'<text {place} fill="{color}" xml:space="preserve">{front}{said}</text>')
     longest = max(len(text) + 2 * is_command for is_command, text in lines)
     width, height = round(2 * MARGIN + CHARACTER * longest), 2 * MARGIN + ROW * len(lines)
-    return "\n".join([f'<svg xmlns="http://www.w3.org/2000/svg" width="{width}" height="{height}" viewBox="0 0 {width} {height}">',
+    size = f'width="{width}" height="{height}" viewBox="0 0 {width} {height}"'
+    return "\n".join([f'<svg xmlns="http://www.w3.org/2000/svg" {size}>',
                       f'<rect width="{width}" height="{height}" rx="8" fill="{DARK}"/>', *parts, "</g>", "</svg>", ""])
 
 
@@ -75,12 +74,9 @@ NAMES = {"session": session, "states": states}
 
 
 def main():
-    parser = argparse.ArgumentParser(description=__doc__.split("\n", maxsplit=1)[0])
-    parser.add_argument("--bx", default="./bx")
-    parser.add_argument("names", nargs="*", metavar="NAME", choices=[[], *NAMES])
-    options = parser.parse_args()
-    for name in options.names or NAMES:
-        (PICTURES / f"{name}.svg").write_text(NAMES[name](os.path.abspath(options.bx)), encoding="utf-8")
+    options = asked(__doc__, names=NAMES)
+    for name in options.names:
+        (PICTURES / f"{name}.svg").write_text(NAMES[name](options.bx), encoding="utf-8")
 
 
 if __name__ == "__main__":

@@ -15,7 +15,7 @@ install -D -m 644 completions/bx.bash "$tree/usr/share/bash-completion/completio
 install -D -m 644 completions/_bx "$tree/usr/share/zsh/vendor-completions/_bx"
 install -D -m 644 completions/bx.fish "$tree/usr/share/fish/vendor_completions.d/bx.fish"
 install -D -m 644 man/bx.1 "$tree/usr/share/man/man1/bx.1"
-for page in README.md docs/FORMATS.md docs/RECIPES.md; do install -D -m 644 "$page" "$tree/usr/share/doc/bx/${page##*/}"; done
+install -D -m 644 -t "$tree/usr/share/doc/bx" README.md docs/FORMATS.md docs/RECIPES.md
 day=$(awk -v version="$version" '$1 == "##" && $2 == version { print $4 }' CHANGELOG.md)
 date=$(date -u -R -d "${day:-@$(git log -1 --format=%ct)}"); maintainer=$(git log -1 --format='%an <%ae>')
 changes=$(awk -v version="$version" '/^## / { on = ($2 == version) } on && sub(/^- /, "  * ")' CHANGELOG.md |

@@ -3,13 +3,11 @@
 
 Usage: tools/prove.py [--most N]
 
-Crates that don't stand on one another are proved side by side, and the functions of one by the processes that no other crate
-wants: as many processes as there are processors, and 4 GiB of free memory for each, or N at most. `rt` locks a crate and those
-below it while it proves, so each crate is proved in a copy of its own, with the libraries below it as they were built, and what
-is built goes into `out/` here.
-It writes what `rt` says of each crate, and exits 1 where one is not proved.
-"""
-import argparse
+Crates that don't stand on one another are proved side by side, and the functions of one by the processes that no other
+crate wants: as many processes as there are processors, and 4 GiB of free memory for each, or N at most. `rt` locks a
+crate and those below it while it proves, so each crate is proved in a copy of its own, with the libraries below it as
+they were built, and what is built goes into `out/` here. It writes what `rt` says of each crate, and exits 1 where one
+is not proved."""
 import concurrent.futures
 import os
 import pathlib
@@ -18,6 +16,7 @@ import subprocess
 import sys
 import tempfile
 
+import shared
 import sources
 
 EACH = 4 * 2**20  # KiB of memory
@@ -48,8 +47,8 @@ def carry(folder, to):
 
 
 def prove(name, below, top, jobs):
-    """Builds a library in a copy of it and of those below, and brings what is built here. Answers the status and what `rt`
-    said."""
+    """Builds a library in a copy of it and of those below, and brings what is built here. Answers the status and what
+    `rt` said."""
     here = sources.ROOT / "crates"
     for other in [*below, name]:
         for part in PARTS:
@@ -58,7 +57,8 @@ def prove(name, below, top, jobs):
         carry(here / other / "out" / "rlib", top / "crates" / other / "out" / "rlib")
     carry(here / name / "out" / "incremental", top / "crates" / name / "out" / "incremental")
     lines = (sources.ROOT / "crates.txt").read_text(encoding="utf-8").splitlines()
-    (top / "crates.txt").write_text("".join(f"{it}\n" for it in lines if it.split(":")[0] in [*below, name]), encoding="utf-8")
+    (top / "crates.txt").write_text("".join(f"{it}\n" for it in lines if it.split(":")[0] in [*below, name]),
+                                    encoding="utf-8")
     done = subprocess.run(["rt", "lib", "--jobs", str(jobs)], cwd=top / "crates" / name, stdin=subprocess.DEVNULL,
                           stdout=subprocess.PIPE, stderr=subprocess.STDOUT, text=True, errors="replace", check=False)
     for part in ("rlib", "incremental"):
@@ -69,7 +69,8 @@ def prove(name, below, top, jobs):
 
 def chains(listed, names):
     """How many lines stand on the longest chain from each crate up to the program."""
-    lines = {name: sum(path.read_bytes().count(b"\n") for path in (sources.ROOT / "crates" / name).rglob("src/**/*.rt")) for name in names}
+    lines = {name: sum(path.read_bytes().count(b"\n")
+                       for path in (sources.ROOT / "crates" / name).rglob("src/**/*.rt")) for name in names}
     found = {}
     for name in reversed(names):
         found[name] = lines[name] + max([found[other] for other in names if name in listed[other]], default=0)
@@ -77,8 +78,8 @@ def chains(listed, names):
 
 
 def prove_all(listed, names, most, place):
-    """Proves the libraries, each once those below it are built, first those with the longest chain above them. Answers whether
-    all are."""
+    """Proves the libraries, each once those below it are built, first those with the longest chain above them. Answers
+    whether all are."""
     left, running, built, ahead = list(names), {}, set(), chains(listed, names)
     with concurrent.futures.ThreadPoolExecutor(most) as pool:
         while left or running:
@@ -101,9 +102,7 @@ def prove_all(listed, names, most, place):
 
 
 def main():
-    parser = argparse.ArgumentParser(description=__doc__.split("\n", maxsplit=1)[0])
-    parser.add_argument("--most", type=int, help="how many processes may prove at once")
-    most, listed = parser.parse_args().most or room(), sources.crates()
+    most, listed = shared.asked(__doc__, most=0).most or room(), sources.crates()
     with tempfile.TemporaryDirectory(prefix="bx-prove-") as place:
         if not prove_all(listed, sources.below(listed, PROGRAM), most, place):
             sys.exit(1)

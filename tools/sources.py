@@ -1,9 +1,10 @@
-"""The sources of this repository, for all tools that read them: crates, Rattle code (`.rt`) and definitions (`.antt`)."""
+"""The sources of this repository, for all tools that read them: crates, Rattle code (`.rt`) and definitions
+(`.antt`)."""
 import itertools
-import pathlib
 import re
 
-ROOT = pathlib.Path(__file__).resolve().parent.parent
+from shared import ROOT
+
 NAME = re.compile(r"[A-Za-z_][A-Za-z0-9_'-]*")
 
 
@@ -11,19 +12,17 @@ NAME = re.compile(r"[A-Za-z_][A-Za-z0-9_'-]*")
 
 def crates():
     """The crates in the order of crates.txt, each with the crates of this repository that its line names."""
-    lines = (line.split("#")[0].strip() for line in (ROOT / "crates.txt").read_text(encoding="utf-8").splitlines())
+    lines = (line.split("#")[0].strip() for line in read(ROOT / "crates.txt").splitlines())
     named = {line.split(":")[0].split()[0]: line.split(":")[1].split() for line in lines if line}
     return {name: [other for other in others if other in named] for name, others in named.items()}
 
 
 def below(listed, name):
     """What a crate stands on, directly or through another one, in the order of crates.txt."""
-    found, todo = set(), list(listed[name])
-    while todo:
-        other = todo.pop()
-        if other not in found:
-            found.add(other)
-            todo += listed[other]
+    found, more = set(), set(listed[name])
+    while more:
+        found |= more
+        more = {other for one in more for other in listed[one]} - found
     return [other for other in listed if other in found]
 
 
@@ -55,53 +54,42 @@ def head(path):
 
 def root_of(name):
     """The root file of a crate."""
-    lib = folder(name) / "lib.rt"
-    return lib if lib.exists() else folder(name) / "main.rt"
+    return next(path for path in (folder(name) / "lib.rt", folder(name) / "main.rt") if path.exists())
 
 
 def families():
     """The inner parts of each family, by the heads of their roots."""
     found = {}
     for name in product():
-        family = re.search(r"An inner part of `(\w+)`", head(root_of(name)))
-        if family:
-            found.setdefault(family.group(1), []).append(name)
+        for family in re.findall(r"An inner part of `(\w+)`", head(root_of(name))):
+            found.setdefault(family, []).append(name)
     return found
 
 
 def inner():
     """The inner parts whose calls are not public: their family exports some of their types alone."""
-    return [part for parts in families().values() for part in parts if "which exports all of it" not in head(root_of(part))]
+    return [part for parts in families().values()
+            for part in parts if "which exports all of it" not in head(root_of(part))]
 
 
 def generated(page, text, write):
     """Writes a page that a tool makes, or answers that it isn't as the tool makes it."""
     if write:
-        page.parent.mkdir(exist_ok=True)
         page.write_text(text, encoding="utf-8")
-    elif not page.exists() or text != read(page):
-        return [f"{page.relative_to(ROOT)} isn't what tools/docs.py --write makes"]
-    return []
+    is_there = page.exists() and text == read(page)
+    return [] if is_there else [f"{page.relative_to(ROOT)} isn't what tools/docs.py --write makes"]
 
 
 # Rattle code
 
-def paths(tree):
-    """The paths of the names that the tree of a `use` brings in."""
-    first, brace, rest = tree.strip().partition("{")
-    if not brace:
-        return [first]
-    parts, depth = [""], 0
-    for char in rest[: rest.rindex("}")]:
-        depth += {"{": 1, "}": -1}.get(char, 0)
-        parts = [*parts, ""] if char == "," and not depth else [*parts[:-1], parts[-1] + char]
-    return [first + path for part in parts if part.strip() for path in paths(part)]
-
-
 def used(text, front):
-    """The paths that a source brings in by lines of `use` with this front, split at their colons."""
-    trees = re.findall(rf"(?m)^ *{front}use ([^;]*);", text)
-    return [path.split(" as ")[0].strip().split("::") for tree in trees for path in paths(tree)]
+    """The paths that a source brings in by lines of `use` with this front, split at their colons: the innermost braces
+    are written out until there are none."""
+    for tree in re.findall(rf"(?m)^ *{front}use ([^;]*);", text):
+        while match := re.search(r"([\w:]*)\{([^{}]*)\}", tree):
+            written = ",".join(match[1] + part.strip() for part in match[2].split(",") if part.strip())
+            tree = tree[: match.start()] + written + tree[match.end() :]
+        yield from (path.split(" as ")[0].strip().split("::") for path in tree.split(","))
 
 
 def closing(text, at, brackets="{}"):
@@ -126,21 +114,24 @@ def split(text, mark, brackets="([{}])"):
     return [*parts, text[last:]]
 
 
-class Function:
-    """A function of a file: its name, the type or trait that it is of, whether it says `pub`, its comment, arguments, contract
-    and body."""
+class Item:
+    """An item of a file: whether it says `pub`, its kind, its name (of an impl that of the type), its line, and its
+    text, which is what stands behind its kind up to the next item. An impl or a trait has methods, whose `owner` it
+    is, and a head in front of them; a function has arguments, a contract and a body."""
 
-    def __init__(self, lines, at, match, block):
-        self.name, self.owner, self.is_public, self.at = match[3], block and block[2], match[2] == "pub ", at
-        self.is_of_trait = bool(block) and block[1] == "trait"
-        rest = "\n".join([lines[at][match.end() :], *lines[at + 1 :]])
-        start = closing(rest, 0, "<([{}])>") if rest[0] == "<" else 0
-        end = closing(rest, start, "<([{}])>")
-        self.arguments = [part.strip() for part in split(rest[start + 1 : end - 1], ",", "<([{}])>") if part.strip()]
-        stop = re.compile(r"(?m)(?:\{\}?|;)$").search(rest, end)
-        self.contract = rest[end : stop.start() if stop else len(rest)]
-        close = re.compile(rf"(?m)^{match[1]}\}}").search(rest, stop.end()) if stop and stop.group() == "{" else None
-        self.body = rest[stop.end() : close.start()] if close else ""
+    def __init__(self, match, text, line, owner):
+        self.is_public, self.kind, self.text, self.line, self.owner = match[1] == "pub ", match[2], text, line, owner
+        self.name = re.match(r"(?:<.*?>)? ?(?:\w+(?:<.*>)? for )?(\w+)" if self.kind == "impl" else r" ?(\w+)", text)[1]
+        if self.kind in ("impl", "trait"):
+            self.head = re.split(r"(?m)^ {4}(?=.*\bfn )", text, maxsplit=1)[0]
+            self.methods = [item for item in items(text, " {4}", line, self) if item.kind == "fn"]
+        elif self.kind == "fn":
+            at = re.match(r" \w+", text).end()
+            start = closing(text, at, "<([{}])>") if text[at] == "<" else at
+            end = closing(text, start, "<([{}])>")
+            self.arguments = [part.strip() for part in split(text[start + 1 : end - 1], ",", "<([{}])>")
+                              if part.strip()]
+            self.contract, self.opened, self.body = [*re.split(r"(?m)(\{\}?|;)$", text[end:], maxsplit=1), "", ""][:3]
 
     def takes(self):
         """How many arguments it has, `self` left out."""
@@ -151,48 +142,36 @@ class Function:
         return len(re.findall(r"(?m)^ *ensures\b", self.contract))
 
 
-FUNCTION = re.compile(r"( *)(pub(?:\([a-z]+\))? )?(?:const |unsafe )*fn (\w+)")
-BLOCK = re.compile(r"(?:pub )?(impl|trait)\b(?:<.*?>)? (?:\w+(?:<.*>)? for )?(\w+)")
+BEGIN = r"^{}(pub(?:\([a-z]+\))? )?(?:const (?=fn|unsafe)|unsafe )*(fn|trait|struct|enum|impl|const)\b"
+
+
+def items(text, indent="", line=0, owner=None):
+    """The items of a text without comments that are set in so far."""
+    begun = list(re.finditer(BEGIN.format(indent), text, re.M))
+    return [Item(match, text[match.end() : behind and behind.start()], line + text.count("\n", 0, match.start()), owner)
+            for match, behind in itertools.zip_longest(begun, begun[1:])]
+
+
+def items_of(path):
+    return items(re.sub("//.*", "", read(path)))
 
 
 def functions(path):
     """The functions of a file, in their order."""
-    lines, block = [line.split("//")[0] for line in read(path).split("\n")], None
-    for at, line in enumerate(lines):
-        block = BLOCK.match(line) or (None if line.startswith("}") else block)
-        match = FUNCTION.match(line)
-        if match:
-            yield Function(lines, at, match, block)
+    return [function for item in items_of(path)
+            for function in getattr(item, "methods", [item]) if function.kind == "fn"]
 
 
 def sentence(path, at):
     """The first sentence of the public comment above a line of a file."""
-    lines, found = read(path).split("\n")[:at], []
-    while lines and re.match(r"\s*(///|#\[)", lines[-1]):
-        line = lines.pop().strip()
-        found = [line[3:].strip(), *found] if line.startswith("///") else found
-    return re.split(r"(?<=\.) |  ", " ".join(found))[0].rstrip(".")
-
-
-def items(text):
-    """(access, kind, text, end) of each item at the left margin, with its clauses; a body is left out where it can be told."""
-    begins = r"^(pub(?:\([a-z]+\))? )?(unsafe )?(fn|trait|struct|enum|impl|const)\b"
-    for match in re.finditer(begins + r"(?:([^\n]*;)$|(.*?)(?=^(\}|\{\}|[^\s{}][^\n]*;)$))", text, re.M | re.S):
-        yield match.group(1) or "", match.group(3), match.group(4) or match.group(5), match.group(6)
-
-
-def methods(body):
-    """The head of an impl or a trait, and its methods, each with the text up to the next."""
-    starts = [m.start() for m in re.finditer(r"^ {4}(?:pub(?:\([a-z]+\))? )?(?:const )?(?:unsafe )?fn ", body, re.M)]
-    yield "head", body[: starts[0]] if starts else body
-    for start, end in zip(starts, starts[1:] + [len(body)]):
-        text = body[start:end]
-        yield ("pub" if text.strip().startswith(("pub fn", "pub const fn")) else "inner"), text
+    above = itertools.takewhile(lambda line: re.match(r"\s*(///|#\[)", line), reversed(read(path).split("\n")[:at]))
+    found = [line.strip()[3:].strip() for line in above if "///" in line]
+    return re.split(r"(?<=\.) |  ", " ".join(reversed(found)))[0].rstrip(".")
 
 
 def clauses(text):
-    """The braces of requires, ensures and ghost items, but for what is only brought in and invariants of models, which callers
-    don't see."""
+    """The braces of requires, ensures and ghost items, but for what is only brought in and invariants of models, which
+    callers don't see."""
     begins = r"\b(requires|ensures|ghost(?! use| invariant))\b[^{;=]*=?\s*\{"
     return [text[match.end() : closing(text, match.end() - 1) - 1] for match in re.finditer(begins, text)]
 
@@ -235,7 +214,8 @@ class Definition:
 
 
 def binders(text):
-    """How many names each binder binds that counts, where a text is binders alone; one in braces binds none that does."""
+    """How many names each binder binds that counts, where a text is binders alone; one in braces binds none that
+    does."""
     counts, text = [], text.strip()
     while text[:1] in ("(", "{"):
         end = closing(text, 0, "([{}])")
@@ -261,8 +241,8 @@ def imports(text):
 def parts(text):
     """The definitions of a file: name, lines (no comments, imports or blank lines), and the comment above.
 
-    A line `module _ .. where` gives those below it, set in by two spaces, their first parameters; it counts with the next.
-    """
+    A line `module _ .. where` gives those below it, set in by two spaces, their first parameters; it counts with the
+    next."""
     found, comment, opened, within = [], [], [], False
     for line in text.split("\n"):
         bare = line.rstrip()
@@ -279,7 +259,7 @@ def parts(text):
         if not bare or bare.startswith(("use ", "pub use ", "pub mod ")) or bare.lstrip().startswith("--"):
             continue
         begun = HEAD.match(bare)
-        declares = bare.startswith(("abbrev ", "unfoldable ", "pub ", "record ", "data ")) or re.match(r"^[\w'-]+ :", bare)
+        declares = re.match(r"(abbrev|unfoldable|pub|record|data) |[\w'-]+ :", bare)
         if begun and not bare[0].isspace() and declares:
             found.append((begun.group(2), opened, " ".join(comment)))
             comment, opened = [], []

@@ -1,6 +1,8 @@
-"""Plays transcripts of a shell, in the form of cram: a line `$ COMMAND`, lines `> ..` that go on with it, and below them what it
-writes, standard error too; `[N]` stands for a status that isn't 0. Those of documents, of tests and of pictures are played here."""
+"""Plays transcripts of a shell, in the form of cram: a line `$ COMMAND`, lines `> ..` that go on with it, and below
+them what it writes, standard error too; `[N]` stands for a status that isn't 0, and `(re)` behind a line that is a
+regular expression. Those of documents, of tests and of pictures are played here."""
 import os
+import pathlib
 import re
 import shutil
 import subprocess
@@ -27,32 +29,37 @@ def steps(lines):
 
 
 def outputs(commands, bx, folder, head="", with_status=False, **env):
-    """What each command writes, in lines; all run by one bash, in the folder `work`, and each sees the status of the one before.
-    `head` comes first. What a shell that ends before writes last is one more."""
+    """What each command writes, in lines; all run by one bash, in the folder `work`, and each sees the status of the
+    one before. `head` comes first. What a shell that ends before writes last is one more."""
+    folder = pathlib.Path(folder)
     for name in ("bin", "work"):
-        os.mkdir(os.path.join(folder, name))
-    shutil.copy(bx, os.path.join(folder, "bin", "bx"))
+        (folder / name).mkdir()
+    shutil.copy(bx, folder / "bin" / "bx")
     script = head + "".join(f"{command}\nstatus=$?; echo '{END}' $status; (exit $status)\n" for command in commands)
-    env = {**os.environ, "LC_ALL": "C", "PATH": os.path.join(folder, "bin") + ":" + os.environ["PATH"], **env}
-    with open(os.path.join(folder, "commands"), "w", encoding="utf-8") as out:
-        out.write(script)
-    with subprocess.Popen(["bash", os.path.join(folder, "commands")], stdin=subprocess.DEVNULL, stdout=subprocess.PIPE,
-                          stderr=subprocess.STDOUT, cwd=os.path.join(folder, "work"), env=env) as shell:
+    (folder / "commands").write_text(script, encoding="utf-8")
+    env = {**os.environ, "LC_ALL": "C", "PATH": f"{folder}/bin:{os.environ['PATH']}", **env}
+    with subprocess.Popen(["bash", folder / "commands"], stdin=subprocess.DEVNULL, stdout=subprocess.PIPE,
+                          stderr=subprocess.STDOUT, cwd=folder / "work", env=env) as shell:
         try:
-            written = shell.communicate(timeout=3600)[0]
+            written = shell.communicate(timeout=3600)[0].decode(errors="backslashreplace")
         except BaseException:
             shell.terminate()  # what it traps puts devices and mounts away
             raise
-    text = re.sub(r"[\0-\x08\x0b-\x1f\x7f]", lambda it: f"\\x{ord(it[0]):02x}", written.decode(errors="backslashreplace"))
+    text = re.sub(r"[\0-\x08\x0b-\x1f\x7f]", lambda it: f"\\x{ord(it[0]):02x}", written)
     *parts, rest = re.split(f"{END} (\\d+)\n", text)
     given = [lines.removesuffix("\n").split("\n") if lines else [] for lines in parts[::2]]
     given = [lines + [f"[{status}]"] * (with_status and status != "0") for lines, status in zip(given, parts[1::2])]
     return given + [rest.splitlines()] * bool(rest)
 
 
+def is_so(got, wanted):
+    """Whether a line is as wanted."""
+    return got == wanted or wanted.endswith(" (re)") and re.fullmatch(wanted.removesuffix(" (re)"), got)
+
+
 def differences(tour, given):
     """Each command that wrote something else, as text."""
     for number, (command, wanted) in enumerate(tour):
         got = given[number] if number < len(given) else ["(not run)"]
-        if got != wanted:
+        if len(got) != len(wanted) or not all(map(is_so, got, wanted)):
             yield "\n".join([f"$ {command}", "wanted:", *wanted, "got:", *got])

@@ -4,10 +4,10 @@
 Usage: tests/fuzz/play.py BX SUBJECT FILE ..      (a line for each file; the status is 1 where there is a finding)
        tests/fuzz/play.py BX SUBJECT              (as the fork server of afl-fuzz: tests/fuzz/run.py starts it so)
 
-A finding is a crash, a run of more than a second of processor time or ten seconds, more than 64 MiB of memory, a changed file
-behind a refusal, and a command that doesn't take back what the one before it did. afl-fuzz gets an abort for each. What it takes
-for coverage, of a program that isn't instrumented, is which command gave which status, fault and number of lines.
-"""
+A finding is a crash, a run of more than a second of processor time or ten seconds, more than 64 MiB of memory, a
+changed file behind a refusal, and a command that doesn't take back what the one before it did. afl-fuzz gets an abort
+for each. What it takes for coverage, of a program that isn't instrumented, is which command gave which status, fault
+and number of lines."""
 import ctypes
 import os
 import pathlib
@@ -80,7 +80,8 @@ class Play:
             raise Finding(f"{words}: refused: {self.seen[-1]}")
 
     def there_and_back(self, there, back, text=b""):
-        """What a command does, another one takes back, to the byte and the length; not where much is to be kept for that."""
+        """What a command does, another one takes back, to the byte and the length; not where much is to be kept for
+        that."""
         before = content("image")
         if self.run(*there, text=text) and content("image")[0] <= OUTPUT:
             self.must(*back)
@@ -89,7 +90,8 @@ class Play:
 
 
 def read_within(process):
-    """Reads what a program writes, up to a size, and ends it where it takes too long. Answers how many lines it wrote."""
+    """Reads what a program writes, up to a size, and ends it where it takes too long. Answers how many lines it
+    wrote."""
     end, size, lines = time.monotonic() + WAITING, 0, 0
     while size < OUTPUT and select.select([process.stdout], [], [], max(0, end - time.monotonic()))[0]:
         part = os.read(process.stdout.fileno(), OUTPUT)
@@ -131,20 +133,24 @@ def redo(bx, text):
 
 
 def words(bx, text):
-    """Each line is a word. None leads out of the folder, and nothing large is written onto an image, which `dd` holds in memory."""
+    """Each line is a word. None leads out of the folder, and nothing large is written onto an image, which `dd` holds
+    in memory."""
     said = [line.replace(b"/", b".").replace(b"\0", b".")[:200] for line in text.splitlines()][:40]
     play = Play(bx, _bxj=JOURNAL)
-    if not (any(word.startswith(b"of=") for word in said) and any(re.search(rb"\d{5}|\d[a-zA-Z]", word) for word in said)):
+    if not (any(word.startswith(b"of=") for word in said)
+            and any(re.search(rb"\d{5}|\d[a-zA-Z]", word) for word in said)):
         play.run(*said, text=text)
     return play
 
 
-SUBJECTS = {"revert": lambda bx, text: change(bx, text, "revert"), "plain": lambda bx, text: change(bx, text, "revert", "-p"),
+SUBJECTS = {"revert": lambda bx, text: change(bx, text, "revert"),
+            "plain": lambda bx, text: change(bx, text, "revert", "-p"),
             "patch": lambda bx, text: change(bx, text, "patch"), "journal": journal, "redo": redo, "words": words}
 
 
 def play_once(bx, subject, text):
-    """Plays a text in a new folder of memory, which is removed. Answers what was seen, and the finding if there is one."""
+    """Plays a text in a new folder of memory, which is removed. Answers what was seen, and the finding if there is
+    one."""
     folder = tempfile.mkdtemp(prefix="bx-fuzz-", dir="/dev/shm" if os.path.isdir("/dev/shm") else None)
     os.chdir(folder)
     try:

@@ -1,13 +1,12 @@
 #!/usr/bin/env python3
-"""Feeds the built program by AFL++ (afl-fuzz, of Debian's package afl++), all subjects side by side, and says what it found.
+"""Feeds the built program by AFL++ (afl-fuzz, of Debian's package afl++), all subjects side by side, and says what it
+found.
 
 Usage: tests/fuzz/run.py [--bx PATH] [--minutes N] [--corpus] [SUBJECT ..]
 
-tests/fuzz/play.py has the subjects, and says what a finding is; tests/fuzz/corpus/SUBJECT has the inputs to begin with. These
-are played first, and with --corpus alone, for which no afl-fuzz is needed. What AFL++ writes is in tests/fuzz/out. Each
-finding has a line with its file, and the status is 1 where there is one.
-"""
-import argparse
+tests/fuzz/play.py has the subjects, and says what a finding is; tests/fuzz/corpus/SUBJECT has the inputs to begin
+with. These are played first, and with --corpus alone, for which no afl-fuzz is needed. What AFL++ writes is in
+tests/fuzz/out. Each finding has a line with its file, and the status is 1 where there is one."""
 import os
 import pathlib
 import re
@@ -16,6 +15,10 @@ import subprocess
 import sys
 
 HERE = pathlib.Path(__file__).resolve().parent
+sys.path.insert(0, str(HERE.parent.parent / "tools"))
+
+from shared import asked  # pylint: disable=wrong-import-position
+
 SUBJECTS = sorted(path.name for path in (HERE / "corpus").iterdir())
 # a program that a kernel hands no crash to, that isn't instrumented, and draws nothing
 AFL = {"AFL_SKIP_BIN_CHECK": "1", "AFL_SKIP_CPUFREQ": "1", "AFL_NO_AFFINITY": "1", "AFL_NO_UI": "1", "AFL_QUIET": "1",
@@ -23,7 +26,8 @@ AFL = {"AFL_SKIP_BIN_CHECK": "1", "AFL_SKIP_CPUFREQ": "1", "AFL_NO_AFFINITY": "1
 
 
 def play(bx, subject, files):
-    """Plays files of a subject, and again where there was a finding: a second may pass on a busy machine. Answers its lines."""
+    """Plays files of a subject, and again where there was a finding: a second may pass on a busy machine. Answers its
+    lines."""
     lines, words = [], [str(HERE / "play.py"), bx, subject, *map(str, files)]
     for _ in range(2):
         done = subprocess.run(words, stdout=subprocess.PIPE, text=True, errors="replace", check=False)
@@ -39,8 +43,8 @@ def fuzz(bx, subject, seconds):
     out = HERE / "out" / subject
     shutil.rmtree(out, ignore_errors=True)
     out.mkdir(parents=True)
-    words = ["afl-fuzz", "-i", HERE / "corpus" / subject, "-o", out, "-V", str(seconds), "-m", "none", "-t", "60000", "--",
-             sys.executable, HERE / "play.py", bx, subject]
+    words = ["afl-fuzz", "-i", HERE / "corpus" / subject, "-o", out, "-V", str(seconds), "-m", "none", "-t", "60000",
+             "--", sys.executable, HERE / "play.py", bx, subject]
     with open(out / "log", "wb") as log:
         return subprocess.Popen(words, env={**os.environ, **AFL}, stdin=subprocess.DEVNULL, stdout=log, stderr=log)
 
@@ -52,7 +56,8 @@ def judge(bx, subject, status):
     value = dict(re.findall(r"^(\w+) *: (.*)$", stats, re.M))
     kept = [path for part in ("crashes", "hangs") for path in sorted((out / part).glob("id*"))]
     found = play(bx, subject, kept) if kept else []
-    print(f"{subject}: {value.get('execs_done', 'no')} inputs, {value.get('corpus_count', '0')} kept, {len(kept)} stopped, {len(found)} findings")
+    print(f"{subject}: {value.get('execs_done', 'no')} inputs, {value.get('corpus_count', '0')} kept, "
+          f"{len(kept)} stopped, {len(found)} findings")
     print("".join(f"{line}\n" for line in found), end="")
     if status or not value:
         print(f"WRONG {subject}: afl-fuzz ended with {status}: tests/fuzz/out/{subject}/log")
@@ -60,16 +65,8 @@ def judge(bx, subject, status):
 
 
 def main():
-    parser = argparse.ArgumentParser(description=__doc__.split("\n", maxsplit=1)[0])
-    parser.add_argument("--bx", default="./bx")
-    parser.add_argument("--minutes", type=float, default=10)
-    parser.add_argument("--corpus", action="store_true", help="the inputs of the corpus, once")
-    parser.add_argument("subjects", nargs="*", metavar="SUBJECT", choices=[[], *SUBJECTS], help=" ".join(SUBJECTS))
-    options = parser.parse_args()
-    bx, chosen = os.path.abspath(options.bx), options.subjects or SUBJECTS
-    if "patch" in chosen and subprocess.run([bx, "help", "patch"], capture_output=True, check=False).returncode:
-        print("left out: patch (this bx has no such command)")
-        chosen = [subject for subject in chosen if subject != "patch"]
+    options = asked(__doc__, minutes=10.0, names=SUBJECTS)
+    bx, chosen = options.bx, options.names
     found = [line for subject in chosen for line in play(bx, subject, sorted((HERE / "corpus" / subject).iterdir()))]
     print("".join(f"{line}\n" for line in found), end="")
     if options.corpus or found:

@@ -1,4 +1,4 @@
-What a file system may answer to locks and to the sync of a folder, by shim.c; tests/program/calls.py has calls that fail in turn.
+What a file system may answer to locks and to the sync of a folder, and calls that fail in turn, by shim.c.
 
 # A folder that answers a sync with an error (wants cc)
 
@@ -55,3 +55,99 @@ A new image by a link as its own journal, with locks and without:
 
   $ ln -s dangling j; refused 'cannot open file' <<< 'revert -f dump -J j dangling'
   $ refused '*' failing n 0 bx <<< 'revert -f dump -J j dangling'
+
+# Each memory request, read, write and sync, failing in turn (wants cc)
+
+Each command begins `before` a change or `after` it:
+
+  $ shim; printf '2: 7879\n20: 41\n' > dump; printf '78 7\n9' > plain
+  $ printf 'length 8 to 9\n-2: 4344\n+2: 7879\n+8: 41\n' > fix; printf 'length 3 to 8\n+2: 7879\n-1: 4142\n' > back
+  $ before() { fresh ABCDEFGH '' "$unpatched"; }; after() { fresh ABxyEFGH "$patched" "$unpatched"; }
+  $ each() { # MODE LEAST CHECK: each line is a start and words; CHECK looks at `status`, `out` and `err`, and LEAST have to stop
+  >   local start words number status was begun made stopped
+  >   while read -r start words <&9; do
+  >     $start; was=$(trio) begun=$(sha256sum < img) stopped=0
+  >     failing $1 0 bx $words > out 2> err < "${given-/dev/null}"; made=$(sha256sum < img)
+  >     for number in $(seq $(cat ../count)); do
+  >       $start; failing $1 $number bx $words > out 2> err < "${given-/dev/null}"; status=$?
+  >       stopped=$((stopped + (status == 1))); $3 || echo "$words: wrong at $number: status $status, $(cat err)"
+  >     done
+  >     [ $stopped -ge $2 ] || echo "$words: $stopped stopped it"
+  >   done 9<&0
+  > }
+  $ undone_all() {
+  >   bx undo -k 0 img > ../said 2>&1 && bx undo -k $(bx log img | wc -l) img > ../said && [[ $(cat img) = ABCDEFGH && ! -s img.bxj ]]
+  > }
+  $ changes='before revert -f dump img
+  > after revert -f dump img
+  > after dd if=plain of=img obs=3 seek=1 conv=ucase
+  > after undo img
+  > before redo img
+  > after redo img
+  > before patch -f fix img
+  > after patch -R -f back img'
+
+Where memory is refused, the status is 1 and nothing is changed:
+
+  $ refuses() { [ "$(cat err)" != 'bx: out of memory' ] && [ $status = 0 ] || [[ $status = 1 && ! -s out && $(trio) = "$was" ]]; }
+  $ each a 1 refuses << .
+  > $changes
+  > before revert -p -s 3 -f plain img
+  > after log img
+  > after log -v img
+  > after show img
+  > after show -d img
+  > after diff img dump
+  > .
+  $ words() { [[ $status$(cat err) = '1bx: out of memory' || $status$(cat err) = '2bx: bad arguments' ]]; }
+  $ each a 1 words << .
+  > before xxd -c 300
+  > before bogus
+  > before undo -k 1k img
+  > .
+
+Where another call fails, opening again finds the image before or after it, and undoing all gives the first; a call that moves one
+byte does what it always does:
+
+  $ recovers() {
+  >   bx undo -k 0 img > ../said 2>&1 || return; local found=$(sha256sum < img)
+  >   [[ $status -le 1 && ( $found = "$made" || $found = "$begun" && $status = 1 ) ]] && undone_all
+  > }
+  $ each f 1 recovers <<< "$changes"
+  $ moves() { [[ $status = 0 && $(sha256sum < img) = "$made" ]]; }
+  $ each s 0 moves <<< "$changes"
+
+A disk that is full at a sync: the folder's can't be opened, those before the first write change nothing, and those after it are
+interrupted. With -U nothing is synced.
+
+  $ syncs() {
+  >   local want='interrupted: open again to recover'
+  >   [ $number -gt 4 ] || { want='device failed'; [ "$(trio)" = "$was" ] || return; }; [ $number -gt 1 ] || want='cannot open file'
+  >   [[ $status = 1 && $(grep '^bx: ' err | tail -n 1) = "bx: $want" ]] && undone_all
+  > }
+  $ synced='before revert -f dump img
+  > after dd if=plain of=img obs=3 seek=1 conv=ucase
+  > after undo img
+  > after redo img'
+  $ each d 5 syncs <<< "$synced"
+  $ while read -r start word words; do
+  >   $start; failing d 1 bx $word -U $words > out 2>&1 || echo "$word: $(cat out)"; cat ../count
+  > done <<< "$synced"
+  0
+  0
+  0
+  0
+
+Of a dump, where memory is refused nothing is written, or all of it where dd's report can't be made; else what is written is a prefix:
+
+  $ printf 'Hello World\n\0\1\2 and some more text\n' > text; given=text; fault='^bx: (read failed|write failed after [0-9]+ bytes)$'
+  $ whole() { [ $status = 0 ] && cmp -s out plain.out; }
+  $ refuses() {
+  >   [ "$(tail -n 1 err)" = 'bx: out of memory' ] || { whole; return; }
+  >   [ $status = 1 ] && { [ ! -s out ] || [[ $words = dd* ]] && cmp -s out plain.out; }
+  > }
+  $ fails() { [ $status = 1 ] && cmp -s out <(head -c $(stat -c %s out) plain.out) && grep -qE "$fault" err || whole; }
+  $ for words in xxd 'xxd -i' 'od -t x2' 'hexdump -C' 'strings -t x' 'dd cbs=4 conv=block,ucase' --help; do
+  >   bx $words < text > plain.out 2> /dev/null
+  >   each a 1 refuses <<< "before $words"; each f 0 fails <<< "before $words"; each s 0 whole <<< "before $words"
+  > done

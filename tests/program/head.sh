@@ -1,9 +1,10 @@
 # What the transcripts of this folder share: tests/hostile.py reads it before each section.
 trap '' XFSZ
 ulimit -c 0
-# the journal of two bytes at 2 of an image of 8, as it is before its end line, and the redo text once they are taken back
-patched='change2 00000001 0000000000000008\n00000002: 4344                                     CD\nsave 00000001\ndone2 00000001 0000000000000008\n'
-stopped=${patched%done2*} unpatched=${patched//4344/7879} unpatched=${unpatched//CD/xy}
+# the journal of two bytes at 2 of an image of 8, as it is before its end line, and the redo text once they are taken
+# back
+stopped='change2 00000001 0000000000000008\n00000002: 4344                                     CD\nsave 00000001\n'
+patched=${stopped}'done2 00000001 0000000000000008\n' unpatched=${patched//4344/7879} unpatched=${unpatched//CD/xy}
 mega() { head -c "$2" /dev/zero | tr '\0' "$1"; }  # a character again and again
 
 # Image, journal and redo file anew; what isn't given, or is -, is missing.
@@ -32,7 +33,14 @@ holds() {
   done
 }
 
-# Every file below: kind, bits, owner, names, where a link leads, time, and what is in it; and what is on the device $dev.
+# A sum of image, journal and redo file; one that is empty is as one that is missing.
+trio() {
+  local name
+  for name in img img.bxj img.bxj.redo; do cat $name; echo =; done 2> /dev/null | sha256sum
+}
+
+# Every file below: kind, bits, owner, names, where a link leads, time, and what is in it; and what is on the device
+# $dev.
 state() {
   [ -z "${dev-}" ] || sha256sum "$dev"
   find . \( -type d -printf '%p %y %m %U:%G\n' \) -o -printf '%p %y %m %U:%G %n %l %T@\n' | sort
@@ -63,7 +71,8 @@ refused() { # FAULT [FRONT ..]
     echo >> "$TALLY"
     out=$(eval "${*:-bx} $words" 2>&1 < /dev/null 9<&-)
     status=$?
-    [[ $status = $([[ $fault == bad* ]] && echo 2 || echo 1) && $out == "bx: "$fault ]] || echo "$words: status $status, $out"
+    [[ $status$fault = 2bad* || $status = 1 && $fault != bad* ]] && [[ $out == "bx: "$fault ]] ||
+      echo "$words: status $status, $out"
     [ "$(state)" = "$before" ] || { echo "$words: not as before"; before=$(state); }
   done 9<&0
 }
@@ -74,8 +83,8 @@ alike() {
   while IFS= read -r words <&9; do
     echo >> "$TALLY"
     one=${words//DEV/$dev} other=${words//DEV/plain}
-    bx ${one/JOURNAL/device.bxj} > one 2>&1 && bx ${other/JOURNAL/plain.bxj} > other 2>&1 && cmp one other && cmp "$dev" plain &&
-      cmp device.bxj plain.bxj && cmp device.bxj.redo plain.bxj.redo || echo "$words: $(cat one)"
+    bx ${one/JOURNAL/device.bxj} > one 2>&1 && bx ${other/JOURNAL/plain.bxj} > other 2>&1 && cmp one other &&
+      cmp "$dev" plain && cmp device.bxj plain.bxj && cmp device.bxj.redo plain.bxj.redo || echo "$words: $(cat one)"
   done 9<&0
 }
 
@@ -89,7 +98,8 @@ as() { # USER[:GROUP[,GROUP..]] COMMAND ..
 opening() { # IMAGE [FRONT ..]
   local image=$1 words
   shift
-  for words in 'revert -f dump IMG' 'dd if=dump of=IMG' 'undo IMG' 'redo -k 0 IMG' 'log IMG' 'log -v IMG' 'show IMG' 'show -r -k 0 IMG'; do
+  for words in 'revert -f dump IMG' 'dd if=dump of=IMG' 'undo IMG' 'redo -k 0 IMG' 'log IMG' 'log -v IMG' 'show IMG' \
+    'show -r -k 0 IMG'; do
     echo "${words/IMG/$image}"
   done | refused 'cannot open file' "$@"
 }

@@ -1,4 +1,4 @@
-How much memory changes, undos, redos and recoveries hold; tests/program/memory.py has memory that is refused in the checked build.
+How much memory changes, undos, redos and recoveries hold, and memory that is refused in the toolchain's checked build.
 
 # Changes, undos and redos of 64 MiB
 
@@ -27,3 +27,27 @@ An opening that rolls back holds neither, zeros behind the save line or not:
   $ fresh ABxyEFGH "$patched" ''; truncate -s 1G img.bxj.redo; (ulimit -v 3906250; bx log img)
   bx: redo line 1 is damaged
   [1]
+
+# Memory refused in the checked build (wants rt)
+
+It takes some two minutes for each number of RT_TRY (1 10 40), and is left out by RT_TRY=no. A run that faults, hangs, or ends
+otherwise than by the refusal is a wrong one.
+
+  $ [ "${RT_TRY-}" != no ] || left_out 'RT_TRY=no'
+  $ mkdir cases; while read -r name words; do echo 'Hello World' > cases/$name; printf '%s\n' $words > cases/$name.args; done << .
+  > xxd xxd
+  > include xxd -i
+  > od od -t x1
+  > hexdump hexdump -C
+  > strings strings -t x
+  > dd dd cbs=4 conv=block,ucase
+  > help revert --help
+  > columns xxd -c 300
+  > operand dd foo=1
+  > .
+  $ for number in ${RT_TRY-1 10 40}; do
+  >   (cd "$FOLDER/../../crates/bx"; rt try --fail-alloc $number --cases "$OLDPWD/cases") > out 2>&1
+  >   grep -c '^bx: out of memory$' out; tail -n 1 out | grep -o '^cases=9 ended=9 fault=0 ' || tail -n 1 out
+  > done | sort -u
+  9
+  cases=9 ended=9 fault=0 

@@ -1,5 +1,4 @@
-Patches: round trips with `diff`, texts that are none, and images that have other bytes. tests/program/patches.py has `-n`, `show -p`,
-and random pairs.
+Patches: round trips with `diff`, texts that are none, images that have other bytes, `-n` and `show -p`, and random pairs.
 
 # A patch is applied, taken back, and applied the other way round
 
@@ -128,3 +127,79 @@ A missing image that should have bytes, a folder, and one that may only be read,
   $ kept bx show -d -p img
   bx: bad arguments
   [2]
+
+# What a change would be, beside `diff`
+
+With -n a command writes what `diff` writes once the change is made, and changes nothing, whatever stands beside the image. A line has
+the words and what they read.
+
+  $ dried() { # OPTIONS [IMAGE [TEXT ..]]
+  >   local options=$1 words given status; shift
+  >   while IFS='|' read -r words given <&9; do
+  >     printf %b "${1-}" > old; printf "$given" > input; fresh "${1--}"
+  >     bx $words < input > /dev/null 2> ../want.err; status=$?; bx diff old img > ../want
+  >     fresh "$@"; kept bx ${words/ / $options } < input > ../out 2> ../err
+  >     [ $? = $status ] && cmp ../out ../want && cmp ../err ../want.err || echo "$words with $options beside $*: $(cat ../err)"
+  >   done 9<&0
+  > }
+  $ changes='revert img|00000002: 7879\n00000003: 7a\n0000000c: 41\n
+  > revert -p -s 6 img|414243
+  > revert img|
+  > dd bs=2 seek=1 of=img|xyz
+  > dd conv=notrunc of=img|ABxy
+  > dd of=img|'
+  $ patches='patch img|length 8 to 8\n-00000002: 4344\n+00000002: 7879\n
+  > patch -R img|length 4 to 8\n+00000004: 4546 4748\n
+  > patch img|'
+  $ dried -n ABCDEFGH <<< "$changes"$'\n'"$patches"
+  $ dried -n ABCDEFGH "$patched" "$unpatched" <<< "$changes"$'\n'"$patches"
+  $ dried -n ABCDEFGH "$stopped" <<< "$changes"$'\n'"$patches"
+  $ dried -n ABCDEFGH 'no journal\n' <<< "$changes"$'\n'"$patches"
+  $ dried '--dry-run --fresh -U --mounted -J other' ABCDEFGH <<< "$changes"$'\n'"$patches"
+  $ dried -n << .
+  > $changes
+  > patch img|length 0 to 2\n+0: 4142\n
+  > patch img|length 0 to 5\n
+  > .
+
+# The last changes as one patch
+
+With -r those that a redo would make. It only reads.
+
+  $ fresh ABCDEFGH; cp img image0; number=0
+  $ while IFS='|' read -r words given; do printf "$given" | bx $words 2> err || cat err; cp img image$((++number)); done << .
+  > revert img|00000002: 7879\n00000003: 7a\n0000000c: 41\n
+  > dd bs=2 seek=1 of=img|xyz
+  > dd of=img|A
+  > revert -p -s 6 img|414243
+  > patch img|length 9 to 40\n+0000001f: 21\n
+  > .
+  $ shows() { kept bx show -p $1 img | cmp - <(bx diff image$2 image$3) || echo "show -p $1 at $stands"; }
+  $ steps() { # WORDS OTHER: what `show -d` says is a patch
+  >   bx $1 > step; cp img made; bx patch -f step made; cmp made image$2; rm -f made made.*
+  > }
+  $ for stands in 5 4 3 2 1 0; do
+  >   for n in $(seq 0 $stands); do shows "-k $n" $((stands - n)) $stands; done
+  >   for n in $(seq 0 $((5 - stands))); do shows "-rk $n" $stands $((stands + n)); done
+  >   kept bx show -p -k $((stands + 1)) img
+  >   [ $stands = 0 ] || steps 'show -d img' $((stands - 1)); [ $stands = 5 ] || steps 'show -rd img' $((stands + 1))
+  >   bx undo img
+  > done
+  bx: only 5 changes to undo
+  4
+  bx: only 4 changes to undo
+  3
+  bx: only 3 changes to undo
+  2
+  bx: only 2 changes to undo
+  1
+  bx: only 1 changes to undo
+  0
+  bx: only 0 changes to undo
+  bx: only 0 changes to undo
+  [1]
+
+# Random pairs of files, beside `cmp -l`
+
+  $ python3 "$FOLDER/../../tools/cases.py" --compare --bx "$(command -v bx)" patches
+  patches: 1033 pairs, 0 differ

@@ -1,4 +1,4 @@
-Changes, undos and redos that are stopped, on a full disk and by a kill; tests/program/stops.py runs two at once.
+Changes, undos and redos that are stopped, on a full disk and by a kill; and two commands at once.
 
 # Files that may not grow past a size
 
@@ -42,3 +42,35 @@ The image comes back, and no redo file is then called damaged.
   >   rm -f img*; cp undone img; : > img.bxj; cp undone.redo img.bxj.redo; killed $((3 * n)) bx redo img
   > done 2>&1 | sort | uniq -c
        30 0
+
+# Two commands at once
+
+One is refused, or both are done, and the files are as one of them or an order of both makes them.
+
+  $ scattered() { seq 0 1999 | awk -v step=$1 -v text=$2 '{ printf "%x: %s\n", $1 * step % 19999, text }'; }
+  $ scattered 7919 41 > dump1; scattered 6007 4242 > dump2; mkdir none alone changed undone stopped; mega x 20000 > alone/img
+  $ begin() { rm -f img*; cp $1/* . 2> /dev/null; }
+  $ begin alone; bx revert -f dump2 img; cp img img.bxj changed; cp img img.bxj undone; cp img img.bxj stopped
+  $ bx revert -f dump1 img; bx undo img; cp img.bxj.redo undone; truncate -s -20 stopped/img.bxj
+  1
+  $ at_once() { # START TRIES ONE OTHER: `fits` is what may be found where one, the other or both have the status 0
+  >   local start=$1 tries=$2 one=$3 other=$4 status wrong=0; local -A fits
+  >   begin $start; bx $one > /dev/null 2>&1; fits[01]=$(trio); bx $other > /dev/null 2>&1; fits[00]=$(trio)
+  >   begin $start; bx $other > /dev/null 2>&1; fits[10]=$(trio); bx $one > /dev/null 2>&1; fits[00]+=$(trio)
+  >   for n in $(seq $tries); do
+  >     begin $start; bx $one > /dev/null 2> one & bx $other > /dev/null 2> other; status=$?; wait $!; status=$?$status
+  >     [[ $status = 0? || $(cat one) = 'bx: cannot open file' ]] && [[ $status = ?0 || $(cat other) = 'bx: cannot open file' ]] &&
+  >       [[ -n ${fits[$status]-} && ${fits[$status]} = *$(trio)* ]] || wrong=$((wrong + 1))
+  >   done
+  >   echo "$wrong of $tries wrong"
+  > }
+  $ at_once alone 400 'revert -f dump1 img' 'revert -f dump2 img'
+  0 of 400 wrong
+  $ at_once changed 200 'revert -f dump1 img' 'undo img'
+  0 of 200 wrong
+  $ at_once undone 200 'undo img' 'redo img'
+  0 of 200 wrong
+  $ at_once stopped 200 'revert -f dump1 img' 'log img'
+  0 of 200 wrong
+  $ at_once none 200 'dd if=dump1 of=img' 'dd if=dump2 of=img seek=1'
+  0 of 200 wrong

@@ -1,4 +1,4 @@
-Full devices and closed pipes; tests/program/streams.py has each set of closed streams.
+Full devices, closed pipes, and each set of closed streams.
 
 # To a full device
 
@@ -42,3 +42,46 @@ The report of dd is a part of what it does, but where it wrote a file:
   $ bx xxd < /
   bx: read failed
   [1]
+
+# Each set of closed standard streams
+
+No file of the user's takes the number of a closed stream, and using one fails. A line has the journal, the streams without which
+a command fails (0: it reads, 1: it writes, 2: it reports), its words, and standard input.
+
+  $ echo '1: 41' > dump; redirected=('<&-' '>&-' '2>&-')
+  $ closed() { # JOURNAL NEEDS WORDS SET: what SET closes, beside what the command does with all three
+  >   local before after hit=${4//[!.$2]/} fault= want=out status number to=
+  >   case $hit in 0*) fault='bx: read failed' ;; 1*) fault='bx: write failed after 0 bytes' ;; esac
+  >   fresh ABxyEFGH "${!1}"; before=$(trio); bx $3 < input > out 2> err || echo "status $?"
+  >   after=$(trio); fresh ABxyEFGH "${!1}"; : > other; : > said
+  >   for number in 0 1 2; do [[ $4 != *$number* ]] || to+=" ${redirected[number]}"; done
+  >   eval "bx $3 < input > other 2> said $to"; status=$?
+  >   [[ $hit = [01]* || $4 = *1* ]] && : > out
+  >   [ -z "$fault" ] || { echo "$fault" > err; tail -n 1 said > last; mv last said; }
+  >   [[ $4 != *2* ]] || : > err
+  >   [ $status = $((${#hit} > 0)) ] && cmp out other && cmp err said || echo "status $status"
+  >   [ "$(trio)" = "$([[ $hit = 0* ]] && echo "$before" || echo "$after")" ] || echo 'other files'
+  > }
+  $ while IFS='|' read -r journal needs words given <&9; do
+  >   printf "$given" > input
+  >   for set in none 0 1 2 01 02 12 012; do closed $journal "$needs" "$words" $set 2>&1 | sed "s/^/$words without $set: /"; done
+  > done 9<< .
+  > stopped||revert -f dump img|1: 41\n
+  > stopped|1|undo -k 0 img|
+  > stopped||log img|
+  > stopped||dd if=dump of=img conv=notrunc|
+  > patched||revert -f dump img|
+  > patched|0|revert img|1: 41\n
+  > patched|0|dd of=img|1: 41\n
+  > patched|0|dd of=img seek=1 obs=2 conv=ucase|1: 41\n
+  > patched||dd if=dump of=img|
+  > patched|1|undo img|
+  > patched|1|redo -k 0 img|
+  > patched|1|log img|
+  > patched|1|show img|
+  > patched|1|xxd img|
+  > patched|12|dd if=img|
+  > patched|01|xxd|1: 41\n
+  > patched|012|dd|1: 41\n
+  > patched|0|revert -p -s 1 img|41 4\n2
+  > .

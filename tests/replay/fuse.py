@@ -1,5 +1,6 @@
-"""A file system in memory, which the kernel reaches by FUSE and whose writes wait in the kernel's page cache. It tells what
-reaches it: each name, write, length and sync, in order. Folders can't be listed, and there are no links. And sessions on it."""
+"""A file system in memory, which the kernel reaches by FUSE and whose writes wait in the kernel's page cache. It tells
+what reaches it: each name, write, length and sync, in order. Folders can't be listed, and there are no links. And
+sessions on it."""
 import contextlib
 import ctypes
 import errno
@@ -35,8 +36,8 @@ class Node:
 
     def attributes(self):
         now = int(time.time())
-        return struct.pack("=6Q10I", self.number, len(self.data), len(self.data) // 512 + 1, now, now, now, 0, 0, 0, self.mode, 1,
-                           self.user, self.group, 0, 4096, 0)
+        return struct.pack("=6Q10I", self.number, len(self.data), len(self.data) // 512 + 1, now, now, now, 0, 0, 0,
+                           self.mode, 1, self.user, self.group, 0, 4096, 0)
 
     def entry(self):
         return struct.pack("=4Q2I", self.number, 0, LONG, LONG, 0, 0) + self.attributes()
@@ -72,7 +73,8 @@ class Server:
     def answer(self, code, node, body, user, group):
         """What is answered: bytes, or the number of an error."""
         if code == INIT:
-            return struct.pack("=4I2H2I2HI7I", 7, 31, 1 << 16, BIG_WRITES | WRITEBACK_CACHE, 16, 12, 1 << 16, 1, 16, 0, *[0] * 8)
+            return struct.pack("=4I2H2I2HI7I", 7, 31, 1 << 16, BIG_WRITES | WRITEBACK_CACHE, 16, 12, 1 << 16, 1, 16, 0,
+                               *[0] * 8)
         if code in (LOOKUP, UNLINK):
             found = node.names.get(body.rstrip(b"\0").decode())
             if found and code == UNLINK:
@@ -118,12 +120,14 @@ class Server:
 
 
 @contextlib.contextmanager
-def mounted(path, place):
-    """The file system, mounted on a folder up to the end of a `with`, by a process of its own; `place` is a file for what reaches it.
-    What it gives answers what reached it since the last time."""
+def mounted(folder):
+    """The file system, mounted on the folder `mounted` of another one up to the end of a `with`, by a process of its
+    own. What it gives answers what reached it since the last time."""
+    path, place = folder / "mounted", folder / "told"
+    path.mkdir()
     device = os.open("/dev/fuse", os.O_RDWR)
     options = f"fd={device},rootmode=40000,user_id=0,group_id=0,default_permissions,allow_other"
-    if LIBC.mount(b"bx", path.encode(), b"fuse", 0, options.encode()):
+    if LIBC.mount(b"bx", bytes(path), b"fuse", 0, options.encode()):
         os.close(device)
         raise OSError(ctypes.get_errno(), os.strerror(ctypes.get_errno()))
     with open(place, "wb") as to, open(place, "rb") as told:
@@ -143,20 +147,27 @@ def mounted(path, place):
         try:
             yield news
         finally:
-            if LIBC.umount2(path.encode(), 0):
-                LIBC.umount2(path.encode(), DETACH)
+            if LIBC.umount2(bytes(path), 0):
+                LIBC.umount2(bytes(path), DETACH)
             os.kill(server, signal.SIGKILL)
             os.waitpid(server, 0)
 
 
-class Store:
-    """Image, journal and redo file as the file system has them, and which of their names may be lost."""
+class CachedSession(Watched):
+    """The commands run on the file system, and the power is lost after each request that reaches it. `files` has
+    image, journal and redo file as the file system has them, and `loose` which of their names may be lost."""
 
-    def __init__(self):
-        self.files, self.loose = {letter: None for letter in "DJR"}, set()
+    def __init__(self, judge, path, news, image):
+        super().__init__(judge, Room(judge.bx, path), image)
+        self.news, self.files, self.loose = news, dict.fromkeys("DJR"), set()
+        self.room.put((image,))
+        os.sync()
+        for what in news():
+            self.play(*what)
+        self.loose.clear()
 
     def play(self, what, path, *words):
-        """Whether a request changed one of the three, and which it was."""
+        """Whether a request changed one of the three."""
         letter = PLACES.get(path)
         if what == "sync":
             self.loose -= set({"F": "JR", "I": "D"}.get(letter, ""))
@@ -175,28 +186,15 @@ class Store:
         return [tuple(None if letter in lost else data for letter, data in self.files.items())
                 for count in range(len(self.loose) + 1) for lost in itertools.combinations(sorted(self.loose), count)]
 
-
-class CachedSession(Watched):
-    """The commands run on the file system, and the power is lost after each request that reaches it."""
-
-    def __init__(self, judge, path, news, image):
-        super().__init__(judge, Room(path), image)
-        self.news, self.store = news, Store()
-        self.room.put((image,))
-        os.sync()
-        for what in news():
-            self.store.play(*what)
-        self.store.loose.clear()
-
     def run(self, command, unsynced):
         steps = command.steps(self.state)
         self.news()
         self.answers(command, unsynced, lambda *words, **how: (self.room.run(*words, **how), None))
         for what in self.news():
-            if self.store.play(*what):
-                self.look(command.words, self.store.contents(), steps)
+            if self.play(*what):
+                self.look(command.words, self.contents(), steps)
         self.state = steps[-1]
         if not unsynced:
-            self.look(command.words, self.store.contents(), steps[-1:], True)
-            if self.room.get() != tuple(self.store.files.values()):
+            self.look(command.words, self.contents(), steps[-1:], True)
+            if self.room.get() != tuple(self.files.values()):
                 raise ValueError(f"{command.words}: something stayed in the page cache")

@@ -1,8 +1,7 @@
-"""The commands that are replayed and the images that each leads to; and what bx finds of image, journal and redo file, by opening
-them, beside what was to be found."""
+"""The commands that are replayed and the images that each leads to; and what bx finds of image, journal and redo file,
+by opening them, beside what was to be found."""
 import collections
 import concurrent.futures
-import os
 import queue
 
 from common import cut
@@ -12,7 +11,8 @@ from replay.room import Room
 State = collections.namedtuple("State", "stack undone")
 # Words, what stands in the file `input`, the states behind none, one .. and all of its steps, and the exit status.
 Command = collections.namedtuple("Command", "words input steps status", defaults=(0,))
-# What bx finds: a fault; or how many changes, the image, whether it recovered, the first image, how many are undone, the last.
+# What bx finds: a fault; or how many changes, the image, whether it recovered, the first image, how many are undone,
+# the last.
 Found = collections.namedtuple("Found", "fault count image recovered first undone last", defaults=(None,) * 6)
 
 
@@ -27,38 +27,41 @@ def change(words, data, base, pieces):
 
 
 def revert(*pieces):
-    return change("revert -f input IMAGE", "".join(f"{at:08x}: {data.hex()}\n" for at, data in pieces).encode(), None, pieces)
+    dump = "".join(f"{at:08x}: {data.hex()}\n" for at, data in pieces)
+    return change("revert -f input IMAGE", dump.encode(), None, pieces)
 
 
 def dd(at, data, keep):
-    return change(f"dd if=input obs=1 seek={at}{' conv=notrunc' if keep else ''} OF", data, None if keep else at, [(at, data)])
+    words = f"dd if=input obs=1 seek={at}{' conv=notrunc' if keep else ''} OF"
+    return change(words, data, None if keep else at, [(at, data)])
+
+
+def moved(source, to, count):
+    """Two stacks with so many images of the one moved onto the other."""
+    return source[count:], source[:count][::-1] + to
 
 
 def undo(count):
-    return Command(f"undo -k {count} IMAGE", b"", lambda s: [State(s.stack[i:], s.stack[:i][::-1] + s.undone) for i in range(count + 1)])
+    return Command(f"undo -k {count} IMAGE", b"", lambda s: [State(*moved(*s, i)) for i in range(count + 1)])
 
 
 def redo(count):
-    return Command(f"redo -k {count} IMAGE", b"", lambda s: [State(s.undone[:i][::-1] + s.stack, s.undone[i:]) for i in range(count + 1)])
+    return Command(f"redo -k {count} IMAGE", b"",
+                   lambda s: [State(*moved(*s[::-1], i)[::-1]) for i in range(count + 1)])
 
 
 LOG = Command("log IMAGE", b"", lambda s: [s])
 REFUSED = Command("undo -k 999 IMAGE", b"", lambda s: [s], 1)
 
 
-def undone_in(redo_text):
-    return sum(line.startswith(b"done2 ") for line in (redo_text or b"").split(b"\n"))
-
-
 class Judge:
     """Opens contents by bx, several at once and each but once."""
 
-    def __init__(self, jobs, path):
-        self.seen, self.led, self.rooms = {}, {}, queue.SimpleQueue()
+    def __init__(self, bx, jobs, path):
+        self.bx, self.seen, self.led, self.rooms = bx, {}, {}, queue.SimpleQueue()
         self.pool = concurrent.futures.ThreadPoolExecutor(jobs)
         for i in range(jobs):
-            os.mkdir(os.path.join(path, str(i)))
-            self.rooms.put(Room(os.path.join(path, str(i))))
+            self.rooms.put(Room(bx, f"{path}/{i}"))
 
     def found(self, several):
         """What is found of each content."""
@@ -67,7 +70,8 @@ class Judge:
         return [self.seen[content] for content in several]
 
     def open(self, content):
-        """What `bx log` finds. It refuses without an image or a journal: where the journal has nothing, no change is known."""
+        """What `bx log` finds. It refuses without an image or a journal: where the journal has nothing, no change is
+        known."""
         image, journal, redo_text = content
         if not journal and None in (image, journal):
             return Found(None, 0, image or b"", False, image or b"", undone_in(redo_text))
@@ -85,6 +89,10 @@ class Judge:
             self.rooms.put(room)
 
 
+def undone_in(redo_text):
+    return sum(line.startswith(b"done2 ") for line in (redo_text or b"").split(b"\n"))
+
+
 def lead(room, left, count):
     """Where all undos lead from what was opened and has this count of changes, and all redos behind them."""
     image, _, redo_text = left
@@ -99,7 +107,8 @@ def lead(room, left, count):
 
 
 def fits(found, state, answered):
-    """Whether what was found is a state: images, and what was undone, which a recovery may give up until a command answers."""
+    """Whether what was found is a state: images, and what was undone, which a recovery may give up until a command
+    answers."""
     stack, undone = state
     if found.fault or (found.count, found.image, found.first) != (len(stack) - 1, stack[0], stack[-1]):
         return False

@@ -1,10 +1,11 @@
-"""What image, journal and redo file may be found with after a loss of power: the model of docs/PROMISES.md, "Loss of power".
+"""What image, journal and redo file may be found with after a loss of power: the model of docs/PROMISES.md, "Loss of
+power".
 
-Since the last sync of a file any of its calls may be lost, whole or in part, and the files lose independently. Of an image each
-byte in the range of a write or a changed length is as it was at some moment, zero or spoiled, and each length in between may be
-found. A text keeps what was synced and not cut; behind that it ends anywhere up to its greatest length, and each byte is one
-that was written or zero. A name that was made or removed since its folder was synced is there or not.
-"""
+Since the last sync of a file any of its calls may be lost, whole or in part, and the files lose independently. Of an
+image each byte in the range of a write or a changed length is as it was at some moment, zero or spoiled, and each
+length in between may be found. A text keeps what was synced and not cut; behind that it ends anywhere up to its
+greatest length, and each byte is one that was written or zero. A name that was made or removed since its folder was
+synced is there or not."""
 import itertools
 import math
 
@@ -13,7 +14,8 @@ NEWLINE = 10
 
 
 class File:
-    """A file since its last sync: what it held and which bytes were touched; and whether it had a name since its folder's."""
+    """A file since its last sync: what it held and which bytes were touched; and whether it had a name since its
+    folder's."""
 
     def __init__(self, is_text, content=b"", named=True):
         self.is_text, self.contents, self.names = is_text, [content], [named]
@@ -40,13 +42,13 @@ class File:
         self.touched.append((min(at, len(now)), at + len(data)))
         self.contents.append(now[:at].ljust(at, b"\0") + data + now[at + len(data):])
 
-    def set_length(self, length):
+    def length(self, length):
         now = self.contents[-1]
         self.touched.append((min(length, len(now)), max(length, len(now))))
         self.kept = min(self.kept, length)
         self.contents.append(now[:length].ljust(length, b"\0"))
 
-    def set_named(self, named):
+    def name(self, named):
         """The file gets its name, or loses it; an empty one alone, so that its bytes don't matter."""
         if any(self.contents):
             raise ValueError("a file that has bytes is made or removed")
@@ -58,8 +60,8 @@ class File:
         return min([self.kept, *lengths]) if self.is_text else min(lengths), max(lengths)
 
     def pieces(self, rng):
-        """The bytes that may be lost, in pieces between the places where calls, lines and halves of them end, and two random
-        places: where each piece begins and ends, and what it may hold."""
+        """The bytes that may be lost, in pieces between the places where calls, lines and halves of them end, and two
+        random places: where each piece begins and ends, and what it may hold."""
         low, high = self.lengths()
         low = low if self.is_text else 0
         places = {low, high} | {place for at, end in self.touched for place in (at, (at + end) // 2, end)}
@@ -83,7 +85,8 @@ class File:
         """Lengths that may be found: the least, the greatest, and those at and beside the ends of pieces."""
         low, high = self.lengths()
         places = {place for at, end, _ in pieces for place in (at, end)}
-        return sorted({low, high} | {end for place in places for end in (place - 1, place, place + 1) if low <= end <= high})
+        return sorted({low, high} | {end for place in places
+                                     for end in (place - 1, place, place + 1) if low <= end <= high})
 
     def found(self, limit, rng):
         """What may be found, each once: all, where that is no more than `limit`, or else some. None is no file."""
@@ -101,7 +104,8 @@ class File:
         return list(found)
 
     def draw(self, rng, front, pieces, ends):
-        """One that may be found: what was there at some moment up to a random end, or with a random piece, or all random."""
+        """One that may be found: what was there at some moment up to a random end, or with a random piece, or all
+        random."""
         base = rng.choice(self.contents)
         parts = [base[at:end].ljust(end - at, b"\0") for at, end, _ in pieces]
         how = rng.randrange(3)
@@ -120,8 +124,8 @@ def draw_up_to(limit, found, draw):
 
 
 def found_together(files, limit, rng):
-    """What the files may be found with together: all, where that is no more than `limit`, or else what stands on the disk and
-    what is read of each, and some."""
+    """What the files may be found with together: all, where that is no more than `limit`, or else what stands on the
+    disk and what is read of each, and some."""
     found = [file.found(limit, rng) for file in files]
     if math.prod(map(len, found)) <= limit:
         return list(itertools.product(*found))

@@ -1,9 +1,10 @@
-"""A folder with an image and its texts, the calls of bx on them as strace shows them, and the files that these are replayed
-on."""
+"""A folder with an image and its texts, the calls of bx on them as strace shows them, and the files that these are
+replayed on."""
 import os
+import pathlib
 import re
 
-from common import held, remove, run, write
+from common import held, run
 from replay.losses import File
 
 # The letters of an order: the folder of the texts, the folder of the image, journal, image, redo file.
@@ -12,43 +13,44 @@ FILES = ("images/image", "texts/journal", "texts/journal.redo")
 LINE = re.compile(r"^(?:\d+ +)?(\w+)\((.*)\) += (\d+)(?:<(.*)>)?$")
 NAMED = ("openat", "unlink", "unlinkat")
 # What is replayed, and calls that would change a file in a way that isn't.
-TRACED = (*NAMED, "pwrite64", "ftruncate", "fsync", "fdatasync", "write", "writev", "pwritev", "pwritev2", "fallocate", "truncate",
-          "rename", "renameat", "renameat2", "link", "linkat", "copy_file_range", "sendfile")
+TRACED = (*NAMED, "pwrite64", "ftruncate", "fsync", "fdatasync", "write", "writev", "pwritev", "pwritev2", "fallocate",
+          "truncate", "rename", "renameat", "renameat2", "link", "linkat", "copy_file_range", "sendfile")
 
 
 class Room:
     """An image and its texts, each in a folder of its own; with -U in each command, where that is asked."""
 
-    def __init__(self, path):
-        self.path = path
+    def __init__(self, bx, path):
+        self.bx, self.path = bx, pathlib.Path(path)
         for name in ("images", "texts"):
-            os.mkdir(self.place(name))
-
-    def place(self, name):
-        return os.path.join(self.path, name)
+            (self.path / name).mkdir(parents=True)
 
     def put(self, content):
         """Writes a content into the files; None is no file."""
         for name, data in zip(FILES, content):
-            remove(self.place(name))
-            if data is not None:
-                write(self.place(name), data)
+            if data is None:
+                (self.path / name).unlink(missing_ok=True)
+            else:
+                (self.path / name).write_bytes(data)
 
     def get(self):
-        return held(*map(self.place, FILES))
+        return held(*(self.path / name for name in FILES))
 
     def run(self, words, given=b"", front=(), unsynced=False):
         """Runs a command on the image; what it reads stands in the file `input`."""
-        write(self.place("input"), given)
+        (self.path / "input").write_bytes(given)
         words = words.replace(" ", " -U ", 1) if unsynced else words
-        words = words.replace("IMAGE", "-J texts/journal images/image").replace("OF", "-J texts/journal of=images/image")
-        return run(words, front=front, cwd=self.path)
+        for name, file in (("IMAGE", "images/image"), ("OF", "of=images/image")):
+            words = words.replace(name, f"-J texts/journal {file}")
+        return run(self.bx, words, front=front, cwd=self.path)
 
     def trace(self, words, given=b"", unsynced=False):
         """Runs a command under strace: what it answers, and its calls."""
-        to = self.place("trace")
-        done = self.run(words, given, ("strace", "-f", "-y", "-xx", "-s", "1000000", "-o", to, "-e", "trace=" + ",".join(TRACED)), unsynced)
-        return done, list(calls_of(held(to)[0].decode("ascii").splitlines(), os.path.realpath(self.path)))
+        strace = ("strace", "-f", "-y", "-xx", "-s", "1000000", "-o", self.path / "trace", "-e",
+                  "trace=" + ",".join(TRACED))
+        done = self.run(words, given, strace, unsynced)
+        lines = (self.path / "trace").read_text(encoding="ascii").splitlines()
+        return done, list(calls_of(lines, os.path.realpath(self.path)))
 
 
 def plain(text):
@@ -62,28 +64,31 @@ def calls_of(trace, room):
         quoted, descriptor = re.search(r'"([^"]*)"', words), re.match(r"\d+<([^>]*)>", words)
         path = plain(opened or quoted[1]) if name in NAMED else plain(descriptor[1]) if descriptor else b""
         letter = PLACES.get(os.path.relpath(os.path.join(room, path.decode()), room))
-        if letter is None:
-            continue
-        if name == "pwrite64":
-            yield "write", letter, int(words.split(", ")[-1]), plain(quoted[1])[:int(result)]
-        elif name == "ftruncate":
-            yield "length", letter, int(words.split(", ")[-1])
-        elif name in ("fsync", "fdatasync"):
-            yield "sync", letter
-        elif name in ("unlink", "unlinkat"):
-            yield "name", letter, False
-        elif name != "openat" or "O_TRUNC" in words:
-            raise ValueError(f"{name} is not replayed")
-        elif "O_CREAT" in words:
-            yield "name", letter, True
+        match name:
+            case _ if letter is None:
+                continue
+            case "pwrite64":
+                yield "write", letter, int(words.split(", ")[-1]), plain(quoted[1])[:int(result)]
+            case "ftruncate":
+                yield "length", letter, int(words.split(", ")[-1])
+            case "fsync" | "fdatasync":
+                yield "sync", letter
+            case "unlink" | "unlinkat":
+                yield "name", letter, False
+            case "openat" if "O_TRUNC" not in words:
+                if "O_CREAT" in words:
+                    yield "name", letter, True
+            case _:
+                raise ValueError(f"{name} is not replayed")
 
 
 class Disk:
     """Image, journal and redo file."""
 
-    def __init__(self, image, journal=None, redo=None):
+    def __init__(self, *contents):
+        contents = contents + (None,) * (3 - len(contents))
         self.files = {letter: File(letter != "D", content or b"", content is not None)
-                      for letter, content in zip("DJR", (image, journal, redo))}
+                      for letter, content in zip("DJR", contents)}
 
     def now(self):
         return tuple(file.now() for file in self.files.values())
@@ -92,9 +97,9 @@ class Disk:
         return all(file.is_settled() for file in self.files.values())
 
     def play(self, call, letter, *words):
+        """A call on a file; of a folder the names of its files are synced."""
         if letter in "FI":
             for name in "JR" if letter == "F" else "D":
                 self.files[name].sync_name()
         else:
-            file = self.files[letter]
-            {"write": file.write, "length": file.set_length, "sync": file.sync, "name": file.set_named}[call](*words)
+            getattr(self.files[letter], call)(*words)

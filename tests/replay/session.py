@@ -25,7 +25,8 @@ class Watched:
         return more
 
     def look(self, words, contents, states, answered=False):
-        """Looks at what may be found now, up to the first content that is lost: what was found that fits, with its state."""
+        """Looks at what may be found now, up to the first content that is lost: what was found that fits, with its
+        state."""
         self.moments, fitting = self.moments + 1, []
         for batch in (contents[i:i + BATCH] for i in range(0, len(contents), BATCH)):
             for content, found in zip(batch, self.judge.found(batch)):
@@ -49,11 +50,13 @@ class Session(Watched):
 
     def lose_here(self, words, states, answered=False):
         if states and not self.lost:
-            self.fitting += self.look(words, found_together(self.disk.files.values(), self.limit, self.rng), states, answered)
+            self.fitting += self.look(words, found_together(self.disk.files.values(), self.limit, self.rng), states,
+                                      answered)
 
     def run(self, command, unsynced=False, until=None, left_out=None):
-        """A command, killed before the call `until`. The sync `left_out` is left out of what is replayed. A sync is named by
-        its file and its number among those of the file, as J:0, and a call that writes by its number alone, as W:0."""
+        """A command, killed before the call `until`. The sync `left_out` is left out of what is replayed. A sync is
+        named by its file and its number among those of the file, as J:0, and a call that writes by its number alone,
+        as W:0."""
         steps, self.fitting, seen = command.steps(self.state), [], collections.Counter()
         for what, letter, *words in self.answers(command, unsynced, self.room.trace):
             kind = letter if what == "sync" else "N" if what == "name" else "W"

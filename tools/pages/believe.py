@@ -1,12 +1,12 @@
 """Which definitions the public contracts rest on, and whether docs/generated/BELIEVE.md lists them.
 
-A public contract is a clause of an exported function, method, trait or type of bx_cli and of the crates that it stands on
-by crates.txt; of an inner part only its laws and what another crate exports are public. The names in its clauses are followed
-through specs/. What the contracts of calls meet is what a reader has to believe. A law is a public function that takes nothing
-and does nothing, so its clauses are proved of definitions: what laws alone meet is a second reading of them, and stands in the
-page's part D. docs/believe.txt has the parts and the order of files; --write makes the page of it, with the sentence that stands
-above each definition in specs/, and without it the page is compared.
-"""
+A public contract is a clause of an exported function, method, trait or type of bx_cli and of the crates that it stands
+on by crates.txt; of an inner part only its laws and what another crate exports are public. The names in its clauses
+are followed through specs/. What the contracts of calls meet is what a reader has to believe. A law is a public
+function that takes nothing and does nothing, so its clauses are proved of definitions: what laws alone meet is a
+second reading of them, and stands in the page's part D. docs/believe.txt has the parts and the order of files; --write
+makes the page of it, with the sentence that stands above each definition in specs/, and without it the page is
+compared."""
 import re
 
 import sources
@@ -21,11 +21,6 @@ ORDER = sources.ROOT / "docs" / "believe.txt"
 PAGE = sources.ROOT / "docs" / "generated" / "BELIEVE.md"
 
 
-def arguments(parser):
-    parser.add_argument("--files", action="store_true", help="the lines of each file")
-    parser.add_argument("--unneeded", action="store_true", help="what no public contract needs")
-
-
 def named():
     """The crates whose contracts are public."""
     return [*sources.below(sources.crates(), TOP), TOP]
@@ -37,28 +32,27 @@ def exports_of(crate):
     return {path[-1] for path in found} | {"mod " + "/".join(module) for module in modules if module}
 
 
-def is_law(kind, rest, end):
-    """Whether an item is a function that takes nothing and does nothing."""
-    return kind == "fn" and end == "{}" and re.match(r"\s*\w+(<[^>]*>)?\(\)\s", rest) is not None
+def shown(item, exports, module):
+    """The texts of an item whose clauses are public: all of an impl's that it has by its own name or for a trait."""
+    if item.kind == "impl":
+        header = item.text.split("{")[0]
+        is_named, is_of_trait = exports & set(sources.NAME.findall(header)), " for " in header
+        return [item.head, *(it.contract for it in item.methods if it.is_public or is_of_trait)] if is_named else []
+    is_exported = item.is_public and exports & {item.name, module}
+    return [item.contract if item.kind == "fn" else item.text] if is_exported else []
 
 
 def public_names(crate, exports):
     """the specs that the contracts of what is exported of a crate name: of its calls and types, and of its laws"""
     called, said = set(), set()
     for path in sources.code(crate):
-        text = sources.read(path)
-        known, module = sources.imports(text), "mod " + str(path.relative_to(sources.folder(crate)).with_suffix(""))
-        for access, kind, rest, end in sources.items(text):
-            name, shown = sources.NAME.search(re.sub(r"^<[^>]*>", "", rest.strip())), []
-            if kind == "impl":
-                header = rest.split("{")[0]
-                shapes = ("pub", "head", "inner") if " for " in header else ("pub", "head")
-                if exports & set(sources.NAME.findall(header)):
-                    shown = [body for shape, body in sources.methods(rest) if shape in shapes]
-            elif access == "pub " and name and exports & {name.group(), module}:
-                shown = [rest]
-            words = {word for part in shown for clause in sources.clauses(part) for word in sources.NAME.findall(clause)}
-            (said if is_law(kind, rest, end) else called).update(known[word] for word in words & known.keys())
+        known = sources.imports(sources.read(path))
+        module = "mod " + str(path.relative_to(sources.folder(crate)).with_suffix(""))
+        for item in sources.items_of(path):
+            clauses = [clause for text in shown(item, exports, module) for clause in sources.clauses(text)]
+            words = {word for clause in clauses for word in sources.NAME.findall(clause)}
+            is_law = item.kind == "fn" and item.opened == "{}" and not item.arguments
+            (said if is_law else called).update(known[word] for word in words & known.keys())
     return called, said
 
 
@@ -86,9 +80,10 @@ def size(some):
 
 INTRO = """# What must be believed
 
-Written by `tools/docs.py --write` of `docs/believe.txt` and the sentence above each definition. A contract says what its words
-mean, and the words of public contracts are defined in the `specs/` of the crates. Here are all definitions that a public contract
-names, directly or through another one. Parts A to C have to be believed to know what a call does, and nothing else.
+Written by `tools/docs.py --write` of `docs/believe.txt` and the sentence above each definition. A contract says what
+its words mean, and the words of public contracts are defined in the `specs/` of the crates. Here are all definitions
+that a public contract names, directly or through another one. Parts A to C have to be believed to know what a call
+does, and nothing else.
 """
 
 
@@ -107,7 +102,8 @@ def filled(order, believed, told):
             if not here:
                 bad.append(f"part {part}: nothing of {line.strip()} stands there")
             sizes[part] += size(here)
-            lines += [f"### `{line.strip()}`", "", *(f"- `{d.name}`" + (f": {d.sentence}" if d.sentence else "") for d in here), ""]
+            lines += [f"### `{line.strip()}`", "",
+                      *(f"- `{d.name}`" + (f": {d.sentence}" if d.sentence else "") for d in here), ""]
     bad += [f"docs/believe.txt doesn't name {place}" for place in sorted(left[False])]
     bad += [f"part {TOLD} of docs/believe.txt doesn't name {place}" for place in sorted(left[True])]
     return "\n".join(lines).rstrip("\n") + "\n", sizes, bad
@@ -129,13 +125,14 @@ def check(options):
     told = [d for key, d in definitions.items() if key in met_by_all and key not in met]
     rest = [d for key, d in definitions.items() if key not in met_by_all]
     text, sizes, bad = filled(sources.read(ORDER), believed, told)
-    for what, some in (("", believed), (f"{TOLD} ", told)) if options.files else ():
+    for what, some in (("", believed), (f"{TOLD} ", told)) if options.list else ():
         for place, here in sorted(by_place(some).items()):
             print(f"{size(here):5} {what}{place}: {' '.join(d.name for d in here)}")
-    for d in rest if options.unneeded else []:
+    for d in rest if options.list else []:
         print(f"unneeded: {d.place} {d.name} {len(d.lines)}")
     bad += [f"no sentence above {d.place} {d.name}" for d in believed + told if not d.sentence]
     parts = ", ".join(f"{part} {lines}" for part, lines in sizes.items() if part != TOLD)
     line = f"{size(believed)} lines in {len(believed)} definitions are needed by the contracts of calls ({parts}), " \
-        f"{size(told)} in {len(told)} by those of laws alone ({TOLD}), {size(rest)} in {len(rest)} by no public contract"
+        f"{size(told)} in {len(told)} by those of laws alone ({TOLD}), " \
+        f"{size(rest)} in {len(rest)} by no public contract"
     return bad or sources.generated(PAGE, text, options.write), line

@@ -1,10 +1,9 @@
-"""Writes the call trees of docs/calls.txt with the file and the first sentence of each function, and looks whether each call is
-made.
+"""Writes the call trees of docs/calls.txt with the file and the first sentence of each function, and looks whether
+each call is made.
 
-docs/calls.txt has a heading for each tree (`# A change`), and below it a function on each line: it is called by the one above it
-that is indented less. Behind a name that more than one file of a product crate defines stands the end of its file. The page is
-docs/generated/CALLS.md; without --write it is compared.
-"""
+docs/calls.txt has a heading for each tree (`# A change`), and below it a function on each line: it is called by the
+one above it that is indented less. Behind a name that more than one file of a product crate defines stands the end of
+its file. The page is docs/generated/CALLS.md; without --write it is compared."""
 import re
 
 import sources
@@ -13,8 +12,9 @@ TREES = sources.ROOT / "docs" / "calls.txt"
 PAGE = sources.ROOT / "docs" / "generated" / "CALLS.md"
 TOP = """# Who calls whom
 
-Written by `tools/docs.py --write` of `docs/calls.txt`: each function is called by the one above it that is indented less, in this
-order, and `make check-docs` looks whether it is. Behind it stand its file, with the crate in front, and its first sentence.
+Written by `tools/docs.py --write` of `docs/calls.txt`: each function is called by the one above it that is indented
+less, in this order, and `make check-docs` looks whether it is. Behind it stand its file, with the crate in front, and
+its first sentence.
 """
 
 
@@ -25,7 +25,8 @@ def functions():
         for path in sources.code(name):
             place = str(path.relative_to(sources.ROOT / "crates")).replace("/src/", "/")
             for function in sources.functions(path):
-                found.setdefault(function.name, []).append((place, function.body, sources.sentence(path, function.at)))
+                row = place, function.body, sources.sentence(path, function.line)
+                found.setdefault(function.name, []).append(row)
     return found
 
 

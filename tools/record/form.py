@@ -1,4 +1,5 @@
-"""The form of case files (docs/CASES.md): bytes, texts and words as lines, and the bytes and lines that they stand for."""
+"""The form of case files (docs/CASES.md): bytes, texts and words as lines, and the bytes and lines that they stand
+for."""
 import pathlib
 import re
 

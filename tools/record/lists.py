@@ -1,10 +1,9 @@
 """Random lists of commands on an image, beside a plain list of images.
 
-A list draws dumps, plain hexadecimal, transfers by dd, changes that no command makes, undos and redos, texts that are refused
-among them, from a generator of random numbers that begins with the seed: the same seed gives the same file. What each of them
-leaves comes from the plain program below, which keeps the images in two lists and knows no journal: the rules of
-docs/FORMATS.md, of which POSIX has dd's.
-"""
+A list draws dumps, plain hexadecimal, transfers by dd, changes that no command makes, undos and redos, texts that are
+refused among them, from a generator of random numbers that begins with the seed: the same seed gives the same file.
+What each of them leaves comes from the plain program below, which keeps the images in two lists and knows no journal:
+the rules of docs/FORMATS.md, of which POSIX has dd's."""
 import random
 
 from record import form
@@ -20,7 +19,8 @@ def put(image, at, data):
 
 
 def some(rng, most):
-    return bytes(rng.randrange(256) if rng.randrange(3) else rng.choice(b"abcXYZ01") for _ in range(rng.randrange(1, most + 1)))
+    return bytes(rng.randrange(256) if rng.randrange(3) else rng.choice(b"abcXYZ01")
+                 for _ in range(rng.randrange(1, most + 1)))
 
 
 def digits_of(rng, data):
@@ -30,8 +30,8 @@ def digits_of(rng, data):
 
 
 class Images:
-    """The images that stand, the newest last, and those that are undone, the one undone last at the end. Each command answers its
-    lines: what is said, and the image behind it."""
+    """The images that stand, the newest last, and those that are undone, the one undone last at the end. Each command
+    answers its lines: what is said, and the image behind it."""
 
     def __init__(self, first, rng):
         self.standing, self.undone, self.rng = [first], [], rng
@@ -51,7 +51,8 @@ class Images:
             image = put(image, at + shift, data)
         bad, is_refused = rng.choice(BAD_LINES), rng.randrange(8) == 0
         lines += [bad[0]] * is_refused
-        told = form.bytes_lines("revert", "".join(line + "\n" for line in lines).encode()) + ([f"shift: {shift}"] if shift else [])
+        told = form.bytes_lines("revert", "".join(line + "\n" for line in lines).encode())
+        told += [f"shift: {shift}"] if shift else []
         return told + [f"fault: line {len(lines)}: {bad[1]}"] if is_refused else self.changed(told, image)
 
     def plain(self):
@@ -60,10 +61,13 @@ class Images:
         text = digits_of(self.rng, data)
         is_refused = self.rng.randrange(8) == 0
         told = form.bytes_lines("plain", (text + "4" * is_refused).encode()) + [f"at: {at}"]
-        return told + ["fault: line 1: odd number of digits"] if is_refused else self.changed(told, put(self.standing[-1], at, data))
+        if is_refused:
+            return told + ["fault: line 1: odd number of digits"]
+        return self.changed(told, put(self.standing[-1], at, data))
 
     def transfer(self):
-        """dd onto the image, which ends behind what is written, or at the place where writing began, unless it stays."""
+        """dd onto the image, which ends behind what is written, or at the place where writing began, unless it
+        stays."""
         rng = self.rng
         data = b"" if rng.randrange(6) == 0 else some(rng, 12)
         into, out, seek, stays = rng.choice([1, 3, 4, 16]), rng.choice([1, 2, 4, 8]), rng.randrange(5), rng.randrange(2)
@@ -91,7 +95,8 @@ class Images:
             return [f"{word}: {count}", f"fault: only {have} changes to {word}"]
         for _ in range(count):
             to.append(source.pop())
-        return [f"{word}: {count}", f"reply: {word}ne {len(self.standing) - 1}", *form.bytes_lines("image", self.standing[-1])]
+        return [f"{word}: {count}", f"reply: {word}ne {len(self.standing) - 1}",
+                *form.bytes_lines("image", self.standing[-1])]
 
     def undo(self):
         have = len(self.standing) - 1
@@ -119,7 +124,8 @@ def run(options):
     lines = [f"# Random lists of commands, written by tools/cases.py with seed {options.seed}.", "", "kind: commands"]
     for number in range(1, LISTS + 1):
         images = Images(b"" if number == 1 else some(rng, 24), rng)
-        lines += ["", f"case: list {number} of {LENGTH} commands", f"from: {SOURCE}", *form.bytes_lines("image", images.standing[0])]
+        lines += ["", f"case: list {number} of {LENGTH} commands", f"from: {SOURCE}",
+                  *form.bytes_lines("image", images.standing[0])]
         for _ in range(LENGTH):
             lines += images.command()
     form.write("random", lines, options.out)

@@ -1,8 +1,8 @@
 """Pairs of images, and the patches between them, beside what `cmp -l` says of the same files.
 
-A patch is made here by the sentences of `docs/FORMATS.md` ("Patches"), and before a case is written its lines have to name each
-address that `cmp -l` prints, with both bytes, each one behind the end of the shorter image, and no other. Those of `-v` have to
-have them too, and no row without one."""
+A patch is made here by the sentences of `docs/FORMATS.md` ("Patches"), and before a case is written its lines have to
+name each address that `cmp -l` prints, with both bytes, each one behind the end of the shorter image, and no other.
+Those of `-v` have to have them too, and no row without one."""
 import hashlib
 import os
 import pathlib
@@ -40,11 +40,16 @@ def runs(old, new, rows):
         at = max(last, at + 1)
 
 
+def head_of(old, new):
+    return b"length %d to %d\n" % (len(old), len(new)) if old != new else b""
+
+
 def patch(old, new, rows=False):
     """The lines of the patch."""
-    pairs = [(sign, first, image[first:last]) for first, last in runs(old, new, rows) for sign, image in (("-", old), ("+", new))]
-    lines = [sign + form.dump_line(first, data) for sign, first, data in pairs if data]
-    return [f"length {len(old)} to {len(new)}", *lines] if lines else []
+    pairs = [(sign, first, image[first:last]) for first, last in runs(old, new, rows)
+             for sign, image in (("-", old), ("+", new))]
+    return [*head_of(old, new).decode().splitlines(),
+            *(sign + form.dump_line(first, data) for sign, first, data in pairs if data)]
 
 
 def by_patch(text):
@@ -56,12 +61,17 @@ def by_patch(text):
     return named
 
 
+def run_in(folder, words, given=b""):
+    return subprocess.run(words, input=given, cwd=folder, capture_output=True, check=False,
+                          env={**os.environ, "LC_ALL": "C"})
+
+
 def by_cmp(folder, old, new):
-    """The same as `cmp -l` says it of the files `old` and `new`, with the bytes of the longer one behind the end of the other."""
+    """The same as `cmp -l` says it of the files `old` and `new`, with the bytes of the longer one behind the end of
+    the other."""
     for name, data in (("old", old), ("new", new)):
         (folder / name).write_bytes(data)
-    lines = subprocess.run(["cmp", "-l", "old", "new"], cwd=folder, stdout=subprocess.PIPE, stderr=subprocess.DEVNULL, check=False,
-                           env={**os.environ, "LC_ALL": "C"}).stdout
+    lines = run_in(folder, ["cmp", "-l", "old", "new"]).stdout
     named = {int(at) - 1: [int(was, 8), int(now, 8)] for at, was, now in map(bytes.split, lines.splitlines())}
     for at in range(min(len(old), len(new)), max(len(old), len(new))):
         named[at] = [data[at] if at < len(data) else None for data in (old, new)]
@@ -72,18 +82,18 @@ def text_of(lines):
     return "".join(f"{line}\n" for line in lines)
 
 
-def check(folder, old, new):
-    """Fails where the patch names another address than `cmp -l`, or -v a row without one."""
-    wanted = by_cmp(folder, old, new)
-    plain, rows = (by_patch(text_of(patch(old, new, rows)).encode()) for rows in (False, True))
-    assert plain == wanted and wanted.items() <= rows.items() and {at // 16 for at in rows} <= {at // 16 for at in wanted}
+def is_right(plain, rows, named):
+    """Whether a patch names the same addresses as `cmp -l`, and that of -v those and no row without one."""
+    plain, rows = by_patch(plain), by_patch(rows)
+    return plain == named and named.items() <= rows.items() and {at // 16 for at in rows} <= {at // 16 for at in named}
 
 
 def case(folder, name, old, new):
     """The lines of a case."""
-    check(folder, old.bytes, new.bytes)
-    out = ["", f"case: {name}", "from: FORMATS.md, patches; cmp -l, diffutils 3.8", f"old: {old.text}", f"new: {new.text}"]
+    out = ["", f"case: {name}", "from: FORMATS.md, patches; cmp -l, diffutils 3.8", f"old: {old.text}",
+           f"new: {new.text}"]
     lines, rows = patch(old.bytes, new.bytes), patch(old.bytes, new.bytes, True)
+    assert is_right(text_of(lines).encode(), text_of(rows).encode(), by_cmp(folder, old.bytes, new.bytes))
     if len(text_of(lines)) > MOST_TEXT:
         return out + [f"sum: {len(text_of(lines))} {hashlib.md5(text_of(lines).encode()).hexdigest()}"]
     out += ["output:", *(f"| {line}" for line in lines)] if lines else []
@@ -108,15 +118,18 @@ def chosen():
         yield f"one byte at {at}", Image((at, 5), b"a", (40, 6)), Image((at, 5), b"b", (40, 6))
         yield f"from {at} bytes on", Image((at, 5)), Image((at, 5), b"more")
         yield f"up to {at} bytes", Image((at, 5), b"more"), Image((at, 5))
-    yield "a run over the end of a window", Image((WINDOW - 5, 2), bytes(10), (9, 1)), Image((WINDOW - 5, 2), b"!" * 10, (9, 1))
+    front, end = (WINDOW - 5, 2), (9, 1)
+    yield "a run over the end of a window", Image(front, bytes(10), end), Image(front, b"!" * 10, end)
     yield "an equal window between two others", Image(b"a", (3 * WINDOW, 8), b"c"), Image(b"b", (3 * WINDOW, 8), b"d")
 
 
-def drawn(rng):
-    """A pair with changes, inserts, cuts and equal stretches."""
+def drawn(rng, most=6):
+    """A pair with changes, inserts, cuts and equal stretches; of a larger one some parts are zeros, and the others any
+    bytes."""
     old, new = [], []
-    for _ in range(rng.randrange(1, 6)):
+    for _ in range(rng.randrange(1, most)):
         part = (rng.choice([0, 1, 15, 16, 17, 40, 300, WINDOW - 1, WINDOW, WINDOW + 1]), rng.randrange(1, 10**6))
+        part = part if most == 6 else rng.choice((bytes, rng.randbytes, rng.randbytes))(part[0])
         kind = rng.choice(["equal", "equal", "equal", "insert", "cut", "change"])
         old += [part] if kind != "insert" else []
         new += [part] if kind in ("equal", "insert") else []
@@ -124,18 +137,42 @@ def drawn(rng):
     return Image(*old), Image(*new)
 
 
+# What is done with a patch, each tenth pair and else those in the middle: the words, what they read, what they write
+# (* is anything), and what the image is then.
+STEPS = [row.split("|") for row in (
+    "patch -n image|fix|fix|old", "patch -nR old|back|fix|old", "patch -U image|fix||new", "show -p image||fix|new",
+    "patch -UR image|fix||old", "undo -U image||*|new", "undo -U image||*|old", "show -rp image||fix|old",
+    "redo -U image||*|new")]
+
+
+def fails(bx, folder, texts, steps):
+    """The first words that do something else, or none."""
+    for words, given, wanted, image in steps:
+        done = run_in(folder, [bx, *words.split()], texts[given])
+        is_so = wanted == "*" or done.stdout == texts[wanted]
+        if done.returncode or not is_so or (folder / "image").read_bytes() != texts[image]:
+            return words
+    return None
+
+
 def differ(options, rng, folder):
-    """How many patches of pairs bx writes else, which were found beside `cmp -l`."""
-    pairs, bad = [pair[1:] for pair in chosen()] + [drawn(rng) for _ in range(200)], 0
-    for old, new in pairs:
-        check(folder, old.bytes, new.bytes)
-        for rows in (False, True):
-            done = subprocess.run([options.bx, "diff", *["-v"] * rows, "old", "new"], cwd=folder, capture_output=True, check=False)
-            text = text_of(patch(old.bytes, new.bytes, rows)).encode()
-            told, wanted = ((of.split(b"\n")[0], by_patch(of)) for of in (done.stdout, text))
-            if (done.returncode, done.stderr) != (0, b"") or told != wanted:
-                bad += 1
-                print(f"diff of {old.text} and {new.text}, rows {rows}")
+    """Whether bx names other addresses of a pair than `cmp -l`, or doesn't apply its patch and take it back."""
+    pairs, bad = [*chosen(), *((f"drawn {number + 1}", *drawn(rng, 10)) for number in range(1000))], 0
+    for number, (title, *pair) in enumerate(pairs):
+        old, new = (image.bytes for image in pair)
+        named, texts = by_cmp(folder, old, new), {"": b"", "old": old, "new": new}
+        for name, words in (("fix", ["old", "new"]), ("rows", ["-v", "old", "new"]), ("back", ["new", "old"])):
+            done = run_in(folder, [options.bx, "diff", *words])
+            texts[name] = done.stdout if (done.returncode, done.stderr) == (0, b"") else b"failed"
+        for path in folder.glob("image*"):
+            path.unlink()
+        (folder / "image").write_bytes(old)
+        is_headed = all(texts[name][:texts[name].find(b"\n") + 1] == head for name, head in (
+            ("fix", head_of(old, new)), ("rows", head_of(old, new)), ("back", head_of(new, old))))
+        wrong = None if is_headed and is_right(texts["fix"], texts["rows"], named) else "diff"
+        wrong = wrong or fails(options.bx, folder, texts, STEPS if number % 10 == 0 else STEPS[2:5])
+        bad += bool(wrong)
+        print(f"{wrong}: {title}\n" if wrong else "", end="")
     print(f"patches: {len(pairs)} pairs, {bad} differ")
     return bad > 0
 
@@ -143,7 +180,7 @@ def differ(options, rng, folder):
 def run(options):
     rng = random.Random(options.seed)
     with tempfile.TemporaryDirectory() as name:
-        if options.bx:
+        if options.compare:
             return differ(options, rng, pathlib.Path(name))
         out = ["# Patches between two images. tools/cases.py wrote this file.", "kind: patches"]
         for title, *pair in [*chosen(), *((f"drawn {number + 1}", *drawn(rng)) for number in range(60))]:

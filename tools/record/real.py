@@ -20,11 +20,13 @@ class Tools:
         (self.folder / "folder").mkdir()
 
     def run(self, command, data):
-        """Output, messages and status. Each name that the command has holds the input, and so does standard input, which is a file."""
+        """Output, messages and status. Each name that the command has holds the input, and so does standard input,
+        which is a file."""
         for name in [*(name for name in NAMES if name in " ".join(command)), "stdin"]:
             (self.folder / name).write_bytes(data)
         with open(self.folder / "stdin", "rb") as given:
-            done = subprocess.run(command, stdin=given, capture_output=True, env=ENV, cwd=self.folder, timeout=60, check=False)
+            done = subprocess.run(command, stdin=given, capture_output=True, env=ENV, cwd=self.folder, timeout=60,
+                                  check=False)
         return done.stdout, done.stderr.decode(), done.returncode
 
     def record(self, case):
@@ -59,8 +61,8 @@ class Tools:
 
 
 def number_of(words, option):
-    """The number behind an option of one letter, in the next word or in its own, as the tools read it: decimal, hexadecimal or octal;
-    0 where it isn't given."""
+    """The number behind an option of one letter, in the next word or in its own, as the tools read it: decimal,
+    hexadecimal or octal; 0 where it isn't given."""
     text = next((word[2:] or after for word, after in zip(words, words[1:] + [""]) if word.startswith(option)), "0")
     return int(text, 16 if text.lower().startswith("0x") else 8 if text.startswith("0") and text != "0" else 10)
 
@@ -72,7 +74,8 @@ def told_count(case):
         return int(lines[-1].split(" ")[-1].rstrip(";"))
     if case.tool == "hexdump" and lines:
         return int(lines[-1], 16) - number_of(case.words, "-s")
-    radix = next((word[2:] or after for word, after in zip(case.words, case.words[1:] + [""]) if word.startswith("-A")), "o")
+    radix = next((word[2:] or after for word, after in zip(case.words, case.words[1:] + [""])
+                  if word.startswith("-A")), "o")
     if case.tool == "od" and lines and radix != "n":
         return int(lines[-1], {"d": 10, "o": 8, "x": 16}[radix]) - number_of(case.words, "-j")
     return None
@@ -80,7 +83,8 @@ def told_count(case):
 
 def told_records(said):
     """dd's counts: blocks in, blocks out, and records that were cut."""
-    found = {what: n for n, what in re.findall(r"^(\d+\+\d+|\d+) (records in|records out|truncated record)s?$", said, re.M)}
+    found = {what: n for n, what in re.findall(r"^(\d+\+\d+|\d+) (records in|records out|truncated record)s?$", said,
+                                               re.M)}
     return f"{found['records in']} {found['records out']} {found.get('truncated record', '0')}"
 
 

@@ -1,19 +1,23 @@
 """What xxd, od, hexdump, strings and dd write.
 
-Each option is drawn alone, in pairs and in threes, with values and inputs from a generator of random numbers that begins with the
-seed. Inputs of each length up to 66, and of some that are longer, are dumped with few options; the forms of od and hexdump whose
-lines have code of their own dump lines of each length. dd converts each front of a text, and is run onto images too, as cases of
-commands. The expected output, counts and success are the real tool's, whose version stands at the head of each file TOOL.cases.
+Each option is drawn alone, in pairs and in threes, with values and inputs from a generator of random numbers that
+begins with the seed. Inputs of each length up to 66, and of some that are longer, are dumped with few options; the
+forms of od and hexdump whose lines have code of their own dump lines of each length. dd converts each front of a text,
+and is run onto images too, as cases of commands. The expected output, counts and success are the real tool's, whose
+version stands at the head of each file TOOL.cases.
 
 What is drawn keeps to the options on which man/bx.1 says that bx and the tool agree:
 
-- all: each option once, one file at most, options in front of it; no negative number, and none with other bytes behind it.
+- all: each option once, one file at most, options in front of it; no negative number, and none with other bytes behind
+  it.
 - xxd: one of -b, -i and -p; -u not with -i; 1 to 256 columns; -s on a file, since a pipe can't be sought.
 - od: one type, of c or d, o, u, x and a size in digits.
 - hexdump: -C always; a skip below the input's length, since at or behind it the tool shows an address; no suffix b.
-- strings: no tab in the input; -n in decimal. The tool pads an offset to seven places, and bx doesn't: that is taken off.
-- dd: each operand once; the input is a file, so that each read fills its block; swab only with an even ibs; block and unblock with
-  cbs; seek and notrunc only onto an image. That an undo gives the first image back isn't recorded: docs/FORMATS.md has it.
+- strings: no tab in the input; -n in decimal. The tool pads an offset to seven places, and bx doesn't: that is taken
+  off.
+- dd: each operand once; the input is a file, so that each read fills its block; swab only with an even ibs; block and
+  unblock with cbs; seek and notrunc only onto an image. That an undo gives the first image back isn't recorded:
+  docs/FORMATS.md has it.
 
 Words that a tool refuses, with status 1 and no output, stand in refused.txt, with the fault and by it the status of bx.
 """
@@ -49,7 +53,8 @@ def some_bytes(rng, most):
         return bytes((start + i) % 256 for i in range(size))
     if kind == 2:
         row = rng.randbytes(16)
-        return b"".join([*(row if rng.randrange(4) else rng.randbytes(16) for _ in range(size // 16)), rng.randbytes(size % 16)])
+        return b"".join([*(row if rng.randrange(4) else rng.randbytes(16) for _ in range(size // 16)),
+                         rng.randbytes(size % 16)])
     return rng.randbytes(size) if kind == 3 else text_bytes(rng, size)
 
 
@@ -67,12 +72,14 @@ def number(rng, n):
     return rng.choice([str(n), str(n), hex(n), "0" + oct(n)[2:] if n else "0"])
 
 
-# The letters of each tool's options without a value, and whether they come before the others; those of which one may be given; and
-# how often no option, one, two and three of them are drawn.
+# The letters of each tool's options without a value, and whether they come before the others; those of which one may
+# be given; and how often no option, one, two and three of them are drawn.
 FLAGS = {"xxd": ("bipu", True), "od": ("bcdosxv", False), "hexdump": ("v", True), "strings": ("a", True)}
-ALONE = {"xxd": [{"-b", "-i", "-p"}, {"-i", "-u"}], "od": [{"-t", "-b", "-c", "-d", "-o", "-s", "-x"}], "hexdump": [], "strings": [],
+ALONE = {"xxd": [{"-b", "-i", "-p"}, {"-i", "-u"}], "od": [{"-t", "-b", "-c", "-d", "-o", "-s", "-x"}], "hexdump": [],
+         "strings": [],
          "dd": [{"block", "unblock"}, {"lcase", "ucase"}]}
-DRAWS = {"xxd": [8, 5, 3, 3], "od": [6, 5, 3, 2], "hexdump": [14, 18, 18, 24], "strings": [16, 22, 22, 28], "dd": [8, 5, 3, 1]}
+DRAWS = {"xxd": [8, 5, 3, 3], "od": [6, 5, 3, 2], "hexdump": [14, 18, 18, 24], "strings": [16, 22, 22, 28],
+         "dd": [8, 5, 3, 1]}
 
 
 def values_of(tool, rng, data):
@@ -86,7 +93,8 @@ def values_of(tool, rng, data):
     def few():
         return rng.randrange(1, 70)
     if tool == "xxd":
-        return {"-c": lambda: pick(1, 2, 3, 4, 7, 8, 16, 17, 20, 255, 256), "-g": lambda: pick(0, 1, 2, 3, 4, 5, 8, 16, 17, 300),
+        return {"-c": lambda: pick(1, 2, 3, 4, 7, 8, 16, 17, 20, 255, 256),
+                "-g": lambda: pick(0, 1, 2, 3, 4, 5, 8, 16, 17, 300),
                 "-l": lambda: pick(0, 1, few(), 1000), "-o": lambda: pick(0, 1, rng.randrange(2**16), 2**32 - 8, 2**62),
                 "-s": lambda: pick(at(), at(), len(data), 900)}
     if tool == "od":
@@ -107,12 +115,14 @@ def drawn_of(tool, rng, data, chosen=None):
     if chosen is None:
         return flags + list(values) if is_first else list(values) + flags
     texts = ((name, values[name]() if name in values else None) for name in chosen)
-    return [[name] if text is None else [name + text] if rng.randrange(4) == 0 else [name, text] for name, text in texts]
+    return [[name] if text is None else [name + text] if rng.randrange(4) == 0 else [name, text]
+            for name, text in texts]
 
 
 def choices(tool, names, most):
     """Each so many names at most of which one of a set that exclude one another is chosen."""
-    return [c for n in range(most + 1) for c in itertools.combinations(names, n) if all(len(group & set(c)) < 2 for group in ALONE[tool])]
+    return [c for n in range(most + 1) for c in itertools.combinations(names, n)
+            if all(len(group & set(c)) < 2 for group in ALONE[tool])]
 
 
 def dump_case(tool, chosen, rng):
@@ -131,16 +141,19 @@ def dump_case(tool, chosen, rng):
 
 LENGTHS = [*range(67), 127, 128, 129, 255, 256, 257, 511, 512, 513, 599, 600]
 OF_EACH_LENGTH = {"xxd": ["", "-b", "-p", "-i"], "od": [""], "hexdump": ["-C"], "strings": [""], "dd": [""]}
-# Lines that are made value by value: of each length, and many of which none repeats the one before; every byte is among them.
+# Lines that are made value by value: of each length, and many of which none repeats the one before; every byte is
+# among them.
 LINES = {"od": ["-b", "-o", "-t x1", "-t x2", "-t x4", "-t x8"], "hexdump": ["-C"]}
 ROWS = bytes(itertools.accumulate(range(599), lambda byte, _: (byte * 5 + 37) % 256, initial=11))
 # Conversions of each front of a text.
 TEXT = b"one\ntwo  \n\na longer Line with  spaces   \nq\xe9\xff\0\n\nlast"
-OF_EACH_FRONT = ["ibs=7 conv=sync,ucase", "ibs=1 cbs=5 conv=block", "ibs=16 cbs=5 conv=unblock,lcase", "ibs=2 cbs=3 conv=unblock,sync"]
+OF_EACH_FRONT = ["ibs=7 conv=sync,ucase", "ibs=1 cbs=5 conv=block", "ibs=16 cbs=5 conv=unblock,lcase",
+                 "ibs=2 cbs=3 conv=unblock,sync"]
 
 
 def length_cases(tool):
-    """Few options, on an input of each length: for strings a run of letters, else one byte behind the other where they are few."""
+    """Few options, on an input of each length: for strings a run of letters, else one byte behind the other where they
+    are few."""
     for line, size in itertools.product(OF_EACH_LENGTH[tool], LENGTHS):
         data = b"a" * size if tool == "strings" else bytes(range(size)) if size < 80 else b"\7" * size
         yield Case(tool, line.split(), data, line or "a length")
@@ -156,22 +169,27 @@ def refused_cases(tool):
 def word_cases(tool, rng):
     """All cases of words of a tool."""
     one, names, most = (dd_case, DD_NAMES, 3) if tool == "dd" else (dump_case, drawn_of(tool, random.Random(0), b""), 3)
-    yield from (one(tool, chosen, rng) for chosen in choices(tool, names, most) for _ in range(DRAWS[tool][len(chosen)]))
+    yield from (one(tool, chosen, rng) for chosen in choices(tool, names, most)
+                for _ in range(DRAWS[tool][len(chosen)]))
     yield from length_cases(tool)
     if tool == "dd":
-        yield from (Case("dd", line.split(), TEXT[:size], line) for line in OF_EACH_FRONT for size in range(len(TEXT) + 1))
+        yield from (Case("dd", line.split(), TEXT[:size], line) for line in OF_EACH_FRONT
+                    for size in range(len(TEXT) + 1))
     yield from refused_cases(tool)
-    yield from (Case(tool, line.split(), ROWS[:size], f"lines, {line}") for line in LINES.get(tool, []) for size in [*range(17, 33), 600])
+    yield from (Case(tool, line.split(), ROWS[:size], f"lines, {line}") for line in LINES.get(tool, [])
+                for size in [*range(17, 33), 600])
 
 
 # dd: operands, and words of one conv=.
 DD_NAMES = ["ibs", "obs", "bs", "skip", "count", "if", "block", "unblock", "lcase", "ucase", "swab", "sync"]
-DD_VALUES = {"obs": ["1", "2", "3", "8", "10", "64", "1K"], "skip": ["0", "1", "2"], "count": ["0", "1", "2", "3", "9", "1G"], "if": NAMES}
+DD_VALUES = {"obs": ["1", "2", "3", "8", "10", "64", "1K"], "skip": ["0", "1", "2"],
+             "count": ["0", "1", "2", "3", "9", "1G"], "if": NAMES}
 
 
 def dd_operands(rng, chosen):
     """The operands that are chosen, and cbs where a conversion needs it."""
-    sizes = ["2", "4", "6", "16", "64", "1b", "2x3"] + ([] if "swab" in chosen else ["1", "3", "5", "7", "61", "512", "1k"])
+    sizes = ["2", "4", "6", "16", "64", "1b", "2x3"]
+    sizes += [] if "swab" in chosen else ["1", "3", "5", "7", "61", "512", "1k"]
     values = {**DD_VALUES, "ibs": sizes, "bs": sizes}
     operands = [f"{name}={rng.choice(values[name])}" for name in chosen if name in values]
     words = [name for name in chosen if name not in values]
@@ -193,7 +211,8 @@ def image_case(tool, chosen, placed, rng):
     case = dd_case(tool, [name for name in chosen if name != "if"], rng)
     conv = [word for word in case.words if word.startswith("conv=")]
     if "notrunc" in placed:
-        case.words = [word for word in case.words if word not in conv] + [(conv[0] + "," if conv else "conv=") + "notrunc"]
+        case.words = [word for word in case.words if word not in conv]
+        case.words.append((conv[0] + "," if conv else "conv=") + "notrunc")
     if "seek" in placed:
         case.words.insert(rng.randrange(len(case.words) + 1), "seek=" + rng.choice(["0", "1", "2", "5", "11"]))
     if "obs" not in chosen and "bs" not in chosen:
@@ -214,7 +233,8 @@ def case_lines(number_of, case, version):
         f"{version} refuses; FORMATS.md, faults" if case.fault else version
     lines = ["", f"case: {number_of:03} {case.about}{size}", f"from: {source}"]
     if case.image is not None:
-        lines += form.bytes_lines("image", case.image) + ["dd: " + " ".join(case.words)] + form.bytes_lines("input", case.data)
+        lines += [*form.bytes_lines("image", case.image), "dd: " + " ".join(case.words)]
+        lines += form.bytes_lines("input", case.data)
         lines += [f"reply: copied 1 {case.records}", *form.bytes_lines("image", case.made)]
         return lines + ["undo: 1", "reply: undone 0", *form.bytes_lines("image", case.image)]
     lines.append("words: " + " ".join([case.tool, *map(form.word_text, case.words)]))
@@ -250,13 +270,14 @@ def run(options):
         cases = list(maker(tool, random.Random(f"{name} {options.seed}")))
         for case in cases:
             tools.record(case)
-        if options.bx:
+        if options.compare:
             found = [differs(tools, options.bx, case) for case in cases]
             bad += sum(map(bool, found))
             print(*filter(None, found), f"{name}: {len(cases)} cases", sep="\n")
         else:
             version, line, package = versions(tool)
-            head = [f"# What {tool} does, recorded by tools/cases.py with seed {options.seed}.", f"# {line}", f"# Debian: {package}"]
+            head = [f"# What {tool} does, recorded by tools/cases.py with seed {options.seed}.", f"# {line}",
+                    f"# Debian: {package}"]
             lines = [line for number_of, case in enumerate(cases, 1) for line in case_lines(number_of, case, version)]
             form.write(name, [*head, "", f"kind: {kind}", *lines], options.out)
     return bad > 0
