@@ -2,4 +2,3 @@ pub mod Fit
 pub mod Reasons
 pub mod Files
 pub mod Numbers
-pub mod Reading
