@@ -1,4 +1,5 @@
 pub mod Making
+pub mod Readable
 pub mod Reasons
 pub mod Taken
 pub mod Three

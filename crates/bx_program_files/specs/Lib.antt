@@ -2,3 +2,4 @@ pub mod Fit
 pub mod Reasons
 pub mod Files
 pub mod Numbers
+pub mod Reading

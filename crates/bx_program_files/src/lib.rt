@@ -5,11 +5,13 @@ mod look;
 mod made;
 mod names;
 mod opened;
+mod reading;
 mod ready;
 mod trio;
 mod unopened;
 
 pub use made::{Files, Made, unmake_all};
 pub use names::Names;
+pub use reading::{Looked, open_to_look};
 pub use trio::open_trio;
 pub use unopened::{Unopened, Which, Why};

@@ -11,7 +11,7 @@ use crate::files::left::Left;
 use crate::files::links::{Misplaced, Unmade, make_image, refuse_among_devices};
 use crate::files::look::{is_in_place, look, look_at_text};
 use crate::files::mode::Permits;
-use crate::files::open::{fixed_length, length_of, lock, open_there, take_away};
+use crate::files::open::{fixed_length, length_of, lock, lock_shared, open_there, take_away};
 use crate::files::opened::{Known, OpenFile};
 use crate::folders::{folder_of, sync_folder};
 use crate::noted::Noted;
@@ -412,5 +412,54 @@ where
         if !bytes.is_empty() {
             let _ = eprint!(self.rt; "{}", str::from_utf8(bytes).unwrap_or(""));
         }
+    }
+
+    fn open_image_to_read(&mut self, name: &str) -> Result<OpenFile<'p, 'r, R>, Refusal> {
+        let file = open_there(self.rt, name, false).map_err(unopened)?;
+        let length = fixed_length(&file).map_err(refused)?;
+        Ok(OpenFile {
+            file: CountedFile::image(held(file, false), self.progress),
+            known: Known::of_image(length, false),
+        })
+    }
+
+    fn open_text_to_read(
+        &mut self,
+        name: &str,
+        image: &OpenFile<'p, 'r, R>,
+    ) -> Result<OpenFile<'p, 'r, R>, Refusal> {
+        let image = stat_of(&image.metadata()?, false);
+        let text = look_at_text(self.rt, name, self.caller(), &image)?;
+        let file = open_there(self.rt, name, false).map_err(unopened)?;
+        Ok(OpenFile {
+            file: CountedFile::text(Some(held(file, false)), self.progress),
+            known: Known::of_text(text.is_group_given, false),
+        })
+    }
+
+    fn lock_shared(&mut self, name: &str, file: &OpenFile<'p, 'r, R>) -> Result<(), Refusal> {
+        match lock_shared(file.system()?) {
+            Ok(()) => is_in_place(self.rt, name, file),
+            Err(TryLockError::WouldBlock) => Err(Refusal::Locked),
+            Err(TryLockError::Error(e)) => Err(refused(e)),
+        }
+    }
+
+    fn lend_image_to_read(&mut self, image: OpenFile<'p, 'r, R>) -> Result<Self::Image, Refusal> {
+        self.progress.begin(None);
+        Ok(image_of(image.file, image.known.length))
+    }
+
+    fn lend_text_to_read(&mut self, text: OpenFile<'p, 'r, R>) -> Result<Self::Text, Refusal> {
+        Ok(FileText::new(text.file))
+    }
+
+    fn lend_no_text(&mut self) -> Self::Text {
+        FileText::new(CountedFile::text(None, self.progress))
+    }
+
+    fn close_read(&mut self, image: Self::Image, journal: Self::Text, redo: Self::Text) {
+        self.progress.end();
+        self.left = Left::of(&image, &journal, &redo, 0);
     }
 }

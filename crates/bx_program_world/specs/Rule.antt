@@ -53,3 +53,12 @@ unfit_by_kind Other mounted image = Some WrongKind
 -- Why a file can't be an image that is changed; none where it can
 abbrev pub image_unfit : Bool → Stat → Option Unfit
 image_unfit mounted image = unfit_by_kind image.kind mounted image
+
+abbrev pub read_unfit_by : Kind → Option Unfit
+read_unfit_by Regular = None
+read_unfit_by Block = None
+read_unfit_by Other = Some WrongKind
+
+-- Why a file can't be an image that is read; none where it can
+abbrev pub read_unfit : Stat → Option Unfit
+read_unfit image = read_unfit_by image.kind

@@ -2,7 +2,7 @@
 use Rattle.std.specs.Prelude.{◌≡◌, ◌⊎◌, ◌<◌, ◌≤◌, ◌+◌, ◌++◌, ℕ, Bool, false, List, [], length, Option, None, Some, Result, Ok, Err}
 use Rattle.std.specs.Option.{option_map_or}
 use Rattle.bx_image.specs.Power.{NoMore}
-use Rattle.bx_program_world.specs.Rule.{image_unfit, text_unfit}
+use Rattle.bx_program_world.specs.Rule.{image_unfit, read_unfit, text_unfit}
 use Rattle.bx_program_world.specs.declared.stat.Stat.{Stat}
 use Rattle.bx_program_world.specs.declared.world.Refusal.{Refusal}
 use Rattle.bx_program_world.specs.declared.world.Refusal.TheVariants.{Missing}
@@ -157,6 +157,10 @@ stat_named w name = option_map_or (λ n. Some (w.stat n)) (w.named name) None
 abbrev pub MayBeImage : Bool → Sight → List ℕ → Type 0
 MayBeImage mounted w name = (n : ℕ) → w.named name ≡ Some n → image_unfit mounted (w.stat n) ≡ None
 
+-- a name that leads to a file leads to one that may be an image that is read
+abbrev pub MayBeRead : Sight → List ℕ → Type 0
+MayBeRead w name = (n : ℕ) → w.named name ≡ Some n → read_unfit (w.stat n) ≡ None
+
 -- a name that leads to a file is no link, and leads to one that may hold a text of the image
 abbrev pub MayBeText : ℕ → Sight → List ℕ → Type 0
 MayBeText image w name = (n : ℕ) → w.named name ≡ Some n → text_unfit w.caller (w.stat image) (w.is_link name) (w.stat n) ≡ None
@@ -166,6 +170,14 @@ abbrev pub CountsRefusal : {V : Type 0} → Result V Refusal → ℕ → ℕ →
 CountsRefusal (Ok v) old new = new ≡ old
 CountsRefusal (Err Missing) old new = new ≡ old
 CountsRefusal (Err e) old new = new ≡ old + 1
+
+-- what a file holds that may be missing; one that is holds nothing
+abbrev pub bytes_if : Sight → Option ℕ → List ℕ
+bytes_if w n = option_map_or w.bytes n []
+
+-- the number of a file that may be missing
+abbrev pub number_if : {F : Type 0} → (F → ℕ) → Option F → Option ℕ
+number_if number file = option_map_or (λ f. Some (number f)) file None
 
 -- what a name's file holds; a file that is missing holds nothing
 abbrev pub held : Sight → List ℕ → List ℕ

@@ -12,6 +12,6 @@ pub use memory::image::LentImage;
 pub use memory::input::LentInput;
 pub use memory::text::LentText;
 pub use memory::{Fails, MemoryWorld, OpenFile, Plan};
-pub use rule::{Unfit, image_unfit, text_unfit};
+pub use rule::{Unfit, image_unfit, read_unfit, text_unfit};
 pub use stat::{Classes, Kind, Look, Stat};
 pub use world::{Refusal, Unwritten, World};

@@ -5,6 +5,7 @@ ghost use Rattle.bx_program_world.specs.MemoryFiles.{IsConsistent, bytes_at, fil
 pub(crate) mod files;
 pub(crate) mod image;
 pub(crate) mod input;
+pub(crate) mod reading;
 pub(crate) mod refusals;
 pub(crate) mod setup;
 pub(crate) mod text;
@@ -15,6 +16,7 @@ use crate::memory::files::{
 };
 use crate::memory::image::LentImage;
 use crate::memory::input::LentInput;
+use crate::memory::reading::{copy_of, nothing};
 use crate::memory::refusals::Refusals;
 use crate::memory::text::LentText;
 use crate::stat::{Classes, Kind, Look, Stat};
@@ -48,6 +50,19 @@ impl Fails {
         part: Part::Nothing,
         once: true,
     };
+
+    /// All writes, cuts and syncs of a device that is only read; or its reads, where they are to fail.
+    fn of_reading(self) -> Fails {
+        if self.on_reads {
+            return self;
+        }
+        Fails {
+            pass: 0,
+            on_reads: false,
+            part: Part::Nothing,
+            once: false,
+        }
+    }
 }
 
 /// What a world in memory doesn't do.
@@ -560,4 +575,52 @@ impl World for MemoryWorld {
     fn complain(&mut self, bytes: &[u8]) {
         let _ = self.run.errors.extend_from_slice(bytes);
     }
+
+    fn open_image_to_read(&mut self, name: &str) -> Result<OpenFile, Refusal> {
+        self.open(name)
+    }
+
+    fn open_text_to_read(&mut self, name: &str, _: &OpenFile) -> Result<OpenFile, Refusal> {
+        self.open(name)
+    }
+
+    fn lock_shared(&mut self, _: &str, _: &OpenFile) -> Result<(), Refusal> {
+        if self.refuses() {
+            return Err(Refusal::Other(None));
+        }
+        Ok(())
+    }
+
+    fn lend_image_to_read(&mut self, image: OpenFile) -> Result<Self::Image, Refusal> {
+        if self.refuses() {
+            return Err(Refusal::Other(None));
+        }
+        match copy_of(self.alloc, self.files.as_slice(), image.number) {
+            Some(copy) => {
+                let fails = self.plan.image.of_reading();
+                Ok(self.image_of(copy, fails))
+            }
+            None => Err(self.refuse()),
+        }
+    }
+
+    fn lend_text_to_read(&mut self, text: OpenFile) -> Result<Self::Text, Refusal> {
+        if self.refuses() {
+            return Err(Refusal::Other(None));
+        }
+        match copy_of(self.alloc, self.files.as_slice(), text.number) {
+            Some(copy) => {
+                let fails = self.plan.journal.of_reading();
+                Ok(CountedText::new(self.text_of(copy, fails), 0))
+            }
+            None => Err(self.refuse()),
+        }
+    }
+
+    fn lend_no_text(&mut self) -> Self::Text {
+        let fails = self.plan.redo.of_reading();
+        CountedText::new(self.text_of(nothing(self.alloc), fails), 0)
+    }
+
+    fn close_read(&mut self, _: Self::Image, _: Self::Text, _: Self::Text) {}
 }

@@ -1,6 +1,6 @@
 //! Which files a run may open to change them.
 ghost use Rattle.std.specs.Prelude.{◌≡◌};
-ghost use Rattle.bx_program_world.specs.Rule.{image_unfit, is_no_wider, is_writer, text_unfit};
+ghost use Rattle.bx_program_world.specs.Rule.{image_unfit, is_no_wider, is_writer, read_unfit, text_unfit};
 
 use crate::stat::{Classes, Kind, Stat};
 
@@ -80,6 +80,16 @@ pub fn image_unfit(mounted: bool, image: &Stat) -> Option<Unfit>
         Kind::Block if image.is_read_only => Some(Unfit::ReadOnly),
         Kind::Block if image.is_mounted && !mounted => Some(Unfit::Mounted),
         Kind::Block => None,
+        Kind::Other => Some(Unfit::Kind),
+    }
+}
+
+/// Why a file can't be an image that is read; none where it can.
+pub fn read_unfit(image: &Stat) -> Option<Unfit>
+    ensures { result ≡ read_unfit image.now }
+{
+    match image.kind {
+        Kind::Regular | Kind::Block => None,
         Kind::Other => Some(Unfit::Kind),
     }
 }

@@ -1,7 +1,8 @@
 //! The world that a program runs in.
-ghost use Rattle.std.specs.Prelude.{◌≡◌, ◌↔◌, ◌⊎◌, ◌+◌, ◌<◌, ◌≤◌, ◌^◌, ◌++◌, ℕ, List, true, false, Err, None, Some, IfOk, IfErr, IfSome, OnOk, OnErr, drop, length, take};
+ghost use Rattle.std.specs.Prelude.{◌≡◌, ◌↔◌, ◌⊎◌, ◌+◌, ◌<◌, ◌≤◌, ◌^◌, ◌++◌, ℕ, List, [], true, false, Err, None, Some, IfOk, IfErr, IfSome, OnOk, OnErr, drop, length, take};
 ghost use Rattle.bx_program_world.specs.declared.world.Refusal.TheVariants.{Locked, Missing};
 ghost use Rattle.bx_program_world.specs.World.{AreThreeFiles, ChangesOnly, CountsRefusal, GivesBack, IsAlwaysFit, IsEmptyUnder, IsOwnText, IsStuck, KeepsFiles, LeavesTrio, Lends, Makes, MayBeImage, MayBeText, NothingNewFound, NothingNewBelow, NothingNewOf, Sight, TakesAtMost, TakesAway, Trio, AddsFront, stat_named};
+ghost use Rattle.bx_program_world.specs.World.{MayBeRead};
 ghost use Rattle.bx_image.specs.Power.{NoMore};
 
 use crate::stat::{Look, Stat};
@@ -266,6 +267,75 @@ pub trait World {
         ensures errors { honest self.old → (n : ℕ) × (sight self.new).errors ≡ (sight self.old).errors ++ take n bytes.now }
         ensures output { honest self.old → (sight self.new).output ≡ (sight self.old).output }
         ensures files { honest self.old → KeepsFiles (sight self.old) (sight self.new) }
+        ensures counted { honest self.old → refusals self.new ≡ refusals self.old }
+        ensures survives { honest self.old → NothingNewFound (survives self.old) (survives self.new) }
+        ensures honesty { honest self.new ↔ honest self.old };
+
+    /// Opens an image that is there, to read it alone. It may be a device that is mounted.
+    fn open_image_to_read(&mut self, name: &str) -> Result<Self::File, Refusal>
+        requires may { honest self.old → MayBeRead (sight self.old) name.now }
+        ensures named { honest self.old → IfOk result (λ f. (sight self.old).named name.now ≡ Some (number f)) }
+        ensures missing { honest self.old → result ≡ Err Missing → (sight self.old).named name.now ≡ None }
+        ensures same { honest self.old → sight self.new ≡ sight self.old }
+        ensures counted { honest self.old → CountsRefusal result (refusals self.old) (refusals self.new) }
+        ensures survives { honest self.old → NothingNewFound (survives self.old) (survives self.new) }
+        ensures honesty { honest self.new ↔ honest self.old };
+
+    /// Opens a journal or a redo text that is there, beside its image, to read it alone.
+    fn open_text_to_read(&mut self, name: &str, image: &Self::File) -> Result<Self::File, Refusal>
+        requires may { honest self.old → MayBeText (number image.now) (sight self.old) name.now }
+        ensures named { honest self.old → IfOk result (λ f. (sight self.old).named name.now ≡ Some (number f)) }
+        ensures missing { honest self.old → result ≡ Err Missing → (sight self.old).named name.now ≡ None }
+        ensures same { honest self.old → sight self.new ≡ sight self.old }
+        ensures counted { honest self.old → CountsRefusal result (refusals self.old) (refusals self.new) }
+        ensures survives { honest self.old → NothingNewFound (survives self.old) (survives self.new) }
+        ensures honesty { honest self.new ↔ honest self.old };
+
+    /// Locks a file that is only read up to its closing, beside others that lock it so. It has to have its name still. One that
+    /// another program has locked to change it is refused.
+    fn lock_shared(&mut self, name: &str, file: &Self::File) -> Result<(), Refusal>
+        ensures locked { honest self.old → result ≡ Err Locked → number file.now < (sight self.old).before }
+        ensures missing { honest self.old → result ≡ Err Missing → ⊥ }
+        ensures same { honest self.old → sight self.new ≡ sight self.old }
+        ensures counted { honest self.old → CountsRefusal result (refusals self.old) (refusals self.new) }
+        ensures survives { honest self.old → NothingNewFound (survives self.old) (survives self.new) }
+        ensures honesty { honest self.new ↔ honest self.old };
+
+    /// Lends an open image to be read. The device refuses each write, cut and sync, so the file stays whatever is done with it.
+    fn lend_image_to_read(&mut self, image: Self::File) -> Result<Self::Image, Refusal>
+        ensures failures { IfOk result (λ d. Self.Image.failures d ≡ 0) }
+        ensures faithful { honest self.old → IfOk result (λ d. Self.Image.honest d) }
+        ensures image { honest self.old → IfOk result (λ d. Self.Image.image d ≡ (sight self.old).bytes (number image)) }
+        ensures missing { honest self.old → result ≡ Err Missing → ⊥ }
+        ensures same { honest self.old → sight self.new ≡ sight self.old }
+        ensures counted { honest self.old → CountsRefusal result (refusals self.old) (refusals self.new) }
+        ensures survives { honest self.old → NothingNewFound (survives self.old) (survives self.new) }
+        ensures honesty { honest self.new ↔ honest self.old };
+
+    /// Lends an open journal or redo text to be read. The device refuses each write, cut and sync.
+    fn lend_text_to_read(&mut self, text: Self::File) -> Result<Self::Text, Refusal>
+        ensures failures { IfOk result (λ t. Self.Text.failures t ≡ 0) }
+        ensures faithful { honest self.old → IfOk result (λ t. Self.Text.honest t) }
+        ensures text { honest self.old → IfOk result (λ t. Self.Text.text t ≡ (sight self.old).bytes (number text)) }
+        ensures missing { honest self.old → result ≡ Err Missing → ⊥ }
+        ensures same { honest self.old → sight self.new ≡ sight self.old }
+        ensures counted { honest self.old → CountsRefusal result (refusals self.old) (refusals self.new) }
+        ensures survives { honest self.old → NothingNewFound (survives self.old) (survives self.new) }
+        ensures honesty { honest self.new ↔ honest self.old };
+
+    /// Lends a redo text that is missing to be read: it has no bytes, and refuses each write.
+    fn lend_no_text(&mut self) -> Self::Text
+        ensures failures { Self.Text.failures result ≡ 0 }
+        ensures faithful { honest self.old → Self.Text.honest result }
+        ensures text { honest self.old → Self.Text.text result ≡ [] }
+        ensures same { honest self.old → sight self.new ≡ sight self.old }
+        ensures counted { honest self.old → refusals self.new ≡ refusals self.old }
+        ensures survives { honest self.old → NothingNewFound (survives self.old) (survives self.new) }
+        ensures honesty { honest self.new ↔ honest self.old };
+
+    /// Takes devices back that were lent to be read; their files are closed.
+    fn close_read(&mut self, image: Self::Image, journal: Self::Text, redo: Self::Text)
+        ensures same { honest self.old → sight self.new ≡ sight self.old }
         ensures counted { honest self.old → refusals self.new ≡ refusals self.old }
         ensures survives { honest self.old → NothingNewFound (survives self.old) (survives self.new) }
         ensures honesty { honest self.new ↔ honest self.old };

@@ -1,0 +1,13 @@
+use Rattle.std.proofs.Common.{◌∙◌, sym}
+use Rattle.std.proofs.lemmas.Bool.{false≢true}
+use Rattle.bx_program_looks.proofs.Looking.{opened_refused, opened_unclean}
+use Rattle.bx_program_looks.proofs.devices.open_whole.Goals as goal
+
+pub returns-else-is_whole-clause-hides : goal.returns-else-is_whole-clause-hides
+returns-else-is_whole-clause-hides g c x text redo holds =
+    opened_unclean g.D.Device g.T.TextStore c.args.devices x text redo holds _ _ c.in-Ok.ensures
+    (λ clean. absurd (false≢true (sym c.if-is_whole.false ∙ c.is_whole.ensures.1 clean)))
+
+pub returns-in-Err-clause-hides : goal.returns-in-Err-clause-hides
+returns-in-Err-clause-hides g c x text redo holds =
+    rw c.reason_of.ensures (opened_refused g.D.Device g.T.TextStore c.args.devices x text redo holds _ _ c.in-Err.ensures)

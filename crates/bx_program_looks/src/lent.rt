@@ -1,0 +1,100 @@
+//! Files that are lent as devices to be read.
+ghost use Rattle.std.specs.Prelude.{◌≡◌, ◌↔◌, ◌<◌, IfErr, IfOk};
+ghost use Rattle.bx_journal.specs.ThreeDevices.{AreBelow};
+ghost use Rattle.bx_program_world.specs.World.{NothingNewFound, bytes_if, number_if};
+ghost use Rattle.bx_program_files.specs.Reading.{MayRefuseReading, StaysSeen, numbers_read};
+ghost use Rattle.bx_program_files.specs.Reasons.{IsReason, NoneUnfit};
+ghost use Rattle.bx_program_looks.specs.Devices.{HoldFiles, HoldNumbered};
+
+use crate::devices::Seen;
+use crate::unseen::Unseen;
+use bx_journal::Devices;
+use bx_program_files::{Looked, Names, Unopened, Which, open_to_look};
+use bx_program_world::World;
+
+/// Lends a redo text that is open, or nothing where it is missing.
+fn lend_redo<W: World>(world: &mut W, redo: Option<W::File>) -> Result<W::Text, Unopened>
+    ensures failures { IfOk result (λ t. W.Text.failures t ≡ 0) }
+    ensures faithful { W.honest world.old → IfOk result (λ t. W.Text.honest t) }
+    ensures text { W.honest world.old → IfOk result (λ t. W.Text.text t ≡ bytes_if (W.sight world.old) (number_if W.number redo)) }
+    ensures why { W.honest world.old → IfErr result (λ u. IsReason ⊥ NoneUnfit ⊥ (W.refusals world.old < W.refusals world.new) u.why) }
+    ensures seen { W.honest world.old → StaysSeen W.sight W.survives world.old world.new }
+    ensures honesty { W.honest world.new ↔ W.honest world.old }
+{
+    match redo {
+        Some(redo) => match world.lend_text_to_read(redo) {
+            Ok(redo) => Ok(redo),
+            Err(refusal) => Err(Which::Redo.refused(refusal)),
+        },
+        None => Ok(world.lend_no_text()),
+    }
+}
+
+/// Lends files that are open.
+fn lend_files<W: World>(
+    world: &mut W,
+    looked: Looked<W::File>,
+) -> Result<Devices<W::Image, W::Text>, Unopened>
+    ensures below { IfOk result (AreBelow W.Image.Device W.Text.TextStore u64.MAX) }
+    ensures held { W.honest world.old
+        → IfOk result (HoldNumbered W.Image.Device W.Text.TextStore (numbers_read W.number looked) (W.sight world.old)) }
+    ensures why { W.honest world.old → IfErr result (λ u. IsReason ⊥ NoneUnfit ⊥ (W.refusals world.old < W.refusals world.new) u.why) }
+    ensures seen { W.honest world.old → StaysSeen W.sight W.survives world.old world.new }
+    ensures honesty { W.honest world.new ↔ W.honest world.old }
+{
+    let Looked {
+        image,
+        journal,
+        redo,
+    } = looked;
+    let image = match world.lend_image_to_read(image) {
+        Ok(image) => image,
+        Err(refusal) => return Err(Which::Image.refused(refusal)),
+    };
+    let journal = match world.lend_text_to_read(journal) {
+        Ok(journal) => journal,
+        Err(refusal) => return Err(Which::Journal.refused(refusal)),
+    };
+    match lend_redo(world, redo) {
+        Ok(redo) => Ok(Devices {
+            image,
+            journal,
+            redo,
+        }),
+        Err(unopened) => Err(unopened),
+    }
+}
+
+/// Opens the files of these names to read them, and lends them.
+pub fn lend<W: World>(world: &mut W, names: &Names) -> Result<Devices<W::Image, W::Text>, Unopened>
+    ensures below { IfOk result (AreBelow W.Image.Device W.Text.TextStore u64.MAX) }
+    ensures held { W.honest world.old → IfOk result (HoldFiles W.Image.Device W.Text.TextStore names.now (W.sight world.old)) }
+    ensures why { W.honest world.old
+        → IfErr result (MayRefuseReading names.now (W.refusals world.old < W.refusals world.new) (W.sight world.old)) }
+    ensures same { W.honest world.old → W.sight world.new ≡ W.sight world.old }
+    ensures survives { W.honest world.old → NothingNewFound (W.survives world.old) (W.survives world.new) }
+    ensures honesty { W.honest world.new ↔ W.honest world.old }
+{
+    let looked = match open_to_look(world, names) {
+        Ok(looked) => looked,
+        Err(unopened) => return Err(unopened),
+    };
+    lend_files(world, looked)
+}
+
+/// Closes the files that were lent, and answers what was seen.
+pub fn close<W: World, V>(world: &mut W, seen: Seen<W::Image, W::Text, V>) -> Result<V, Unseen>
+    ensures outcome { result ≡ seen.outcome }
+    ensures same { W.honest world.old → W.sight world.new ≡ W.sight world.old }
+    ensures survives { W.honest world.old → NothingNewFound (W.survives world.old) (W.survives world.new) }
+    ensures honesty { W.honest world.new ↔ W.honest world.old }
+{
+    let Seen { devices, outcome } = seen;
+    let Devices {
+        image,
+        journal,
+        redo,
+    } = devices;
+    world.close_read(image, journal, redo);
+    outcome
+}

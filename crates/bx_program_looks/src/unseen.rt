@@ -1,0 +1,37 @@
+//! Why the changes of an image are not shown.
+ghost use Rattle.std.specs.Prelude.{◌≡◌};
+ghost use Rattle.bx_program_looks.specs.Looks.{unseen_of};
+
+use bx_cli_commands::Fault;
+use bx_journal::SessionFault;
+use bx_program_files::Unopened;
+
+/// Why the changes of an image are not shown.
+#[derive(Clone, Copy, Debug, PartialEq, Eq)]
+pub enum Unseen {
+    /// A file was not opened.
+    Unopened(Unopened),
+    /// A change is unfinished, and only a command that may write recovers it.
+    Unfinished,
+    /// Another fault stopped it.
+    Stopped(Fault),
+}
+
+/// What an opening that was refused says. One that was interrupted began to recover what is unfinished.
+pub fn reason_of(fault: SessionFault) -> Unseen
+    ensures { result ≡ unseen_of fault }
+{
+    match fault {
+        SessionFault::Interrupted => Unseen::Unfinished,
+        SessionFault::NoMemory
+        | SessionFault::TooLarge
+        | SessionFault::DeviceFailed
+        | SessionFault::Damaged { .. }
+        | SessionFault::TooFew { .. }
+        | SessionFault::JournalFull
+        | SessionFault::Broken
+        | SessionFault::LengthDiffers { .. }
+        | SessionFault::NothingToRedo { .. }
+        | SessionFault::RedoDamaged { .. } => Unseen::Stopped(Fault::Session(fault)),
+    }
+}

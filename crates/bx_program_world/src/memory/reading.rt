@@ -1,0 +1,29 @@
+//! Copies of files, which a world in memory lends to be read.
+ghost use Rattle.std.specs.Prelude.{◌≡◌, [], IfSome};
+ghost use Rattle.bx_program_world.specs.MemoryFiles.{bytes_at};
+
+use crate::memory::files::{Contents, Stored, copy_of_bytes};
+use std::alloc::Global;
+
+/// Nothing, as of a file that is missing.
+pub fn nothing(alloc: Global) -> Contents
+    ensures { result.bytes.items ≡ [] }
+{
+    Contents {
+        bytes: Vec::new(alloc),
+        synced: Vec::new(alloc),
+    }
+}
+
+/// A copy of what a file has; none where a growth is refused.
+pub fn copy_of(alloc: Global, files: &[Stored], number: usize) -> Option<Contents>
+    ensures { IfSome result (λ c. c.bytes.items ≡ bytes_at files.now number) }
+{
+    match copy_of_bytes(alloc, files, number) {
+        Ok(bytes) => Some(Contents {
+            bytes,
+            synced: Vec::new(alloc),
+        }),
+        Err(_) => None,
+    }
+}
