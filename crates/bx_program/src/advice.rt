@@ -13,6 +13,7 @@ use bx_journal_image::{
 };
 use std::fs::File;
 use std::rt::Files;
+use std::time::Clock;
 
 /// The line, and what a command finds before its first write.
 #[derive(Clone, Copy)]
@@ -31,7 +32,7 @@ impl Advice {
     /// What is known of an image, whose files are only read. The locks on them are given up again.
     pub fn of<R>(rt: &R, target: &Target) -> Advice
     where
-        R: Files<File = File> + AllocGlobal,
+        R: Files<File = File> + Print + Eprint + Clock + AllocGlobal,
     {
         Advice {
             known: look_up(rt, target),
@@ -41,7 +42,7 @@ impl Advice {
     /// The same before a change; nothing where it begins a new history.
     pub fn before<R>(rt: &R, target: &Target, fresh: bool) -> Advice
     where
-        R: Files<File = File> + AllocGlobal,
+        R: Files<File = File> + Print + Eprint + Clock + AllocGlobal,
     {
         if fresh {
             return Advice { known: None };
@@ -93,7 +94,7 @@ impl Advice {
     /// Writes the line behind a command that changed something.
     pub fn keep<R>(&self, rt: &R, target: &Target)
     where
-        R: Files<File = File> + AllocGlobal,
+        R: Files<File = File> + Print + Eprint + Clock + AllocGlobal,
     {
         write_anew(rt, target, self.others_then());
     }
@@ -102,7 +103,7 @@ impl Advice {
 /// The line, where it is no older than the journal, beside what is found.
 fn look_up<R>(rt: &R, target: &Target) -> Option<Known>
 where
-    R: Files<File = File> + AllocGlobal,
+    R: Files<File = File> + Print + Eprint + Clock + AllocGlobal,
 {
     let line = line_in(rt, target)?;
     let found = find(rt, target)?;
@@ -115,7 +116,7 @@ where
 /// Makes the line anew, while the files are locked. `others` of the oldest changes stand for another image.
 fn write_anew<R>(rt: &R, target: &Target, others: u32)
 where
-    R: Files<File = File> + AllocGlobal,
+    R: Files<File = File> + Print + Eprint + Clock + AllocGlobal,
 {
     let Some(found) = find(rt, target) else {
         return;

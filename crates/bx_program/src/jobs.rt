@@ -1,8 +1,9 @@
 //! The jobs, and one run of the program.
 mod copies;
 mod diff;
-mod named;
+mod looks;
 mod patch;
+mod patches;
 mod previews;
 mod steps;
 
@@ -11,23 +12,22 @@ use crate::files::unopened::number_of;
 use crate::hints::remarks::Remarks;
 use crate::hints::seen::{Seen, Watched};
 use crate::hints::show_fault;
-use crate::images::forget::{forget, open_fresh, open_to_forget};
-use crate::images::shown::show_changes;
-use crate::images::{finish_read, log, log_places, open_to_look};
+use crate::history::changes::{change_anew, change_image};
+use crate::history::forget::forget;
 use crate::jobs::copies::{copy_onto, most_of_dd, tell};
-use crate::jobs::named::change_image;
+use crate::jobs::looks::look;
 use crate::jobs::previews::{preview_copy, preview_read};
 use crate::jobs::steps::take_steps;
 use crate::stopped::{Noted, STANDARD_INPUT, Stopped};
 use crate::streams::closed::Held;
 use crate::streams::input::{MOST_INPUT, open, size_of};
 use bx_cli::{
-    ChangeJob, DdImageJob, Done, DumpJob, Fault, ForgetJob, Form, Job, LogJob, LookJob, RevertJob,
-    ShowJob, Target, change_from, plan_words, run_dump,
+    ChangeJob, DdImageJob, Done, DumpJob, Fault, ForgetJob, Form, Job, RevertJob, Target,
+    change_from, plan_words, run_dump,
 };
 use bx_dd::Counts;
 use bx_image::Change;
-use bx_journal::{Steps, Way};
+use bx_journal::Way;
 use bx_program_dumps::{Undumped, dump_file};
 use bx_program_sessions::Task;
 use bx_program_system::{Counted, Progress, SystemWorld, Tally, Terminals};
@@ -230,66 +230,10 @@ where
 /// Accepts all changes of an image, and drops their history.
 fn forget_changes<'a, R>(rt: &R, job: &'a ForgetJob, remarks: &Remarks) -> Result<(), Stopped<'a>>
 where
-    R: Files<File = File> + Eprint + Clock + AllocGlobal,
+    R: Files<File = File> + Print + Eprint + Clock + AllocGlobal,
 {
     let progress = remarks.progress_of_input(rt, None);
-    let ready = open_to_forget(rt, &job.target, &progress)?;
-    forget(rt, ready, &job.target)
-}
-
-/// Shows the changes of an image.
-fn look<'a, R, W: Write>(
-    rt: &R,
-    job: &'a LookJob,
-    out: &mut W,
-    remarks: &Remarks,
-) -> Result<(), Stopped<'a>>
-where
-    R: Files<File = File> + Eprint + Clock + AllocGlobal,
-{
-    let progress = remarks.progress_of_input(rt, None);
-    match job {
-        LookJob::Log(job) if job.verbose => {
-            let is_other = Advice::of(rt, &job.target).is_changed();
-            let session = open_to_look(rt, &job.target, &progress)?;
-            show_other(is_other, out)?;
-            log_places(rt, session, &job.target, out)
-        }
-        LookJob::Log(job) => show_log(rt, job, &progress, out),
-        LookJob::Show(job) => show_next(rt, job, &progress, out),
-    }
-}
-
-/// What is shown of an image that isn't the one that the last command on it left.
-const OTHER: &str = "# the image was changed since\n";
-
-/// Says so, where it isn't.
-fn show_other<W: Write>(is_other: bool, out: &mut W) -> Result<(), Fault> {
-    if is_other {
-        return show(out, OTHER);
-    }
-    Ok(())
-}
-
-/// Shows what an undo or a redo would do.
-fn show_next<'a, R, W: Write>(
-    rt: &R,
-    job: &'a ShowJob,
-    progress: &Progress<'_, R>,
-    out: &mut W,
-) -> Result<(), Stopped<'a>>
-where
-    R: Files<File = File> + Eprint + Clock + AllocGlobal,
-{
-    let steps = Steps {
-        way: job.way,
-        count: job.count,
-        changes: 0,
-        compares: job.compares,
-    };
-    let advice = Advice::of(rt, &job.target);
-    show_other(advice.is_shown(job.way, job.count), out)?;
-    show_changes(rt, steps, job.as_patch, &job.target, progress, out)
+    forget(rt, &job.target, &progress)
 }
 
 fn show<W: Write>(out: &mut W, text: &str) -> Result<(), Fault> {
@@ -368,35 +312,20 @@ where
     }
     let progress = remarks.progress_of_input(rt, None);
     let advice = Advice::before(rt, &job.target, job.fresh);
-    match read {
-        Ok(change) if job.fresh => put_anew(rt, &job.target, change, &progress, remarks)?,
-        read => {
-            if let Ok(change) = &read {
-                remarks.look_at_change(rt, &job.target, change);
-            }
-            let task: Task<Empty> = Task::Put(read);
-            change_image(rt, &job.target, task, &progress, remarks)?;
-        }
+    let mut fresh = false;
+    if let Ok(change) = &read {
+        remarks.look_at_change(rt, &job.target, change);
+        fresh = job.fresh;
+    }
+    let task: Task<Empty> = Task::Put(read);
+    if fresh {
+        change_anew(rt, &job.target, task, &progress, remarks)?;
+    } else {
+        change_image(rt, &job.target, task, &progress, remarks)?;
     }
     advice.keep(rt, &job.target);
     remarks.look_at_advice(advice.is_changed());
     Ok(())
-}
-
-/// Makes a change with which the history of the image begins.
-fn put_anew<'a, R>(
-    rt: &R,
-    target: &'a Target,
-    change: Change,
-    progress: &Progress<'_, R>,
-    remarks: &mut Remarks,
-) -> Result<(), Stopped<'a>>
-where
-    R: Files<File = File> + Eprint + Clock + AllocGlobal,
-{
-    let session = open_fresh(rt, target, progress)?;
-    remarks.look_at_change(rt, target, &change);
-    finish_read(rt, session, Ok(change), target)
 }
 
 /// The change of the dump that an input gives, or the dump's fault.
@@ -415,21 +344,6 @@ fn change_of<'a, R: Eprint + Clock, I: Read + Drop>(
         Ok(read) => Ok(read),
         Err(fault) => Err(Stopped::from(Fault::from(fault)).on_input(name, input.error)),
     }
-}
-
-/// Shows the changes that stand, a short line each.
-fn show_log<'a, R, W: Write>(
-    rt: &R,
-    job: &'a LogJob,
-    progress: &Progress<'_, R>,
-    out: &mut W,
-) -> Result<(), Stopped<'a>>
-where
-    R: Files<File = File> + Eprint + Clock + AllocGlobal,
-{
-    let session = open_to_look(rt, &job.target, progress)?;
-    let text = log(rt, session, &job.target)?;
-    Ok(show(out, text.as_str())?)
 }
 
 /// Dumps or copies FILE, or standard input where there is none, and answers what dd counted.

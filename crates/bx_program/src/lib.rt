@@ -5,12 +5,11 @@ mod advice;
 mod devices;
 mod files;
 mod hints;
-mod images;
+mod history;
 mod jobs;
 mod stopped;
 mod streams;
 
 pub use bx_program_system::Terminals;
-pub use files::{Made, SessionFiles, trio};
 pub use jobs::{perform, run};
 pub use stopped::{Reason, Stopped};

@@ -12,6 +12,6 @@ mod unopened;
 
 pub use made::{Files, Made, unmake_all};
 pub use names::Names;
-pub use reading::{Looked, open_to_look};
+pub use reading::{Looked, open_to_forget, open_to_look};
 pub use trio::open_trio;
 pub use unopened::{Unopened, Which, Why};

@@ -1,7 +1,7 @@
-//! The files of an image that are only read: looked at, opened and locked, and each a file of its own. None is made.
-ghost use Rattle.std.specs.Prelude.{◌≡◌, ◌↔◌, ◌<◌, ℕ, None, Some, false, IfErr, IfOk, OnOk};
+//! An image that is only read, and its texts: looked at, opened and locked, and each a file of its own. None is made.
+ghost use Rattle.std.specs.Prelude.{◌≡◌, ◌↔◌, ◌<◌, ℕ, Err, None, Some, false, IfErr, IfOk, OnOk};
 ghost use Rattle.bx_program_world.specs.Rule.{read_unfit, text_unfit};
-ghost use Rattle.bx_program_world.specs.World.{MayBeRead, MayBeText, NothingNewFound, number_if};
+ghost use Rattle.bx_program_world.specs.World.{CountsRefusal, MayBeRead, MayBeText, NothingNewFound, number_if};
 ghost use Rattle.bx_program_files.specs.Fit.{look_unfit};
 ghost use Rattle.bx_program_files.specs.Reading.{AreFitToRead, AreOpenToRead, AreReadable, IsAnother, IsReadable, IsRedoFit, IsThird, IsUnfitToRead, LeadToRead, MayRefuseReading, StaysSeen, numbers_read};
 ghost use Rattle.bx_program_files.specs.Reasons.{IsReason, IsRefusedFile, IsRefusedFor, IsUnfitBeside, NoneUnfit};
@@ -141,8 +141,53 @@ fn open_image<W: World>(world: &mut W, name: &str) -> Result<W::File, Unopened>
     }
 }
 
-/// Opens a text to read it, and locks it.
-fn open_text<W: World>(world: &mut W, name: &str, image: &W::File) -> Result<W::File, Refusal>
+/// Opens a text, to change it or to read it.
+fn open_as<W: World>(
+    world: &mut W,
+    name: &str,
+    image: &W::File,
+    changes: bool,
+) -> Result<W::File, Refusal>
+    requires may { W.honest world.old → MayBeText (W.number image.now) (W.sight world.old) name.now }
+    ensures named { W.honest world.old → IfOk result (λ f. (W.sight world.old).named name.now ≡ Some (W.number f)) }
+    ensures missing { W.honest world.old → result ≡ Err Refusal.Missing → (W.sight world.old).named name.now ≡ None }
+    ensures counted { W.honest world.old → CountsRefusal result (W.refusals world.old) (W.refusals world.new) }
+    ensures seen { W.honest world.old → StaysSeen W.sight W.survives world.old world.new }
+    ensures honesty { W.honest world.new ↔ W.honest world.old }
+{
+    if changes {
+        world.open_text(name, image)
+    } else {
+        world.open_text_to_read(name, image)
+    }
+}
+
+/// Locks a text, to change it or to read it.
+fn lock_as<W: World>(
+    world: &mut W,
+    name: &str,
+    text: &W::File,
+    changes: bool,
+) -> Result<(), Refusal>
+    ensures missing { W.honest world.old → result ≡ Err Refusal.Missing → ⊥ }
+    ensures counted { W.honest world.old → CountsRefusal result (W.refusals world.old) (W.refusals world.new) }
+    ensures seen { W.honest world.old → StaysSeen W.sight W.survives world.old world.new }
+    ensures honesty { W.honest world.new ↔ W.honest world.old }
+{
+    if changes {
+        world.lock(name, text)
+    } else {
+        world.lock_shared(name, text)
+    }
+}
+
+/// Opens a text, to change it or to read it, and locks it.
+fn open_text<W: World>(
+    world: &mut W,
+    name: &str,
+    image: &W::File,
+    changes: bool,
+) -> Result<W::File, Refusal>
     requires may { W.honest world.old → MayBeText (W.number image.now) (W.sight world.old) name.now }
     ensures named { W.honest world.old → IfOk result (λ f. (W.sight world.old).named name.now ≡ Some (W.number f)) }
     ensures why { W.honest world.old → IfErr result (IsRefusedFor ((W.sight world.old).named name.now ≡ None)
@@ -152,18 +197,23 @@ fn open_text<W: World>(world: &mut W, name: &str, image: &W::File) -> Result<W::
     ensures seen { W.honest world.old → StaysSeen W.sight W.survives world.old world.new }
     ensures honesty { W.honest world.new ↔ W.honest world.old }
 {
-    let file = match world.open_text_to_read(name, image) {
+    let file = match open_as(world, name, image, changes) {
         Ok(file) => file,
         Err(refusal) => return Err(refusal),
     };
-    match world.lock_shared(name, &file) {
+    match lock_as(world, name, &file, changes) {
         Ok(()) => Ok(file),
         Err(refusal) => Err(refusal),
     }
 }
 
-/// Opens a journal to read it, and locks it.
-fn open_journal<W: World>(world: &mut W, name: &str, image: &W::File) -> Result<W::File, Unopened>
+/// Opens a journal, and locks it.
+fn open_journal<W: World>(
+    world: &mut W,
+    name: &str,
+    image: &W::File,
+    changes: bool,
+) -> Result<W::File, Unopened>
     requires may { W.honest world.old → MayBeText (W.number image.now) (W.sight world.old) name.now }
     ensures named { W.honest world.old → IfOk result (λ f. (W.sight world.old).named name.now ≡ Some (W.number f)) }
     ensures why { W.honest world.old → IfErr result (IsRefusedFile Journal ((W.sight world.old).named name.now ≡ None) NoneUnfit ⊥
@@ -172,17 +222,18 @@ fn open_journal<W: World>(world: &mut W, name: &str, image: &W::File) -> Result<
     ensures seen { W.honest world.old → StaysSeen W.sight W.survives world.old world.new }
     ensures honesty { W.honest world.new ↔ W.honest world.old }
 {
-    match open_text(world, name, image) {
+    match open_text(world, name, image, changes) {
         Ok(file) => Ok(file),
         Err(refusal) => Err(Which::Journal.refused(refusal)),
     }
 }
 
-/// Opens a redo text to read it, and locks it; none where it is missing.
+/// Opens a redo text, and locks it; none where it is missing.
 fn open_redo<W: World>(
     world: &mut W,
     name: &str,
     image: &W::File,
+    changes: bool,
 ) -> Result<Option<W::File>, Unopened>
     requires may { W.honest world.old → MayBeText (W.number image.now) (W.sight world.old) name.now }
     ensures named { W.honest world.old → IfOk result (λ f. (W.sight world.old).named name.now ≡ number_if W.number f) }
@@ -191,15 +242,19 @@ fn open_redo<W: World>(
     ensures seen { W.honest world.old → StaysSeen W.sight W.survives world.old world.new }
     ensures honesty { W.honest world.new ↔ W.honest world.old }
 {
-    match open_text(world, name, image) {
+    match open_text(world, name, image, changes) {
         Ok(file) => Ok(Some(file)),
         Err(Refusal::Missing) => Ok(None),
         Err(refusal) => Err(Which::Redo.refused(refusal)),
     }
 }
 
-/// Opens an image and its texts to read them, which were looked at before.
-fn open_names<W: World>(world: &mut W, names: &Names) -> Result<Looked<W::File>, Unopened>
+/// Opens an image to read it, and its texts, which were looked at before.
+fn open_names<W: World>(
+    world: &mut W,
+    names: &Names,
+    changes: bool,
+) -> Result<Looked<W::File>, Unopened>
     requires may { W.honest world.old → AreReadable names.now (W.sight world.old) }
     ensures named { W.honest world.old → IfOk result (λ l. LeadToRead names.now (numbers_read W.number l) (W.sight world.old)) }
     ensures why { W.honest world.old
@@ -212,11 +267,11 @@ fn open_names<W: World>(world: &mut W, names: &Names) -> Result<Looked<W::File>,
         Ok(image) => image,
         Err(unopened) => return Err(unopened),
     };
-    let journal = match open_journal(world, names.journal.as_str(), &image) {
+    let journal = match open_journal(world, names.journal.as_str(), &image, changes) {
         Ok(journal) => journal,
         Err(unopened) => return Err(unopened),
     };
-    match open_redo(world, names.redo.as_str(), &image) {
+    match open_redo(world, names.redo.as_str(), &image, changes) {
         Ok(redo) => Ok(Looked {
             image,
             journal,
@@ -351,6 +406,33 @@ fn are_ready<W: World>(world: &mut W, looked: &Looked<W::File>) -> Result<(), Un
     }
 }
 
+/// Opens an image to read it, and its texts to change them or to read them.
+fn open_looked<W: World>(
+    world: &mut W,
+    names: &Names,
+    changes: bool,
+) -> Result<Looked<W::File>, Unopened>
+    ensures ok { W.honest world.old → IfOk result (λ l. AreOpenToRead names.now (numbers_read W.number l) (W.sight world.old)) }
+    ensures why { W.honest world.old
+        → IfErr result (MayRefuseReading names.now (W.refusals world.old < W.refusals world.new) (W.sight world.old)) }
+    ensures calm { W.honest world.old → OnOk result (W.refusals world.new ≡ W.refusals world.old) }
+    ensures same { W.honest world.old → W.sight world.new ≡ W.sight world.old }
+    ensures survives { W.honest world.old → NothingNewFound (W.survives world.old) (W.survives world.new) }
+    ensures honesty { W.honest world.new ↔ W.honest world.old }
+{
+    if let Err(unopened) = look_at_names(world, names) {
+        return Err(unopened);
+    }
+    let looked = match open_names(world, names, changes) {
+        Ok(looked) => looked,
+        Err(unopened) => return Err(unopened),
+    };
+    match are_ready(world, &looked) {
+        Ok(()) => Ok(looked),
+        Err(unopened) => Err(unopened),
+    }
+}
+
 /// Opens an image and its texts to read them. All three are looked at before one is opened, and again once they are: a text is no
 /// link, has one name, belongs to somebody who may write the image, and has no reader or writer who is none of the image. The
 /// image may be a device that is mounted, and the redo text may be missing.
@@ -366,15 +448,21 @@ pub fn open_to_look<W: World>(world: &mut W, names: &Names) -> Result<Looked<W::
     ensures survives { W.honest world.old → NothingNewFound (W.survives world.old) (W.survives world.new) }
     ensures honesty { W.honest world.new ↔ W.honest world.old }
 {
-    if let Err(unopened) = look_at_names(world, names) {
-        return Err(unopened);
-    }
-    let looked = match open_names(world, names) {
-        Ok(looked) => looked,
-        Err(unopened) => return Err(unopened),
-    };
-    match are_ready(world, &looked) {
-        Ok(()) => Ok(looked),
-        Err(unopened) => Err(unopened),
-    }
+    open_looked(world, names, false)
+}
+
+/// The same, with texts that are to be changed. Opening changes nothing.
+///
+/// # Errors
+/// As of `open_to_look`.
+pub fn open_to_forget<W: World>(world: &mut W, names: &Names) -> Result<Looked<W::File>, Unopened>
+    ensures ok { W.honest world.old → IfOk result (λ l. AreOpenToRead names.now (numbers_read W.number l) (W.sight world.old)) }
+    ensures why { W.honest world.old
+        → IfErr result (MayRefuseReading names.now (W.refusals world.old < W.refusals world.new) (W.sight world.old)) }
+    ensures calm { W.honest world.old → OnOk result (W.refusals world.new ≡ W.refusals world.old) }
+    ensures same { W.honest world.old → W.sight world.new ≡ W.sight world.old }
+    ensures survives { W.honest world.old → NothingNewFound (W.survives world.old) (W.survives world.new) }
+    ensures honesty { W.honest world.new ↔ W.honest world.old }
+{
+    open_looked(world, names, true)
 }

@@ -60,6 +60,8 @@ pub struct SystemWorld<'p, 'r, R> {
     // how many bytes of an input are read at most; none where that isn't known
     most: Option<u64>,
     lent: Lent,
+    // how many bytes the texts have that are lent to be read
+    to_read: u64,
     kept: Option<Folder>,
     /// What the devices of the last session said.
     pub left: Left,
@@ -91,6 +93,7 @@ where
                 journal: Known::of_text(false, false),
                 redo: Known::of_text(false, false),
             },
+            to_read: 0,
             kept: None,
             left: Left::NOTHING,
             is_unkept: false,
@@ -446,11 +449,16 @@ where
     }
 
     fn lend_image_to_read(&mut self, image: OpenFile<'p, 'r, R>) -> Result<Self::Image, Refusal> {
+        self.to_read = 0;
         self.progress.begin(None);
         Ok(image_of(image.file, image.known.length))
     }
 
     fn lend_text_to_read(&mut self, text: OpenFile<'p, 'r, R>) -> Result<Self::Text, Refusal> {
+        if let Some(length) = size_of_texts(self.progress, text.system()?, None) {
+            self.to_read = self.to_read.saturating_add(length);
+            self.progress.begin(Some(self.to_read));
+        }
         Ok(FileText::new(text.file))
     }
 

@@ -7,11 +7,10 @@
 //! leaves a file to its owner, `public NAME` lets all read it, and `within NAME NAME` says that nobody may do more with the first
 //! than with the second.
 use crate::expected::words;
-use bx_cli::{Access, Durability, Fault, Target, Texts, plan_words};
-use bx_program::{perform, trio};
-use bx_text::Name;
+use bx_cli::{Fault, plan_words};
+use bx_program::perform;
 use std::alloc::{AllocError, Global};
-use std::fs::Permissions;
+use std::fs::{File, Permissions};
 use std::os::unix::fs::{MetadataExt, PermissionsExt, symlink};
 use std::process::Abort;
 use std::test::Fail;
@@ -621,32 +620,23 @@ fn jobs_on_one_image(rt: HostRuntime) -> Result<(), Fail> {
     Ok(())
 }
 
-fn name_of(rt: &HostRuntime, name: &str) -> Result<Name, AllocError> {
-    Ok(Name::from_string(String::from_str(rt.alloc(), name)?))
+// A file that another program has locked.
+fn locked(abort: &impl Abort, rt: &HostRuntime, name: &str) -> Result<File, Fail> {
+    let file = File::open(rt, name)?;
+    assert!(abort; file.try_lock().is_ok());
+    Ok(file)
 }
 
-fn target(rt: &HostRuntime) -> Result<Target, AllocError> {
-    let journal = String::from_str(rt.alloc(), "one.img.bxj")?;
-    let redo = format!(in rt.alloc(); "{journal}.redo")?;
-    Ok(Target {
-        image: name_of(rt, "one.img")?,
-        texts: Texts {
-            journal: Name::from_string(journal),
-            redo: Name::from_string(redo),
-        },
-        access: Access {
-            durability: Durability::Synced,
-            mounted: false,
-        },
-    })
-}
-
-// Plays a script while another session holds the files.
+// Plays a script while another program holds the files.
 fn play_beside(abort: &impl Abort, rt: &HostRuntime, script: &str) -> Result<(), Fail> {
-    let target = target(rt)?;
-    let first = trio(rt, &target, false);
-    assert!(abort; first.is_ok());
-    play(abort, rt, "two sessions", script)
+    let held = (
+        locked(abort, rt, "one.img")?,
+        locked(abort, rt, "one.img.bxj")?,
+        locked(abort, rt, "one.img.bxj.redo")?,
+    );
+    play(abort, rt, "two sessions", script)?;
+    drop(held);
+    Ok(())
 }
 
 // What an earlier session holds. The later one is refused, whatever it would do, and recovers nothing.

@@ -1,14 +1,13 @@
 //! What a command finds of an image and its texts, which are opened to be read alone.
 use crate::advice::ranges::{Ranged, fill, ranges_of};
 use crate::devices::left::length_of;
-use crate::files::look::{Makes, Use, look_at_all};
-use crate::files::open::Purpose;
-use crate::files::{SessionFiles, existing};
+use crate::files::read::{ImageFiles, open_to_read};
 use bx_cli::Target;
 use bx_journal_image::{Digest, Range, Standing, digest_of};
 use std::alloc::Global;
 use std::fs::{File, Metadata};
 use std::rt::Files;
+use std::time::Clock;
 
 /// How many ranges count.
 const MOST_RANGES: usize = 1024;
@@ -24,7 +23,7 @@ pub struct Found {
     /// What the system says of the image.
     pub image: Metadata,
     /// The files, whose locks keep what was found as it is.
-    pub files: SessionFiles,
+    pub files: ImageFiles,
 }
 
 /// Adds the bytes of a range, as far as an image of this length has them and they count.
@@ -45,15 +44,6 @@ fn digest_in(alloc: Global, image: &File, length: u64, ranges: &[Range]) -> Opti
     Some(digest_of(bytes.as_slice()))
 }
 
-/// The three files, open to be read.
-fn opened<R>(rt: &R, target: &Target) -> Option<SessionFiles>
-where
-    R: Files<File = File> + AllocGlobal,
-{
-    look_at_all(rt, target, Makes::Nothing, Use::Read).ok()?;
-    existing(rt, target, Purpose::Read).ok()
-}
-
 /// What stands in a redo text; nothing where it is missing.
 fn undone_in(alloc: Global, redo: Option<&File>) -> Option<Ranged> {
     match redo {
@@ -68,10 +58,10 @@ fn undone_in(alloc: Global, redo: Option<&File>) -> Option<Ranged> {
 /// What is found of an image; none where its texts aren't finished entries, or something fails.
 pub fn find<R>(rt: &R, target: &Target) -> Option<Found>
 where
-    R: Files<File = File> + AllocGlobal,
+    R: Files<File = File> + Print + Eprint + Clock + AllocGlobal,
 {
     let alloc = rt.alloc();
-    let files = opened(rt, target)?;
+    let files = open_to_read(rt, target).ok()?;
     let image = files.image.metadata().ok()?;
     let length = length_of(&files.image).ok()?;
     let made = ranges_of(alloc, &files.journal)?;

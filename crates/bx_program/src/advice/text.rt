@@ -1,10 +1,13 @@
 //! The third text: read, made anew, and emptied. It is judged as a journal is, and what isn't the line stays.
 use crate::advice::ranges::fill;
 use crate::devices::left::length_of;
-use crate::files::guard::Guard;
 use bx_cli::{Durability, Target};
 use bx_journal_image::{ImageLine, LINE, is_replaceable, read_line, write_line};
-use bx_program_system::{Permits, folder_of, is_among_devices, is_same, open_there, take_away};
+use bx_program_system::{
+    Permits, caller_of, folder_of, is_among_devices, is_group_given, is_same, open_there, stat_of,
+    take_away,
+};
+use bx_program_world::text_unfit;
 use std::alloc::Global;
 use std::fs::{self, File, Metadata};
 use std::io::{ErrorKind, Write};
@@ -33,14 +36,31 @@ where
     true
 }
 
+/// Whether a file may be a text of an image.
+fn is_fit<R>(rt: &R, image: &Metadata, name: &str, text: &Metadata) -> bool
+where
+    R: Files<File = File> + AllocGlobal,
+{
+    let stat = stat_of(text, is_group_given(rt, name, text));
+    text_unfit(
+        caller_of(rt),
+        &stat_of(image, false),
+        text.is_symlink(),
+        &stat,
+    )
+    .is_none()
+}
+
 /// What stands under a name, where it may be such a text of an image.
 fn admitted<R>(rt: &R, target: &Target, image: &Metadata, name: &str) -> Option<Metadata>
 where
     R: Files<File = File> + AllocGlobal,
 {
     let found = fs::symlink_metadata(rt, name).ok()?;
-    Guard::of(image).admit(rt, name, &found).ok()?;
-    if found.len() > LINE as u64 || !is_apart(rt, target, &found) {
+    if !is_fit(rt, image, name, &found)
+        || found.len() > LINE as u64
+        || !is_apart(rt, target, &found)
+    {
         return None;
     }
     Some(found)

@@ -1,12 +1,68 @@
-//! Which device stopped a session, by what the three said of their calls.
-use crate::stopped::{Reason, Row, Stopped};
+//! What stopped a command on the files of an image: the file that wasn't opened, or the device, by what the three said of their calls.
+use crate::files::unopened::not_opened;
+use crate::stopped::{Reason, Row, STANDARD_OUTPUT, Stopped};
 use bx_cli::{Fault, Target};
 use bx_journal::SessionFault;
-use bx_program_system::{Left, open_there};
+use bx_patch::Other;
+use bx_program_files::Unopened;
+use bx_program_looks::Unseen;
+use bx_program_system::{Left, SystemWorld, open_there};
+use bx_text::IoFault;
 use std::fs::File;
 use std::io::{self, Seek, SeekFrom};
 use std::os::unix::fs::FileExt;
 use std::rt::Files;
+use std::time::Clock;
+
+/// What stopped a command, and the file or the stream that did it.
+pub fn stopped<'a, R>(
+    rt: &R,
+    target: &'a Target,
+    world: &SystemWorld<'_, '_, R>,
+    unopened: Option<Unopened>,
+    fault: Fault,
+) -> Stopped<'a>
+where
+    R: Files<File = File> + Print + Eprint + Clock + AllocGlobal,
+{
+    if let Some(unopened) = unopened {
+        return not_opened(rt, target, unopened, world);
+    }
+    let image = target.image.as_str();
+    match fault {
+        Fault::Io(IoFault::WriteFailed { .. }) => {
+            Stopped::by(fault, STANDARD_OUTPUT, world.unwritten)
+        }
+        Fault::Session(SessionFault::LengthDiffers { expected })
+        | Fault::Disagrees(Other::Length { expected }) => {
+            differs_by_name(rt, image, fault, expected)
+        }
+        Fault::Disagrees(Other::Bytes { at }) => has_others_by_name(rt, image, fault, at),
+        fault => stopped_by(target, &world.left, fault),
+    }
+}
+
+/// What stopped a look at an image's changes, and the file that did it; `unwritten` is what stopped its output.
+pub fn not_seen<'a, R>(
+    rt: &R,
+    target: &'a Target,
+    world: &SystemWorld<'_, '_, R>,
+    unseen: Unseen,
+    unwritten: Option<IoFault>,
+) -> Stopped<'a>
+where
+    R: Files<File = File> + Print + Eprint + Clock + AllocGlobal,
+{
+    match (unseen, unwritten) {
+        (Unseen::Unopened(unopened), _) => not_opened(rt, target, unopened, world),
+        (Unseen::Unfinished, _) => {
+            let fault = Fault::Session(SessionFault::Interrupted);
+            Stopped::by(fault, target.image.as_str(), None)
+        }
+        (Unseen::Stopped(_), Some(fault)) => Stopped::from(Fault::Io(fault)),
+        (Unseen::Stopped(fault), None) => stopped(rt, target, world, None, fault),
+    }
+}
 
 /// What stopped a session on the files of a target, whose devices said this.
 pub fn stopped_by<'a>(target: &'a Target, left: &Left, fault: Fault) -> Stopped<'a> {
@@ -58,7 +114,7 @@ fn unfitting<'a>(target: &'a Target, left: &Left, fault: Fault) -> Stopped<'a> {
 }
 
 /// The image of this name, which has not the length that it should have.
-pub fn differs_by_name<'a, R>(rt: &R, name: &'a str, fault: Fault, expected: u64) -> Stopped<'a>
+fn differs_by_name<'a, R>(rt: &R, name: &'a str, fault: Fault, expected: u64) -> Stopped<'a>
 where
     R: Files<File = File>,
 {
@@ -69,7 +125,7 @@ where
 }
 
 /// The image of this name, which has other bytes than a patch expects.
-pub fn has_others_by_name<'a, R>(rt: &R, name: &'a str, fault: Fault, at: u64) -> Stopped<'a>
+fn has_others_by_name<'a, R>(rt: &R, name: &'a str, fault: Fault, at: u64) -> Stopped<'a>
 where
     R: Files<File = File>,
 {

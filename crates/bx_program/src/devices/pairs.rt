@@ -3,14 +3,15 @@ ghost use Rattle.std.specs.Prelude.{◌≡◌, None, IfOk};
 
 use crate::devices::ImageFile;
 use crate::devices::left::{differs, has_others, length_of};
-use crate::files::look::{Holds, look};
+use crate::files::look::is_missing;
+use crate::files::read::open_alone;
 use crate::stopped::{Reason, Stopped};
 use bx_cli::Fault;
 use bx_image::{Change, Device, FileImage, ImageFault, RandomAccess, SystemFile, check};
 use bx_journal::SessionFault;
 use bx_patch::{DiffFault, Other, Patch, find_other};
 use bx_patch_preview::{ChangedImage, preview, preview_back};
-use bx_program_system::{CountedFile, Progress, fixed_length, open_there};
+use bx_program_system::{CountedFile, Progress, fixed_length};
 use bx_text::{IoFault, Pieces};
 use std::alloc::Global;
 use std::fs::File;
@@ -37,13 +38,10 @@ fn file_of<'a, R>(rt: &R, name: &'a str) -> Result<Option<File>, Stopped<'a>>
 where
     R: Files<File = File> + AllocGlobal,
 {
-    if look(rt, name, true, Holds::Image)?.is_none() {
+    if is_missing(rt, name) {
         return Ok(None);
     }
-    match open_there(rt, name, false) {
-        Ok(file) => Ok(Some(file)),
-        Err(error) => Err(Stopped::unopened(name, error)),
-    }
+    Ok(Some(open_alone(rt, name)?))
 }
 
 /// The length of an image that can't have another one.

@@ -2,6 +2,8 @@
 use crate::stopped::{Reason, Stopped};
 use bx_cli::Fault;
 use bx_program_world::{Classes, Stat, Unfit};
+use std::fs::Metadata;
+use std::os::unix::fs::MetadataExt;
 
 /// What is said of a file that can't be an image, and of what can't be a text of one.
 const NO_IMAGE: &str = "it is no regular file and no block device";
@@ -21,6 +23,9 @@ const NOT_OF_A_WRITER: &str =
 /// What is said of a device that is mounted.
 const IS_MOUNTED: &str =
     "it is mounted, or a part of it is, or it is used as swap; unmount it, or give --mounted";
+
+/// The bits to read and to write of the group and of the others.
+const GROUP_AND_OTHERS: u32 = 0o066;
 
 /// What is said of a device that can't be written.
 const IS_READ_ONLY: &str = "the device is read-only; blockdev --setrw may change that";
@@ -51,9 +56,15 @@ pub fn unfit_text<'a>(name: &'a str, unfit: Unfit, bits: u32) -> Stopped<'a> {
     }
 }
 
+/// The bits that a text may have beside its image, of those that it has.
+pub fn bits_left(image: &Stat, text: &Metadata) -> u32 {
+    let most = allowed(image, text.gid()) | !GROUP_AND_OTHERS;
+    text.mode() & 0o777 & most
+}
+
 /// The bits that a text of this group may have for its group and the others. Where it isn't the image's group, each of these
 /// two may have people of the image's group and others in it, so they may do what both of the image may.
-pub fn allowed(image: &Stat, group: u32) -> u32 {
+fn allowed(image: &Stat, group: u32) -> u32 {
     if group == image.group {
         bits_of(image.reads, image.writes)
     } else {

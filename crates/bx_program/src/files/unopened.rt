@@ -1,11 +1,5 @@
 //! What is said of the files of a session that weren't opened, by what opening them answered.
-use crate::files::dev::NO_TEXT;
-use crate::files::guard::bits_left;
-use crate::files::links::told;
-use crate::files::look::NO_JOURNAL;
-use crate::files::mounts::IS_UNKNOWN;
-use crate::files::open::{HELD, IS_ALIAS, IS_MOVED};
-use crate::files::unfit::{unfit_image, unfit_text};
+use crate::files::unfit::{bits_left, unfit_image, unfit_text};
 use crate::stopped::Stopped;
 use bx_cli::{Fault, Target};
 use bx_program_files::{Unopened, Which, Why};
@@ -15,6 +9,33 @@ use bx_program_system::{
 use bx_program_world::{Refusal, Unfit};
 use std::fs::{self, File};
 use std::rt::Files;
+
+/// What is said of a journal that is missing and isn't to be made.
+const NO_JOURNAL: &str =
+    "no journal is here, so no change is known; -J names one that is elsewhere, and bx revert, bx patch and bx dd make one";
+
+/// What is said of a file that is locked.
+pub const HELD: &str = "another program has it locked, or it is one of the others by another name";
+
+/// What is said of a file whose name leads to another one by now.
+const IS_MOVED: &str = "another file has its name now";
+
+/// What is said of a file that has the name of another one too.
+const IS_ALIAS: &str = "it is one of the others by another name";
+
+/// What is said of a link that somebody else made.
+const OF_ANOTHER: &str =
+    "a link of another user leads to a file that is missing, which is not made; name the file itself";
+
+/// What is said of an image that would be made among the devices, and of a text.
+const NO_DEVICE: &str = "there is no such device, and no file is made among the devices";
+
+const NO_TEXT: &str =
+    "no file is made among the devices, where none lasts; -J names a journal elsewhere";
+
+/// What is said of a device where the system doesn't tell what is mounted.
+const IS_UNKNOWN: &str =
+    "whether it is mounted isn't known, since /proc/self/mountinfo can't be read; --mounted goes on without";
 
 /// The system's number for a file that is missing, and for one that is there already.
 const MISSING: i32 = 2;
@@ -85,6 +106,14 @@ where
         (Which::Image | Which::Journal | Which::Redo, _) => {
             Stopped::by(Fault::OpenFailed, name, None)
         }
+    }
+}
+
+/// Why a place is none for an image.
+fn told(misplaced: Misplaced) -> &'static str {
+    match misplaced {
+        Misplaced::AmongDevices => NO_DEVICE,
+        Misplaced::OfAnother => OF_ANOTHER,
     }
 }
 

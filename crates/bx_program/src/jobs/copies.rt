@@ -4,8 +4,7 @@ ghost use Rattle.bx_cli_commands.specs.jobs.Passing.{CanPass, plan_skip};
 use crate::advice::Advice;
 use crate::files::look::{device_length, is_device};
 use crate::hints::remarks::Remarks;
-use crate::images::forget::{finish_copy, open_to_renew, renewed};
-use crate::jobs::named::change_image;
+use crate::history::changes::{change_anew, change_image};
 use crate::stopped::{Noted, Stopped};
 use crate::streams::fitting::Fitting;
 use crate::streams::input::{Placed, file, standard};
@@ -15,7 +14,7 @@ use bx_program_sessions::Task;
 use bx_program_system::Progress;
 use bx_text::IoFault;
 use std::fs::File;
-use std::io::Read;
+use std::io::{Empty, Read};
 use std::rt::Files;
 use std::time::Clock;
 
@@ -83,7 +82,7 @@ where
     requires { CanPass input.passed (plan_skip job.now.plan) }
 {
     if job.fresh {
-        return copy_anew(rt, job, input, progress);
+        return copy_anew(rt, job, input, progress, remarks);
     }
     let image = job.target.image.as_str();
     let (from, passed) = (input.name, input.passed);
@@ -107,27 +106,26 @@ fn copy_anew<'a, R, I: Read + Drop>(
     job: &'a DdImageJob,
     input: Placed<'a, I>,
     progress: &Progress<'_, R>,
+    remarks: &mut Remarks,
 ) -> Result<Option<Counts>, Stopped<'a>>
 where
-    R: Files<File = File> + Eprint + Clock + AllocGlobal,
+    R: Files<File = File> + Print + Eprint + Clock + AllocGlobal,
     requires { CanPass input.passed (plan_skip job.now.plan) }
 {
-    let keeps_length = is_device(rt, job.target.image.as_str());
-    let ready = open_to_renew(rt, &job.target, progress)?;
+    let image = job.target.image.as_str();
     let (from, passed) = (input.name, input.passed);
-    let plan = plan_for(&job.plan, passed, keeps_length);
+    let plan = plan_for(&job.plan, passed, is_device(rt, image));
     let input = Noted::new(input.reader);
-    let mut fitting = Fitting::new(input, &job.plan, passed, ready.length);
+    let mut fitting = Fitting::new(input, &job.plan, passed, device_length(rt, image));
     let made = match change_of_plan(&rt.alloc(), &plan, &mut fitting) {
         Ok(made) => made,
         Err(fault) => {
-            let stopped = ready.refused(rt, Fault::from(fault), &job.target);
-            return Err(stopped.on_input(from, fitting.input.error));
+            return Err(Stopped::from(Fault::from(fault)).on_input(from, fitting.input.error));
         }
     };
-    let session = renewed(rt, ready, &job.target)?;
-    match finish_copy(rt, session, made, &job.target) {
-        Ok(reply) => Ok(reply.counts()),
+    let task: Task<Empty> = Task::Put(Ok(made.change));
+    match change_anew(rt, &job.target, task, progress, remarks) {
+        Ok(_) => Ok(Some(made.counts)),
         Err(stopped) if fitting.is_full() => Err(stopped.on_more_input()),
         Err(stopped) => Err(stopped),
     }

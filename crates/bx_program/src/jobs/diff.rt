@@ -1,8 +1,7 @@
 //! The patch from one file to another.
 ghost use Rattle.std.specs.Prelude.{◌≡◌, IfOk};
 
-use crate::files::look::{Holds, look};
-use crate::files::open::{Opened, Purpose};
+use crate::files::read::open_shared;
 use crate::stopped::Stopped;
 use bx_cli::{DiffJob, Fault};
 use bx_image::{Device, FileImage, SystemFile};
@@ -19,9 +18,8 @@ where
     R: Files<File = File> + AllocGlobal,
     ensures { IfOk result (λ device. ⟦<FileImage as Device>⟧.failures device ≡ 0) }
 {
-    look(rt, name.as_str(), false, Holds::Image)?;
-    let opened = Opened::new(rt, name.as_str(), Purpose::Read, Holds::Image)?;
-    Ok(FileImage::new(SystemFile::new(opened.file)))
+    let file = open_shared(rt, name.as_str())?;
+    Ok(FileImage::new(SystemFile::new(file)))
 }
 
 /// What stopped the comparison of two devices.

@@ -2,11 +2,10 @@
 ghost use Rattle.bx_cli_commands.specs.Command.{IsNear};
 
 use crate::advice::Advice;
+use crate::devices::pairs::open_pair;
 use crate::files::look::is_device;
 use crate::hints::remarks::Remarks;
-use crate::images::finish;
-use crate::images::forget::open_agreeing;
-use crate::jobs::named::change_image;
+use crate::history::changes::{change_anew, change_image};
 use crate::jobs::previews::preview_patch;
 use crate::stopped::{Noted, STANDARD_INPUT, Stopped};
 use crate::streams::input::{MOST_INPUT, open, size_of};
@@ -45,8 +44,9 @@ where
     let advice = Advice::before(rt, &job.target, job.fresh);
     let target = &job.target;
     if job.fresh {
-        let session = open_agreeing(rt, target, &patch, &progress)?;
-        finish(rt, session, asking(patch), target)?;
+        // Nothing is dropped for a patch with which the image doesn't agree.
+        open_pair(rt, image, &progress)?.agree(image, &patch)?;
+        change_anew(rt, target, Task::Run(asking(patch)), &progress, remarks)?;
     } else {
         change_image(rt, target, Task::Run(asking(patch)), &progress, remarks)?;
     }

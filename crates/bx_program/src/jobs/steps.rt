@@ -1,8 +1,9 @@
 //! The jobs that take changes back, and that make them again.
 use crate::advice::Advice;
+use crate::devices::left::stopped;
 use crate::files::look::refuse_without_journal;
+use crate::files::names::{names_of, world_of};
 use crate::hints::remarks::Remarks;
-use crate::jobs::named::{names_of, stopped, world_of};
 use crate::stopped::Stopped;
 use bx_cli::{Fault, StepsJob};
 use bx_journal::Way;

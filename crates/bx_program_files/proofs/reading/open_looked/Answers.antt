@@ -1,6 +1,6 @@
 use Rattle.std.proofs.Common.{◌≡◌, ◌∙◌, ◌<◌}
 use Rattle.bx_program_files.proofs.Readable.{fit_open, unready}
-use Rattle.bx_program_files.proofs.reading.open_to_look.Goals as goal
+use Rattle.bx_program_files.proofs.reading.open_looked.Goals as goal
 
 pub returns-in-Err-are_ready-clause-why : goal.returns-in-Err-are_ready-clause-why
 returns-in-Err-are_ready-clause-why g c old =

@@ -1,0 +1,44 @@
+//! The names of an image and its texts, and the world that their files are used in.
+ghost use Rattle.std.specs.Prelude.{◌≡◌, IfOk};
+
+use bx_cli::{Durability, Fault, Target};
+use bx_program_files::Names;
+use bx_program_system::{Progress, SystemWorld};
+use bx_text::Name;
+use std::alloc::{AllocError, Global};
+use std::fs::File;
+use std::rt::Files;
+use std::time::Clock;
+
+/// A name once more.
+fn copied(alloc: Global, name: &Name) -> Result<Name, AllocError>
+    ensures { IfOk result (λ n. n ≡ name.now) }
+{
+    Ok(Name::from_string(String::from_str(alloc, name.as_str())?))
+}
+
+/// The names of an image and its texts.
+pub fn names_of(alloc: Global, target: &Target) -> Result<Names, Fault>
+    ensures image { IfOk result (λ n. n.image ≡ target.now.image) }
+    ensures journal { IfOk result (λ n. n.journal ≡ target.now.texts.journal) }
+    ensures redo { IfOk result (λ n. n.redo ≡ target.now.texts.redo) }
+{
+    Ok(Names {
+        image: copied(alloc, &target.image)?,
+        journal: copied(alloc, &target.texts.journal)?,
+        redo: copied(alloc, &target.texts.redo)?,
+    })
+}
+
+/// The system as a target's files are used in it.
+pub fn world_of<'p, 'r, R>(
+    rt: &'r R,
+    target: &Target,
+    progress: &'p Progress<'r, R>,
+) -> SystemWorld<'p, 'r, R>
+where
+    R: Files<File = File> + Print + Eprint + Clock + AllocGlobal,
+{
+    let waits = target.access.durability == Durability::Synced;
+    SystemWorld::new(rt, progress, waits)
+}

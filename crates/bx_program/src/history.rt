@@ -1,0 +1,56 @@
+//! The history of an image: what is unfinished is recovered, and all of it is dropped.
+pub mod changes;
+pub mod forget;
+
+use crate::devices::left::stopped;
+use crate::files::look::is_missing;
+use crate::files::names::{names_of, world_of};
+use crate::files::unopened::not_opened;
+use crate::stopped::Stopped;
+use bx_cli::{Command, Fault, Target};
+use bx_program_sessions::{Task, change_files};
+use bx_program_system::{Progress, lock, open_there, take_away};
+use std::fs::File;
+use std::io::Empty;
+use std::rt::Files;
+use std::time::Clock;
+
+/// Recovers what is unfinished of an image, by an undo of no change, and says on standard error what it was. A redo text that is
+/// missing then stays so.
+///
+/// # Errors
+/// As of an undo.
+pub fn recover<'a, R>(
+    rt: &R,
+    target: &'a Target,
+    progress: &Progress<'_, R>,
+) -> Result<(), Stopped<'a>>
+where
+    R: Files<File = File> + Print + Eprint + Clock + AllocGlobal,
+{
+    let redo = target.texts.redo.as_str();
+    let is_made = is_missing(rt, redo);
+    let names = names_of(rt.alloc(), target)?;
+    let mut world = world_of(rt, target, progress);
+    let none: Task<Empty> = Task::Run(Command::Undo { k: 0 });
+    let answer = change_files(&mut world, rt.alloc(), &names, target.access.mounted, none);
+    if is_made {
+        take_empty(rt, redo);
+    }
+    if let Some(unopened) = answer.unopened {
+        return Err(not_opened(rt, target, unopened, &world).unrecovered());
+    }
+    match answer.reply.standing() {
+        Ok(_) => Ok(()),
+        Err(fault) => Err(stopped(rt, target, &world, None, fault)),
+    }
+}
+
+/// Takes a text away that this run made, if it is still empty and no other program holds it.
+fn take_empty<R: Files<File = File> + AllocGlobal>(rt: &R, name: &str) {
+    if let Ok(file) = open_there(rt, name, false) {
+        if lock(&file).is_ok() {
+            take_away(rt, name, &file);
+        }
+    }
+}

@@ -1,0 +1,93 @@
+//! Changes of an image by the names of its files.
+ghost use Rattle.bx_program_sessions.specs.Task.{IsNearTask};
+
+use crate::devices::left::stopped;
+use crate::files::look::{is_missing, refuse_without_journal};
+use crate::files::names::{names_of, world_of};
+use crate::files::unopened::not_opened;
+use crate::hints::remarks::Remarks;
+use crate::history::forget::forget;
+use crate::stopped::Stopped;
+use bx_cli::{Reply, Target};
+use bx_program_files::Which;
+use bx_program_sessions::{Task, change_files};
+use bx_program_system::{Progress, take_away};
+use bx_program_world::World;
+use std::fs::File;
+use std::io::{Empty, Read};
+use std::rt::Files;
+use std::time::Clock;
+
+/// Changes an image, which is made where it is missing, as its texts are.
+pub fn change_image<'a, R, I: Read + Drop>(
+    rt: &R,
+    target: &'a Target,
+    task: Task<I>,
+    progress: &Progress<'_, R>,
+    remarks: &mut Remarks,
+) -> Result<Reply, Stopped<'a>>
+where
+    R: Files<File = File> + Print + Eprint + Clock + AllocGlobal,
+    requires near { IsNearTask task }
+{
+    refuse_without_journal(rt, target)?;
+    let names = names_of(rt.alloc(), target)?;
+    let mut world = world_of(rt, target, progress);
+    let answer = change_files(&mut world, rt.alloc(), &names, target.access.mounted, task);
+    drop(names);
+    remarks.look_at_recovered(answer.how);
+    match answer.reply.standing() {
+        Ok(_) => Ok(answer.reply),
+        Err(fault) => Err(stopped(rt, target, &world, answer.unopened, fault)),
+    }
+}
+
+/// Drops the history of an image, where it has one, and then changes it.
+pub fn change_anew<'a, R>(
+    rt: &R,
+    target: &'a Target,
+    task: Task<Empty>,
+    progress: &Progress<'_, R>,
+    remarks: &mut Remarks,
+) -> Result<Reply, Stopped<'a>>
+where
+    R: Files<File = File> + Print + Eprint + Clock + AllocGlobal,
+    requires near { IsNearTask task }
+{
+    if is_missing(rt, target.texts.journal.as_str()) {
+        return change_image(rt, target, task, progress, remarks);
+    }
+    let made = made_image(rt, target, progress)?;
+    let outcome = match forget(rt, target, progress) {
+        Ok(()) => change_image(rt, target, task, progress, remarks),
+        Err(stopped) => Err(stopped),
+    };
+    if let (Some(file), Err(_)) = (made, &outcome) {
+        take_away(rt, target.image.as_str(), &file);
+    }
+    outcome
+}
+
+/// The image, where it is missing and is made, so that its texts can be judged beside it.
+fn made_image<'a, R>(
+    rt: &R,
+    target: &'a Target,
+    progress: &Progress<'_, R>,
+) -> Result<Option<File>, Stopped<'a>>
+where
+    R: Files<File = File> + Print + Eprint + Clock + AllocGlobal,
+{
+    let image = target.image.as_str();
+    if !is_missing(rt, image) {
+        return Ok(None);
+    }
+    let mut world = world_of(rt, target, progress);
+    let outcome = match world.make_image(image) {
+        Ok(file) => file.into_system(),
+        Err(refusal) => Err(refusal),
+    };
+    match outcome {
+        Ok(file) => Ok(Some(file)),
+        Err(refusal) => Err(not_opened(rt, target, Which::Image.refused(refusal), &world)),
+    }
+}

@@ -1,0 +1,184 @@
+//! The jobs that show the changes of an image. Its files are only read; for a log, what is unfinished is recovered before.
+use crate::advice::Advice;
+use crate::devices::left::not_seen;
+use crate::files::look::refuse_without_journal;
+use crate::files::names::{names_of, world_of};
+use crate::hints::remarks::Remarks;
+use crate::history::recover;
+use crate::jobs::patches::put_patch;
+use crate::stopped::Stopped;
+use crate::streams::paged::Paged;
+use bx_cli::{Fault, LogJob, LookJob, ShowJob};
+use bx_journal::{SessionFault, Steps, Way};
+use bx_program_files::Names;
+use bx_program_looks::{Unseen, log, log_with_ranges, show, show_unfinished};
+use bx_program_system::{Progress, SystemWorld};
+use bx_text::emit;
+use std::alloc::Global;
+use std::fs::File;
+use std::io::Write;
+use std::rt::Files;
+use std::time::Clock;
+
+/// What is shown of an image that isn't the one that the last command on it left.
+const OTHER: &str = "# the image was changed since\n";
+
+/// Shows the changes of an image.
+pub fn look<'a, R, W: Write>(
+    rt: &R,
+    job: &'a LookJob,
+    out: &mut W,
+    remarks: &Remarks,
+) -> Result<(), Stopped<'a>>
+where
+    R: Files<File = File> + Print + Eprint + Clock + AllocGlobal,
+{
+    let progress = remarks.progress_of_input(rt, None);
+    match job {
+        LookJob::Log(job) => show_log(rt, job, &progress, out),
+        LookJob::Show(job) => show_next(rt, job, &progress, out),
+    }
+}
+
+/// Shows the changes that stand, a line each; what is unfinished is recovered before.
+fn show_log<'a, R, W: Write>(
+    rt: &R,
+    job: &'a LogJob,
+    progress: &Progress<'_, R>,
+    out: &mut W,
+) -> Result<(), Stopped<'a>>
+where
+    R: Files<File = File> + Print + Eprint + Clock + AllocGlobal,
+{
+    let target = &job.target;
+    refuse_without_journal(rt, target)?;
+    let is_other = job.verbose && Advice::of(rt, target).is_changed();
+    let names = names_of(rt.alloc(), target)?;
+    let mut world = world_of(rt, target, progress);
+    let mut page = Paged::new(rt.alloc(), out);
+    put_other(is_other, &mut page)?;
+    let mut outcome = list(&mut world, rt.alloc(), &names, job.verbose, &mut page);
+    if outcome == Err(Unseen::Unfinished) {
+        recover(rt, target, progress)?;
+        outcome = list(&mut world, rt.alloc(), &names, job.verbose, &mut page);
+    }
+    match outcome {
+        Ok(()) => Ok(page.put()?),
+        Err(unseen) => Err(not_seen(rt, target, &world, unseen, page.stopped)),
+    }
+}
+
+/// Writes the changes that stand, a line each, or a longer one with ranges.
+fn list<R, W: Write>(
+    world: &mut SystemWorld<'_, '_, R>,
+    alloc: Global,
+    names: &Names,
+    verbose: bool,
+    page: &mut Paged<'_, W>,
+) -> Result<(), Unseen>
+where
+    R: Files<File = File> + Print + Eprint + Clock + AllocGlobal,
+{
+    if verbose {
+        return log_with_ranges(world, alloc, names, page);
+    }
+    let text = log(world, alloc, names)?;
+    match emit(page, text.as_bytes()) {
+        Ok(()) => Ok(()),
+        Err(fault) => Err(Unseen::Stopped(Fault::Io(fault))),
+    }
+}
+
+/// Says that the image isn't the one that the last command left, where it isn't.
+pub fn put_other<W: Write>(is_other: bool, out: &mut W) -> Result<(), Fault> {
+    if is_other {
+        emit(out, OTHER.as_bytes())?;
+    }
+    Ok(())
+}
+
+/// Shows what an undo or a redo would do, as lines or as one patch.
+fn show_next<'a, R, W: Write>(
+    rt: &R,
+    job: &'a ShowJob,
+    progress: &Progress<'_, R>,
+    out: &mut W,
+) -> Result<(), Stopped<'a>>
+where
+    R: Files<File = File> + Print + Eprint + Clock + AllocGlobal,
+{
+    let target = &job.target;
+    refuse_without_journal(rt, target)?;
+    let is_other = Advice::of(rt, target).is_shown(job.way, job.count);
+    if job.as_patch {
+        return put_patch(rt, job, is_other, progress, out);
+    }
+    let mut page = Paged::new(rt.alloc(), out);
+    put_other(is_other, &mut page)?;
+    let names = names_of(rt.alloc(), target)?;
+    let mut world = world_of(rt, target, progress);
+    let outcome = show(&mut world, rt.alloc(), &names, steps_of(job), &mut page);
+    match outcome {
+        Ok(()) => Ok(page.put()?),
+        Err(Unseen::Unfinished) => show_begun(rt, job, &names, &mut world, page),
+        Err(unseen) => Err(not_seen(rt, target, &world, unseen, page.stopped)),
+    }
+}
+
+/// The steps that a job asks for, whatever changes stand.
+pub fn steps_of(job: &ShowJob) -> Steps {
+    Steps {
+        way: job.way,
+        count: job.count,
+        changes: 0,
+        compares: job.compares,
+    }
+}
+
+/// Shows that something is unfinished, and what an undo would do once it is recovered. Nothing can be made again then. The line
+/// on it is written also where fewer changes stand than are to be shown.
+fn show_begun<'a, R, W: Write>(
+    rt: &R,
+    job: &'a ShowJob,
+    names: &Names,
+    world: &mut SystemWorld<'_, '_, R>,
+    page: Paged<'_, W>,
+) -> Result<(), Stopped<'a>>
+where
+    R: Files<File = File> + Print + Eprint + Clock + AllocGlobal,
+{
+    let mut page = page;
+    let steps = steps_of(job);
+    let mut outcome = if steps.way == Way::Redo && steps.count > 0 {
+        let fault = SessionFault::NothingToRedo { have: 0 };
+        Err(Unseen::Stopped(Fault::Session(fault)))
+    } else {
+        show_unfinished(world, rt.alloc(), names, steps, &mut page)
+    };
+    if are_too_few(&outcome) {
+        let none = Steps { count: 0, ..steps };
+        if let Err(unseen) = show_unfinished(world, rt.alloc(), names, none, &mut page) {
+            outcome = Err(unseen);
+        }
+    }
+    if outcome.is_ok() || are_too_few(&outcome) {
+        page.put()?;
+    }
+    match outcome {
+        Ok(()) => Ok(()),
+        Err(unseen) => {
+            let stopped = not_seen(rt, &job.target, world, unseen, page.stopped);
+            Err(stopped.on_begun(job.target.image.as_str()))
+        }
+    }
+}
+
+/// Whether fewer changes stand than are to be shown.
+fn are_too_few(outcome: &Result<(), Unseen>) -> bool {
+    matches!(
+        outcome,
+        Err(Unseen::Stopped(Fault::Session(
+            SessionFault::TooFew { .. } | SessionFault::NothingToRedo { .. }
+        ),))
+    )
+}
