@@ -11,9 +11,14 @@ use bx_journal::Way;
 use bx_journal_image::{
     ImageLine, Standing, is_changed, is_redo_refused, is_undo_refused, others_after,
 };
+use bx_text::{IoFault, emit};
 use std::fs::File;
+use std::io::Write;
 use std::rt::Files;
 use std::time::Clock;
+
+/// What is shown of an image that isn't the one that the last command on it left.
+const OTHER: &str = "# the image was changed since\n";
 
 /// The line, and what a command finds before its first write.
 #[derive(Clone, Copy)]
@@ -131,4 +136,12 @@ where
     R: Files<File = File> + AllocGlobal,
 {
     let _ = empty(rt, target);
+}
+
+/// Says that the image isn't the one that the last command left, where it isn't.
+pub fn put_other<W: Write>(is_other: bool, out: &mut W) -> Result<(), IoFault> {
+    if is_other {
+        return emit(out, OTHER.as_bytes());
+    }
+    Ok(())
 }

@@ -20,7 +20,7 @@ use std::time::Clock;
 ///
 /// # Errors
 /// As of an undo.
-pub fn recover<'a, R>(
+pub fn recover_image<'a, R>(
     rt: &R,
     target: &'a Target,
     progress: &Progress<'_, R>,

@@ -7,7 +7,7 @@ use crate::devices::left::{not_seen, stopped_by};
 use crate::files::look::refuse_without_journal;
 use crate::files::names::{names_of, world_of};
 use crate::files::read::{ImageFiles, open_texts};
-use crate::history::recover;
+use crate::history::recover_image;
 use crate::stopped::Stopped;
 use bx_cli::{Durability, Fault, Target};
 use bx_image::{Device, FileImage};
@@ -65,7 +65,7 @@ where
     let mut world = world_of(rt, target, progress);
     match show(&mut world, rt.alloc(), &names, NO_STEP, &mut io::sink()) {
         Ok(()) => Ok(()),
-        Err(Unseen::Unfinished) => recover(rt, target, progress),
+        Err(Unseen::Unfinished) => recover_image(rt, target, progress),
         Err(Unseen::Stopped(fault)) if is_kept(fault) => Ok(()),
         Err(unseen) => Err(not_seen(rt, target, &world, unseen, None)),
     }

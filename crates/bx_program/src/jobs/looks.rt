@@ -1,10 +1,10 @@
 //! The jobs that show the changes of an image. Its files are only read; for a log, what is unfinished is recovered before.
-use crate::advice::Advice;
+use crate::advice::{Advice, put_other};
 use crate::devices::left::not_seen;
 use crate::files::look::refuse_without_journal;
 use crate::files::names::{names_of, world_of};
 use crate::hints::remarks::Remarks;
-use crate::history::recover;
+use crate::history::recover_image;
 use crate::jobs::patches::put_patch;
 use crate::stopped::Stopped;
 use crate::streams::paged::Paged;
@@ -19,9 +19,6 @@ use std::fs::File;
 use std::io::Write;
 use std::rt::Files;
 use std::time::Clock;
-
-/// What is shown of an image that isn't the one that the last command on it left.
-const OTHER: &str = "# the image was changed since\n";
 
 /// Shows the changes of an image.
 pub fn look<'a, R, W: Write>(
@@ -56,10 +53,10 @@ where
     let names = names_of(rt.alloc(), target)?;
     let mut world = world_of(rt, target, progress);
     let mut page = Paged::new(rt.alloc(), out);
-    put_other(is_other, &mut page)?;
+    put_other(is_other, &mut page).map_err(Fault::Io)?;
     let mut outcome = list(&mut world, rt.alloc(), &names, job.verbose, &mut page);
     if outcome == Err(Unseen::Unfinished) {
-        recover(rt, target, progress)?;
+        recover_image(rt, target, progress)?;
         outcome = list(&mut world, rt.alloc(), &names, job.verbose, &mut page);
     }
     match outcome {
@@ -89,14 +86,6 @@ where
     }
 }
 
-/// Says that the image isn't the one that the last command left, where it isn't.
-pub fn put_other<W: Write>(is_other: bool, out: &mut W) -> Result<(), Fault> {
-    if is_other {
-        emit(out, OTHER.as_bytes())?;
-    }
-    Ok(())
-}
-
 /// Shows what an undo or a redo would do, as lines or as one patch.
 fn show_next<'a, R, W: Write>(
     rt: &R,
@@ -111,10 +100,10 @@ where
     refuse_without_journal(rt, target)?;
     let is_other = Advice::of(rt, target).is_shown(job.way, job.count);
     if job.as_patch {
-        return put_patch(rt, job, is_other, progress, out);
+        return put_patch(rt, target, steps_of(job), is_other, progress, out);
     }
     let mut page = Paged::new(rt.alloc(), out);
-    put_other(is_other, &mut page)?;
+    put_other(is_other, &mut page).map_err(Fault::Io)?;
     let names = names_of(rt.alloc(), target)?;
     let mut world = world_of(rt, target, progress);
     let outcome = show(&mut world, rt.alloc(), &names, steps_of(job), &mut page);
@@ -126,7 +115,7 @@ where
 }
 
 /// The steps that a job asks for, whatever changes stand.
-pub fn steps_of(job: &ShowJob) -> Steps {
+fn steps_of(job: &ShowJob) -> Steps {
     Steps {
         way: job.way,
         count: job.count,

@@ -1,16 +1,16 @@
 //! The changes that an undo or a redo would step over, as one patch.
 mod lines;
 
+use crate::advice::put_other;
 use crate::devices::left::not_seen;
 use crate::devices::pairs::{Cut, open_pair};
 use crate::files::names::{names_of, world_of};
 use crate::files::read::open_to_read;
-use crate::jobs::looks::{put_other, steps_of};
 use crate::jobs::patches::lines::ShownLines;
 use crate::stopped::Stopped;
-use bx_cli::ShowJob;
+use bx_cli::{Fault, Target};
 use bx_image::Change;
-use bx_journal::Way;
+use bx_journal::{Steps, Way};
 use bx_program_looks::show;
 use bx_program_system::Progress;
 use std::fs::File;
@@ -23,7 +23,8 @@ use std::time::Clock;
 /// the image isn't the one that the last command left.
 pub fn put_patch<'a, R, W: Write>(
     rt: &R,
-    job: &'a ShowJob,
+    target: &'a Target,
+    steps: Steps,
     is_other: bool,
     progress: &Progress<'_, R>,
     out: &mut W,
@@ -31,40 +32,40 @@ pub fn put_patch<'a, R, W: Write>(
 where
     R: Files<File = File> + Print + Eprint + Clock + AllocGlobal,
 {
-    let target = &job.target;
     // The three stay open, and locked, up to the end.
     let held = open_to_read(rt, target)?;
-    let (change, length) = read_steps(rt, job, progress)?;
+    let (change, length) = read_steps(rt, target, steps, progress)?;
     let name = target.image.as_str();
     let asked = Cut {
         change,
         length,
-        to_image: job.way == Way::Undo,
+        to_image: steps.way == Way::Undo,
     };
     let pair = open_pair(rt, name, progress)?;
-    put_other(is_other, out)?;
+    put_other(is_other, out).map_err(Fault::Io)?;
     let outcome = pair.put_cut(rt.alloc(), name, asked, out);
     drop(held);
     outcome
 }
 
-/// What the steps of a job write, and the length behind the last one.
+/// What steps write, and the length behind the last one.
 fn read_steps<'a, R>(
     rt: &R,
-    job: &'a ShowJob,
+    target: &'a Target,
+    steps: Steps,
     progress: &Progress<'_, R>,
 ) -> Result<(Change, Option<u64>), Stopped<'a>>
 where
     R: Files<File = File> + Print + Eprint + Clock + AllocGlobal,
 {
-    let names = names_of(rt.alloc(), &job.target)?;
-    let mut world = world_of(rt, &job.target, progress);
+    let names = names_of(rt.alloc(), target)?;
+    let mut world = world_of(rt, target, progress);
     let mut lines = ShownLines::new(rt.alloc());
-    match show(&mut world, rt.alloc(), &names, steps_of(job), &mut lines) {
+    match show(&mut world, rt.alloc(), &names, steps, &mut lines) {
         Ok(()) => Ok(lines.finish()?),
         Err(unseen) => match lines.fault {
             Some(fault) => Err(Stopped::from(fault)),
-            None => Err(not_seen(rt, &job.target, &world, unseen, None)),
+            None => Err(not_seen(rt, target, &world, unseen, None)),
         },
     }
 }
