@@ -1,5 +1,5 @@
 -- What a person sees of the changes of an image, and why not.
-use Rattle.std.specs.Prelude.{◌≡◌, ◌⊎◌, ℕ, List, Option}
+use Rattle.std.specs.Prelude.{◌≡◌, ◌⊎◌, ℕ, List, Option, None, Some, Result, Ok, Err}
 use Rattle.std.specs.List.{flat_map}
 use Rattle.bx_text.specs.declared.fault.IoFault.TheVariants.{NoMemory as LacksMemory}
 use Rattle.bx_journal.specs.Calls.{Differs, rows_of}
@@ -20,6 +20,7 @@ use Rattle.bx_cli_commands.specs.declared.fault.Fault.TheVariants.{Io, Session}
 use Rattle.bx_program_world.specs.World.{Sight, held}
 use Rattle.bx_program_files.specs.Reading.{MayRefuseReading}
 use Rattle.bx_program_files.specs.declared.names.Names.{Names}
+use Rattle.bx_program_files.specs.declared.unopened.Unopened.{Unopened as UnopenedFile}
 use Rattle.bx_program_looks.specs.declared.unseen.Unseen.{Unseen}
 use Rattle.bx_program_looks.specs.declared.unseen.Unseen.TheVariants.{Unopened, Unfinished, Stopped}
 
@@ -95,6 +96,11 @@ AreStepsCut text image s old new unseen = ⊥
 abbrev pub IsNextCut : List ℕ → List ℕ → List ℕ → Steps → Option (List ℕ) → Option (List ℕ) → Unseen → Type 0
 IsNextCut image journal redo s old new unseen =
     (changes : ℕ) × HasEntries journal changes × AreStepsCut (stepped_text s.way journal redo) image (steps_from s changes) old new unseen
+
+-- the file that a look did not open; none where it opened all
+abbrev pub unopened_in : {V : Type 0} → Result V Unseen → Option UnopenedFile
+unopened_in (Err (Unopened file)) = Some file
+unopened_in outcome = None
 
 -- Why a log with ranges is stopped: the changes are not seen, and nothing is written; or a front of it is
 abbrev pub StopsRangesOf : Names → Type 0 → Sight → Option (List ℕ) → Option (List ℕ) → Unseen → Type 0

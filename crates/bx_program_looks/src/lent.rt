@@ -1,8 +1,8 @@
 //! Files that are lent as devices to be read.
-ghost use Rattle.std.specs.Prelude.{◌≡◌, ◌↔◌, ◌<◌, IfErr, IfOk};
+ghost use Rattle.std.specs.Prelude.{◌≡◌, ◌↔◌, ◌<◌, IfErr, IfOk, OnOk};
 ghost use Rattle.bx_journal.specs.ThreeDevices.{AreBelow};
 ghost use Rattle.bx_program_world.specs.World.{NothingNewFound, bytes_if, number_if};
-ghost use Rattle.bx_program_files.specs.Reading.{MayRefuseReading, StaysSeen, numbers_read};
+ghost use Rattle.bx_program_files.specs.Reading.{AreReadable, MayRefuseReading, StaysSeen, numbers_read};
 ghost use Rattle.bx_program_files.specs.Reasons.{IsReason, NoneUnfit};
 ghost use Rattle.bx_program_looks.specs.Devices.{HoldFiles, HoldNumbered};
 
@@ -69,6 +69,7 @@ fn lend_files<W: World>(
 pub fn lend<W: World>(world: &mut W, names: &Names) -> Result<Devices<W::Image, W::Text>, Unopened>
     ensures below { IfOk result (AreBelow W.Image.Device W.Text.TextStore u64.MAX) }
     ensures held { W.honest world.old → IfOk result (HoldFiles W.Image.Device W.Text.TextStore names.now (W.sight world.old)) }
+    ensures fit { W.honest world.old → OnOk result (AreReadable names.now (W.sight world.old)) }
     ensures why { W.honest world.old
         → IfErr result (MayRefuseReading names.now (W.refusals world.old < W.refusals world.new) (W.sight world.old)) }
     ensures same { W.honest world.old → W.sight world.new ≡ W.sight world.old }

@@ -1,8 +1,9 @@
 //! The changes that stand, a line each, by the names of their files.
-ghost use Rattle.std.specs.Prelude.{◌≡◌, ◌↔◌, ◌<◌, IfErr, IfOk, OnOk, string_bytes};
+ghost use Rattle.std.specs.Prelude.{◌≡◌, ◌↔◌, ◌<◌, None, IfErr, IfOk, OnOk, string_bytes};
 ghost use Rattle.bx_journal.specs.Showing.{RangesOf};
 ghost use Rattle.bx_program_world.specs.World.{NothingNewFound, held};
-ghost use Rattle.bx_program_looks.specs.Looks.{IsLogOf, MayNotLook, StopsRangesOf};
+ghost use Rattle.bx_program_files.specs.Reading.{AreReadable};
+ghost use Rattle.bx_program_looks.specs.Looks.{IsLogOf, MayNotLook, StopsRangesOf, unopened_in};
 
 use crate::devices::{log_on, ranges_on};
 use crate::lent::{close, lend};
@@ -22,6 +23,7 @@ pub fn log<W: World>(world: &mut W, alloc: Global, names: &Names) -> Result<Stri
     ensures log { W.honest world.old → IfOk result (λ log. IsLogOf (held (W.sight world.old) names.now.journal) (string_bytes log)) }
     ensures why { W.honest world.old
         → IfErr result (MayNotLook names.now (W.refusals world.old < W.refusals world.new) (W.sight world.old)) }
+    ensures fit { W.honest world.old → unopened_in result ≡ None → AreReadable names.now (W.sight world.old) }
     ensures same { W.honest world.old → W.sight world.new ≡ W.sight world.old }
     ensures survives { W.honest world.old → NothingNewFound (W.survives world.old) (W.survives world.new) }
     ensures honesty { W.honest world.new ↔ W.honest world.old }
@@ -48,6 +50,7 @@ pub fn log_with_ranges<W: World, O: Write>(
         → OnOk result (RangesOf (held (W.sight world.old) names.now.journal) (O.contents out.old) (O.contents out.new)) }
     ensures stops { W.honest world.old → IfErr result (StopsRangesOf names.now (W.refusals world.old < W.refusals world.new)
         (W.sight world.old) (O.contents out.old) (O.contents out.new)) }
+    ensures fit { W.honest world.old → unopened_in result ≡ None → AreReadable names.now (W.sight world.old) }
     ensures same { W.honest world.old → W.sight world.new ≡ W.sight world.old }
     ensures survives { W.honest world.old → NothingNewFound (W.survives world.old) (W.survives world.new) }
     ensures honesty { W.honest world.new ↔ W.honest world.old }

@@ -1,8 +1,9 @@
 //! What the next undos or redos would do, by the names of the files.
-ghost use Rattle.std.specs.Prelude.{◌≡◌, ◌↔◌, ◌<◌, IfErr, OnOk};
+ghost use Rattle.std.specs.Prelude.{◌≡◌, ◌↔◌, ◌<◌, None, IfErr, OnOk};
 ghost use Rattle.bx_journal.specs.ShownSteps.{ShowsSteps};
 ghost use Rattle.bx_program_world.specs.World.{NothingNewFound, held};
-ghost use Rattle.bx_program_looks.specs.Looks.{IsNextShown, StopsNextSteps, StopsUndos, undos};
+ghost use Rattle.bx_program_files.specs.Reading.{AreReadable};
+ghost use Rattle.bx_program_looks.specs.Looks.{IsNextShown, StopsNextSteps, StopsUndos, undos, unopened_in};
 
 use crate::devices::{show_on, undos_on};
 use crate::lent::{close, lend};
@@ -30,6 +31,7 @@ pub fn show<W: World, O: Write>(
         (held (W.sight world.old) names.now.journal) (held (W.sight world.old) names.now.redo) steps (O.contents out.old) (O.contents out.new)) }
     ensures stops { W.honest world.old → IfErr result (StopsNextSteps names.now (W.refusals world.old < W.refusals world.new)
         (W.sight world.old) steps (O.contents out.old) (O.contents out.new)) }
+    ensures fit { W.honest world.old → unopened_in result ≡ None → AreReadable names.now (W.sight world.old) }
     ensures same { W.honest world.old → W.sight world.new ≡ W.sight world.old }
     ensures survives { W.honest world.old → NothingNewFound (W.survives world.old) (W.survives world.new) }
     ensures honesty { W.honest world.new ↔ W.honest world.old }
@@ -59,6 +61,7 @@ pub fn show_unfinished<W: World, O: Write>(
         (held (W.sight world.old) names.now.image) (undos steps) (O.contents out.old) (O.contents out.new)) }
     ensures stops { W.honest world.old → IfErr result (StopsUndos names.now (W.refusals world.old < W.refusals world.new)
         (W.sight world.old) steps (O.contents out.old) (O.contents out.new)) }
+    ensures fit { W.honest world.old → unopened_in result ≡ None → AreReadable names.now (W.sight world.old) }
     ensures same { W.honest world.old → W.sight world.new ≡ W.sight world.old }
     ensures survives { W.honest world.old → NothingNewFound (W.survives world.old) (W.survives world.new) }
     ensures honesty { W.honest world.new ↔ W.honest world.old }
