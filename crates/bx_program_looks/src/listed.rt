@@ -39,7 +39,7 @@ pub fn log<W: World>(world: &mut W, alloc: Global, names: &Names) -> Result<Stri
 /// Writes the changes of an image, a line with ranges each, the oldest first. The files are only read.
 ///
 /// # Errors
-/// As of `log`; and where the lines can't be written, and a front of them is out.
+/// As of `log`; and where the lines can't be written: a front of them is out then.
 pub fn log_with_ranges<W: World, O: Write>(
     world: &mut W,
     alloc: Global,

@@ -19,7 +19,7 @@ use std::io::Write;
 ///
 /// # Errors
 /// Where a file is not opened, where something is unfinished, and where a text is damaged, the image has another length, or memory or
-/// a device fails; where fewer changes are there, and where the steps can't be written, and a front of them is out.
+/// a device fails; where fewer changes are there, and where the steps can't be written: a front of them is out then.
 pub fn show<W: World, O: Write>(
     world: &mut W,
     alloc: Global,
@@ -49,7 +49,7 @@ pub fn show<W: World, O: Write>(
 ///
 /// # Errors
 /// Where a file is not opened; where the journal is damaged or has fewer entries, memory or a device fails, and where the steps
-/// can't be written, and a front of them is out.
+/// can't be written: a front of them is out then.
 pub fn show_unfinished<W: World, O: Write>(
     world: &mut W,
     alloc: Global,

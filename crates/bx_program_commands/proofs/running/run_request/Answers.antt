@@ -1,0 +1,4 @@
+use Rattle.bx_program_commands.proofs.running.run_request.Goals as goal
+
+pub returns-in-Change-clause-survives : goal.returns-in-Change-clause-survives
+returns-in-Change-clause-survives g c old = rw c.in-Change.is (c.change_files.ensures.survives old)

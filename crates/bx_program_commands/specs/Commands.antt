@@ -1,0 +1,122 @@
+-- What a command on named files does, in the words of the calls that it is made of.
+use Rattle.std.specs.Prelude.{◌≡◌, ◌<◌, ℕ, true, false, List, Option, None, Result, Err, IfOk, IfErr, IfSome, OnOk}
+use Rattle.std.specs.Result.{MatchResult}
+use Rattle.bx_journal.specs.Images.{Images}
+use Rattle.bx_journal.specs.SessionFault.TheVariants.{Interrupted}
+use Rattle.bx_journal.specs.Way.{Way}
+use Rattle.bx_cli_commands.specs.Refusal.{IsWholeRefusal}
+use Rattle.bx_cli_commands.specs.Replies.{stands_by}
+use Rattle.bx_cli_commands.specs.declared.command.Reply.TheVariants.{Refused}
+use Rattle.bx_cli_commands.specs.declared.fault.Fault.TheVariants.{OpenFailed, Session}
+use Rattle.bx_cli_commands.specs.declared.jobs.dump.Done.{Done}
+use Rattle.bx_cli_commands.specs.declared.jobs.dumps.DumpJob.{DumpJob}
+use Rattle.bx_program_world.specs.World.{NothingNewFound, Sight, Trio}
+use Rattle.bx_program_files.specs.Files.{LeavesFiles}
+use Rattle.bx_program_files.specs.Fit.{AreFit}
+use Rattle.bx_program_files.specs.Reading.{AreReadable, MayRefuseReading}
+use Rattle.bx_program_files.specs.Reasons.{MayRefuseOpening}
+use Rattle.bx_program_files.specs.declared.names.Names.{Names}
+use Rattle.bx_program_files.specs.declared.unopened.Unopened.{Unopened}
+use Rattle.bx_program_sessions.specs.Changes.{Changes, InterruptsChange, RefusesChange, SaysRecovered}
+use Rattle.bx_program_sessions.specs.Contents.{DoesFound, FoundIn, Holds, Survives, recovered_as}
+use Rattle.bx_program_sessions.specs.Moves.{Moves, StopsMove, TellsRecovered, stepped}
+use Rattle.bx_program_sessions.specs.Named.{IsUnrecovered, KeepsOthers, LeadTo, contents_of}
+use Rattle.bx_program_sessions.specs.Task.{IsNearTask}
+use Rattle.bx_program_sessions.specs.declared.moves.Moved.{Moved}
+use Rattle.bx_program_sessions.specs.declared.named.Answer.{Answer}
+use Rattle.bx_program_sessions.specs.declared.task.Task.{Task}
+use Rattle.bx_program_dumps.specs.Dumps.{CountsUndumped, DumpsNamed, StopsNamed}
+use Rattle.bx_program_dumps.specs.declared.undumped.Undumped.{Undumped}
+use Rattle.bx_program_commands.specs.Outcome.{ended_by}
+use Rattle.bx_program_commands.specs.Reports.{Reports}
+use Rattle.bx_program_commands.specs.Scene.{Scene}
+use Rattle.bx_program_commands.specs.declared.outcome.Outcome.{Outcome}
+use Rattle.bx_program_commands.specs.declared.outcome.Outcome.TheVariants as of
+use Rattle.bx_program_commands.specs.declared.request.Request.{Request}
+use Rattle.bx_program_commands.specs.declared.request.Request.TheVariants.{Move, Change, Dump, Look}
+
+-- Of files that hold images an undo or a redo leaves those with `count` changes moved and writes how many stand, or it stops and says why; of
+-- files in which opening finds images, as after a crash, it does so on what is recovered
+pub record DoesMove (names : Names) (way : Way) (count : ℕ) (moved : Moved (Unit {0})) (old new : Sight) : Type 0 where
+  pub done : (s : Images) → Holds (contents_of names old) s → OnOk moved.outcome (Moves names count (stepped way s) old new)
+  pub stopped : (s : Images) → Holds (contents_of names old) s → IfErr moved.outcome (StopsMove names count (stepped way s) moved.unopened old new)
+  pub whole : (s : Images) → Holds (contents_of names old) s → IsUnrecovered moved.how
+  pub recovered : (s : Images) → FoundIn (contents_of names old) s → moved.unopened ≡ None
+      → IfSome moved.how (λ how. OnOk moved.outcome (Moves names count (stepped way (recovered_as how s)) old new))
+
+-- Of files that hold images a change leaves those of the machine's next step, or all files as they were, or, where it was interrupted, files in
+-- which opening finds the images before or behind it; after a crash it is done on what is recovered
+pub record DoesChange {R : Type 0} (remaining : R → Option (List ℕ)) (names : Names) (task : Task R) (answer : Answer) (old new : Sight) : Type 0 where
+  pub done : (s : Images) → Holds (contents_of names old) s
+      → IfOk (stands_by answer.reply) (Changes remaining s task answer.reply (contents_of names new))
+  pub refused : (s : Images) → Holds (contents_of names old) s → IsWholeRefusal answer.reply
+      → RefusesChange remaining s task answer.reply answer.unopened old new
+  pub interrupted : (s : Images) → Holds (contents_of names old) s → answer.reply ≡ Refused (Session Interrupted)
+      → InterruptsChange remaining s task (contents_of names new)
+  pub whole : (s : Images) → Holds (contents_of names old) s → IsUnrecovered answer.how
+  pub recovered : (s : Images) → FoundIn (contents_of names old) s → answer.unopened ≡ None
+      → DoesFound remaining s task answer.how answer.reply (contents_of names new)
+
+-- A dump writes the job's text of all bytes of the file, or a front of it and says why; a file that isn't opened is missing, or the system counted
+-- a call that it refused
+pub record DoesDump (job : DumpJob) (name : List ℕ) (outcome : Result Done Undumped) (old new : Scene) : Type 0 where
+  pub text : MatchResult outcome (λ done. DumpsNamed job name old.sight done old.written new.written)
+      (λ e. StopsNamed job name old.sight e old.written new.written)
+  pub counted : CountsUndumped outcome old.refusals new.refusals
+
+-- what each command does
+abbrev pub Fulfills : {R : Type 0} → (R → Option (List ℕ)) → Request R → Outcome → Scene → Scene → Type 0
+Fulfills remaining (Move names mounted way count) (of.Moved moved) old new = DoesMove names.now way count moved old.sight new.sight
+Fulfills remaining (Change names mounted task) (of.Changed answer) old new = DoesChange remaining names.now task answer old.sight new.sight
+Fulfills remaining (Dump job name) (of.Dumped outcome) old new = DoesDump job.now name.now outcome old new
+Fulfills remaining (Look names report) (of.Looked outcome) old new = Reports names.now report outcome old new
+Fulfills remaining request outcome old new = ⊥
+
+-- a change's offset or place is at most 2 ^ 62
+abbrev pub IsNearRequest : {R : Type 0} → Request R → Type 0
+IsNearRequest (Change names mounted task) = IsNearTask task
+IsNearRequest request = Unit {0}
+
+-- whatever is found of the files behind a change and a loss of power, opening finds the images of an end of it; behind a dump and a report
+-- nothing is found that wasn't before
+abbrev pub SurvivesLoss : {R : Type 0} → (R → Option (List ℕ)) → Request R → Outcome → Sight → Sight
+    → (ℕ → List ℕ → Type 0) → (ℕ → List ℕ → Type 0) → Type 0
+SurvivesLoss remaining (Change names mounted task) (of.Changed answer) old new found left =
+    (s : Images) → Holds (contents_of names.now old) s → (IsWholeRefusal answer.reply → ⊥) → (t : Trio) → LeadTo names.now t new
+    → Survives remaining s task answer.reply (left t.image) (left t.journal) (left t.redo)
+SurvivesLoss remaining (Move names mounted way count) outcome old new found left = Unit {0}
+SurvivesLoss remaining request outcome old new found left = NothingNewFound found left
+
+-- no file is changed but the three of an undo, a redo or a change, and each name leads where it led
+abbrev pub LeavesOthers : {R : Type 0} → Request R → Sight → Sight → Type 0
+LeavesOthers (Move names mounted way count) old new = KeepsOthers names.now old new
+LeavesOthers (Change names mounted task) old new = KeepsOthers names.now old new
+LeavesOthers request old new = new ≡ old
+
+-- what stands under the names may be opened, by the rule: to be changed, or to be read; a dump is of any file
+abbrev pub MayOpen : {R : Type 0} → Request R → Sight → Type 0
+MayOpen (Move names mounted way count) w = AreFit names.now mounted w
+MayOpen (Change names mounted task) w = AreFit names.now mounted w
+MayOpen (Dump job name) w = Unit {0}
+MayOpen (Look names report) w = AreReadable names.now w
+
+-- why a file of an image may not be opened
+abbrev pub MayRefuseFile : {R : Type 0} → Request R → Type 0 → Sight → Unopened → Type 0
+MayRefuseFile (Move names mounted way count) counted w file = MayRefuseOpening names.now mounted false counted w file
+MayRefuseFile (Change names mounted task) counted w file = MayRefuseOpening names.now mounted true counted w file
+MayRefuseFile (Dump job name) counted w file = ⊥
+MayRefuseFile (Look names report) counted w file = MayRefuseReading names.now counted w file
+
+-- A file of an image wasn't opened: the fault says so, all files are as they were, nothing is written, and there is a reason
+pub record StopsUnopened {R : Type 0} (request : Request R) (outcome : Outcome) (old new : Scene) (file : Unopened) : Type 0 where
+  pub fault : ended_by outcome ≡ Err OpenFailed
+  pub files : LeavesFiles old.sight new.sight
+  pub why : MayRefuseFile request (old.refusals < new.refusals) old.sight file
+
+-- What is written: what was recovered on standard error; of an undo and a redo a number on standard output; of a dump and a report what stands in
+-- the output that they are given
+abbrev pub Writes : {R : Type 0} → Request R → Outcome → Scene → Scene → Type 0
+Writes (Move names mounted way count) (of.Moved moved) old new =
+    TellsRecovered moved.how old.sight.errors new.sight.errors × (new.written ≡ old.written)
+Writes (Change names mounted task) (of.Changed answer) old new = SaysRecovered answer.how old.sight new.sight × (new.written ≡ old.written)
+Writes request outcome old new = (new.sight.output ≡ old.sight.output) × (new.sight.errors ≡ old.sight.errors)

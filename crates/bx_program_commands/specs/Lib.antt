@@ -1,0 +1,4 @@
+pub mod Scene
+pub mod Outcome
+pub mod Reports
+pub mod Commands

@@ -1,0 +1,13 @@
+-- What stands before a command and behind it.
+use Rattle.std.specs.Prelude.{ℕ, List, Option}
+use Rattle.bx_program_world.specs.World.{Sight}
+
+-- What a person can see, how many calls the system refused, and what the output holds that dumps and reports are written to
+pub record Scene : Type 0 where
+  pub sight : Sight
+  pub refusals : ℕ
+  pub written : Option (List ℕ)
+
+-- the same of a world and an output
+abbrev pub scene : {W O : Type 0} → (W → Sight) → (W → ℕ) → (O → Option (List ℕ)) → W → O → Scene
+scene sight refusals contents world out = record { sight = sight world; refusals = refusals world; written = contents out }

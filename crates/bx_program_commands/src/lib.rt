@@ -1,0 +1,11 @@
+//! One call for every command on named files, whose contract has all of them. An inner part of `bx_program`.
+#![tactic(auto)]
+
+mod outcome;
+mod report;
+mod request;
+mod running;
+
+pub use outcome::Outcome;
+pub use request::{Report, Request};
+pub use running::run_request;

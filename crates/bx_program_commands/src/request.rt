@@ -1,0 +1,57 @@
+//! What is asked for: a command on named files.
+use bx_cli_commands::DumpJob;
+use bx_journal::{Steps, Way};
+use bx_program_files::Names;
+use bx_program_sessions::Task;
+use std::io::Empty;
+
+/// What is reported of the changes of an image.
+#[derive(Clone, Copy)]
+pub enum Report {
+    /// A line for each change that stands, the oldest first.
+    Log,
+    /// A line with ranges for each change that stands, the oldest first.
+    LogWithRanges,
+    /// What the next undos or redos would do.
+    Show(Steps),
+    /// What is unfinished, and what the next undos would do once it is recovered.
+    ShowUnfinished(Steps),
+}
+
+/// A command on named files. `R` is what dd reads.
+pub enum Request<'a, R = Empty> {
+    /// Takes the last changes back, or makes those undone last again: `undo`, `redo`.
+    Move {
+        /// The files of the image.
+        names: &'a Names,
+        /// Whether the image may be a device that is mounted.
+        mounted: bool,
+        /// Back or again.
+        way: Way,
+        /// How many changes are moved.
+        count: u32,
+    },
+    /// Changes an image, which is made where it is missing, as its texts are: `revert`, `patch`, `dd of=`.
+    Change {
+        /// The files of the image.
+        names: &'a Names,
+        /// Whether the image may be a device that is mounted.
+        mounted: bool,
+        /// The change.
+        task: Task<R>,
+    },
+    /// Writes what a job makes of a file: `od`, `xxd`, `hexdump`, `strings`, `dd`.
+    Dump {
+        /// The job.
+        job: &'a DumpJob,
+        /// The file.
+        name: &'a str,
+    },
+    /// Writes a report of the changes of an image: `log`, `show`.
+    Look {
+        /// The files of the image.
+        names: &'a Names,
+        /// What is reported.
+        report: Report,
+    },
+}

@@ -1,0 +1,65 @@
+//! The one call.
+ghost use Rattle.std.specs.Prelude.{◌≡◌, ◌↔◌, None, IfSome};
+ghost use Rattle.bx_program_commands.specs.Commands.{Fulfills, IsNearRequest, LeavesOthers, MayOpen, StopsUnopened, SurvivesLoss, Writes};
+ghost use Rattle.bx_program_commands.specs.Outcome.{unopened_by};
+ghost use Rattle.bx_program_commands.specs.Scene.{scene};
+
+use crate::outcome::Outcome;
+use crate::report::write_report;
+use crate::request::Request;
+use bx_program_dumps::dump_file;
+use bx_program_sessions::{change_files, move_changes};
+use bx_program_world::World;
+use std::alloc::Global;
+use std::io::{Read, Write};
+
+/// Runs a command on named files. An undo or a redo writes its number on standard output, and dumps and reports are written to
+/// `out`; what was recovered is said on standard error.
+pub fn run_request<W: World, R: Read + Drop, O: Write>(
+    world: &mut W,
+    alloc: Global,
+    request: Request<'_, R>,
+    out: &mut O,
+) -> Outcome
+    requires near { IsNearRequest request }
+    requires free { W.honest world.old → (W.sight world.old).lent ≡ None }
+
+    // Each command does what it is to, or is refused and says why; after a crash it does so on what is recovered.
+    ensures does { W.honest world.old → Fulfills R.remaining request.entry result
+        (scene W.sight W.refusals O.contents world.old out.old) (scene W.sight W.refusals O.contents world.new out.new) }
+
+    // Behind a loss of power opening finds an end of it.
+    ensures survives { W.honest world.old → SurvivesLoss R.remaining request.entry result
+        (W.sight world.old) (W.sight world.new) (W.survives world.old) (W.survives world.new) }
+
+    // Whatever becomes of it, no file is changed but the three of an undo, a redo or a change.
+    ensures others { W.honest world.old → LeavesOthers request.entry (W.sight world.old) (W.sight world.new) }
+
+    // No file is opened to be changed, and no text to be read, that the rule refuses; where one isn't opened, all are as they were.
+    ensures fit { W.honest world.old → unopened_by result ≡ None → MayOpen request.entry (W.sight world.old) }
+    ensures unopened { W.honest world.old → IfSome (unopened_by result) (StopsUnopened request.entry result
+        (scene W.sight W.refusals O.contents world.old out.old) (scene W.sight W.refusals O.contents world.new out.new)) }
+
+    // What is written stands where it is to.
+    ensures streams { W.honest world.old → Writes request.entry result
+        (scene W.sight W.refusals O.contents world.old out.old) (scene W.sight W.refusals O.contents world.new out.new) }
+    ensures honesty { W.honest world.new ↔ W.honest world.old }
+{
+    match request {
+        Request::Move {
+            names,
+            mounted,
+            way,
+            count,
+        } => Outcome::Moved(move_changes(world, alloc, names, mounted, way, count)),
+        Request::Change {
+            names,
+            mounted,
+            task,
+        } => Outcome::Changed(change_files(world, alloc, names, mounted, task)),
+        Request::Dump { job, name } => Outcome::Dumped(dump_file(world, alloc, job, name, out)),
+        Request::Look { names, report } => {
+            Outcome::Looked(write_report(world, alloc, names, report, out))
+        }
+    }
+}
