@@ -19,7 +19,7 @@ use Rattle.bx_program_files.specs.declared.names.Names.{Names}
 use Rattle.bx_program_files.specs.declared.unopened.Unopened.{Unopened}
 use Rattle.bx_program_sessions.specs.Changes.{Changes, InterruptsChange, RefusesChange, SaysRecovered}
 use Rattle.bx_program_sessions.specs.Contents.{DoesFound, FoundIn, Holds, Survives, recovered_as}
-use Rattle.bx_program_sessions.specs.Moves.{Moves, StopsMove, TellsRecovered, stepped}
+use Rattle.bx_program_sessions.specs.Moves.{HasMoved, Moves, StopsMove, SurvivesMove, TellsRecovered, stepped}
 use Rattle.bx_program_sessions.specs.Named.{IsUnrecovered, KeepsOthers, LeadTo, contents_of}
 use Rattle.bx_program_sessions.specs.Task.{IsNearTask}
 use Rattle.bx_program_sessions.specs.declared.moves.Moved.{Moved}
@@ -77,14 +77,16 @@ abbrev pub IsNearRequest : {R : Type 0} → Request R → Type 0
 IsNearRequest (Change names mounted task) = IsNearTask task
 IsNearRequest request = Unit {0}
 
--- whatever is found of the files behind a change and a loss of power, opening finds the images of an end of it; behind a dump and a report
--- nothing is found that wasn't before
+-- whatever is found of the files after a loss of power: behind an undo, a redo and a change opening finds the images behind some of its steps, or
+-- of an end of it; behind a dump and a report nothing is found that wasn't before
 abbrev pub SurvivesLoss : {R : Type 0} → (R → Option (List ℕ)) → Request R → Outcome → Sight → Sight
     → (ℕ → List ℕ → Type 0) → (ℕ → List ℕ → Type 0) → Type 0
+SurvivesLoss remaining (Move names mounted way count) (of.Moved moved) old new found left =
+    (s : Images) → Holds (contents_of names.now old) s → HasMoved moved.outcome → (t : Trio) → LeadTo names.now t new
+    → SurvivesMove count (stepped way s) (left t.image) (left t.journal) (left t.redo)
 SurvivesLoss remaining (Change names mounted task) (of.Changed answer) old new found left =
     (s : Images) → Holds (contents_of names.now old) s → (IsWholeRefusal answer.reply → ⊥) → (t : Trio) → LeadTo names.now t new
     → Survives remaining s task answer.reply (left t.image) (left t.journal) (left t.redo)
-SurvivesLoss remaining (Move names mounted way count) outcome old new found left = Unit {0}
 SurvivesLoss remaining request outcome old new found left = NothingNewFound found left
 
 -- no file is changed but the three of an undo, a redo or a change, and each name leads where it led

@@ -28,7 +28,7 @@ pub fn run_request<W: World, R: Read + Drop, O: Write>(
     ensures does { W.honest world.old → Fulfills R.remaining request.entry result
         (scene W.sight W.refusals O.contents world.old out.old) (scene W.sight W.refusals O.contents world.new out.new) }
 
-    // Behind a loss of power opening finds an end of it.
+    // After a loss of power, too, opening finds an end of it, or the images behind some of its steps.
     ensures survives { W.honest world.old → SurvivesLoss R.remaining request.entry result
         (W.sight world.old) (W.sight world.new) (W.survives world.old) (W.survives world.new) }
 
@@ -43,6 +43,7 @@ pub fn run_request<W: World, R: Read + Drop, O: Write>(
     // What is written stands where it is to.
     ensures streams { W.honest world.old → Writes request.entry result
         (scene W.sight W.refusals O.contents world.old out.old) (scene W.sight W.refusals O.contents world.new out.new) }
+    ensures free { W.honest world.old → (W.sight world.new).lent ≡ None }
     ensures honesty { W.honest world.new ↔ W.honest world.old }
 {
     match request {

@@ -1,9 +1,10 @@
 -- What an undo and a redo answer, from what their commands make of the files.
-use Rattle.std.proofs.Common.{◌≡◌, ◌⊎◌, ◌∙◌, ◌≤◌, ℕ, List, Option, Some, None, refl, sym, ap, subst, inl, inr}
+use Rattle.std.proofs.Common.{◌≡◌, ◌⊎◌, ◌∙◌, ◌≤◌, ℕ, List, Option, Some, None, refl, sym, ap, subst, inl, inr, arith}
 use Rattle.std.specs.Prelude.{Result, Ok, Err, IfOk, IfErr, IfSome, OnErr}
 use Rattle.bx_journal.specs.Fault.{DeviceFault}
 use Rattle.bx_journal.specs.Images.{Images, redo_of, undo_of}
 use Rattle.bx_journal.specs.Machine.{RedoStep, UndoStep}
+use Rattle.bx_journal.specs.Power.{Found}
 use Rattle.bx_journal.specs.How.{How}
 use Rattle.bx_journal.specs.Way.{Way}
 use Rattle.bx_journal.specs.Way.TheVariants.{Redo as Onward, Undo as Backward}
@@ -13,6 +14,7 @@ use Rattle.bx_program_world.specs.World.{Sight}
 use Rattle.bx_program_files.specs.Files.{LeavesFiles}
 use Rattle.bx_program_files.specs.declared.names.Names.{Names}
 use Rattle.bx_program_files.specs.declared.unopened.Unopened.{Unopened}
+use Rattle.bx_cli_commands.specs.Power.{images_of}
 use Rattle.bx_cli_commands.specs.Refusal.{IsWholeRefusal}
 use Rattle.bx_cli_commands.specs.Replies.{stands_by}
 use Rattle.bx_cli_commands.specs.Run.{CallStep, RedoesStep, UndoesStep, answered}
@@ -20,9 +22,9 @@ use Rattle.bx_cli_commands.specs.Standing.{MovesUp, Standing}
 use Rattle.bx_cli_commands.specs.declared.command.Reply.{Reply}
 use Rattle.bx_cli_commands.specs.declared.command.Reply.TheVariants.{Changed, Copied, Redone, Refused, Undone}
 use Rattle.bx_cli_commands.specs.declared.fault.Fault.{Fault}
-use Rattle.bx_cli_commands.specs.declared.fault.Fault.TheVariants.{OpenFailed, Session}
-use Rattle.bx_program_sessions.specs.Contents.{Contents, EndsAt, FindsIn, IsUnopened, StepsTo, recovered_as}
-use Rattle.bx_program_sessions.specs.Moves.{Course, IsMoved, MayNotMove, RefusesMove, again, back, command_by, stepped}
+use Rattle.bx_cli_commands.specs.declared.fault.Fault.TheVariants.{Io, OpenFailed, Session}
+use Rattle.bx_program_sessions.specs.Contents.{Contents, EndsAt, FindsIn, IsUnopened, StepsTo, Survives, recovered_as}
+use Rattle.bx_program_sessions.specs.Moves.{Course, HasMoved, IsMoved, MayNotMove, RefusesMove, SurvivesMove, again, back, command_by, stepped}
 use Rattle.bx_program_sessions.specs.Named.{MayRefuse, NothingDone, contents_of}
 use Rattle.bx_program_sessions.specs.declared.task.Task.TheVariants.{Run}
 
@@ -83,6 +85,13 @@ module _ (s : Images) (k : ℕ) (course : Course) (moved : ℕ → Images → Im
       (moves.0, moves.1, subst (λ a. EndsAt c a) (moves.2 ∙ ap Standing.Down (course_is moves.0)) ends)
   answered_down c (Err e) after is moves ends = absurd (let wrong : Refused (Session Interrupted) ≡ Refused (Session e) = is in cc)
 
+  -- where a loss of power finds one
+  pub end_of : (reply : Reply) (r : Result ℕ SessionFault) (after : Standing) → (IsWholeRefusal reply → ⊥) → reply ≡ answered made r
+      → MovesUp Step moved k s r after → (i : ℕ) × (i ≤ k) × (images_of after ≡ course.moved i)
+  end_of reply (Ok m) after begun is moves = (k, omega arith, ap images_of moves.1 ∙ moves.3 ∙ course_is k)
+  end_of reply (Err Interrupted) after begun is moves = (moves.0, moves.1, ap images_of moves.2 ∙ course_is moves.0)
+  end_of reply (Err e) after begun is moves = absurd (begun (subst IsWholeRefusal (sym is) (λ wrong. cc)))
+
   told : (reply : Reply) (n : ℕ) (c : Contents) → stands_by reply ≡ Ok n → ((after : Standing) × Call reply after × EndsAt c after) → IsMoved k course n c
   told reply n c tells step = answered_ok reply n c step.1.0 step.0 step.1.1 tells step.1.2 step.2
 
@@ -140,6 +149,15 @@ module _ (s : Images) (k : ℕ) (course : Course) (moved : ℕ → Images → Im
   answers_err names u old new (Refused OpenFailed) steps leaves why = (unopened_told u (why (λ wrong. cc)), leaves (λ wrong. cc))
   answers_err names u old new (Refused e) steps leaves why = (opened_may u e (λ wrong. cc) (why (λ wrong. cc)), leaves (λ wrong. cc))
 
+  pub survives_call : (image journal redo : List ℕ → Type 0) (reply : Reply) → (IsWholeRefusal reply → ⊥)
+      → ((x text redo_text : List ℕ) → image x → journal text → redo redo_text
+      → (after : Standing) × Call reply after × Found text x redo_text (images_of after))
+      → SurvivesMove k course image journal redo
+  survives_call image journal redo reply begun finds x text redo_text there text_there redo_there =
+      let found = finds x text redo_text there text_there redo_there in
+      let end = end_of reply found.1.0 found.0 begun found.1.1 found.1.2 in
+      (end.0, end.1, subst (Found text x redo_text) end.2 found.2)
+
 -- an undo that is refused
 undo_refuses : (s : Images) (k : ℕ) (e : SessionFault) → UndoStep s.stack k (Err e) s.stack → MayNotMove k (back s) (Session e)
 undo_refuses s k NoMemory step = tt
@@ -187,6 +205,14 @@ module _ (s : Images) (k : ℕ) where
       answers_err s k (back s) undo_of Undone (λ s k r t. UndoStep s.stack k r t.stack) (λ i. refl) (λ n. refl) (λ n new step. (step.0, step.1))
       (undo_refuses s k) names u old new reply steps leaves why
 
+  pub undone_survives : (image journal redo : List ℕ → Type 0) (reply : Reply) → (IsWholeRefusal reply → ⊥)
+      → ((x text redo_text : List ℕ) → image x → journal text → redo redo_text
+      → (after : Standing) × Undoing reply after × Found text x redo_text (images_of after))
+      → SurvivesMove k (back s) image journal redo
+  undone_survives image journal redo reply begun finds =
+      survives_call s k (back s) undo_of Undone (λ s k r t. UndoStep s.stack k r t.stack) (λ i. refl) (λ n. refl) (λ n new step. (step.0, step.1))
+      (undo_refuses s k) image journal redo reply begun finds
+
 module _ (s : Images) (k : ℕ) where
   abbrev Redoing : Reply → Standing → Type 0
   Redoing reply after = RedoesStep (Standing.Up s) k reply after
@@ -204,6 +230,25 @@ module _ (s : Images) (k : ℕ) where
   redone_err names u old new reply steps leaves why =
       answers_err s k (again s) redo_of Redone RedoStep (λ i. refl) (λ n. refl) (λ n new step. (step.0, step.1))
       (redo_refuses s k) names u old new reply steps leaves why
+
+  pub redone_survives : (image journal redo : List ℕ → Type 0) (reply : Reply) → (IsWholeRefusal reply → ⊥)
+      → ((x text redo_text : List ℕ) → image x → journal text → redo redo_text
+      → (after : Standing) × Redoing reply after × Found text x redo_text (images_of after))
+      → SurvivesMove k (again s) image journal redo
+  redone_survives image journal redo reply begun finds =
+      survives_call s k (again s) redo_of Redone RedoStep (λ i. refl) (λ n. refl) (λ n new step. (step.0, step.1)) (redo_refuses s k)
+      image journal redo reply begun finds
+
+-- changes were moved: the command wasn't refused whole
+begun_by : (names : Names) (k : ℕ) (course : Course) (u : Option Unopened) (old new : Sight) (reply : Reply) → HasMoved (stands_by reply)
+    → IfErr (stands_by reply) (RefusesMove names k course u old new) → IsWholeRefusal reply → ⊥
+begun_by names k course u old new (Changed n) has refuses whole = whole
+begun_by names k course u old new (Copied n counts) has refuses whole = whole
+begun_by names k course u old new (Undone n) has refuses whole = whole
+begun_by names k course u old new (Redone n) has refuses whole = whole
+begun_by names k course u old new (Refused (Session Interrupted)) has refuses whole = whole refl
+begun_by names k course u old new (Refused (Io fault)) has refuses whole = refuses.0
+begun_by names k course u old new (Refused e) has refuses whole = has
 
 module _ {R : Type 0} (remaining : R → Option (List ℕ)) where
   abbrev Steps : Way → Images → ℕ → Reply → Contents → Type 0
@@ -225,6 +270,16 @@ module _ {R : Type 0} (remaining : R → Option (List ℕ)) where
       → IfErr (stands_by reply) (RefusesMove names k (stepped way s) u old new)
   moved_err Backward s k names u old new reply steps leaves why = undone_err s k names u old new reply steps leaves why
   moved_err Onward s k names u old new reply steps leaves why = redone_err s k names u old new reply steps leaves why
+
+  -- where a loss of power finds them
+  pub moved_survives : (way : Way) (s : Images) (k : ℕ) (names : Names) (u : Option Unopened) (old new : Sight) (image journal redo : List ℕ → Type 0)
+      (reply : Reply) → HasMoved (stands_by reply) → IfErr (stands_by reply) (RefusesMove names k (stepped way s) u old new)
+      → ((IsWholeRefusal reply → ⊥) → Survives remaining s (Run (command_by {R = R} way k)) reply image journal redo)
+      → SurvivesMove k (stepped way s) image journal redo
+  moved_survives Backward s k names u old new image journal redo reply has refuses finds =
+      let begun = begun_by names k (back s) u old new reply has refuses in undone_survives s k image journal redo reply begun (finds begun)
+  moved_survives Onward s k names u old new image journal redo reply has refuses finds =
+      let begun = begun_by names k (again s) u old new reply has refuses in redone_survives s k image journal redo reply begun (finds begun)
 
   -- what is recovered, moved
   pub moved_found : (way : Way) (s : Images) (k : ℕ) (how : Option How) (reply : Reply) (c : Contents)

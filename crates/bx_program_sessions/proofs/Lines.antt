@@ -12,7 +12,7 @@ use Rattle.bx_cli_commands.specs.declared.command.Reply.{Reply}
 use Rattle.bx_cli_commands.specs.declared.fault.Fault.{Fault}
 use Rattle.bx_cli_commands.specs.declared.fault.Fault.TheVariants.{OpenFailed, Session}
 use Rattle.bx_program_sessions.specs.Contents.{FindsIn, Holds}
-use Rattle.bx_program_sessions.specs.Moves.{Course, IsMoved, Moves, RefusesMove, StopsLine, StopsMove, StopsPart, TellsRecovered, number_line, recovered_line}
+use Rattle.bx_program_sessions.specs.Moves.{Course, HasMoved, IsMoved, Moves, RefusesMove, StopsLine, StopsMove, StopsPart, TellsRecovered, number_line, recovered_line}
 use Rattle.bx_program_sessions.specs.Named.{IsUnrecovered, KeepsOthers, LeadTo, NothingDone, contents_of}
 
 -- the first part couldn't be written
@@ -214,3 +214,9 @@ leads_back names t mid new keeps leads = record {
   journal = sym (keeps.named names.journal) ∙ leads.journal;
   redo = sym (keeps.named names.redo) ∙ leads.redo;
 }
+
+-- changes that were moved before their number was to be written
+pub moved_before : (standing : Result ℕ Fault) (r : Result Unit Fault) (told new : Sight) → IfErr standing (λ e. (r ≡ Err e) × (new ≡ told))
+    → HasMoved r → HasMoved standing
+moved_before (Ok left) r told new refused has = tt
+moved_before (Err e) r told new refused has = subst HasMoved refused.0 has

@@ -1,5 +1,5 @@
 -- What a task answers, and what it leads to from images.
-use Rattle.std.proofs.Common.{◌≡◌, ◌∙◌, ◌≤◌, ◌-◌, ◌+◌, ℕ, zero, suc, Option, Some, None, List, [], ◌∷◌, length, drop, refl, sym, ap, subst, inl, inr, arith, Result, Ok, Err}
+use Rattle.std.proofs.Common.{◌≡◌, ◌∙◌, ◌≤◌, ◌+◌, ℕ, zero, suc, Option, Some, None, List, [], ◌∷◌, length, refl, sym, ap, subst, inl, inr, arith, Result, Ok, Err}
 use Rattle.std.specs.Prelude.{IfOk}
 use Rattle.std.proofs.lemmas.List.{length-drop}
 use Rattle.bx_image.specs.declared.change.Change.{Change}
@@ -21,7 +21,7 @@ use Rattle.bx_cli_commands.specs.Copy.{MakesCopy, MakesBy}
 use Rattle.bx_cli_commands.specs.Power.{IsChanged, IsPart}
 use Rattle.bx_cli_commands.specs.Refusal.{IsWholeRefusal}
 use Rattle.bx_cli_commands.specs.Replies.{stands_by}
-use Rattle.bx_cli_commands.specs.Run.{CallStep, CommandStep, DdStep, PatchStep, ReadStep, answered}
+use Rattle.bx_cli_commands.specs.Run.{CallStep, CommandStep, DdStep, PatchStep, ReadStep}
 use Rattle.bx_cli_commands.specs.Standing.{MovesUp, PerformUp, Standing}
 use Rattle.bx_cli_commands.specs.declared.changes.DdChange.{DdChange}
 use Rattle.bx_cli_commands.specs.declared.command.Command.{Command}

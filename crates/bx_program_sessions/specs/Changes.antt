@@ -33,7 +33,8 @@ pub record InterruptsChange {R : Type 0} (remaining : R → Option (List ℕ)) (
   pub part : IsPartOfTask remaining task s found
   pub finds : FindsIn new found
 
--- nothing is written but what is said on standard error of what opening found unfinished
+-- nothing is written but what is said on standard error of what opening found unfinished, and no file is lent that wasn't
 pub record SaysRecovered (how : Option How) (old new : Sight) : Type 0 where
   pub output : new.output ≡ old.output
   pub errors : TellsRecovered how old.errors new.errors
+  pub lent : new.lent ≡ old.lent

@@ -1,5 +1,5 @@
 -- What a person sees of an undo and of a redo: files and standard output.
-use Rattle.std.specs.Prelude.{◌≡◌, ◌⊎◌, ◌<◌, ◌≤◌, ◌+◌, ◌-◌, ◌++◌, ℕ, List, [], Option, None, Some, Err, codes, decimal, length, take}
+use Rattle.std.specs.Prelude.{◌≡◌, ◌⊎◌, ◌<◌, ◌≤◌, ◌+◌, ◌-◌, ◌++◌, ℕ, List, [], Option, None, Some, Result, Ok, Err, codes, decimal, length, take}
 use Rattle.bx_text.specs.declared.fault.IoFault.TheVariants.{WriteFailed}
 use Rattle.bx_program_world.specs.World.{Sight, AddsFront}
 use Rattle.bx_program_files.specs.Files.{LeavesFiles}
@@ -7,6 +7,7 @@ use Rattle.bx_program_files.specs.declared.names.Names.{Names}
 use Rattle.bx_program_files.specs.declared.unopened.Unopened.{Unopened}
 use Rattle.bx_journal.specs.Images.{Images, redo_of, undo_of}
 use Rattle.bx_journal.specs.Machine.{changes_of}
+use Rattle.bx_journal.specs.Power.{Found}
 use Rattle.bx_journal.specs.How.{How}
 use Rattle.bx_journal.specs.How.TheVariants.{Clean, Dropped, Restored}
 use Rattle.bx_journal.specs.Way.{Way}
@@ -92,6 +93,22 @@ abbrev pub RefusesMove : Names → ℕ → Course → Option Unopened → Sight 
 RefusesMove names k course unopened old new (Session Interrupted) = (i : ℕ) × (i ≤ k) × FindsIn (contents_of names new) (course.moved i)
 RefusesMove names k course unopened old new OpenFailed = (unopened ≡ None → ⊥) × LeavesFiles old new
 RefusesMove names k course unopened old new e = MayNotMove k course e × LeavesFiles old new
+
+-- the fault of a moving that was stopped in the middle of writing, or done without its number being written
+abbrev pub IsMidway : Fault → Type 0
+IsMidway (Session Interrupted) = Unit {0}
+IsMidway (Io fault) = Unit {0}
+IsMidway e = ⊥
+
+-- changes were moved, all that were asked for or some of them
+abbrev pub HasMoved : {V : Type 0} → Result V Fault → Type 0
+HasMoved (Ok v) = Unit {0}
+HasMoved (Err e) = IsMidway e
+
+-- whatever is found of the three after a loss of power, opening finds the images behind some of the k steps
+abbrev pub SurvivesMove : ℕ → Course → (List ℕ → Type 0) → (List ℕ → Type 0) → (List ℕ → Type 0) → Type 0
+SurvivesMove k course image journal redo = (x text redo_text : List ℕ) → image x → journal text → redo redo_text
+    → (i : ℕ) × (i ≤ k) × Found text x redo_text (course.moved i)
 
 -- a part of a line couldn't be written, behind `before` bytes of the line
 abbrev pub StopsPart : ℕ → List ℕ → List ℕ → List ℕ → Fault → Type 0

@@ -1,12 +1,12 @@
 //! An undo and a redo on files, with the number that they write.
 ghost use Rattle.std.specs.Prelude.{◌≡◌, ◌↔◌, ◌++◌, ◌+◌, ◌<◌, ◌^◌, decimal, false, length, Err, None, IfOk, IfErr, IfSome, OnErr, OnOk};
 ghost use Rattle.bx_journal.specs.Images.{Images};
-ghost use Rattle.bx_program_world.specs.World.{KeepsFiles, KeepsStreams, NothingNewFound};
+ghost use Rattle.bx_program_world.specs.World.{KeepsFiles, KeepsStreams, NothingNewFound, Trio};
 ghost use Rattle.bx_program_files.specs.Fit.{AreFit};
 ghost use Rattle.bx_program_files.specs.Reasons.{MayRefuseOpening};
 ghost use Rattle.bx_program_sessions.specs.Contents.{FoundIn, Holds, recovered_as};
-ghost use Rattle.bx_program_sessions.specs.Named.{IsUnrecovered, KeepsOthers, contents_of};
-ghost use Rattle.bx_program_sessions.specs.Moves.{IsMoved, Moves, NothingMoved, RefusesMove, StopsLine, StopsMove, StopsPart, TellsRecovered, command_by, number_line, recovered_line, stepped};
+ghost use Rattle.bx_program_sessions.specs.Named.{IsUnrecovered, KeepsOthers, LeadTo, contents_of};
+ghost use Rattle.bx_program_sessions.specs.Moves.{HasMoved, IsMoved, Moves, NothingMoved, RefusesMove, StopsLine, StopsMove, StopsPart, SurvivesMove, TellsRecovered, command_by, number_line, recovered_line, stepped};
 ghost use Rattle.bx_program_sessions.specs.Task.{IsNearTask};
 ghost use Rattle.bx_program_sessions.specs.declared.task.Task.TheVariants.{Run};
 
@@ -37,6 +37,7 @@ fn put<W: World>(world: &mut W, before: u64, bytes: &[u8]) -> Result<(), Fault>
     ensures ok { W.honest world.old → OnOk result ((W.sight world.new).output ≡ (W.sight world.old).output ++ bytes.now) }
     ensures err { W.honest world.old
         → IfErr result (StopsPart before bytes.now (W.sight world.old).output (W.sight world.new).output) }
+    ensures survives { W.honest world.old → NothingNewFound (W.survives world.old) (W.survives world.new) }
     ensures errors { W.honest world.old → (W.sight world.new).errors ≡ (W.sight world.old).errors }
     ensures files { W.honest world.old → KeepsFiles (W.sight world.old) (W.sight world.new) }
     ensures honesty { W.honest world.new ↔ W.honest world.old }
@@ -61,6 +62,7 @@ fn put_number<W: World>(world: &mut W, number: u32) -> Result<(), Fault>
     ensures ok { W.honest world.old → OnOk result ((W.sight world.new).output ≡ (W.sight world.old).output ++ number_line number) }
     ensures err { W.honest world.old
         → IfErr result (StopsLine (number_line number) (W.sight world.old).output (W.sight world.new).output) }
+    ensures survives { W.honest world.old → NothingNewFound (W.survives world.old) (W.survives world.new) }
     ensures errors { W.honest world.old → (W.sight world.new).errors ≡ (W.sight world.old).errors }
     ensures files { W.honest world.old → KeepsFiles (W.sight world.old) (W.sight world.new) }
     ensures honesty { W.honest world.new ↔ W.honest world.old }
@@ -83,6 +85,7 @@ fn tell_number<W: World>(world: &mut W, standing: Result<u32, Fault>) -> Result<
         → IfOk standing (λ left. IfErr result (StopsLine (number_line left) (W.sight world.old).output (W.sight world.new).output)) }
     ensures refused { W.honest world.old → IfErr standing (λ e. (result ≡ Err e) × (W.sight world.new ≡ W.sight world.old)) }
     ensures noted { W.honest world.old → OnErr standing (W.refusals world.new ≡ W.refusals world.old) }
+    ensures survives { W.honest world.old → NothingNewFound (W.survives world.old) (W.survives world.new) }
     ensures errors { W.honest world.old → (W.sight world.new).errors ≡ (W.sight world.old).errors }
     ensures files { W.honest world.old → KeepsFiles (W.sight world.old) (W.sight world.new) }
     ensures honesty { W.honest world.new ↔ W.honest world.old }
@@ -151,6 +154,9 @@ fn moved_by<W: World>(
         → IfOk result.outcome (λ left. IsMoved count (stepped way s) left (contents_of names.now (W.sight world.new))) }
     ensures refused { W.honest world.old → (s : Images) → Holds (contents_of names.now (W.sight world.old)) s
         → IfErr result.outcome (RefusesMove names.now count (stepped way s) result.unopened (W.sight world.old) (W.sight world.new)) }
+    ensures survives { W.honest world.old → (s : Images) → Holds (contents_of names.now (W.sight world.old)) s → HasMoved result.outcome
+        → (t : Trio) → LeadTo names.now t (W.sight world.new)
+        → SurvivesMove count (stepped way s) (W.survives world.new t.image) (W.survives world.new t.journal) (W.survives world.new t.redo) }
     ensures unopened { W.honest world.old → IfSome result.unopened (λ _. NothingMoved result (W.sight world.old) (W.sight world.new)) }
     ensures why_unopened { W.honest world.old
         → IfSome result.unopened (MayRefuseOpening names.now mounted false (W.refusals world.old < W.refusals world.new)
@@ -191,6 +197,9 @@ pub fn move_changes<W: World>(
         → OnOk result.outcome (Moves names.now count (stepped way s) (W.sight world.old) (W.sight world.new)) }
     ensures stopped { W.honest world.old → (s : Images) → Holds (contents_of names.now (W.sight world.old)) s
         → IfErr result.outcome (StopsMove names.now count (stepped way s) result.unopened (W.sight world.old) (W.sight world.new)) }
+    ensures survives { W.honest world.old → (s : Images) → Holds (contents_of names.now (W.sight world.old)) s → HasMoved result.outcome
+        → (t : Trio) → LeadTo names.now t (W.sight world.new)
+        → SurvivesMove count (stepped way s) (W.survives world.new t.image) (W.survives world.new t.journal) (W.survives world.new t.redo) }
     ensures unopened { W.honest world.old → IfSome result.unopened (λ _. NothingMoved result (W.sight world.old) (W.sight world.new)) }
     ensures why_unopened { W.honest world.old
         → IfSome result.unopened (MayRefuseOpening names.now mounted false (W.refusals world.old < W.refusals world.new)
@@ -202,6 +211,7 @@ pub fn move_changes<W: World>(
         (Moves names.now count (stepped way (recovered_as how s)) (W.sight world.old) (W.sight world.new))) }
     ensures others { W.honest world.old → KeepsOthers names.now (W.sight world.old) (W.sight world.new) }
     ensures errors { W.honest world.old → TellsRecovered result.how (W.sight world.old).errors (W.sight world.new).errors }
+    ensures free { W.honest world.old → (W.sight world.new).lent ≡ None }
     ensures honesty { W.honest world.new ↔ W.honest world.old }
 {
     let moved = moved_by(world, alloc, names, mounted, way, count);

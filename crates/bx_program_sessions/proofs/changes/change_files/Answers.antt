@@ -65,4 +65,5 @@ returns-clause-streams g c old =
     record {
       output = c.tell_recovered.ensures.output behind ∙ silent.output;
       errors = tells_alone _ _ _ _ _ silent.errors tells refl;
+      lent = (c.tell_recovered.ensures.files behind).lent ∙ silent.lent;
     }
