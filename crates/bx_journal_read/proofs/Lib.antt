@@ -18,6 +18,7 @@ pub mod ScanLemmas
 pub mod DamageLemmas
 pub mod ZeroLemmas
 pub mod ShownTail
+pub mod UnfitLemmas
 pub mod LastLemmas
 pub mod MarkedLemmas
 pub mod PutLemmas

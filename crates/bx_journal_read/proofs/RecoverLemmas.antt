@@ -87,20 +87,20 @@ pub one_more_beside : (d t u d_new t_new u_new : ℕ) → u_new ≡ u → OneMor
 one_more_beside d t u d_new t_new u_new same one = omega (arith, same, one)
 
 -- what judging the redo text may answer, beside a journal of finished entries alone
-pub judged_finished : (H now R : Type 0) (redo text x y : List ℕ) (changes : ℕ) (told : Option ℕ) (e : SessionFault) → (H → now) → (R → redo ≡ text) → (H → y ≡ x) → (H → HasToldLength told x)
-    → JudgeFault now text y changes e → FinishedFault H (H × R) redo x changes told e
-judged_finished H now R redo text x y changes told NoMemory still same image length_is f = tt
-judged_finished H now R redo text x y changes told DeviceFailed still same image length_is f = tt
-judged_finished H now R redo text x y changes told (RedoDamaged line) still same image length_is f =
-    (length_is, λ both. refused_at text redo y x changes line (sym (same both.1)) (image both.0) (f (still both.0)))
-judged_finished H now R redo text x y changes told (LengthDiffers n) still same image length_is f = absurd f
-judged_finished H now R redo text x y changes told TooLarge still same image length_is f = f
-judged_finished H now R redo text x y changes told (Damaged line) still same image length_is f = f
-judged_finished H now R redo text x y changes told (TooFew have) still same image length_is f = f
-judged_finished H now R redo text x y changes told JournalFull still same image length_is f = f
-judged_finished H now R redo text x y changes told Interrupted still same image length_is f = f
-judged_finished H now R redo text x y changes told Broken still same image length_is f = f
-judged_finished H now R redo text x y changes told (NothingToRedo have) still same image length_is f = f
+pub judged_finished : (H now R F : Type 0) (text x y : List ℕ) (changes : ℕ) (told : Option ℕ) (e : SessionFault) → (H → now) → (R → F) → (H → y ≡ x) → (H → HasToldLength told x)
+    → JudgeFault (now × F) text y changes e → FinishedFault H (H × R) text x changes told e
+judged_finished H now R F text x y changes told NoMemory still found image length_is f = tt
+judged_finished H now R F text x y changes told DeviceFailed still found image length_is f = tt
+judged_finished H now R F text x y changes told (RedoDamaged line) still found image length_is f =
+    (length_is, λ both. refused_at text text y x changes line refl (image both.0) (f (still both.0, found both.1)))
+judged_finished H now R F text x y changes told (LengthDiffers n) still found image length_is f = absurd f
+judged_finished H now R F text x y changes told TooLarge still found image length_is f = f
+judged_finished H now R F text x y changes told (Damaged line) still found image length_is f = f
+judged_finished H now R F text x y changes told (TooFew have) still found image length_is f = f
+judged_finished H now R F text x y changes told JournalFull still found image length_is f = f
+judged_finished H now R F text x y changes told Interrupted still found image length_is f = f
+judged_finished H now R F text x y changes told Broken still found image length_is f = f
+judged_finished H now R F text x y changes told (NothingToRedo have) still found image length_is f = f
 
 -- a fault between reading and the first write is no interruption
 pub look_silent : (H : Type 0) (es : List Entry) (x : List ℕ) (P : Type 0) (e : SessionFault) → LookFault H es x e → AfterFault e P (Unit {0})

@@ -151,7 +151,7 @@ pub counted_front : (text : List ℕ) (n : ℕ) (f : Front) → f.at ≤ n → I
 counted_front text n f below c = record { front = c.front; is = λ u. c.is u ∙ sym (take-take f.at n text below); long = c.long; counted = c.counted; lines = c.lines; few = c.few }
 
 -- what is torn and begins before the text's end isn't finished entries alone
-torn_unclean : (text : List ℕ) (t : Torn) (r : Reading) → IsTorn text r t → (t.begins ≡ length text → ⊥) → IsClean text → ⊥
+pub torn_unclean : (text : List ℕ) (t : Torn) (r : Reading) → IsTorn text r t → (t.begins ≡ length text → ⊥) → IsClean text → ⊥
 torn_unclean text t r torn some clean =
     let all : take (length text) text ≡ text = take_all (length text) text (omega arith) in
     let end : IsMark text (length text) r = record {

@@ -15,6 +15,7 @@ pub use scan::journal::{Found, read_text};
 pub use scan::mark::{Mark, start_size};
 pub use scan::newlines::{line_from, newlines};
 pub use scan::torn::Torn;
+pub use scan::unfit::unfit_line;
 pub use scan::whole::read_journal;
 pub use scan::windows::{Scan, Taken, WINDOW, scan_windows};
 pub use show::differences::put_differences;

@@ -7,5 +7,6 @@ pub(crate) mod mark;
 pub(crate) mod newlines;
 pub(crate) mod shown;
 pub(crate) mod torn;
+pub(crate) mod unfit;
 pub(crate) mod whole;
 pub(crate) mod windows;

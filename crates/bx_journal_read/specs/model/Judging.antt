@@ -18,6 +18,10 @@ RefusesRedo line e = DeviceFault e
 abbrev pub IsUnfitAt : List ℕ → ℕ → ℕ → Type 0
 IsUnfitAt text changes line = IsNoRedoAt text line ⊎ IsTooManyAt text changes line
 
+-- the text is so at a line: the store's, where that is honest
+abbrev pub IsUnfitIn : Type 0 → List ℕ → ℕ → ℕ → Type 0
+IsUnfitIn honest stored changes line = honest → IsUnfitAt stored changes line
+
 -- finished entries alone, each with its length, and with `changes` changes not too many
 pub record IsFit (text : List ℕ) (changes : ℕ) (entries : List Entry) : Type 0 where
   pub finished : IsFinished text entries

@@ -1,5 +1,5 @@
 -- A store's text that is read in windows.
-use Rattle.std.specs.Prelude.{◌≡◌, ◌≤◌, ℕ, ◌-◌, Bool, IsTrue, ◌==◌, not, List, length, take, drop, Option, Result, IfOk, IfSome}
+use Rattle.std.specs.Prelude.{◌≡◌, ◌<◌, ◌≤◌, ℕ, ◌+◌, ◌-◌, Bool, IsTrue, ◌==◌, not, List, length, take, drop, Option, None, Result, IfOk, IfSome}
 use Rattle.std.specs.List.{list_all}
 use Rattle.bx_journal_format.specs.declared.read.types.Front.{Front}
 use Rattle.bx_journal_read.specs.declared.scan.count.CountedText.{CountedText}
@@ -59,6 +59,21 @@ pub record IsFrontCounted (honest : Type 0) (stored : List ℕ) (only_second : B
   pub counted : IsCountedAll only_second front f.count f.told f.lines
   pub lines : f.lines ≤ f.at
   pub few : f.count ≤ 65535
+
+-- by its places one front is all of a text of `len` bytes, and another one entry more than a third, which tells no length
+pub record AreAround (whole front next : Front) (len : ℕ) : Type 0 where
+  pub all : whole.at ≡ len
+  pub one : next.count ≡ front.count + 1
+  pub untold : next.told ≡ None
+  pub order : front.at < next.at
+  pub within : next.at ≤ len
+
+-- by its places one front is all of a text of `len` bytes, and another the first `most` of more entries
+pub record AreMoreThan (whole front : Front) (most len : ℕ) : Type 0 where
+  pub all : whole.at ≡ len
+  pub count : front.count ≡ most
+  pub more : most < whole.count
+  pub within : front.at < len
 
 -- all of a text was counted: the store's, where that is honest
 pub record IsAllCounted (honest : Type 0) (stored : List ℕ) (only_second : Bool) (c : CountedText) : Type 0 where

@@ -24,7 +24,7 @@ pub fn newlines(text: &[u8]) -> u64
 }
 
 /// How many newlines a text's first `len` bytes have, a window at a time.
-fn newlines_to<T: TextStore>(
+pub fn newlines_to<T: TextStore>(
     store: &mut T,
     window: &mut [u8],
     len: u64,
@@ -34,6 +34,7 @@ fn newlines_to<T: TextStore>(
     requires some { 0 < length window.old }
     ensures lines { T.honest store.old → IfOk result (λ n. n ≡ length (split (take len (T.text store.old))).lines) }
     ensures most { IfOk result (λ n. n ≤ len) }
+    ensures window { length window.new ≡ length window.old }
     ensures reads { OnlyReadsText T.TextStore (is_err result) store.old store.new }
 {
     let mut at = 0;

@@ -161,7 +161,7 @@ fn find_mark<T: TextStore>(
 
 /// Finds what is unfinished at the end of a text's first `len` bytes, whose lines were walked along. It answers none where what follows the
 /// last line can't stand there, and where it isn't found.
-fn find_end<T: TextStore>(
+pub fn find_end<T: TextStore>(
     store: &mut T,
     window: &mut [u8],
     len: u64,
