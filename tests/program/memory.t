@@ -28,6 +28,21 @@ An opening that rolls back holds neither, zeros behind the save line or not:
   bx: redo line 1 is damaged
   [1]
 
+One of 51 MiB that is unfinished, of the older form, or of too many entries takes 20 MB at most:
+
+  $ yes "$(printf %b "$unpatched" | sed -n 2p)" | head -n 1000000 > lines
+  $ { echo 'change 00000001 00000008'; cat lines; } > img.bxj.redo; (ulimit -v 20000; bx log img)
+  bx: redo line 1 is damaged
+  [1]
+  $ printf 'save 00000001\ndone 00000001\n' >> img.bxj.redo; (ulimit -v 20000; bx log img)
+  bx: redo line 1 is damaged
+  [1]
+  $ for number in {1..65535}; do printf 'change2 %08x 0000000000000008\nsave %08x\ndone2 %08x 0000000000000008\n' $number{,,}; done > many
+  $ { printf 'change2 00000001 0000000000000008\n'; cat lines; tail -n +2 many; } > img.bxj.redo
+  $ (ulimit -v 20000; bx log img)
+  bx: redo line 1196603 is damaged
+  [1]
+
 # Memory refused in the checked build (wants rt)
 
 It takes some two minutes for each number of RT_TRY (1 10 40), and is left out by RT_TRY=no. A run that faults, hangs, or ends

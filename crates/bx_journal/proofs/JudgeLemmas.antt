@@ -1,5 +1,5 @@
 -- Whether what was read is a redo text, and the line at which it isn't.
-use Rattle.std.proofs.Common.{◌≡◌, ℕ, suc, ◌+◌, ◌<◌, ◌≤◌, List, [], ◌∷◌, ◌++◌, length, length-append, length-drop, length-take, append_assoc, take, drop, get_or, refl, ap, sym, ◌∙◌, subst, inl, inr, ◌⊎◌, arith, true, Option, Some, None, Result, Ok, Err}
+use Rattle.std.proofs.Common.{◌≡◌, ℕ, suc, ◌+◌, ◌<◌, ◌≤◌, List, [], ◌∷◌, ◌++◌, length, length-drop, length-take, append_assoc, take, drop, get_or, refl, ap, sym, ◌∙◌, subst, inl, inr, ◌⊎◌, arith, true, Option, Some, None, Result, Ok, Err}
 use Rattle.std.specs.Prelude.{is_some, IsTrue, IfSome, IfNone, IfOk, IfErr, MatchResult}
 use Rattle.std.proofs.lemmas.List.{take_more, take-append-drop}
 use Rattle.std.proofs.Math.Seq.{drop-cons}
@@ -12,7 +12,8 @@ use Rattle.bx_journal_read.specs.declared.scan.count.CountedText.{CountedText}
 use Rattle.bx_journal.specs.private.RedoFound.{IsOfText}
 use Rattle.bx_journal_read.specs.model.Calls.{ReadFault}
 use Rattle.bx_journal_format.specs.read.Journal.{HasRead}
-use Rattle.bx_journal_read.specs.model.Judging.{RefusesRedo, AllTold, IsBeyondAt, IsFit, IsRedoCounted, IsUnfitAt, IsUnfitFrom, IsUntoldAt, JudgeFault, RedoTextFault}
+use Rattle.bx_journal_read.specs.model.Judging.{RefusesRedo, AllTold, IsBeyondAt, IsFit, IsRedoCounted, IsUnfitAt, IsUnfitFrom, IsUntoldAt, IsUnfitIn, JudgeFault, LastLineFault, RedoTextFault}
+use Rattle.bx_journal_read.specs.scan.Damage.{IsDamagedIn}
 use Rattle.bx_journal_read.specs.scan.Looking.{FaultCounts}
 use Rattle.bx_journal_read.specs.model.Fault.{redo_fault}
 use Rattle.bx_journal_format.specs.count.Mark.{IsMark, HasMarks}
@@ -21,7 +22,7 @@ use Rattle.bx_journal_format.specs.Finished.{AllTell, IsFinished}
 use Rattle.bx_journal_read.specs.model.Redo.{IsRedoOf, DamagedLine, Tail, FirstForm, IsRefusedAt, NoRedo, TooMany, Off}
 use Rattle.bx_journal_read.specs.model.Stack.{stack_of}
 use Rattle.bx_journal_format.specs.count.Tally.{IsCounted, IsCountedAll}
-use Rattle.bx_journal_format.specs.Text.{Entry, Between, Reading, Reads, split, start, after_lines}
+use Rattle.bx_journal_format.specs.Text.{Entry, Between, IsDamagedAt, Reading, Reads, split}
 use Rattle.bx_journal_read.proofs.Phases.{length-stack_of}
 use Rattle.bx_journal_format.proofs.ReadLemmas.{length-entries_of}
 use Rattle.bx_journal_protocol.proofs.RedoText.{one_reading}
@@ -170,6 +171,14 @@ counted_fit text changes count lines told c few = record {
   told_is = c.counted.told_is;
 }
 
+-- a text that is damaged is no redo text
+pub damaged_unfit : (H : Type 0) (stored : List ℕ) (changes line : ℕ) → IsDamagedIn H stored line → IsUnfitIn H stored changes line
+damaged_unfit H stored changes line d h = inl (DamagedLine (subst (λ t. IsDamagedAt t line) (sym (d.is h)) d.damaged))
+
+-- what a store is at a line behind a call that only looked at it
+pub unfit_before : (H now : Type 0) (stored text : List ℕ) (changes line : ℕ) → (H → now) → (H → text ≡ stored) → IsUnfitIn now text changes line → IsUnfitIn H stored changes line
+unfit_before H now stored text changes line to same unfit h = subst (λ t. IsUnfitAt t changes line) (same h) (unfit (to h))
+
 -- where a text is unfit no image makes it a redo text
 pub unfit_refused : (text x : List ℕ) (changes line : ℕ) → IsUnfitAt text changes line → IsRefusedAt text x changes line
 unfit_refused text x changes line unfit = elim unfit [ inl apart ↦ NoRedo apart | inr many ↦ TooMany many ]
@@ -313,6 +322,20 @@ text_judged H text x changes Broken h = h
 text_judged H text x changes (LengthDiffers n) h = h
 text_judged H text x changes (NothingToRedo have) h = h
 
+-- the same where the text isn't surely what was found
+pub found_judged : (H F : Type 0) (text x : List ℕ) (changes : ℕ) (e : SessionFault) → IsOfText e → (F → RedoTextFault text changes e) → JudgeFault (H × F) text x changes e
+found_judged H F text x changes NoMemory kind h = tt
+found_judged H F text x changes (RedoDamaged line) kind h = λ both. unfit_refused text x changes line (h both.1)
+found_judged H F text x changes TooLarge kind h = kind
+found_judged H F text x changes DeviceFailed kind h = tt
+found_judged H F text x changes (Damaged line) kind h = kind
+found_judged H F text x changes (TooFew have) kind h = kind
+found_judged H F text x changes JournalFull kind h = kind
+found_judged H F text x changes Interrupted kind h = kind
+found_judged H F text x changes Broken kind h = kind
+found_judged H F text x changes (LengthDiffers n) kind h = kind
+found_judged H F text x changes (NothingToRedo have) kind h = kind
+
 -- what comparing the length may answer
 abbrev pub OffFault : Type 0 → List ℕ → List ℕ → Option ℕ → SessionFault → Type 0
 OffFault H text x told e = (e ≡ DeviceFailed) ⊎ ((e ≡ RedoDamaged (length (split text).lines)) × (H → (n : ℕ) × (told ≡ Some n) × (length x ≡ n → ⊥)))
@@ -356,6 +379,16 @@ length_judged H text x changes count told e c fault =
       | inr off ↦
           subst (JudgeFault H text x changes) (sym off.0)
           (λ h. let apart = off.1 h in counted_off text x changes count told c (length (split text).lines) apart.0 apart.1 apart.2 refl)
+    ]
+
+pub found_off : (H F : Type 0) (text x : List ℕ) (changes count lines : ℕ) (told : Option ℕ) (e : SessionFault) → (F → IsRedoCounted text changes count told) → (F → lines ≡ length (split text).lines) → LastLineFault H lines told x e
+    → JudgeFault (H × F) text x changes e
+found_off H F text x changes count lines told e c many fault =
+    elim fault [
+      | inl is ↦ subst (JudgeFault (H × F) text x changes) (sym is) tt
+      | inr off ↦
+          subst (JudgeFault (H × F) text x changes) (sym off.0)
+          (λ both. let apart = off.1 both.0 in counted_off text x changes count told (c both.1) lines apart.0 apart.1 apart.2 (many both.1))
     ]
 
 pub judged_refuses : (H : Type 0) (text x : List ℕ) (changes line : ℕ) (e : SessionFault) → H → JudgeFault H text x changes e → IsRefusedAt text x changes line → RefusesRedo line e

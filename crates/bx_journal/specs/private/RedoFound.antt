@@ -1,25 +1,30 @@
 -- What was found of a redo text.
-use Rattle.std.specs.Prelude.{◌≡◌, ℕ, List, length, Result, IfErr, MatchResult}
+use Rattle.std.specs.Prelude.{◌≡◌, ◌≤◌, ◌+◌, ℕ, List, length, Result, IfErr, MatchResult}
 use Rattle.bx_journal_read.specs.declared.scan.count.CountedText.{CountedText}
 use Rattle.bx_journal.specs.declared.recovery.redo.RedoFound.{RedoFound}
-use Rattle.bx_journal.specs.declared.recovery.redo.RedoFound.TheVariants.{Counted, Damaged, Text}
+use Rattle.bx_journal.specs.declared.recovery.redo.RedoFound.TheVariants.{Counted, Unfit, Text}
 use Rattle.bx_journal_read.specs.declared.fault.SessionFault.{SessionFault}
 use Rattle.bx_journal_read.specs.declared.fault.SessionFault.TheVariants.{NoMemory, RedoDamaged}
-use Rattle.bx_journal_format.specs.Text.{IsDamagedAt, split}
-use Rattle.bx_journal_read.specs.model.Judging.{RefusesRedo, IsRedoCounted}
+use Rattle.bx_journal_format.specs.Text.{split}
+use Rattle.bx_journal_read.specs.model.Judging.{RefusesRedo, IsRedoCounted, IsUnfitAt}
 use Rattle.bx_journal_read.specs.model.Redo.{IsRedoOf, IsRefusedAt}
 
--- the text was counted as a redo text beside `changes` changes, or is damaged at a line, or is there as it is
+-- the text was counted as a redo text beside `changes` changes, or isn't one at a line, or is there as it is
 abbrev pub IsRedoFound : {A : Type 0} → List ℕ → ℕ → RedoFound A → Type 0
 IsRedoFound text changes (Counted c) = IsRedoCounted text changes c.counted.count c.counted.told × (c.lines ≡ length (split text).lines)
-IsRedoFound text changes (Damaged line) = IsDamagedAt text line
+IsRedoFound text changes (Unfit line) = IsUnfitAt text changes line
 IsRedoFound text changes (Text bytes) = bytes.items ≡ text
+
+-- the entries that were counted aren't too many beside `changes` changes
+abbrev pub IsFewFound : {A : Type 0} → ℕ → RedoFound A → Type 0
+IsFewFound changes (Counted c) = changes + c.counted.count ≤ 65535
+IsFewFound changes (Unfit line) = Unit {0}
+IsFewFound changes (Text bytes) = Unit {0}
 
 -- what was found is of the store's text, where that is honest
 pub record IsRedoIn {A : Type 0} (honest : Type 0) (stored : List ℕ) (changes : ℕ) (redo : RedoFound A) : Type 0 where
-  pub text : List ℕ
-  pub is : honest → stored ≡ text
-  pub found : IsRedoFound text changes redo
+  pub found : honest → IsRedoFound stored changes redo
+  pub few : IsFewFound changes redo
 
 -- a text was counted as a redo text beside `changes` changes: the store's, where that is honest
 pub record IsRedoCountedIn (honest : Type 0) (stored : List ℕ) (changes : ℕ) (c : CountedText) : Type 0 where

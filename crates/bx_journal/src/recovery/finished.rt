@@ -1,5 +1,6 @@
 //! Opening beside a journal of committed entries alone: the redo text is read and judged.
 ghost use Rattle.std.specs.Prelude.{◌≡◌, ◌↔◌, ◌+◌, ◌<◌, ◌≤◌, ℕ, OnOk, IfOk, IfErr, IfSome, MatchResult};
+ghost use Rattle.bx_journal_read.specs.model.Judging.{IsUnfitIn};
 ghost use Rattle.bx_journal_read.specs.model.Opening.{RefusesLength};
 ghost use Rattle.bx_image.specs.Power.{NoMore};
 ghost use Rattle.bx_journal_read.specs.scan.Looking.{FaultCounts, LooksAt};
@@ -12,7 +13,7 @@ use crate::recovery::redo::{RedoFound, judge_redo};
 use bx_image::Device;
 use bx_journal_format::{Counted, MOST_CHANGES};
 use bx_journal_read::{
-    CountedText, How, Recovered, SessionFault, count_text, of_text, text_damage,
+    CountedText, How, Recovered, SessionFault, count_text, of_text, text_damage, unfit_line,
 };
 use bx_journal_store::TextStore;
 use std::alloc::Allocator;
@@ -43,15 +44,15 @@ fn count_redo<T: TextStore, A: Allocator + Clone>(
     Ok(Some(text))
 }
 
-/// What a redo text is that wasn't counted: the line at which it is damaged is found in windows, and only where it isn't found so the text is
-/// read whole. It changes nothing.
-fn read_redo<T: TextStore, A: Allocator + Clone>(
+/// The line at which a text is no redo text beside `changes` changes, if that is found in windows. It changes nothing.
+fn find_unfit_line<T: TextStore, A: Allocator + Clone>(
     alloc: &A,
     redo: &mut T,
     changes: u32,
-) -> Result<RedoFound<A>, SessionFault>
+) -> Result<Option<u64>, SessionFault>
     requires countable { T.failures redo.old < u64.MAX }
-    ensures found { IfOk result (IsRedoIn (T.honest redo.old) (T.text redo.old) changes) }
+    requires few { changes ≤ 65535 }
+    ensures line { IfOk result (λ found. IfSome found (IsUnfitIn (T.honest redo.old) (T.text redo.old) changes)) }
     ensures fault { IfErr result LacksOrFails }
     ensures looks { LooksAt T.honest T.text T.failures result redo.old redo.new }
     ensures found_before { T.honest redo.old → NoMore (T.survives redo.old) (T.survives redo.new) }
@@ -60,8 +61,32 @@ fn read_redo<T: TextStore, A: Allocator + Clone>(
         Ok(damage) => damage,
         Err(fault) => return Err(fault),
     };
-    if let Some(line) = damage {
-        return Ok(RedoFound::Damaged { line });
+    if damage.is_some() {
+        return Ok(damage);
+    }
+    unfit_line(alloc, redo, changes)
+}
+
+/// What a redo text is that wasn't counted: the line at which it is none is found in windows, and only where that isn't found so, where a saved
+/// line is very long, the text is read whole. It changes nothing.
+fn read_redo<T: TextStore, A: Allocator + Clone>(
+    alloc: &A,
+    redo: &mut T,
+    changes: u32,
+) -> Result<RedoFound<A>, SessionFault>
+    requires countable { T.failures redo.old < u64.MAX }
+    requires few { changes ≤ 65535 }
+    ensures found { IfOk result (IsRedoIn (T.honest redo.old) (T.text redo.old) changes) }
+    ensures fault { IfErr result LacksOrFails }
+    ensures looks { LooksAt T.honest T.text T.failures result redo.old redo.new }
+    ensures found_before { T.honest redo.old → NoMore (T.survives redo.old) (T.survives redo.new) }
+{
+    let unfit = match find_unfit_line(alloc, redo, changes) {
+        Ok(unfit) => unfit,
+        Err(fault) => return Err(fault),
+    };
+    if let Some(line) = unfit {
+        return Ok(RedoFound::Unfit { line });
     }
     match redo.read_all(alloc.clone()?) {
         Ok(bytes) => Ok(RedoFound::Text(bytes)),

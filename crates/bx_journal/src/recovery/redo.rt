@@ -18,13 +18,13 @@ use std::alloc::{Allocator, Global};
 pub enum RedoFound<A: Allocator = Global> {
     /// Entries of the second form alone, and not too many, which were counted.
     Counted(CountedText),
-    /// A text that is damaged at a line.
-    Damaged { line: u64 },
+    /// A text that is none at a line: the damaged one, or one of those that `redo_counted` reports.
+    Unfit { line: u64 },
     /// Any other text, as it is.
     Text(Vec<u8, A>),
 }
 
-ghost use Rattle.bx_journal.specs.private.RedoFound.{AcceptsFound, IsOfText, IsRedoFound, RefusesFound};
+ghost use Rattle.bx_journal.specs.private.RedoFound.{AcceptsFound, IsFewFound, IsOfText, IsRedoFound, RefusesFound};
 
 /// The number, from 1, of the line that begins at this place.
 fn line_at(text: &[u8], at: u64) -> u64
@@ -140,11 +140,12 @@ fn count_found<A: Allocator + Clone>(
     ensures ok { (text : List ℕ) → IsRedoFound text changes found → IfOk result (λ c. IsRedoCounted text changes c.counted.count c.counted.told) }
     ensures lines { (text : List ℕ) → IsRedoFound text changes found → IfOk result (λ c. c.lines ≡ length (split text).lines) }
     ensures refused { (text : List ℕ) → IsRedoFound text changes found → IfErr result (RedoTextFault text changes) }
+    ensures few { IsFewFound changes found → IfOk result (λ c. changes + c.counted.count ≤ 65535) }
     ensures kind { IfErr result IsOfText }
 {
     match found {
         RedoFound::Counted(counted) => Ok(counted),
-        RedoFound::Damaged { line } => Err(SessionFault::RedoDamaged { line }),
+        RedoFound::Unfit { line } => Err(SessionFault::RedoDamaged { line }),
         RedoFound::Text(bytes) => redo_counted(alloc, &bytes, changes),
     }
 }
@@ -181,8 +182,8 @@ pub fn judge_redo<D: Device, A: Allocator + Clone>(
     requires countable { D.failures image.old < u64.MAX }
     requires few { changes ≤ 65535 }
     ensures undone { D.honest image.old → (text : List ℕ) → IsRedoFound text changes found → IfOk result (HasUndoneCount text (D.image image.old) changes) }
-    ensures sum { (text : List ℕ) → IsRedoFound text changes found → IfOk result (λ n. changes + n ≤ 65535) }
-    ensures fault { (text : List ℕ) → IsRedoFound text changes found → IfErr result (JudgeFault (D.honest image.old) text (D.image image.old) changes) }
+    ensures sum { IsFewFound changes found → IfOk result (λ n. changes + n ≤ 65535) }
+    ensures fault { (text : List ℕ) → IfErr result (JudgeFault (D.honest image.old × IsRedoFound text changes found) text (D.image image.old) changes) }
     ensures unfit { D.honest image.old → RefusesFound found changes (D.image image.old) result }
     ensures kept { D.honest image.old → AcceptsFound found changes (D.image image.old) result }
     ensures looks { LooksAt D.honest D.image D.failures result image.old image.new }

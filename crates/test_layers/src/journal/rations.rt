@@ -184,6 +184,24 @@ fn long_saved_line_in_windows(rt: HostRuntime) -> Result<(), Fail> {
     Ok(())
 }
 
+// A redo text that isn't damaged, but unfinished or of the older form, is refused in the memory of three windows: less than it has.
+#[test]
+fn unfit_redo_in_windows(rt: HostRuntime) -> Result<(), Fail> {
+    let alloc = rt.alloc();
+    let first = SessionFault::RedoDamaged { line: 1 };
+    let mut text = long_entry(alloc, LONGER, 0)?;
+    text.truncate(text.len().saturating_sub(32));
+    assert!(rt; fails_in(alloc, (b"A", b"", text.as_slice()), 900_000, first)?);
+    let fourth = SessionFault::RedoDamaged { line: 4 };
+    let mut older = Vec::new(alloc);
+    older.extend_from_slice(b"change2 00000001 00000000000b0000\nsave 00000001\n")?;
+    older.extend_from_slice(b"done2 00000001 00000000000b0000\nchange 00000002 000b0000\n")?;
+    push_rows(alloc, &mut older, LONGER)?;
+    older.extend_from_slice(b"save 00000002\ndone 00000002\n")?;
+    assert!(rt; fails_in(alloc, (b"A", b"", older.as_slice()), 900_000, fourth)?);
+    Ok(())
+}
+
 // A text with a zero, behind which a line of letters ends at this place, and an end line stands behind it.
 fn hidden_entry(alloc: Global, ends: usize) -> Result<Vec<u8>, AllocError> {
     let mut text = Vec::new(alloc);

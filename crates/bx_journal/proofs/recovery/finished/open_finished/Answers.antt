@@ -1,39 +1,37 @@
-use Rattle.std.proofs.Common.{List, ℕ, sym, subst}
+use Rattle.std.proofs.Common.{List, ℕ, refl, sym, subst}
 use Rattle.bx_image.proofs.Survivors.{NoMore_then}
 use Rattle.bx_journal_read.specs.scan.Recovery.{HasUndoneCount}
 use Rattle.bx_journal_read.proofs.RecoverLemmas.{judged_finished, refused_at}
+use Rattle.bx_journal.specs.private.RedoFound.{IsRedoFound}
 use Rattle.bx_journal.proofs.recovery.finished.open_finished.Goals as goal
 
 pub returns-in-Err-judge_redo-clause-fault : goal.returns-in-Err-judge_redo-clause-fault
 returns-in-Err-judge_redo-clause-fault g c =
-    let redo = c.in-Ok.ensures.found in
-    judged_finished (g.D.Device.honest c.args.image.now) (g.D.Device.honest c.check_length.new.image) (g.T.TextStore.honest c.args.redo.now) (g.T.TextStore.text c.args.redo.now) redo.text
+    let text : List ℕ = g.T.TextStore.text c.args.redo.now in
+    judged_finished (g.D.Device.honest c.args.image.now) (g.D.Device.honest c.check_length.new.image) (g.T.TextStore.honest c.args.redo.now) (IsRedoFound text c.args.found.count c.in-Ok.text) text
     (g.D.Device.image c.args.image.now) (g.D.Device.image c.check_length.new.image) c.args.found.count c.args.found.told c.in-Err-judge_redo.fault
-    c.check_length.ensures.looks.honesty.1 redo.is c.check_length.ensures.looks.same c.in_default.ensures.same_length (c.in-Err-judge_redo.ensures.fault redo.text redo.found)
+    c.check_length.ensures.looks.honesty.1 c.in-Ok.ensures.found.found c.check_length.ensures.looks.same c.in_default.ensures.same_length (c.in-Err-judge_redo.ensures.fault text)
 
 pub returns-in-Err-judge_redo-clause-unfit : goal.returns-in-Err-judge_redo-clause-unfit
 returns-in-Err-judge_redo-clause-unfit g c dh rh line told refused =
-    let redo = c.in-Ok.ensures.found in
-    c.in-Err-judge_redo.ensures.unfit (c.check_length.ensures.looks.honesty.1 dh) redo.text redo.found line
-    (refused_at _ _ _ _ c.args.found.count line (redo.is rh) (sym (c.check_length.ensures.looks.same dh)) refused)
+    c.in-Err-judge_redo.ensures.unfit (c.check_length.ensures.looks.honesty.1 dh) (g.T.TextStore.text c.args.redo.now) (c.in-Ok.ensures.found.found rh) line
+    (refused_at _ _ _ _ c.args.found.count line refl (sym (c.check_length.ensures.looks.same dh)) refused)
 
 pub returns-clause-undone : goal.returns-clause-undone
 returns-clause-undone g c dh rh =
-    let redo = c.in-Ok.ensures.found in
-    let x : List ℕ = g.D.Device.image c.args.image.now in
+    let text : List ℕ = g.T.TextStore.text c.args.redo.now in
     let changes : ℕ = c.args.found.count in
     let undone : ℕ = c.in-Ok-judge_redo.undone in
-    subst (λ t. HasUndoneCount t x changes undone) (sym (redo.is rh))
-    (subst (λ z. HasUndoneCount redo.text z changes undone) (c.check_length.ensures.looks.same dh) (c.in-Ok-judge_redo.ensures.undone (c.check_length.ensures.looks.honesty.1 dh) redo.text redo.found))
+    subst (λ z. HasUndoneCount text z changes undone) (c.check_length.ensures.looks.same dh)
+    (c.in-Ok-judge_redo.ensures.undone (c.check_length.ensures.looks.honesty.1 dh) text (c.in-Ok.ensures.found.found rh))
 
 pub returns-clause-sum : goal.returns-clause-sum
-returns-clause-sum g c = let redo = c.in-Ok.ensures.found in c.in-Ok-judge_redo.ensures.sum redo.text redo.found
+returns-clause-sum g c = c.in-Ok-judge_redo.ensures.sum c.in-Ok.ensures.found.few
 
 pub returns-clause-unfit : goal.returns-clause-unfit
 returns-clause-unfit g c dh rh line told refused =
-    let redo = c.in-Ok.ensures.found in
-    c.in-Ok-judge_redo.ensures.unfit (c.check_length.ensures.looks.honesty.1 dh) redo.text redo.found line
-    (refused_at _ _ _ _ c.args.found.count line (redo.is rh) (sym (c.check_length.ensures.looks.same dh)) refused)
+    c.in-Ok-judge_redo.ensures.unfit (c.check_length.ensures.looks.honesty.1 dh) (g.T.TextStore.text c.args.redo.now) (c.in-Ok.ensures.found.found rh) line
+    (refused_at _ _ _ _ c.args.found.count line refl (sym (c.check_length.ensures.looks.same dh)) refused)
 
 pub returns-in-Err-judge_redo-clause-image_before : goal.returns-in-Err-judge_redo-clause-image_before
 returns-in-Err-judge_redo-clause-image_before g c h =

@@ -1,10 +1,12 @@
-use Rattle.std.proofs.Common.{refl, arith}
-use Rattle.bx_journal.proofs.JudgeLemmas.{counted_redo, judged_keeps, judged_refuses, length_judged, lines_off, text_counts, text_judged}
+use Rattle.std.proofs.Common.{refl}
+use Rattle.bx_journal.proofs.JudgeLemmas.{counted_redo, found_judged, found_off, judged_keeps, judged_refuses, length_judged, lines_off, text_counts, text_judged}
+use Rattle.bx_journal.specs.private.RedoFound.{IsRedoFound}
 use Rattle.bx_journal.proofs.Refused.{none_refused}
 use Rattle.bx_journal.proofs.recovery.redo.judge_redo.Goals as goal
 
 pub returns-in-Err-clause-fault : goal.returns-in-Err-clause-fault
-returns-in-Err-clause-fault g c text found = text_judged (g.D.Device.honest c.args.image.now) text (g.D.Device.image c.args.image.now) c.args.changes c.in-Err.fault (c.in-Err.ensures.refused text found)
+returns-in-Err-clause-fault g c text =
+    found_judged (g.D.Device.honest c.args.image.now) (IsRedoFound text c.args.changes c.args.found) text (g.D.Device.image c.args.image.now) c.args.changes c.in-Err.fault c.in-Err.ensures.kind (c.in-Err.ensures.refused text)
 
 pub returns-in-Err-clause-unfit : goal.returns-in-Err-clause-unfit
 returns-in-Err-clause-unfit g c dh text found line refused =
@@ -17,9 +19,9 @@ returns-in-Err-clause-kept g c dh text found undone redo =
     (text_judged (g.D.Device.honest c.args.image.now) text (g.D.Device.image c.args.image.now) c.args.changes c.in-Err.fault (c.in-Err.ensures.refused text found))
 
 pub returns-in-Err-check_redo_length-clause-fault : goal.returns-in-Err-check_redo_length-clause-fault
-returns-in-Err-check_redo_length-clause-fault g c text found =
-    length_judged (g.D.Device.honest c.args.image.now) text (g.D.Device.image c.args.image.now) c.args.changes c.in-Ok.counted.counted.count c.in-Ok.counted.counted.told c.in-Err-check_redo_length.fault (c.in-Ok.ensures.ok text found)
-    (lines_off (g.D.Device.honest c.args.image.now) text (g.D.Device.image c.args.image.now) c.in-Ok.counted.lines c.in-Ok.counted.counted.told c.in-Err-check_redo_length.fault (c.in-Ok.ensures.lines text found) c.in-Err-check_redo_length.ensures.fault)
+returns-in-Err-check_redo_length-clause-fault g c text =
+    found_off (g.D.Device.honest c.args.image.now) (IsRedoFound text c.args.changes c.args.found) text (g.D.Device.image c.args.image.now) c.args.changes c.in-Ok.counted.counted.count c.in-Ok.counted.lines c.in-Ok.counted.counted.told
+    c.in-Err-check_redo_length.fault (c.in-Ok.ensures.ok text) (c.in-Ok.ensures.lines text) c.in-Err-check_redo_length.ensures.fault
 
 pub returns-in-Err-check_redo_length-clause-unfit : goal.returns-in-Err-check_redo_length-clause-unfit
 returns-in-Err-check_redo_length-clause-unfit g c dh text found line refused =
@@ -51,6 +53,4 @@ returns-in-Err-clause-looks g c = record {
 }
 
 pub returns-clause-sum : goal.returns-clause-sum
-returns-clause-sum g c text found =
-    let counted = c.in-Ok.ensures.ok text found in
-    omega (arith, counted.fit.few, counted.counted)
+returns-clause-sum g c few = c.in-Ok.ensures.few few
