@@ -64,6 +64,14 @@ pub record DoesDump (job : DumpJob) (name : List ℕ) (outcome : Result Done Und
       (λ e. StopsNamed job name old.sight e old.written new.written)
   pub counted : CountsUndumped outcome old.refusals new.refusals
 
+-- each command has an answer of its own
+abbrev pub Answers : {R : Type 0} → Request R → Outcome → Type 0
+Answers (Move names mounted way count) (of.Moved moved) = Unit {0}
+Answers (Change names mounted task) (of.Changed answer) = Unit {0}
+Answers (Dump job name) (of.Dumped outcome) = Unit {0}
+Answers (Look names report) (of.Looked outcome) = Unit {0}
+Answers request outcome = ⊥
+
 -- what each command does
 abbrev pub Fulfills : {R : Type 0} → (R → Option (List ℕ)) → Request R → Outcome → Scene → Scene → Type 0
 Fulfills remaining (Move names mounted way count) (of.Moved moved) old new = DoesMove names.now way count moved old.sight new.sight

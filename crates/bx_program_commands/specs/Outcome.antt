@@ -1,4 +1,4 @@
--- How a command ended_with.
+-- How a command ended.
 use Rattle.std.specs.Prelude.{Option, None, Result, Ok, Err}
 use Rattle.bx_text.specs.declared.fault.IoFault.TheVariants.{ReadFailed}
 use Rattle.bx_journal.specs.SessionFault.TheVariants.{Interrupted}
@@ -31,7 +31,7 @@ abbrev pub ended_with : {V E : Type 0} → (E → Fault) → Result V E → Resu
 ended_with fault (Ok value) = Ok tt
 ended_with fault (Err e) = Err (fault e)
 
--- that the command is done, or the fault that it ended_with in
+-- that the command is done, or the fault that it ended in
 abbrev pub ended_by : Outcome → Result (Unit {0}) Fault
 ended_by (Moved moved) = moved.outcome
 ended_by (Changed answer) = ended_with (λ fault. fault) (stands_by answer.reply)

@@ -1,6 +1,6 @@
 //! The one call.
 ghost use Rattle.std.specs.Prelude.{◌≡◌, ◌↔◌, None, IfSome};
-ghost use Rattle.bx_program_commands.specs.Commands.{Fulfills, IsNearRequest, LeavesOthers, MayOpen, StopsUnopened, SurvivesLoss, Writes};
+ghost use Rattle.bx_program_commands.specs.Commands.{Answers, Fulfills, IsNearRequest, LeavesOthers, MayOpen, StopsUnopened, SurvivesLoss, Writes};
 ghost use Rattle.bx_program_commands.specs.Outcome.{unopened_by};
 ghost use Rattle.bx_program_commands.specs.Scene.{scene};
 
@@ -23,6 +23,8 @@ pub fn run_request<W: World, R: Read + Drop, O: Write>(
 ) -> Outcome
     requires near { IsNearRequest request }
     requires free { W.honest world.old → (W.sight world.old).lent ≡ None }
+
+    ensures answers { Answers request.entry result }
 
     // Each command does what it is to, or is refused and says why; after a crash it does so on what is recovered.
     ensures does { W.honest world.old → Fulfills R.remaining request.entry result
