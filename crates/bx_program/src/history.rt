@@ -6,9 +6,10 @@ use crate::devices::left::stopped;
 use crate::files::look::is_missing;
 use crate::files::names::{names_of, world_of};
 use crate::files::unopened::not_opened;
+use crate::requests::request_change;
 use crate::stopped::Stopped;
 use bx_cli::{Command, Fault, Target};
-use bx_program_sessions::{Task, change_files};
+use bx_program_sessions::Task;
 use bx_program_system::{Progress, lock, open_there, take_away};
 use std::fs::File;
 use std::io::Empty;
@@ -33,7 +34,7 @@ where
     let names = names_of(rt.alloc(), target)?;
     let mut world = world_of(rt, target, progress);
     let none: Task<Empty> = Task::Run(Command::Undo { k: 0 });
-    let answer = change_files(&mut world, rt.alloc(), &names, target.access.mounted, none);
+    let answer = request_change(&mut world, rt.alloc(), &names, target.access.mounted, none);
     if is_made {
         take_empty(rt, redo);
     }

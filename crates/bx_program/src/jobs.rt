@@ -18,6 +18,7 @@ use crate::jobs::copies::{copy_onto, most_of_dd, tell};
 use crate::jobs::looks::look;
 use crate::jobs::previews::{preview_copy, preview_read};
 use crate::jobs::steps::take_steps;
+use crate::requests::request_dump;
 use crate::stopped::{Noted, STANDARD_INPUT, Stopped};
 use crate::streams::closed::Held;
 use crate::streams::input::{MOST_INPUT, open, size_of};
@@ -28,7 +29,7 @@ use bx_cli::{
 use bx_dd::Counts;
 use bx_image::Change;
 use bx_journal::Way;
-use bx_program_dumps::{Undumped, dump_file};
+use bx_program_dumps::Undumped;
 use bx_program_sessions::Task;
 use bx_program_system::{Counted, Progress, SystemWorld, Tally, Terminals};
 use bx_read::ReadFault;
@@ -379,7 +380,7 @@ where
 {
     let progress = remarks.progress_of_dump(rt, None);
     let mut world = SystemWorld::reading(rt, &progress, most_of(job));
-    match dump_file(&mut world, rt.alloc(), job, name, out) {
+    match request_dump(&mut world, rt.alloc(), job, name, out) {
         Ok(done) => Ok(done),
         Err(Undumped::Unopened(refusal)) => {
             Err(Stopped::by(Fault::OpenFailed, name, number_of(refusal)))

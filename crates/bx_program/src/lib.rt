@@ -7,6 +7,7 @@ mod files;
 mod hints;
 mod history;
 mod jobs;
+mod requests;
 mod stopped;
 mod streams;
 

@@ -7,10 +7,11 @@ use crate::files::names::{names_of, world_of};
 use crate::files::unopened::not_opened;
 use crate::hints::remarks::Remarks;
 use crate::history::forget::forget;
+use crate::requests::request_change;
 use crate::stopped::Stopped;
 use bx_cli::{Reply, Target};
 use bx_program_files::Which;
-use bx_program_sessions::{Task, change_files};
+use bx_program_sessions::Task;
 use bx_program_system::{Progress, take_away};
 use bx_program_world::World;
 use std::fs::File;
@@ -33,7 +34,7 @@ where
     refuse_without_journal(rt, target)?;
     let names = names_of(rt.alloc(), target)?;
     let mut world = world_of(rt, target, progress);
-    let answer = change_files(&mut world, rt.alloc(), &names, target.access.mounted, task);
+    let answer = request_change(&mut world, rt.alloc(), &names, target.access.mounted, task);
     drop(names);
     remarks.look_at_recovered(answer.how);
     match answer.reply.standing() {

@@ -8,12 +8,14 @@ use crate::files::look::refuse_without_journal;
 use crate::files::names::{names_of, world_of};
 use crate::files::read::{ImageFiles, open_texts};
 use crate::history::recover_image;
+use crate::requests::request_report;
 use crate::stopped::Stopped;
 use bx_cli::{Durability, Fault, Target};
 use bx_image::{Device, FileImage};
 use bx_journal::{Devices, Session, SessionFault, Steps, Way, forget_devices};
 use bx_journal_store::{FileText, TextStore};
-use bx_program_looks::{Unseen, show};
+use bx_program_commands::Report;
+use bx_program_looks::Unseen;
 use bx_program_system::{CountedFile, Left, Progress, fixed_length, held, image_of, size_of_texts};
 use std::fs::File;
 use std::io;
@@ -63,7 +65,8 @@ where
     refuse_without_journal(rt, target)?;
     let names = names_of(rt.alloc(), target)?;
     let mut world = world_of(rt, target, progress);
-    match show(&mut world, rt.alloc(), &names, NO_STEP, &mut io::sink()) {
+    let none = Report::Show(NO_STEP);
+    match request_report(&mut world, rt.alloc(), &names, none, &mut io::sink()) {
         Ok(()) => Ok(()),
         Err(Unseen::Unfinished) => recover_image(rt, target, progress),
         Err(Unseen::Stopped(fault)) if is_kept(fault) => Ok(()),

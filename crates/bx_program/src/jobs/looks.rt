@@ -6,15 +6,15 @@ use crate::files::names::{names_of, world_of};
 use crate::hints::remarks::Remarks;
 use crate::history::recover_image;
 use crate::jobs::patches::put_patch;
+use crate::requests::request_report;
 use crate::stopped::Stopped;
 use crate::streams::paged::Paged;
 use bx_cli::{Fault, LogJob, LookJob, ShowJob};
 use bx_journal::{SessionFault, Steps, Way};
+use bx_program_commands::Report;
 use bx_program_files::Names;
-use bx_program_looks::{Unseen, log, log_with_ranges, show, show_unfinished};
+use bx_program_looks::Unseen;
 use bx_program_system::{Progress, SystemWorld};
-use bx_text::emit;
-use std::alloc::Global;
 use std::fs::File;
 use std::io::Write;
 use std::rt::Files;
@@ -54,35 +54,19 @@ where
     let mut world = world_of(rt, target, progress);
     let mut page = Paged::new(rt.alloc(), out);
     put_other(is_other, &mut page).map_err(Fault::Io)?;
-    let mut outcome = list(&mut world, rt.alloc(), &names, job.verbose, &mut page);
+    let asked = if job.verbose {
+        Report::LogWithRanges
+    } else {
+        Report::Log
+    };
+    let mut outcome = request_report(&mut world, rt.alloc(), &names, asked, &mut page);
     if outcome == Err(Unseen::Unfinished) {
         recover_image(rt, target, progress)?;
-        outcome = list(&mut world, rt.alloc(), &names, job.verbose, &mut page);
+        outcome = request_report(&mut world, rt.alloc(), &names, asked, &mut page);
     }
     match outcome {
         Ok(()) => Ok(page.put()?),
         Err(unseen) => Err(not_seen(rt, target, &world, unseen, page.stopped)),
-    }
-}
-
-/// Writes the changes that stand, a line each, or a longer one with ranges.
-fn list<R, W: Write>(
-    world: &mut SystemWorld<'_, '_, R>,
-    alloc: Global,
-    names: &Names,
-    verbose: bool,
-    page: &mut Paged<'_, W>,
-) -> Result<(), Unseen>
-where
-    R: Files<File = File> + Print + Eprint + Clock + AllocGlobal,
-{
-    if verbose {
-        return log_with_ranges(world, alloc, names, page);
-    }
-    let text = log(world, alloc, names)?;
-    match emit(page, text.as_bytes()) {
-        Ok(()) => Ok(()),
-        Err(fault) => Err(Unseen::Stopped(Fault::Io(fault))),
     }
 }
 
@@ -106,8 +90,8 @@ where
     put_other(is_other, &mut page).map_err(Fault::Io)?;
     let names = names_of(rt.alloc(), target)?;
     let mut world = world_of(rt, target, progress);
-    let outcome = show(&mut world, rt.alloc(), &names, steps_of(job), &mut page);
-    match outcome {
+    let asked = Report::Show(steps_of(job));
+    match request_report(&mut world, rt.alloc(), &names, asked, &mut page) {
         Ok(()) => Ok(page.put()?),
         Err(Unseen::Unfinished) => show_begun(rt, job, &names, &mut world, page),
         Err(unseen) => Err(not_seen(rt, target, &world, unseen, page.stopped)),
@@ -142,11 +126,17 @@ where
         let fault = SessionFault::NothingToRedo { have: 0 };
         Err(Unseen::Stopped(Fault::Session(fault)))
     } else {
-        show_unfinished(world, rt.alloc(), names, steps, &mut page)
+        request_report(
+            world,
+            rt.alloc(),
+            names,
+            Report::ShowUnfinished(steps),
+            &mut page,
+        )
     };
     if are_too_few(&outcome) {
-        let none = Steps { count: 0, ..steps };
-        if let Err(unseen) = show_unfinished(world, rt.alloc(), names, none, &mut page) {
+        let none = Report::ShowUnfinished(Steps { count: 0, ..steps });
+        if let Err(unseen) = request_report(world, rt.alloc(), names, none, &mut page) {
             outcome = Err(unseen);
         }
     }

@@ -7,11 +7,12 @@ use crate::devices::pairs::{Cut, open_pair};
 use crate::files::names::{names_of, world_of};
 use crate::files::read::open_to_read;
 use crate::jobs::patches::lines::ShownLines;
+use crate::requests::request_report;
 use crate::stopped::Stopped;
 use bx_cli::{Fault, Target};
 use bx_image::Change;
 use bx_journal::{Steps, Way};
-use bx_program_looks::show;
+use bx_program_commands::Report;
 use bx_program_system::Progress;
 use std::fs::File;
 use std::io::Write;
@@ -61,7 +62,8 @@ where
     let names = names_of(rt.alloc(), target)?;
     let mut world = world_of(rt, target, progress);
     let mut lines = ShownLines::new(rt.alloc());
-    match show(&mut world, rt.alloc(), &names, steps, &mut lines) {
+    let asked = Report::Show(steps);
+    match request_report(&mut world, rt.alloc(), &names, asked, &mut lines) {
         Ok(()) => Ok(lines.finish()?),
         Err(unseen) => match lines.fault {
             Some(fault) => Err(Stopped::from(fault)),

@@ -4,10 +4,10 @@ use crate::devices::left::stopped;
 use crate::files::look::refuse_without_journal;
 use crate::files::names::{names_of, world_of};
 use crate::hints::remarks::Remarks;
+use crate::requests::request_move;
 use crate::stopped::Stopped;
 use bx_cli::{Fault, StepsJob};
 use bx_journal::Way;
-use bx_program_sessions::move_changes;
 use bx_text::IoFault;
 use std::fs::File;
 use std::rt::Files;
@@ -34,7 +34,7 @@ where
     let progress = remarks.progress_of_input(rt, None);
     let mut world = world_of(rt, target, &progress);
     let mounted = target.access.mounted;
-    let moved = move_changes(&mut world, rt.alloc(), &names, mounted, way, job.count);
+    let moved = request_move(&mut world, rt.alloc(), &names, mounted, way, job.count);
     drop(names);
     remarks.look_at_recovered(moved.how);
     if job.count > 0 && is_moved(&moved.outcome) {

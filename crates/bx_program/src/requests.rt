@@ -1,0 +1,99 @@
+//! Commands on named files: each is a request of the one call whose contract has all of them, and has an answer of its own.
+ghost use Rattle.bx_program_sessions.specs.Task.{IsNearTask};
+
+use bx_cli::{Done, DumpJob};
+use bx_journal::Way;
+use bx_program_commands::{Outcome, Report, Request, run_request};
+use bx_program_dumps::Undumped;
+use bx_program_files::Names;
+use bx_program_looks::Unseen;
+use bx_program_sessions::{Answer, Moved, Task};
+use bx_program_system::SystemWorld;
+use std::alloc::Global;
+use std::fs::File;
+use std::io::{self, Empty, Read, Write};
+use std::rt::Files;
+use std::time::Clock;
+
+/// Moves `count` changes one way, and writes how many stand.
+pub fn request_move<R>(
+    world: &mut SystemWorld<'_, '_, R>,
+    alloc: Global,
+    names: &Names,
+    mounted: bool,
+    way: Way,
+    count: u32,
+) -> Moved<()>
+where
+    R: Files<File = File> + Print + Eprint + Clock + AllocGlobal,
+{
+    let request: Request<'_, Empty> = Request::Move {
+        names,
+        mounted,
+        way,
+        count,
+    };
+    match run_request(world, alloc, request, &mut io::sink()) {
+        Outcome::Moved(moved) => moved,
+        Outcome::Changed(_) | Outcome::Dumped(_) | Outcome::Looked(_) => unreachable!(),
+    }
+}
+
+/// Does a task on an image, which is made where it is missing, as its texts are.
+pub fn request_change<R, I: Read + Drop>(
+    world: &mut SystemWorld<'_, '_, R>,
+    alloc: Global,
+    names: &Names,
+    mounted: bool,
+    task: Task<I>,
+) -> Answer
+where
+    R: Files<File = File> + Print + Eprint + Clock + AllocGlobal,
+    requires near { IsNearTask task }
+{
+    let request = Request::Change {
+        names,
+        mounted,
+        task,
+    };
+    match run_request(world, alloc, request, &mut io::sink()) {
+        Outcome::Changed(answer) => answer,
+        Outcome::Moved(_) | Outcome::Dumped(_) | Outcome::Looked(_) => unreachable!(),
+    }
+}
+
+/// Writes what a job makes of a file.
+pub fn request_dump<R, O: Write>(
+    world: &mut SystemWorld<'_, '_, R>,
+    alloc: Global,
+    job: &DumpJob,
+    name: &str,
+    out: &mut O,
+) -> Result<Done, Undumped>
+where
+    R: Files<File = File> + Print + Eprint + Clock + AllocGlobal,
+{
+    let request: Request<'_, Empty> = Request::Dump { job, name };
+    match run_request(world, alloc, request, out) {
+        Outcome::Dumped(outcome) => outcome,
+        Outcome::Moved(_) | Outcome::Changed(_) | Outcome::Looked(_) => unreachable!(),
+    }
+}
+
+/// Writes a report of the changes of an image.
+pub fn request_report<R, O: Write>(
+    world: &mut SystemWorld<'_, '_, R>,
+    alloc: Global,
+    names: &Names,
+    report: Report,
+    out: &mut O,
+) -> Result<(), Unseen>
+where
+    R: Files<File = File> + Print + Eprint + Clock + AllocGlobal,
+{
+    let request: Request<'_, Empty> = Request::Look { names, report };
+    match run_request(world, alloc, request, out) {
+        Outcome::Looked(outcome) => outcome,
+        Outcome::Moved(_) | Outcome::Changed(_) | Outcome::Dumped(_) => unreachable!(),
+    }
+}
