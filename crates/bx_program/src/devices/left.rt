@@ -53,15 +53,18 @@ pub fn not_seen<'a, R>(
 where
     R: Files<File = File> + Print + Eprint + Clock + AllocGlobal,
 {
-    match (unseen, unwritten) {
-        (Unseen::Unopened(unopened), _) => not_opened(rt, target, unopened, world),
-        (Unseen::Unfinished, _) => {
+    let fault = match unseen {
+        Unseen::Unopened(unopened) => return not_opened(rt, target, unopened, world),
+        Unseen::Unfinished => {
             let fault = Fault::Session(SessionFault::Interrupted);
-            Stopped::by(fault, target.image.as_str(), None)
+            return Stopped::by(fault, target.image.as_str(), None);
         }
-        (Unseen::Stopped(_), Some(fault)) => Stopped::from(Fault::Io(fault)),
-        (Unseen::Stopped(fault), None) => stopped(rt, target, world, None, fault),
+        Unseen::Stopped(fault) => fault,
+    };
+    if let Some(unwritten) = unwritten {
+        return Stopped::from(Fault::Io(unwritten));
     }
+    stopped(rt, target, world, None, fault)
 }
 
 /// What stopped a session on the files of a target, whose devices said this.
