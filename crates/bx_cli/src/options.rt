@@ -711,15 +711,28 @@ impl Verb {
 
 /// All that the program takes.
 pub fn program<'a>(alloc: Global) -> Result<Command<'a>, AllocError> {
-    let program = Command::new(alloc, "bx")
+    program_of(alloc, &VERBS)
+}
+
+/// What the program takes of words that begin with this one. Where it calls a subcommand, that is the only one: such words get
+/// to no other, and nothing that is said of them names another.
+pub fn program_behind<'a>(alloc: Global, first: &str) -> Result<Command<'a>, AllocError> {
+    match Verb::of(first) {
+        Some(verb) => program_of(alloc, &[verb]),
+        None => program(alloc),
+    }
+}
+
+/// The program with these subcommands.
+fn program_of<'a>(alloc: Global, verbs: &[Verb]) -> Result<Command<'a>, AllocError> {
+    let mut program = Command::new(alloc, "bx")
         .version("1.1.0")
         .about("A byte toolkit with undo: dumps files, patches them, and takes changes back")
         .after_help(
             "EXAMPLES:\n  bx xxd -l 64 disk.img\n  echo '00000002: 7879' | bx revert disk.img\n  bx undo disk.img\n  bx redo disk.img\n\nThe exit status is 0, 1 for a fault, and 2 for wrong words.\nSee 'bx COMMAND --help' for its options, and 'man bx' for formats and faults.",
         )
         .subcommand_required(true);
-    let mut program = program;
-    for verb in &VERBS {
+    for verb in verbs {
         program = taking(program, verb.command(alloc))?;
     }
     Ok(program)

@@ -1,7 +1,7 @@
 //! From words to a job.
 ghost use Rattle.std.specs.Prelude.{◌≡◌, IfOk};
 
-use crate::options::{Verb, program};
+use crate::options::{Verb, program_behind};
 use bx_cli_commands::{
     Access, ChangeJob, DdImageJob, DdJob, DiffJob, DumpJob, Durability, Fault, ForgetJob,
     HexdumpJob, Job, LogJob, LookJob, MOST_COLUMNS, MOST_LEAST, MOST_STEPS, OdJob, PatchJob,
@@ -34,7 +34,7 @@ pub(crate) fn words_of(alloc: Global, words: &Words) -> Result<Vec<&str>, Fault>
 /// The job that the words ask for; the words are those behind the program's name.
 pub fn plan_words(alloc: Global, words: &Words) -> Result<Job, Fault> {
     let texts = words_of(alloc, words)?;
-    let command = program(alloc)?;
+    let command = program_behind(alloc, words.get(0).unwrap_or(""))?;
     let matches = match command.try_get_matches_from(texts.as_slice()) {
         Ok(matches) => matches,
         Err(error) => return refused(alloc, error),
