@@ -114,7 +114,10 @@ pub fn dump_pages<R: Read, W: Write, P: Pages>(
     }
 }
 
+// Dumps with a page are never inlined: each page of a caller's frame is touched, whatever runs in it.
+
 /// Writes the text of the bytes from place `from` on, at most `limit` of them, after `before` bytes that were written.
+#[inline(never)]
 pub fn dump_part<R: Read, W: Write, P: Pages>(
     r: &mut R,
     w: &mut W,

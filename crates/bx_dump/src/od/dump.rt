@@ -60,6 +60,7 @@ fn dump_lines<R: Read, W: Write>(
 /// bytes, those included that are skipped, and no more of it is read than is needed. Nothing is flushed. After another fault
 /// a front of the text of the bytes that were read was written; `WriteFailed` counts it, and comes only behind the bytes
 /// that are skipped, with at most 2^14 bytes read ahead of it.
+#[inline(never)]
 pub fn od<R: Read, W: Write>(r: &mut R, w: &mut W, o: &OdOptions) -> Result<u64, IoFault>
     ensures ok { IfOk result (WritesAll (od_of o.now) (R.remaining r.old) (R.remaining r.new) (W.contents w.old) (W.contents w.new)) }
     ensures reached { OnOk result (Reaches o.now.skip (R.remaining r.old) (R.remaining r.new)) }

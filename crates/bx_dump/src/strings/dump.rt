@@ -418,6 +418,7 @@ fn scan_pages<R: Read, W: Write>(
 ///
 /// The input may have 2^40 bytes. Nothing is allocated or flushed. After a fault a front of the text of the bytes that
 /// were read was written; `WriteFailed` counts it, and at most 2^14 bytes were read ahead of it.
+#[inline(never)]
 pub fn strings<R: Read, W: Write>(r: &mut R, w: &mut W, o: &StringsOptions) -> Result<u64, IoFault>
     ensures ok { IfOk result (WritesAll (strings_of o.now) (R.remaining r.old) (R.remaining r.new) (W.contents w.old) (W.contents w.new)) }
     ensures err { IfErr result (WritesFrontOf (strings_of o.now) (R.remaining r.old) (R.remaining r.new) (W.contents w.old) (W.contents w.new)) }
