@@ -27,12 +27,11 @@ fn hold<R: Files<File = File>>(rt: &R, number: i32) -> Result<Option<File>, Faul
     }
     match how.open(rt, "/dev/null") {
         Ok(file) => Ok((file.as_raw_fd() == number).then_some(file)),
-        Err(_) if are_open(rt) => Ok(None),
         Err(_) => Err(Fault::OpenFailed),
     }
 }
 
-/// Whether all three are open, asked by another file where there is no null device.
+/// Whether all three are open, asked by another file.
 fn are_open<R: Files<File = File>>(rt: &R) -> bool {
     File::open(rt, "/").is_ok_and(|file| file.as_raw_fd() > LAST)
 }
@@ -43,6 +42,13 @@ impl Held {
     /// # Errors
     /// `OpenFailed` where one is closed and the null device can't be opened.
     pub fn new<R: Files<File = File>>(rt: &R) -> Result<Held, Fault> {
+        if are_open(rt) {
+            return Ok(Held {
+                input: None,
+                output: None,
+                errors: None,
+            });
+        }
         let input = hold(rt, 0)?;
         let output = hold(rt, 1)?;
         let errors = hold(rt, LAST)?;
