@@ -821,5 +821,14 @@ Each was a file in a folder; the last three have a character that turns the orde
   $ for n in 1 2 3 4 5 6 7 8; do printf %01000d 0; sleep 0.25; done | bx dd bs=1000000 count=2
   (\\x1b\[Kbx: [0-9]+[.][0-9] of 2[.]0 [kM]B)+\\x1b\[K0\+1 records in (re)
   0+1 records out
+  $ for n in 1 2 3 4 5 6 7 8; do printf %01000d 0; sleep 0.25; done | bx dd bs=1000000 count=2 of=new
+  (\\x1b\[Kbx: [0-9]+[.][0-9] of 2[.]0 [kM]B)+\\x1b\[K0\+1 records in (re)
+  0+1 records out
+  $ for n in 1 2 3 4 5 6 7 8; do printf %01000d 0; sleep 0.25; done | bx dd --fresh bs=1000000 of=new
+  (\\x1b\[Kbx: [0-9]+[.][0-9] [kM]B)+\\x1b\[K0\+1 records in (re)
+  0+1 records out
+  $ for n in 1 2 3 4 5 6 7 8; do printf %01000d 0; sleep 0.25; done | bx dd -n bs=1000000 of=new
+  (\\x1b\[Kbx: [0-9]+[.][0-9] [kM]B)+\\x1b\[K0\+1 records in (re)
+  0+1 records out
   $ for n in 1 2 3 4 5 6 7 8; do printf '0: 42\n'; sleep 0.25; done | bx revert new
   (\\x1b\[Kbx: [0-9]+[.][0-9] [kM]B)+\\x1b\[K (re)

@@ -26,7 +26,7 @@ const RETURNS: &str = "its lines end in CR LF; tr -d '\\r' takes the CR off";
 
 /// Why a file stopped a job.
 #[derive(Clone, Copy)]
-pub enum Reason {
+pub enum Reason<'a> {
     /// Nothing is known.
     Unknown,
     /// The system's number of the error.
@@ -34,7 +34,7 @@ pub enum Reason {
     /// A call of a device that the system refused.
     Call(FailedCall),
     /// In words.
-    Told(&'static str),
+    Told(&'a str),
     /// Somebody may read or write this text who may not do so with the image; with these permission bits nobody could.
     Wide {
         /// The bits.
@@ -80,7 +80,7 @@ pub struct Row {
     pub count: usize,
 }
 
-impl Reason {
+impl<'a> Reason<'a> {
     /// Whether it says all that a person needs, and what is advised at the fault wouldn't help.
     pub fn is_all(&self) -> bool {
         matches!(
@@ -90,7 +90,7 @@ impl Reason {
     }
 
     /// The reason that the system gave, if it gave one.
-    fn of(error: Option<i32>) -> Reason {
+    fn of(error: Option<i32>) -> Reason<'a> {
         match error {
             Some(code) => Reason::System(code),
             None => Reason::Unknown,
@@ -106,7 +106,7 @@ pub struct Stopped<'a> {
     /// The name of the file or the stream; none where no file is known.
     pub file: Option<&'a str>,
     /// Why it did.
-    pub reason: Reason,
+    pub reason: Reason<'a>,
 }
 
 impl From<Fault> for Stopped<'_> {

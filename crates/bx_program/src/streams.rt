@@ -3,3 +3,4 @@ pub mod closed;
 pub mod fitting;
 pub mod input;
 pub mod paged;
+pub mod part;

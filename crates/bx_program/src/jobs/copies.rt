@@ -8,6 +8,7 @@ use crate::history::changes::{change_anew, change_image};
 use crate::stopped::{Noted, Stopped};
 use crate::streams::fitting::Fitting;
 use crate::streams::input::{Placed, file, standard};
+use crate::streams::part::Part;
 use bx_cli::{Command, DdImageJob, Fault, change_of_plan, plan_rest};
 use bx_dd::{Counts, Plan, report};
 use bx_program_sessions::Task;
@@ -87,7 +88,8 @@ where
     let image = job.target.image.as_str();
     let (from, passed) = (input.name, input.passed);
     let plan = plan_for(&job.plan, passed, is_device(rt, image));
-    let input = Noted::new(input.reader);
+    let total = input.most(most_of_dd(&job.plan));
+    let input = Noted::new(Part::new(input.reader, total, progress));
     let mut fitting = Fitting::new(input, &job.plan, passed, device_length(rt, image));
     let asked = Command::Copy {
         plan,
@@ -115,7 +117,8 @@ where
     let image = job.target.image.as_str();
     let (from, passed) = (input.name, input.passed);
     let plan = plan_for(&job.plan, passed, is_device(rt, image));
-    let input = Noted::new(input.reader);
+    let total = input.most(most_of_dd(&job.plan));
+    let input = Noted::new(Part::new(input.reader, total, progress));
     let mut fitting = Fitting::new(input, &job.plan, passed, device_length(rt, image));
     let made = match change_of_plan(&rt.alloc(), &plan, &mut fitting) {
         Ok(made) => made,

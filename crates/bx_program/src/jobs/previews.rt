@@ -4,10 +4,11 @@ ghost use Rattle.bx_cli_commands.specs.jobs.Passing.{CanPass, plan_skip};
 use crate::devices::pairs::open_pair;
 use crate::files::look::is_device;
 use crate::hints::remarks::Remarks;
-use crate::jobs::copies::plan_for;
+use crate::jobs::copies::{most_of_dd, plan_for};
 use crate::stopped::{Noted, Stopped};
 use crate::streams::fitting::Fitting;
 use crate::streams::input::{Placed, file, standard};
+use crate::streams::part::Part;
 use bx_cli::{DdImageJob, Fault, Target, change_of_plan};
 use bx_dd::Counts;
 use bx_image::Change;
@@ -91,9 +92,12 @@ where
     let pair = open_pair(rt, name, progress)?;
     let (from, passed) = (input.name, input.passed);
     let plan = plan_for(&job.plan, passed, keeps_length);
-    let input = Noted::new(input.reader);
+    let total = input.most(most_of_dd(&job.plan));
+    let input = Noted::new(Part::new(input.reader, total, progress));
     let mut fitting = Fitting::new(input, &job.plan, passed, pair.length);
-    let made = match change_of_plan(&rt.alloc(), &plan, &mut fitting) {
+    let read = change_of_plan(&rt.alloc(), &plan, &mut fitting);
+    progress.end();
+    let made = match read {
         Ok(made) => made,
         Err(fault) => {
             return Err(Stopped::from(Fault::from(fault)).on_input(from, fitting.input.error));
