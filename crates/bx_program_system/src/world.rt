@@ -263,7 +263,7 @@ where
         self.misplaced = None;
         self.kept = None;
         let outcome = match refuse_among_devices(self.rt, name) {
-            Ok(()) => make_image(self.rt, name, Permits::of_image()),
+            Ok(()) => make_image(self.rt, name, Permits::of_image(), self.waits),
             Err(why) => Err(why),
         };
         match outcome {

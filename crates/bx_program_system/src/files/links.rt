@@ -2,7 +2,8 @@
 use crate::facts::dev::is_among_devices;
 use crate::facts::stat::is_root_or_caller;
 use crate::files::mode::Permits;
-use crate::folders::folder_of;
+use crate::files::open::take_away;
+use crate::folders::{folder_of, sync_folder};
 use std::alloc::AllocError;
 use std::fs::{self, File};
 use std::io::{self, ErrorKind};
@@ -39,26 +40,31 @@ impl From<AllocError> for Unmade {
 }
 
 /// Makes an image that is missing, and says whether this run made it: where another program made it by now, it is opened. Where
-/// the name is a link, the image is made where it leads to.
+/// the name is a link, the image is made where it leads to, and where `waits` says so that name is put on the disk.
 ///
 /// # Errors
 /// `Misplaced` where a link leads among the devices, or belongs to somebody else than the caller and root, who could choose by it
 /// what the caller makes.
-pub fn make_image<R>(rt: &R, name: &str, permits: Permits) -> Result<(File, bool), Unmade>
+pub fn make_image<R>(
+    rt: &R,
+    name: &str,
+    permits: Permits,
+    waits: bool,
+) -> Result<(File, bool), Unmade>
 where
     R: Files<File = File> + AllocGlobal,
 {
     match permits.make(rt, name) {
         Ok(file) => Ok((file, true)),
         // Another program made it by now, or a link leads to a file that is missing.
-        Err(e) if e.kind() == ErrorKind::AlreadyExists => make_linked(rt, name, permits),
+        Err(e) if e.kind() == ErrorKind::AlreadyExists => make_linked(rt, name, permits, waits),
         Err(e) => Err(Unmade::System(e)),
     }
 }
 
 /// Makes the image that a link leads to, and says whether this run made it: where another program made it by now, or its place
 /// has no name here, it is opened by the link's name.
-fn make_linked<R>(rt: &R, name: &str, permits: Permits) -> Result<(File, bool), Unmade>
+fn make_linked<R>(rt: &R, name: &str, permits: Permits, waits: bool) -> Result<(File, bool), Unmade>
 where
     R: Files<File = File> + AllocGlobal,
 {
@@ -72,12 +78,29 @@ where
         match permits.make(rt, place.as_str()) {
             Err(e) if e.kind() == ErrorKind::AlreadyExists => link = place,
             Err(e) => return Err(Unmade::System(e)),
-            Ok(file) => return Ok((file, true)),
+            Ok(file) => return Ok((kept(rt, place.as_str(), file, waits)?, true)),
         }
     }
     match permits.open(rt, name) {
         Ok(file) => Ok((file, false)),
         Err(e) => Err(Unmade::System(e)),
+    }
+}
+
+/// A file that was made at a place, whose name is put on the disk where `waits` says so, or else is taken away again.
+fn kept<R>(rt: &R, place: &str, file: File, waits: bool) -> Result<File, Unmade>
+where
+    R: Files<File = File> + AllocGlobal,
+{
+    if !waits {
+        return Ok(file);
+    }
+    match sync_folder(rt, folder_of(place)) {
+        Ok(()) => Ok(file),
+        Err(error) => {
+            take_away(rt, place, &file);
+            Err(Unmade::System(error))
+        }
     }
 }
 
