@@ -1,5 +1,5 @@
 -- What a person sees of the changes of an image, and why not.
-use Rattle.std.specs.Prelude.{◌≡◌, ◌⊎◌, ℕ, List, Option, None, Some, Result, Ok, Err}
+use Rattle.std.specs.Prelude.{◌≡◌, ◌⊎◌, ℕ, List, Option, None, Some, Result, Err}
 use Rattle.std.specs.List.{flat_map}
 use Rattle.bx_text.specs.declared.fault.IoFault.TheVariants.{NoMemory as LacksMemory}
 use Rattle.bx_journal.specs.Calls.{Differs, rows_of}
