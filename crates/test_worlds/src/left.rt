@@ -19,6 +19,8 @@ pub enum Cause {
     Device,
     /// Reads of an input.
     Input,
+    /// Writes of an output.
+    Output,
 }
 
 /// How many of the changes may be found moved or made.

@@ -1,5 +1,7 @@
-//! Plays commands on named files in a world in memory, over cases of the kind `commands`. The lines of a case are one undo or redo of
-//! as many changes; or the last one is a change, a revert, dd or a patch. A first `undo: 0` tells what opening recovers.
+//! Plays commands, looks and dumps on named files in a world in memory, over cases of the kinds `commands`, `looks` and `words`.
+//!
+//! The lines of a case of commands are one undo or redo of as many changes; or the last one is a change, a revert, dd or a patch. A first
+//! `undo: 0` tells what opening recovers.
 //!
 //! A change is asked for whole, and once more as the program does it, by what was read before. A text without bytes is missing, and so
 //! is an image whose journal has none either: they are made, and taken away again where the change is refused. Asked for whole it is
@@ -12,21 +14,30 @@
 //! three what it has or what is on its disk is left, in all combinations, and opening finds the image behind some of the changes: behind
 //! all where the command is done, behind none where it is refused.
 //!
+//! Looks and dumps only read. With each call of the world refused, each read of a file failing and each write of the output, what is
+//! written is the text of the case or a front of it, beside the fault of what failed; and the world is as it was, streams too. Looks are
+//! a log, one with ranges, and each look of a case; a dump is also one of a file without a length, and of one that is missing.
+//!
 //! A line of the output has a case, and how often it was played with each that fails; before them stand the files of `oddities.rt` that
-//! may not be opened: in the first case, in the first change, and in the first one whose files are made.
+//! may not be opened: in the first case, in the first change, in the first one whose files are made, and in the first of looks.
 #![tactic(auto)]
 
 mod changes;
+mod dumps;
 mod left;
+mod looks;
 mod moves;
 mod odd;
 mod oddities;
 mod plays;
 mod report;
+mod seen;
 mod setting;
 mod sweeps;
 
 use crate::changes::Manner;
+use crate::dumps::play_dumps;
+use crate::looks::play_looks;
 use crate::odd::play_refused;
 use crate::oddities::{ODDS, ODDS_OF_MADE, Odd, Oddity, names_of_odd};
 use crate::plays::{Play, Setting};
@@ -34,10 +45,7 @@ use crate::report::Wrong;
 use crate::sweeps::{Failing, play_sweep};
 use std::fs;
 use std::process::ExitCode;
-use test_case_files::{Case, Test, read_cases};
-
-/// The file of the cases.
-const FILE: &str = "worlds.cases";
+use test_case_files::{Case, CaseFile, Test, read_cases};
 
 /// Plays a case where one thing fails, and tells how often, or what is wrong. Tells whether all are right.
 fn play_told(rt: &HostRuntime, play: &Play<'_>, failing: Failing) -> bool {
@@ -168,11 +176,21 @@ fn play_each(rt: &HostRuntime, cases: &[Case]) -> Result<bool, Wrong> {
     Ok(right)
 }
 
-/// Plays the cases of the file. Tells whether all are right.
+/// The cases of a file.
+fn cases_of(rt: &HostRuntime, name: &str) -> Result<CaseFile, Wrong> {
+    let text = fs::read(rt, name).map_err(|_| Wrong::Unknown)?;
+    read_cases(rt.alloc(), text.as_slice()).map_err(|_| Wrong::Unknown)
+}
+
+/// Plays the cases of each file. Tells whether all are right.
 fn play_all(rt: &HostRuntime) -> Result<bool, Wrong> {
-    let text = fs::read(rt, FILE).map_err(|_| Wrong::Unknown)?;
-    let file = read_cases(rt.alloc(), text.as_slice()).map_err(|_| Wrong::Unknown)?;
-    play_each(rt, file.cases.as_slice())
+    let worlds = cases_of(rt, "worlds.cases")?;
+    let looks = cases_of(rt, "looks.cases")?;
+    let dumps = cases_of(rt, "dumps.cases")?;
+    let mut right = play_each(rt, worlds.cases.as_slice())?;
+    right = play_looks(rt, looks.cases.as_slice())? && right;
+    right = play_dumps(rt, dumps.cases.as_slice())? && right;
+    Ok(right)
 }
 
 fn main(rt: HostRuntime) -> ExitCode {

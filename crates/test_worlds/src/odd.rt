@@ -26,7 +26,7 @@ fn is_due(world: &MemoryWorld, odd: &Odd, call: u64, ended: &Ended) -> bool {
 }
 
 /// Nothing was written, and files are as they were: none is there that wasn't but those that the world refused to take away.
-fn is_untouched(world: &MemoryWorld, kept: &Kept, before: There) -> Result<(), Wrong> {
+pub fn is_untouched(world: &MemoryWorld, kept: &Kept, before: There) -> Result<(), Wrong> {
     if !world.output().is_empty() || !world.errors().is_empty() {
         return Err(Wrong::Streams);
     }
@@ -54,7 +54,7 @@ fn is_passed(world: &MemoryWorld, odd: &Odd, call: u64) -> bool {
 
 /// Plays a case with an odd file, where one call of the world is refused. Tells whether none was.
 fn play_once(play: &Play<'_>, odd: &Odd, call: u64) -> Result<bool, Wrong> {
-    let mut world = world_of_odd(play, odd)?;
+    let mut world = world_of_odd(play.alloc, play.first(), play.there, odd)?;
     let kept = Kept::of(play.alloc, held_by(&world))?;
     let before = there_in(&world);
     let mut plan = Plan::NOTHING;

@@ -1,7 +1,6 @@
 //! What is odd about a file that may not be opened, and why it is refused.
-use crate::plays::Play;
 use crate::setting::{
-    CALLER, ELSEWHERE, IMAGE, JOURNAL, LINK, OTHER, OTHER_BYTES, REDO, STAT, names_of,
+    CALLER, ELSEWHERE, Held, IMAGE, JOURNAL, LINK, OTHER, OTHER_BYTES, REDO, STAT, There, names_of,
 };
 use bx_program_files::{Names, Which, Why};
 use bx_program_world::{Kind, MemoryWorld, Refusal, Stat, Unfit};
@@ -334,10 +333,14 @@ fn put(
     }
 }
 
-/// A world with the files of a case, and this odd one.
-pub fn world_of_odd(play: &Play<'_>, odd: &Odd) -> Result<MemoryWorld, NoMemory> {
-    let mut world = MemoryWorld::new(play.alloc, CALLER);
-    let (held, there) = (play.first(), play.there);
+/// A world with those of the files that are there, a link to the image, and this odd one.
+pub fn world_of_odd(
+    alloc: Global,
+    held: Held<'_>,
+    there: There,
+    odd: &Odd,
+) -> Result<MemoryWorld, NoMemory> {
+    let mut world = MemoryWorld::new(alloc, CALLER);
     world.put_link(LINK, IMAGE)?;
     put(&mut world, odd, Which::Image, there.image, held.image)?;
     put(&mut world, odd, Which::Journal, there.journal, held.journal)?;

@@ -185,11 +185,16 @@ pub fn world_with(
     Ok(world)
 }
 
-/// A world with these files, where a redo text without bytes is missing.
-pub fn world_of(alloc: Global, held: Held<'_>) -> Result<MemoryWorld, NoMemory> {
+/// Which files are there, where a redo text without bytes is missing.
+pub fn there_of(held: Held<'_>) -> There {
     let mut there = There::ALL;
     there.redo = !held.redo.is_empty();
-    world_with(alloc, held, there, true)
+    there
+}
+
+/// A world with these files, where a redo text without bytes is missing.
+pub fn world_of(alloc: Global, held: Held<'_>) -> Result<MemoryWorld, NoMemory> {
+    world_with(alloc, held, there_of(held), true)
 }
 
 /// What the three files of a world hold.

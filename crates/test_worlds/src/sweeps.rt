@@ -10,7 +10,7 @@ use bx_program_world::{Fails, MemoryWorld, Plan};
 /// More calls than a case makes.
 pub const MOST_CALLS: u64 = 200;
 
-/// What fails: calls of the world, those of a device that write, or that read, or reads of an input.
+/// What fails: calls of the world, those of a device that write, or that read, reads of an input, or writes of an output.
 #[derive(Clone, Copy, Debug, PartialEq, Eq)]
 pub enum Failing {
     World,
@@ -21,9 +21,11 @@ pub enum Failing {
     JournalReads,
     RedoReads,
     Input,
+    Output,
 }
 
 impl Failing {
+    /// What a command calls.
     pub const EACH: &'static [Failing] = &[
         Failing::World,
         Failing::Image,
@@ -45,13 +47,14 @@ impl Failing {
             Failing::JournalReads => "journal reads",
             Failing::RedoReads => "redo text reads",
             Failing::Input => "input reads",
+            Failing::Output => "output writes",
         }
     }
 
     /// In how many ways a call of it fails.
-    fn ways(self) -> u32 {
+    pub fn ways(self) -> u32 {
         match self {
-            Failing::World | Failing::Input => 2,
+            Failing::World | Failing::Input | Failing::Output => 2,
             Failing::Image | Failing::Journal | Failing::Redo => 6,
             Failing::ImageReads | Failing::JournalReads | Failing::RedoReads => 1,
         }
@@ -60,14 +63,18 @@ impl Failing {
     /// Whether it is reads of a device that fail.
     fn on_reads(self) -> bool {
         match self {
-            Failing::World | Failing::Image | Failing::Journal | Failing::Redo | Failing::Input =>
-                false,
+            Failing::World
+            | Failing::Image
+            | Failing::Journal
+            | Failing::Redo
+            | Failing::Input
+            | Failing::Output => false,
             Failing::ImageReads | Failing::JournalReads | Failing::RedoReads => true,
         }
     }
 
     /// Which faults may come of it.
-    fn cause(self) -> Cause {
+    pub fn cause(self) -> Cause {
         match self {
             Failing::World => Cause::World,
             Failing::Image
@@ -77,6 +84,7 @@ impl Failing {
             | Failing::JournalReads
             | Failing::RedoReads => Cause::Device,
             Failing::Input => Cause::Input,
+            Failing::Output => Cause::Output,
         }
     }
 
@@ -87,7 +95,7 @@ impl Failing {
 
     /// The plan by which `pass` calls are passed first: in an even way one call fails, in an odd one all from it on; and of a write
     /// nothing takes effect, or half, or all. Of reads of a device all fail from one on.
-    fn plan(self, way: u32, pass: u64) -> Plan {
+    pub fn plan(self, way: u32, pass: u64) -> Plan {
         let once = way & 1 == 0;
         let part = match way {
             0 | 1 => Part::Nothing,
@@ -108,8 +116,18 @@ impl Failing {
             Failing::Journal | Failing::JournalReads => plan.journal = fails,
             Failing::Redo | Failing::RedoReads => plan.redo = fails,
             Failing::Input => plan.input = Fuse::new(pass, once),
+            Failing::Output => {}
         }
         plan
+    }
+
+    /// Which writes of an output fail by that plan.
+    pub fn writes(self, way: u32, pass: u64) -> Fuse {
+        if self == Failing::Output {
+            Fuse::new(pass, way & 1 == 0)
+        } else {
+            Fuse::Never
+        }
     }
 }
 

@@ -1,0 +1,112 @@
+//! Plays dumps of an image: of a regular file, of one without a length, as a pipe, and of one that is missing.
+use crate::oddities::{Odd, Oddity};
+use crate::report::Wrong;
+use crate::seen::asked::Asked;
+use crate::seen::told::Told;
+use crate::seen::{Asking, play_each};
+use crate::setting::{Held, names};
+use crate::sweeps::Failing;
+use bx_cli::plan_words;
+use bx_cli_commands::{Done, DumpJob, Job};
+use bx_dd::Counts;
+use bx_program_files::{Names, Unopened, Which, Why};
+use bx_program_world::{Refusal, Unfit};
+use std::alloc::Global;
+use test_case_files::{Case, Records, Test, WordsCase};
+
+/// What fails in turn.
+const EACH: [Failing; 3] = [Failing::World, Failing::Input, Failing::Output];
+
+/// A file of no length, which a text may not be.
+const PIPE: Odd = (
+    "a pipe",
+    Which::Image,
+    Oddity::Folder,
+    Why::Unfit(Unfit::Kind),
+);
+
+/// None.
+const MISSING: Odd = (
+    "missing",
+    Which::Image,
+    Oddity::Missing,
+    Why::System(Refusal::Missing),
+);
+
+/// The job that the words ask for.
+fn job_of(alloc: Global, case: &WordsCase) -> Result<DumpJob, Wrong> {
+    match plan_words(alloc, &case.words) {
+        Ok(Job::Dump(job)) => Ok(job),
+        Ok(_) | Err(_) => Err(Wrong::Unknown),
+    }
+}
+
+/// What a dump counts, as dd's records or its bytes.
+fn done_of(case: &WordsCase) -> Option<Done> {
+    match (case.records, case.count) {
+        (Some(records), _) => Some(Done::Copied(counts_of(records))),
+        (None, Some(count)) => Some(Done::Dumped(count)),
+        (None, None) => None,
+    }
+}
+
+fn counts_of(records: Records) -> Counts {
+    Counts {
+        whole_in: records.whole_in,
+        part_in: records.part_in,
+        whole_out: records.whole_out,
+        part_out: records.part_out,
+        cut: records.cut,
+    }
+}
+
+/// What has to come of the dump of a file that is there.
+fn told_of(case: &WordsCase) -> Told<'_> {
+    match &case.fault {
+        Some(refusal) => Told::Fault(refusal.text.as_str()),
+        None => Told::Text(case.output.as_slice(), done_of(case)),
+    }
+}
+
+/// Plays a dump of an image that holds the case's input. Tells whether all are right.
+fn play_case(rt: &HostRuntime, case: &Case, names: &Names) -> Result<bool, Wrong> {
+    let Test::Words(words) = &case.test else {
+        return Err(Wrong::Unknown);
+    };
+    let (alloc, name) = (rt.alloc(), case.name.as_str());
+    let job = job_of(alloc, words)?;
+    let whole = Asking {
+        alloc,
+        names,
+        held: Held {
+            image: match &words.input {
+                Some(input) => input.as_slice(),
+                None => b"",
+            },
+            journal: b"",
+            redo: b"",
+        },
+        odd: None,
+        asked: Asked::Dump(&job),
+        told: told_of(words),
+    };
+    let _ = print!(rt; "{name}");
+    let mut right = play_each(rt, &whole, &EACH);
+    let odd = Some(&PIPE);
+    let _ = print!(rt; "{name}, a pipe");
+    right = play_each(rt, &Asking { odd, ..whole }, &EACH) && right;
+    let (odd, (_, which, _, why)) = (Some(&MISSING), MISSING);
+    let told = Told::Unopened(Unopened { which, why });
+    let _ = print!(rt; "{name}, missing");
+    Ok(play_each(rt, &Asking { odd, told, ..whole }, &EACH) && right)
+}
+
+/// Plays these cases. Tells whether all are right.
+pub fn play_dumps(rt: &HostRuntime, cases: &[Case]) -> Result<bool, Wrong> {
+    let names = names(rt.alloc())?;
+    let mut right = true;
+    for case in cases {
+        right = play_case(rt, case, &names)? && right;
+    }
+    Ok(right)
+}

@@ -1,0 +1,83 @@
+//! What is asked of named files that are only read.
+use bx_cli_commands::{Done, DumpJob, Fault};
+use bx_journal::Steps;
+use bx_program_dumps::{Undumped, dump_file};
+use bx_program_files::{Names, Unopened, Which, Why};
+use bx_program_looks::{Unseen, log, log_with_ranges, show, show_unfinished};
+use bx_program_world::{MemoryWorld, Refusal};
+use bx_text::emit;
+use std::alloc::Global;
+use std::io::Write;
+
+/// What is asked.
+#[derive(Clone, Copy)]
+pub enum Asked<'a> {
+    /// The changes that stand, a line each.
+    Log,
+    /// The same with ranges.
+    Ranges,
+    /// The next undos or redos.
+    Steps(Steps),
+    /// The next undos, where something is unfinished.
+    Unfinished(Steps),
+    /// A dump of the image.
+    Dump(&'a DumpJob),
+}
+
+/// How it ended: a dump with its counts.
+pub type Outcome = Result<Option<Done>, Unseen>;
+
+/// Writes the log.
+fn put_log<O: Write>(
+    world: &mut MemoryWorld,
+    alloc: Global,
+    names: &Names,
+    out: &mut O,
+) -> Result<(), Unseen> {
+    let text = log(world, alloc, names)?;
+    match emit(out, text.as_bytes()) {
+        Ok(()) => Ok(()),
+        Err(fault) => Err(Unseen::Stopped(Fault::Io(fault))),
+    }
+}
+
+/// The image, which the system refused.
+fn refused(refusal: Refusal) -> Unseen {
+    Unseen::Unopened(Unopened {
+        which: Which::Image,
+        why: Why::System(refusal),
+    })
+}
+
+/// Writes a dump of the image.
+fn put_dump<O: Write>(
+    world: &mut MemoryWorld,
+    alloc: Global,
+    names: &Names,
+    job: &DumpJob,
+    out: &mut O,
+) -> Outcome {
+    match dump_file(world, alloc, job, names.image.as_str(), out) {
+        Ok(done) => Ok(Some(done)),
+        Err(Undumped::Unopened(refusal) | Undumped::Unplaced(refusal)) => Err(refused(refusal)),
+        Err(Undumped::Stopped(fault)) => Err(Unseen::Stopped(fault)),
+    }
+}
+
+/// Writes what is asked of files of these names.
+pub fn ask<O: Write>(
+    world: &mut MemoryWorld,
+    alloc: Global,
+    names: &Names,
+    asked: Asked<'_>,
+    out: &mut O,
+) -> Outcome {
+    let outcome = match asked {
+        Asked::Log => put_log(world, alloc, names, out),
+        Asked::Ranges => log_with_ranges(world, alloc, names, out),
+        Asked::Steps(steps) => show(world, alloc, names, steps, out),
+        Asked::Unfinished(steps) => show_unfinished(world, alloc, names, steps, out),
+        Asked::Dump(job) => return put_dump(world, alloc, names, job, out),
+    };
+    outcome.map(|()| None)
+}

@@ -1,0 +1,106 @@
+//! What a case tells of an asking, and what may come of it where a call fails.
+use crate::left::Cause;
+use crate::report::Wrong;
+use crate::seen::asked::Outcome;
+use bx_cli_commands::Done;
+use bx_program_files::{Unopened, Why};
+use bx_program_looks::Unseen;
+use bx_program_world::{MemoryWorld, Refusal};
+use std::alloc::Global;
+
+/// What has to come of it.
+#[derive(Clone, Copy)]
+pub enum Told<'a> {
+    /// This text, and of a dump these counts.
+    Text(&'a [u8], Option<Done>),
+    /// This fault, and no text.
+    Fault(&'a str),
+    /// Something is unfinished.
+    Unfinished,
+    /// This file isn't opened.
+    Unopened(Unopened),
+}
+
+impl<'a> Told<'a> {
+    /// What is written.
+    fn text(self) -> &'a [u8] {
+        match self {
+            Told::Text(text, _) => text,
+            Told::Fault(_) | Told::Unfinished | Told::Unopened(_) => b"",
+        }
+    }
+}
+
+/// Whether it ended as the case tells.
+fn is_told(alloc: Global, told: Told<'_>, outcome: Outcome) -> Result<bool, Wrong> {
+    match (told, outcome) {
+        (Told::Text(_, told), Ok(done)) => Ok(told == done),
+        (Told::Unfinished, Err(Unseen::Unfinished)) => Ok(true),
+        (Told::Unopened(told), Err(Unseen::Unopened(unopened))) => Ok(told == unopened),
+        (Told::Fault(told), Err(Unseen::Stopped(fault))) => {
+            let text = format!(in alloc; "{fault}")?;
+            Ok(text.as_str() == told)
+        }
+        _ => Ok(false),
+    }
+}
+
+/// The fault of a call that fails, behind as many bytes that were written.
+fn fault_of(alloc: Global, cause: Cause, written: usize) -> Result<String, Wrong> {
+    match cause {
+        Cause::World => Ok(String::new(alloc)),
+        Cause::Device => Ok(String::from_str(alloc, "device failed")?),
+        Cause::Input => Ok(String::from_str(alloc, "read failed")?),
+        Cause::Output => Ok(format!(in alloc; "write failed after {written} bytes")?),
+    }
+}
+
+/// Whether it ended so for a call that failed. What the system refused has written nothing.
+fn is_due(
+    alloc: Global,
+    world: &MemoryWorld,
+    cause: Cause,
+    outcome: Outcome,
+    output: &[u8],
+) -> Result<bool, Wrong> {
+    match outcome {
+        Ok(_) | Err(Unseen::Unfinished) => Ok(false),
+        Err(Unseen::Unopened(unopened)) => {
+            let is_refused = unopened.why == Why::System(Refusal::Other(None));
+            Ok(is_refused && world.was_refused() && output.is_empty())
+        }
+        Err(Unseen::Stopped(fault)) => {
+            let text = format!(in alloc; "{fault}")?;
+            Ok(text == fault_of(alloc, cause, output.len())?)
+        }
+    }
+}
+
+/// It ended as the case tells, with its whole text, or for a call that failed, with a front of it. Tells whether no call failed.
+pub fn judge(
+    alloc: Global,
+    world: &MemoryWorld,
+    told: Told<'_>,
+    cause: Cause,
+    outcome: Outcome,
+    output: &[u8],
+) -> Result<bool, Wrong> {
+    let is_told = is_told(alloc, told, outcome)?;
+    let is_right = if is_told {
+        !world.was_refused()
+    } else {
+        is_due(alloc, world, cause, outcome, output)?
+    };
+    if !is_right {
+        return Err(Wrong::Outcome);
+    }
+    let is_written = if is_told {
+        output == told.text()
+    } else {
+        told.text().starts_with(output)
+    };
+    if !is_written {
+        return Err(Wrong::Streams);
+    }
+    Ok(is_told)
+}
