@@ -14,7 +14,7 @@ use Rattle.bx_journal.specs.SessionFault.{SessionFault}
 use Rattle.bx_journal.specs.SessionFault.TheVariants.{Damaged, Interrupted, LengthDiffers, RedoDamaged}
 use Rattle.bx_journal.specs.Way.{Way}
 use Rattle.bx_journal.specs.Way.TheVariants.{Undo, Redo}
-use Rattle.bx_cli_commands.specs.Listing.{StopsListed, StopsShownList, log_line}
+use Rattle.bx_cli_commands.specs.Listing.{RefusesShowing, StopsListed, StopsListing, StopsShowing, StopsShownList, log_line}
 use Rattle.bx_cli_commands.specs.declared.fault.Fault.{Fault}
 use Rattle.bx_cli_commands.specs.declared.fault.Fault.TheVariants.{Io, Session}
 use Rattle.bx_program_world.specs.World.{Sight, held}
@@ -82,14 +82,15 @@ MayNotLook names counted w unseen = HidesChanges (held w names.image) (held w na
 abbrev pub IsUnseenOr : Type 0 → Option (List ℕ) → Option (List ℕ) → Type 0 → Type 0
 IsUnseenOr hidden old new cut = (hidden × (new ≡ old)) ⊎ cut
 
--- the list of ranges was stopped: a front of it is written
+-- the list of ranges was stopped, and why: a front of it is written
 abbrev pub IsListCut : List ℕ → Option (List ℕ) → Option (List ℕ) → Unseen → Type 0
-IsListCut journal old new (Stopped fault) = StopsListed journal old new fault
+IsListCut journal old new (Stopped fault) = StopsListing (Unit {0}) journal fault × StopsListed journal old new fault
 IsListCut journal old new unseen = ⊥
 
--- the steps over a text were stopped: a front of them is written
+-- the steps over a text were stopped, and why: a front of them is written, and nothing where the text or their number is refused
 abbrev pub AreStepsCut : List ℕ → List ℕ → Steps → Option (List ℕ) → Option (List ℕ) → Unseen → Type 0
-AreStepsCut text image s old new (Stopped fault) = StopsShownList text image s old new fault
+AreStepsCut text image s old new (Stopped fault) =
+    StopsShowing (Unit {0}) text s fault × (RefusesShowing fault → new ≡ old) × StopsShownList text image s old new fault
 AreStepsCut text image s old new unseen = ⊥
 
 -- the steps that are asked for were stopped, where as many changes stand as the journal has entries
