@@ -91,7 +91,10 @@ Killed in the middle of changes and undos:
   > undo -J device.bxj $dev
   > redo -J device.bxj $dev
   > .
-  $ bx revert --mounted -f dump -J device.bxj $dev; bx log -J device.bxj $dev; bx undo --mounted -J device.bxj $dev
+  $ bx revert --mounted -f dump -J device.bxj $dev; kept bx revert --fresh -f dump -J device.bxj $dev
+  bx: cannot open file
+  [1]
+  $ bx log -J device.bxj $dev; bx undo --mounted -J device.bxj $dev
   1 1048576 1
   0
 

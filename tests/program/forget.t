@@ -120,4 +120,7 @@ No journal:
   $ fresh ABxyEFGH "$patched" "$unpatched"; kept flock img.bxj bx forget img
   bx: cannot open file
   [1]
+  $ echo '0: 41' > dump; kept flock -s img bx revert --fresh -f dump img
+  bx: cannot open file
+  [1]
   $ flock -s img bx forget img

@@ -5,10 +5,9 @@ pub mod forget;
 use crate::devices::left::stopped;
 use crate::files::look::is_missing;
 use crate::files::names::{names_of, world_of};
-use crate::files::unopened::not_opened;
 use crate::requests::request_change;
 use crate::stopped::Stopped;
-use bx_cli::{Command, Fault, Target};
+use bx_cli::{Command, Target};
 use bx_program_sessions::Task;
 use bx_program_system::{Progress, lock, open_there, take_away};
 use std::fs::File;
@@ -16,12 +15,27 @@ use std::io::Empty;
 use std::rt::Files;
 use std::time::Clock;
 
-/// Recovers what is unfinished of an image, by an undo of no change, and says on standard error what it was. A redo text that is
-/// missing then stays so.
+/// Recovers what is unfinished of an image, and says on standard error what it was.
 ///
 /// # Errors
 /// As of an undo.
 pub fn recover_image<'a, R>(
+    rt: &R,
+    target: &'a Target,
+    progress: &Progress<'_, R>,
+) -> Result<(), Stopped<'a>>
+where
+    R: Files<File = File> + Print + Eprint + Clock + AllocGlobal,
+{
+    open_to_change(rt, target, progress).map_err(Stopped::unrecovered)
+}
+
+/// Opens an image and its texts to change them, by an undo of no change, and closes them. So what is unfinished is recovered. A redo
+/// text that is missing stays so.
+///
+/// # Errors
+/// As of an undo.
+pub fn open_to_change<'a, R>(
     rt: &R,
     target: &'a Target,
     progress: &Progress<'_, R>,
@@ -38,12 +52,9 @@ where
     if is_made {
         take_empty(rt, redo);
     }
-    if let Some(unopened) = answer.unopened {
-        return Err(not_opened(rt, target, unopened, &world).unrecovered());
-    }
     match answer.reply.standing() {
         Ok(_) => Ok(()),
-        Err(fault) => Err(stopped(rt, target, &world, None, fault)),
+        Err(fault) => Err(stopped(rt, target, &world, answer.unopened, fault)),
     }
 }
 

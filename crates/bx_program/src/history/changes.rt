@@ -6,7 +6,8 @@ use crate::files::look::{is_missing, refuse_without_journal};
 use crate::files::names::{names_of, world_of};
 use crate::files::unopened::not_opened;
 use crate::hints::remarks::Remarks;
-use crate::history::forget::forget;
+use crate::history::forget::{forget, is_kept};
+use crate::history::open_to_change;
 use crate::requests::request_change;
 use crate::stopped::Stopped;
 use bx_cli::{Reply, Target};
@@ -43,7 +44,7 @@ where
     }
 }
 
-/// Drops the history of an image, where it has one, and then changes it.
+/// Drops the history of an image, where it has one, and then changes it. Nothing is dropped where a file may not be changed.
 pub fn change_anew<'a, R>(
     rt: &R,
     target: &'a Target,
@@ -59,7 +60,7 @@ where
         return change_image(rt, target, task, progress, remarks);
     }
     let made = made_image(rt, target, progress)?;
-    let outcome = match forget(rt, target, progress) {
+    let outcome = match drop_history(rt, target, progress) {
         Ok(()) => change_image(rt, target, task, progress, remarks),
         Err(stopped) => Err(stopped),
     };
@@ -67,6 +68,22 @@ where
         take_away(rt, target.image.as_str(), &file);
     }
     outcome
+}
+
+/// Drops the history of an image whose files may be changed.
+fn drop_history<'a, R>(
+    rt: &R,
+    target: &'a Target,
+    progress: &Progress<'_, R>,
+) -> Result<(), Stopped<'a>>
+where
+    R: Files<File = File> + Print + Eprint + Clock + AllocGlobal,
+{
+    refuse_without_journal(rt, target)?;
+    match open_to_change(rt, target, progress) {
+        Err(stopped) if !is_kept(stopped.fault) => Err(stopped),
+        Ok(()) | Err(_) => forget(rt, target, progress),
+    }
 }
 
 /// The image, where it is missing and is made, so that its texts can be judged beside it.

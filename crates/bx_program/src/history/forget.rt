@@ -75,7 +75,7 @@ where
 }
 
 /// Whether it is the fault of texts whose history can be dropped all the same.
-fn is_kept(fault: Fault) -> bool {
+pub fn is_kept(fault: Fault) -> bool {
     match fault {
         Fault::Session(fault) => is_of_texts(fault),
         Fault::Io(_)
