@@ -3,7 +3,7 @@
 import itertools
 import re
 
-from shared import ROOT
+from shared import ROOT, read
 
 NAME = re.compile(r"[A-Za-z_][A-Za-z0-9_'-]*")
 
@@ -12,7 +12,7 @@ NAME = re.compile(r"[A-Za-z_][A-Za-z0-9_'-]*")
 
 def crates():
     """The crates in the order of crates.txt, each with the crates of this repository that its line names."""
-    lines = (line.split("#")[0].strip() for line in read(ROOT / "crates.txt").splitlines())
+    lines = (line.split("#")[0].strip() for line in read("crates.txt").splitlines())
     named = {line.split(":")[0].split()[0]: line.split(":")[1].split() for line in lines if line}
     return {name: [other for other in others if other in named] for name, others in named.items()}
 
@@ -41,11 +41,6 @@ def code(name):
     return sorted(folder(name).rglob("*.rt"))
 
 
-def read(path):
-    """The text of a file."""
-    return path.read_text(encoding="utf-8")
-
-
 def head(path):
     """The comment at the head of a file of code, as one line."""
     lines = itertools.takewhile(lambda line: line.startswith("//!"), read(path).split("\n"))
@@ -72,12 +67,12 @@ def inner():
             for part in parts if "which exports all of it" not in head(root_of(part))]
 
 
-def generated(page, text, write):
+def generated(name, text, write):
     """Writes a page that a tool makes, or answers that it isn't as the tool makes it."""
     if write:
-        page.write_text(text, encoding="utf-8")
-    is_there = page.exists() and text == read(page)
-    return [] if is_there else [f"{page.relative_to(ROOT)} isn't what tools/docs.py --write makes"]
+        (ROOT / name).write_text(text, encoding="utf-8")
+    is_there = (ROOT / name).exists() and text == read(name)
+    return [] if is_there else [f"{name} isn't what tools/docs.py --write makes"]
 
 
 # Rattle code
@@ -116,30 +111,38 @@ def split(text, mark, brackets="([{}])"):
 
 class Item:
     """An item of a file: whether it says `pub`, its kind, its name (of an impl that of the type), its line, and its
-    text, which is what stands behind its kind up to the next item. An impl or a trait has methods, whose `owner` it
-    is, and a head in front of them; a function has arguments, a contract and a body."""
+    text, which is what stands behind its kind up to the next item. It has `functions`: a function itself, which has
+    arguments, a contract and a body, and an impl or a trait its methods, whose `owner` it is, and a head in front of
+    them."""
 
     def __init__(self, match, text, line, owner):
         self.is_public, self.kind, self.text, self.line, self.owner = match[1] == "pub ", match[2], text, line, owner
         self.name = re.match(r"(?:<.*?>)? ?(?:\w+(?:<.*>)? for )?(\w+)" if self.kind == "impl" else r" ?(\w+)", text)[1]
+        self.functions = [self] if self.kind == "fn" else []
         if self.kind in ("impl", "trait"):
             self.head = re.split(r"(?m)^ {4}(?=.*\bfn )", text, maxsplit=1)[0]
-            self.methods = [item for item in items(text, " {4}", line, self) if item.kind == "fn"]
+            self.functions = [item for item in items(text, " {4}", line, self) if item.kind == "fn"]
         elif self.kind == "fn":
             at = re.match(r" \w+", text).end()
             start = closing(text, at, "<([{}])>") if text[at] == "<" else at
             end = closing(text, start, "<([{}])>")
-            self.arguments = [part.strip() for part in split(text[start + 1 : end - 1], ",", "<([{}])>")
-                              if part.strip()]
+            arguments = split(text[start + 1 : end - 1], ",", "<([{}])>")
+            self.arguments = [part.strip() for part in arguments if part.strip()]
             self.contract, self.opened, self.body = [*re.split(r"(?m)(\{\}?|;)$", text[end:], maxsplit=1), "", ""][:3]
 
     def takes(self):
         """How many arguments it has, `self` left out."""
         return sum(not re.match(r"(&\s*('\w+ )?)?(mut )?self\b", part) for part in self.arguments)
 
-    def ensures(self):
-        """How many clauses its contract promises."""
-        return len(re.findall(r"(?m)^ *ensures\b", self.contract))
+    def is_public_by(self, exports, path):
+        """Whether it is public where its crate exports these names; an impl where its head has one."""
+        names = set(NAME.findall(self.text.split("{")[0])) if self.kind == "impl" else {self.name, f"mod {path}"}
+        return (self.is_public or self.kind == "impl") and not names.isdisjoint(exports)
+
+    def shown(self):
+        """Which of its functions are public where it is: of an impl those that say `pub`, or all for a trait."""
+        is_own = self.kind == "impl" and " for " not in self.text.split("{")[0]
+        return [function for function in self.functions if function.is_public or not is_own]
 
 
 BEGIN = r"^{}(pub(?:\([a-z]+\))? )?(?:const (?=fn|unsafe)|unsafe )*(fn|trait|struct|enum|impl|const)\b"
@@ -152,14 +155,10 @@ def items(text, indent="", line=0, owner=None):
             for match, behind in itertools.zip_longest(begun, begun[1:])]
 
 
-def items_of(path):
-    return items(re.sub("//.*", "", read(path)))
-
-
-def functions(path):
-    """The functions of a file, in their order."""
-    return [function for item in items_of(path)
-            for function in getattr(item, "methods", [item]) if function.kind == "fn"]
+def items_in(name):
+    """The items of a crate's code, each with its file, and its place below `src/` without the ending."""
+    return [(path, str(path.relative_to(folder(name)).with_suffix("")), item)
+            for path in code(name) for item in items(re.sub("//.*", "", read(path)))]
 
 
 def sentence(path, at):
@@ -176,16 +175,21 @@ def clauses(text):
     return [text[match.end() : closing(text, match.end() - 1) - 1] for match in re.finditer(begins, text)]
 
 
-def exported(name):
-    """What a crate's root exports: paths of items, and the public modules, whose public items all are."""
-    found, modules, todo = set(), set(), [()] if (folder(name) / "lib.rt").exists() else []
+def exports(name):
+    """The names that a crate's root exports, and as `mod PATH` its public modules, whose public items all are."""
+    found, todo = set(), ["lib"] if (folder(name) / "lib.rt").exists() else []
     while todo:
         module = todo.pop()
-        text = read((folder(name) / "/".join(module or ("lib",))).with_suffix(".rt"))
-        modules.add(module)
-        found |= {(*module, *path) for path in used(text, "pub ")}
-        todo += [(*module, other) for other in re.findall(r"(?m)^pub mod (\w+);", text)]
-    return found, modules
+        text = read((folder(name) / module).with_suffix(".rt"))
+        found |= {path[-1] for path in used(text, "pub ")} | {f"mod {module}"} - {"mod lib"}
+        todo += [f"{module}/{other}".removeprefix("lib/") for other in re.findall(r"(?m)^pub mod (\w+);", text)]
+    return found
+
+
+def exported_above(part, names):
+    """What the roots of some crates, those that are no inner parts, export of an inner part."""
+    roots = [folder(name) / "lib.rt" for name in names if name not in inner() and (folder(name) / "lib.rt").exists()]
+    return {path[-1] for lib in roots for path in used(read(lib), "pub ") if path[0] == part}
 
 
 # Definitions
@@ -198,18 +202,14 @@ class Definition:
 
     def __init__(self, crate, file, name, lines, above):
         self.crate, self.file, self.name, self.lines, self.sentence = crate, file, name, lines, above
-
-    @property
-    def place(self):
-        return f"{self.crate}/{self.file}"
+        self.place = f"{crate}/{file}"
 
     def parameters(self):
         """How many parameters it has: those of its head, and those before its type's last arrow; none in braces."""
         first, *rest = (line for line in self.lines if not line.startswith("module _ "))
         head = itertools.takewhile(lambda line: line.startswith(" "), rest)
         text = " ".join([first, *head])[HEAD.match(first).end() :]
-        text = re.split(r"\bwhere\b", text)[0]
-        front, *rest = split(text, ":")
+        front, *rest = split(re.split(r"\bwhere\b", text)[0], ":")
         return sum(binders(front)) + sum(sum(binders(part) or [1]) for part in split(":".join(rest), "→")[:-1])
 
 
@@ -230,11 +230,9 @@ def binders(text):
 def imports(text):
     """name in this file -> (crate, module path, name there), of `use Rattle.CRATE.specs.MODULE.{..}`"""
     found = {}
-    for match in re.finditer(r"use Rattle\.(\w+)\.specs\.([\w.]+)\.\{([^}]*)\}", text):
-        for item in match.group(3).split(","):
-            parts = item.strip().split(" as ")
-            if parts[0]:
-                found[parts[-1].strip()] = (match.group(1), match.group(2), parts[0].strip())
+    for crate, module, names in re.findall(r"use Rattle\.(\w+)\.specs\.([\w.]+)\.\{([^}]*)\}", text):
+        for name, *alias in (item.split(" as ") for item in names.split(",") if item.strip()):
+            found[(alias or [name])[0].strip()] = crate, module, name.strip()
     return found
 
 
@@ -244,27 +242,24 @@ def parts(text):
     A line `module _ .. where` gives those below it, set in by two spaces, their first parameters; it counts with the
     next."""
     found, comment, opened, within = [], [], [], False
-    for line in text.split("\n"):
-        bare = line.rstrip()
-        if bare.startswith("module _ "):
-            comment, opened, within = [], [bare], True
+    for line in map(str.rstrip, text.split("\n")):
+        if line.startswith("module _ "):
+            comment, opened, within = [], [line], True
             continue
-        within = within and (not bare or bare.startswith("  "))
-        bare = bare.removeprefix("  ") if within else bare
-        if bare.startswith("--"):
-            comment.append(bare[2:].strip())
+        within = within and (not line or line.startswith("  "))
+        line = line.removeprefix("  ") if within else line
+        if line.startswith("--"):
+            comment.append(line[2:].strip())
             continue
-        if not bare:
-            comment = []
-        if not bare or bare.startswith(("use ", "pub use ", "pub mod ")) or bare.lstrip().startswith("--"):
+        comment = comment if line else []
+        if not line or line.startswith(("use ", "pub use ", "pub mod ")) or line.lstrip().startswith("--"):
             continue
-        begun = HEAD.match(bare)
-        declares = re.match(r"(abbrev|unfoldable|pub|record|data) |[\w'-]+ :", bare)
-        if begun and not bare[0].isspace() and declares:
-            found.append((begun.group(2), opened, " ".join(comment)))
+        begun = HEAD.match(line)
+        if begun and re.match(r"(abbrev|unfoldable|pub|record|data) |[\w'-]+ :", line):
+            found.append((begun[2], opened, " ".join(comment)))
             comment, opened = [], []
         if found:
-            found[-1][1].append(bare)
+            found[-1][1].append(line)
     return found
 
 
@@ -273,14 +268,8 @@ def definitions(names):
     found, brought = {}, {}
     for crate in names:
         for path in sorted(folder(crate, "specs").rglob("*.antt")):
-            file = str(path.relative_to(folder(crate, "specs")))[: -len(".antt")].replace("/", ".")
+            file = ".".join(path.relative_to(folder(crate, "specs")).with_suffix("").parts)
             brought[(crate, file)] = imports(read(path))
-            for name, lines, above in parts(read(path)):
-                found[(crate, file, name)] = Definition(crate, file, name, lines, above)
+            for part in parts(read(path)):
+                found[(crate, file, part[0])] = Definition(crate, file, *part)
     return found, brought
-
-
-def exported_above(part, names):
-    """What the roots of some crates, those that are no inner parts, export of an inner part."""
-    roots = [folder(name) / "lib.rt" for name in names if name not in inner() and (folder(name) / "lib.rt").exists()]
-    return {path[-1] for lib in roots for path in used(read(lib), "pub ") if path[0] == part}

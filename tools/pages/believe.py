@@ -10,6 +10,7 @@ compared."""
 import re
 
 import sources
+from shared import read
 
 # the crate whose calls and those below are public: bx_program only puts them in order
 TOP = "bx_cli"
@@ -17,8 +18,13 @@ TOP = "bx_cli"
 SHARED = ["model", "show"]
 # the page's part of what laws alone name
 TOLD = "D"
-ORDER = sources.ROOT / "docs" / "believe.txt"
-PAGE = sources.ROOT / "docs" / "generated" / "BELIEVE.md"
+INTRO = """# What must be believed
+
+Written by `tools/docs.py --write` of `docs/believe.txt` and the sentence above each definition. A contract says what
+its words mean, and the words of public contracts are defined in the `specs/` of the crates. Here are all definitions
+that a public contract names, directly or through another one. Parts A to C have to be believed to know what a call
+does, and nothing else.
+"""
 
 
 def named():
@@ -26,44 +32,28 @@ def named():
     return [*sources.below(sources.crates(), TOP), TOP]
 
 
-def exports_of(crate):
-    """What the crate's root exports, by itself and by its public modules, which are named too: `mod PATH`."""
-    found, modules = sources.exported(crate)
-    return {path[-1] for path in found} | {"mod " + "/".join(module) for module in modules if module}
-
-
-def shown(item, exports, module):
-    """The texts of an item whose clauses are public: all of an impl's that it has by its own name or for a trait."""
-    if item.kind == "impl":
-        header = item.text.split("{")[0]
-        is_named, is_of_trait = exports & set(sources.NAME.findall(header)), " for " in header
-        return [item.head, *(it.contract for it in item.methods if it.is_public or is_of_trait)] if is_named else []
-    is_exported = item.is_public and exports & {item.name, module}
-    return [item.contract if item.kind == "fn" else item.text] if is_exported else []
-
-
 def public_names(crate, exports):
-    """the specs that the contracts of what is exported of a crate name: of its calls and types, and of its laws"""
+    """The specs that the contracts of what is exported of a crate name: of its calls and types, and of its laws."""
     called, said = set(), set()
-    for path in sources.code(crate):
-        known = sources.imports(sources.read(path))
-        module = "mod " + str(path.relative_to(sources.folder(crate)).with_suffix(""))
-        for item in sources.items_of(path):
-            clauses = [clause for text in shown(item, exports, module) for clause in sources.clauses(text)]
-            words = {word for clause in clauses for word in sources.NAME.findall(clause)}
+    for path, place, item in sources.items_in(crate):
+        if item.is_public_by(exports, place):
+            texts = [it.contract for it in item.shown()] if item.kind in ("fn", "impl") else [item.text]
+            texts += [item.head] if item.kind == "impl" else []
+            known, clauses = sources.imports(read(path)), " ".join(it for text in texts for it in sources.clauses(text))
             is_law = item.kind == "fn" and item.opened == "{}" and not item.arguments
-            (said if is_law else called).update(known[word] for word in words & known.keys())
+            (said if is_law else called).update(known[it] for it in sources.NAME.findall(clauses) if it in known)
     return called, said
 
 
 def closure(definitions, imports, named):
-    seen, todo = {}, list(named)
+    """The definitions that names lead to, through those that they are made of."""
+    seen, todo = set(), list(named)
     while todo:
         key = todo.pop()
         if key in definitions and key not in seen:
-            seen[key], here = definitions[key], key[:2]
-            words = sources.NAME.findall("\n".join(seen[key].lines))
-            todo += [imports[here].get(word, (*here, word)) for word in words]
+            seen.add(key)
+            words = sources.NAME.findall("\n".join(definitions[key].lines))
+            todo += [imports[key[:2]].get(word, (*key[:2], word)) for word in words]
     return seen
 
 
@@ -78,34 +68,23 @@ def size(some):
     return sum(len(d.lines) for d in some)
 
 
-INTRO = """# What must be believed
-
-Written by `tools/docs.py --write` of `docs/believe.txt` and the sentence above each definition. A contract says what
-its words mean, and the words of public contracts are defined in the `specs/` of the crates. Here are all definitions
-that a public contract names, directly or through another one. Parts A to C have to be believed to know what a call
-does, and nothing else.
-"""
-
-
 def filled(order, believed, told):
-    """the page by the order of its files, the lines of each part, and what is wrong with the order"""
+    """The page by the order of its files, the lines of each part, and what is wrong with the order."""
     left = {False: by_place(believed), True: by_place(told)}
     lines, sizes, bad, part = [INTRO], {}, [], ""
     for line in order.split("\n"):
-        begun = re.match(r"(\w)\. (.*?): (.*)", line)
-        if begun:
-            part = begun.group(1)
+        if begun := re.match(r"(\w)\. (.*?): (.*)", line):
+            part = begun[1]
             sizes[part] = 0
-            lines += [f"## {part}. {begun.group(2)}", "", begun.group(3), ""]
+            lines += [f"## {part}. {begun[2]}", "", begun[3], ""]
         elif line.startswith("  "):
             here = left[part == TOLD].pop(line.strip(), [])
-            if not here:
-                bad.append(f"part {part}: nothing of {line.strip()} stands there")
+            bad += [] if here else [f"part {part}: nothing of {line.strip()} stands there"]
             sizes[part] += size(here)
             lines += [f"### `{line.strip()}`", "",
                       *(f"- `{d.name}`" + (f": {d.sentence}" if d.sentence else "") for d in here), ""]
-    bad += [f"docs/believe.txt doesn't name {place}" for place in sorted(left[False])]
-    bad += [f"part {TOLD} of docs/believe.txt doesn't name {place}" for place in sorted(left[True])]
+    bad += [f"docs/believe.txt doesn't name {place}, in part {TOLD} if laws alone do"
+            for places in left.values() for place in sorted(places)]
     return "\n".join(lines).rstrip("\n") + "\n", sizes, bad
 
 
@@ -114,7 +93,7 @@ def check(options):
     definitions, imports = sources.definitions(crates)
     called, said = set(), set()
     for crate in crates:
-        of_calls, of_laws = public_names(crate, exports_of(crate))
+        of_calls, of_laws = public_names(crate, sources.exports(crate))
         if crate in sources.inner():
             of_calls, _ = public_names(crate, sources.exported_above(crate, crates))
             of_laws = {key for key in of_laws if "." not in key[1] or key[1].split(".")[0] in SHARED}
@@ -122,17 +101,15 @@ def check(options):
         said |= of_laws
     met, met_by_all = closure(definitions, imports, called), closure(definitions, imports, called | said)
     believed = [d for key, d in definitions.items() if key in met]
-    told = [d for key, d in definitions.items() if key in met_by_all and key not in met]
+    told = [d for key, d in definitions.items() if key in met_by_all - met]
     rest = [d for key, d in definitions.items() if key not in met_by_all]
-    text, sizes, bad = filled(sources.read(ORDER), believed, told)
-    for what, some in (("", believed), (f"{TOLD} ", told)) if options.list else ():
+    text, sizes, bad = filled(read("docs/believe.txt"), believed, told)
+    for what, some in (("", believed), (f"{TOLD} ", told), ("unneeded: ", rest)) if options.list else ():
         for place, here in sorted(by_place(some).items()):
             print(f"{size(here):5} {what}{place}: {' '.join(d.name for d in here)}")
-    for d in rest if options.list else []:
-        print(f"unneeded: {d.place} {d.name} {len(d.lines)}")
     bad += [f"no sentence above {d.place} {d.name}" for d in believed + told if not d.sentence]
     parts = ", ".join(f"{part} {lines}" for part, lines in sizes.items() if part != TOLD)
     line = f"{size(believed)} lines in {len(believed)} definitions are needed by the contracts of calls ({parts}), " \
         f"{size(told)} in {len(told)} by those of laws alone ({TOLD}), " \
         f"{size(rest)} in {len(rest)} by no public contract"
-    return bad or sources.generated(PAGE, text, options.write), line
+    return bad or sources.generated("docs/generated/BELIEVE.md", text, options.write), line

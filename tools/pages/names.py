@@ -8,7 +8,7 @@ repository ends with the same parts, where `crates`, `src`, `specs` and `proofs`
 import pathlib
 import re
 
-from shared import ROOT
+from shared import ROOT, read
 
 SOURCES = [".rt", ".antt", ".edit", ".cases", ".py", ".sh", ".1"]
 FILE = re.compile(r"[\w./-]+\.(?:rt|antt|edit|cases|py|sh|md|fish|bash)")
@@ -33,16 +33,15 @@ def words(paths):
     """The words that stand in sources, and those of the names of files and folders."""
     found = set(OTHERS)
     for path in paths:
-        found |= {path.name, path.stem, *re.findall(r"\w+", path.name)}
-        if path.suffix in SOURCES or path.name in ("Makefile", "crates.txt"):
-            found |= set(re.findall(r"\w+", (ROOT / path).read_text(encoding="utf-8")))
+        is_source = path.suffix in SOURCES or path.name in ("Makefile", "crates.txt")
+        text = f"{path.name} {read(path) if is_source else ''}"
+        found |= {path.name, path.stem, *re.findall(r"\w+", text)}
     return found
 
 
-def spans(page):
+def spans(text):
     """The spans of a page, with their lines."""
-    text = re.sub(r"^```.*?^```", lambda block: "\n" * block.group().count("\n"), page.read_text(encoding="utf-8"),
-                  flags=re.M | re.S)
+    text = re.sub(r"^```.*?^```", lambda block: "\n" * block.group().count("\n"), text, flags=re.M | re.S)
     return [(number, span) for number, line in enumerate(text.split("\n"), 1)
             for span in re.findall(r"`([^`\n]+)`", line)]
 
@@ -50,8 +49,7 @@ def spans(page):
 def is_there(span, known, ends):
     """Whether what a span cites stands in the sources; what is no name or file passes."""
     if FILE.fullmatch(span) and "/" in span:
-        parts = bare(span)
-        return any(end[-len(parts) :] == parts for end in ends)
+        return any(end[-len(bare(span)) :] == bare(span) for end in ends)
     if not NAME.fullmatch(span) or re.fullmatch(r"[0-9a-f]+", span):
         return True
     return all(word in known or word.isdigit() for word in re.split(r"::|\.|/", span))
@@ -60,12 +58,12 @@ def is_there(span, known, ends):
 def check(_options):
     paths = files()
     known, ends, bad, count = words(paths), [bare(path) for path in paths], [], 0
-    for page in [path for path in paths if path.suffix == ".md" and path.name != "CHANGELOG.md"]:
-        cited = spans(ROOT / page)
+    for page in [path for path in paths if path.suffix == ".md"]:
+        text = read(page)
+        cited = spans(text) if page.name != "CHANGELOG.md" else []
         count += len(cited)
         bad += [f"{page}:{number}: `{span}` stands nowhere"
                 for number, span in cited if not is_there(span, known, ends)]
-    for page in [path for path in paths if path.suffix == ".md"]:
-        links = re.findall(r"\]\(([^)#:]+)\)", (ROOT / page).read_text(encoding="utf-8"))
-        bad += [f"{page}: no file {link}" for link in links if not (ROOT / page.parent / link).exists()]
+        bad += [f"{page}: no file {link}" for link in re.findall(r"\]\(([^)#:]+)\)", text)
+                if not (ROOT / page.parent / link).exists()]
     return bad, f"{count} spans of documents: each name and file that they cite is there"

@@ -12,9 +12,8 @@ and without it the page is compared."""
 import re
 
 import sources
+from shared import read
 
-TABLE = sources.ROOT / "rooms.txt"
-PAGE = sources.ROOT / "docs" / "generated" / "ROOMS.md"
 TOP = """# Crates and their rooms
 
 Written by `tools/docs.py --write` of `crates.txt`, `rooms.txt` and the sentence at the head of each file. A room is a
@@ -32,15 +31,15 @@ def leads_to(texts, exported, path, depth=0):
 
 def file_imports(name):
     """What each file of a crate, by the names of its modules from the crate's root on, imports of the others."""
-    source, exported = sources.folder(name), {}
-    texts = {path.relative_to(source).with_suffix("").parts: sources.read(path) for path in sources.code(name)}
+    exported, used = {}, {}
+    texts = {path.relative_to(sources.folder(name)).with_suffix("").parts: read(path) for path in sources.code(name)}
     for module, text in texts.items():
         here = () if module in (("lib",), ("main",)) else module
         for first, *rest in sources.used(text, r"pub(?:\(crate\))? "):
             exported[(here, [first, *rest][-1])] = tuple(rest) if first == "crate" else (*here, first, *rest)
-    used = {module: [rest for first, *rest in sources.used(text, r"(?:pub(?:\(crate\))? )?") if first == "crate"]
-            for module, text in texts.items()}
-    return {module: {leads_to(texts, exported, tuple(path)) for path in paths} - {module, ()}
+        paths = sources.used(text, r"(?:pub(?:\(crate\))? )?")
+        used[module] = [tuple(rest) for first, *rest in paths if first == "crate"]
+    return {module: {leads_to(texts, exported, path) for path in paths} - {module, ()}
             for module, paths in used.items()}
 
 
@@ -50,25 +49,17 @@ def rooms(name, files, below):
     names = {module[0] for module in files if len(module) == 1} - {"lib", "main"}
     found = {room: {other[0] for module in files if module[0] == room for other in files[module]} & (names - {room})
              for room in names}
-    paths = [path for path in (sources.ROOT / "crates" / name).rglob("*") if "out" not in path.parts]
-    text = "\n".join(sources.read(path) for path in paths if path.suffix in (".rt", ".antt"))
-    others = [part for family, parts in sources.families().items() if name not in (family, *parts)
-              for part in parts if part in below]
-    inner = {part for part in others if re.search(rf"\bRattle\.{part}\.|\buse {part}::", text)}
+    paths = [path for path in sources.folder(name).parent.rglob("*") if "out" not in path.parts]
+    text = "\n".join(read(path) for path in paths if path.suffix in (".rt", ".antt"))
+    inner = {part for family, parts in sources.families().items() if name not in (family, *parts)
+             for part in parts if part in below and re.search(rf"\bRattle\.{part}\.|\buse {part}::", text)}
     return found | ({"inner": inner} if inner else {})
-
-
-def circles(found):
-    """The sets of files that reach one another, each once."""
-    reached = {file: sources.below(found, file) for file in found}
-    return {tuple(sorted("/".join(other) for other in reached[file] if file in reached[other]))
-            for file in found if file in reached[file]}
 
 
 def tables():
     """What rooms.txt says of each crate: the rooms with what they import, and the inner parts."""
     found, name = {}, None
-    for line in sources.read(TABLE).splitlines():
+    for line in read("rooms.txt").splitlines():
         if line.startswith("  "):
             room, others = line.split(":")
             found[name][room.strip()] = set(others.split())
@@ -87,15 +78,15 @@ def page(named):
     """The page of crates and rooms."""
     lines = [TOP]
     for name, below in sources.crates().items():
-        source = sources.folder(name)
         others = ", ".join(below) or "no other crate"
         lines += [f"## {name}\n\n{sentence(sources.root_of(name))}. It stands on {others}.\n"]
-        rows = [room for room in named.get(name, {}) if room != "inner"]
-        for room in rows:
-            others = ", ".join(sorted(named[name][room]))
-            lines += [f"- `{room}`{f' ({others})' if others else ''}: {sentence(source / f'{room}.rt')}"]
-            lines += [f"  - `{path.relative_to(source / room).with_suffix('')}`: {sentence(path)}"
-                      for path in sorted((source / room).rglob("*.rt"))]
+        rows = {room: others for room, others in named.get(name, {}).items() if room != "inner"}
+        for room, others in rows.items():
+            source = sources.folder(name) / room
+            imported = f" ({', '.join(sorted(others))})" if others else ""
+            lines += [f"- `{room}`{imported}: {sentence(source.with_suffix('.rt'))}"]
+            lines += [f"  - `{path.relative_to(source).with_suffix('')}`: {sentence(path)}"
+                      for path in sorted(source.rglob("*.rt"))]
         lines += [""] if rows else []
     return "\n".join(lines)
 
@@ -111,12 +102,13 @@ def check(options):
     named, wrong = tables(), []
     for name, below in sources.crates().items():
         files = file_imports(name)
-        found, table = rooms(name, files, below), named.pop(name, {})
+        found, table = rooms(name, files, below), named.get(name, {})
         wrong += [f"{name}: {room} reaches itself through what it imports" for room in found.keys() - {"inner"}
                   if room in sources.below(found | {"inner": ()}, room)]
         wrong += [f"{name}: {row}, and rooms.txt doesn't say so" for row in sorted(said(found) - said(table))]
         wrong += [f"{name}: {row} in rooms.txt alone" for row in sorted(said(table) - said(found))]
-        wrong += [f"{name}: the files {', '.join(circle)} reach one another" for circle in circles(files)]
-    wrong += [f"{name} stands in rooms.txt, and is no crate" for name in named]
-    made = sources.generated(PAGE, page(tables()), options.write) if not wrong else []
-    return wrong or made, "rooms import one another in one direction, and as rooms.txt says"
+        wrong += [f"{name}: the file {'/'.join(file)} reaches itself through what it imports" for file in files
+                  if file in sources.below(files, file)]
+    wrong += [f"{name} stands in rooms.txt, and is no crate" for name in named.keys() - sources.crates().keys()]
+    made = wrong or sources.generated("docs/generated/ROOMS.md", page(named), options.write)
+    return made, "rooms import one another in one direction, and as rooms.txt says"

@@ -9,7 +9,7 @@ quoted or written by a script is left out (quoted blocks, what stands between `<
 -->`, docs/generated), and so are the commands of the man page's roff."""
 import re
 
-from shared import ROOT
+from shared import ROOT, read
 
 PHRASES = {
     "so many": r"\bso(?: |\n {0,3})many\b",
@@ -27,24 +27,16 @@ MOST, MOST_OF_README = 35000, 900
 def without_code(text):
     """A document with its code blocks and code spans left out; lines stay where they are."""
     text = re.sub(r"^(```+).*?^\1", lambda block: "\n" * block.group().count("\n"), text, flags=re.M | re.S)
-    text = re.sub(r"^(?: {4}|\.\\\").*$", "", text, flags=re.M)
-    return re.sub(r"`[^`\n]*`", "`", text)
+    return re.sub(r"`[^`\n]*`", "`", re.sub(r"^(?: {4}|\.\\\").*$", "", text, flags=re.M))
 
 
-def written(path):
-    """How many words of a page people write."""
-    text = path.read_text(encoding="utf-8")
-    if path.suffix == ".1":
+def written(text):
+    """How many words of a page people write; the man page alone begins with a line of roff."""
+    if text.startswith("."):
         text = re.sub(r'^\.(?:\\"|[A-Z]\w\b)|(?<=\s)[A-Z][a-z](?=\s)', "", text, flags=re.M)
     text = re.sub(r"<!-- written by.*?<!-- up to here -->", "", text, flags=re.S)
     text = re.sub(r"^```(?:antt|rust) (\S.*)\n(?:(?!```).*\n)*```$", r"\1", text, flags=re.M)
     return len(re.findall(r"\S*\w\S*", text))
-
-
-def pages():
-    """The pages that people write."""
-    found = [*ROOT.glob("*.md"), *(ROOT / "docs").rglob("*.md"), ROOT / "man" / "bx.1"]
-    return sorted(path for path in found if "generated" not in path.parts)
 
 
 def comments(text, mark):
@@ -53,35 +45,22 @@ def comments(text, mark):
     return re.sub(r"`[^`\n]*`", "`", "\n".join(match and match.group(1) or "" for match in found))
 
 
-def texts():
-    """Each place with its files, and of each what counts of it."""
-    files = [path for path in sorted((ROOT / "crates").rglob("*")) if "out" not in path.parts]
-    of = {end: [(path, path.read_text(encoding="utf-8")) for path in files if path.suffix == end]
-          for end in (".rt", ".antt")}
-    return {"documents": {path: without_code(path.read_text(encoding="utf-8")) for path in pages()},
-            "comments of code": {path: comments(text, "//[/!]?") for path, text in of[".rt"]},
-            "comments of definitions": {path: comments(text, "--") for path, text in of[".antt"]}}
-
-
-def found_in(files, phrase):
-    """The file and the line of each place of a phrase."""
-    return [f"{path.relative_to(ROOT)}:{text.count(chr(10), 0, match.start()) + 1}: {phrase}"
-            for path, text in files.items()
-            for match in re.finditer(PHRASES[phrase], text, re.I)]
-
-
 def check(options):
-    bad, total, counts = [], 0, {str(path.relative_to(ROOT)): written(path) for path in pages()}
+    found = sorted([*ROOT.glob("*.md"), *(ROOT / "docs").rglob("*.md"), ROOT / "man" / "bx.1"])
+    pages = {str(path.relative_to(ROOT)): read(path) for path in found if "generated" not in path.parts}
+    counts, bad, total = {name: written(text) for name, text in pages.items()}, [], 0
+    count = sum(counts.values())
     if options.list:
         print(*(f"{count:6} {name}" for name, count in counts.items()), sep="\n")
-    for name, count, most in (("the pages", sum(counts.values()), MOST),
-                              ("README.md", counts["README.md"], MOST_OF_README)):
-        bad += [f"{name}: {count} words, and may have {most}"] if count > most else []
-    for place, files in texts().items():
-        for phrase in PHRASES:
-            found, most = found_in(files, phrase), CEILINGS.get((place, phrase), 0)
-            total += len(found)
-            if len(found) > most:
-                bad += [*found, f"{place}: '{phrase}' stands {len(found)} times, and may {most} times"]
-    count = sum(counts.values())
+    for name, here, most in (("the pages", count, MOST), ("README.md", counts["README.md"], MOST_OF_README)):
+        bad += [f"{name}: {here} words, and may have {most}"] if here > most else []
+    places = {"documents": {name: without_code(text) for name, text in pages.items()}}
+    for place, end, mark in (("comments of code", "rt", "//[/!]?"), ("comments of definitions", "antt", "--")):
+        files = [path for path in sorted((ROOT / "crates").rglob(f"*.{end}")) if "out" not in path.parts]
+        places[place] = {str(path.relative_to(ROOT)): comments(read(path), mark) for path in files}
+    for place, phrase in ((place, phrase) for place in places for phrase in PHRASES):
+        here = [f"{name}:{text.count(chr(10), 0, match.start()) + 1}: {phrase}"
+                for name, text in places[place].items() for match in re.finditer(PHRASES[phrase], text, re.I)]
+        most, total = CEILINGS.get((place, phrase), 0), total + len(here)
+        bad += [*here, f"{place}: '{phrase}' stands {len(here)} times, and may {most} times"] if len(here) > most else []
     return bad, f"{total} phrases that are to go, none above its ceiling; {count} words in what people write"
