@@ -59,7 +59,7 @@ check: $(built)
 
 # The commands of README.md and of the recipes, and what they write.
 tour: $(built)
-	tools/docs.py --bx $(program) tour recipes
+	tests/hostile.py --bx $(program) tour recipes
 
 # The pictures of docs/pictures, each drawn from what its commands write.
 pictures: $(built)
@@ -68,7 +68,7 @@ pictures: $(built)
 # The options of bx beside those of its help, man page, completions and README.md; the code that documents quote; the pages of
 # docs/generated; the words and names of documents; which room imports which; the sizes of definitions, functions and contracts.
 check-docs: $(built)
-	tools/docs.py --bx $(program)
+	tools/docs.py
 	tests/hostile.py --bx $(program) options
 
 # The pages of docs/generated, and what other pages quote, written again.
@@ -95,7 +95,7 @@ hostile: $(built)
 
 # What standard error gets at each fault, on a terminal and in a pipe.
 hints: $(built)
-	tests/hints.py --bx $(program)
+	tests/hostile.py --bx $(program) hints
 
 # The order in which the files of a command reach the disk, by strace; and losses of power, played on what bx wrote, and (as root)
 # on what the kernel's page cache held back.

@@ -48,14 +48,9 @@ def cut(image, at, data):
 @contextlib.contextmanager
 def folder():
     """A folder that is made, entered and removed."""
-    was = os.getcwd()
-    with tempfile.TemporaryDirectory() as made:
+    with tempfile.TemporaryDirectory() as made, contextlib.chdir(made):
         os.chmod(made, 0o755)
-        os.chdir(made)
-        try:
-            yield pathlib.Path(made)
-        finally:
-            os.chdir(was)
+        yield pathlib.Path(made)
 
 
 def asked(doc, **known):

@@ -1,8 +1,10 @@
 What standard error gets at each fault, and after a success. On a terminal it is all that stands below a command, in a pipe the lines
-that don't begin with `hint: `; standard output goes nowhere. tests/hints.py plays each command in a folder of its own. `(re)` stands
+that don't begin with `hint: `; standard output goes nowhere. Each command of bx has a copy of the folder to itself. `(re)` stands
 behind a line that is a regular expression.
 
-# What stands in the folder
+# Standard error on a terminal and in a pipe (by hint)
+
+## What stands in the folder
 
 An image of two changed bytes, its journal, and what is undone:
 
@@ -27,7 +29,7 @@ Dumps and a patch:
   $ printf 'length 8 to 8\n-00000002: 4344\n+00000002: 7879\n' > patch
   $ chmod 644 -- [^d]* digits; chmod 600 private; touch -d @1000000000 -- *; touch -d @1000000001 later
 
-# Faults
+## Faults
 
   $ bx xxd none
   bx: cannot open file
@@ -521,7 +523,7 @@ A limit on the size of files, a full device, and pipes that nobody reads:
   $ (sleep 0.2; bx log img) | :
   $ (sleep 0.2; bx show img) | :
 
-# After a success
+## After a success
 
   $ bx show -k 0 begun
   $ bx show -r -k 0 begun
@@ -627,7 +629,7 @@ A limit on the size of files, a full device, and pipes that nobody reads:
   $ bx revert older <<< '0: 42'
   $ bx revert --fresh other <<< '0: 41'
 
-# Before dd's report of an empty input
+## Before dd's report of an empty input
 
   $ bx dd if=/dev/null skip=0x10
   hint: skip=0x10: x multiplies, so this is 0; for 0x10 in hexadecimal give skip=16
@@ -658,7 +660,7 @@ A limit on the size of files, a full device, and pipes that nobody reads:
   0+0 records in
   0+0 records out
 
-# Names of files, as `ls --quoting-style=shell-escape` of coreutils 9.1 shows them
+## Names of files, as `ls --quoting-style=shell-escape` of coreutils 9.1 shows them
 
 Each was a file in a folder; the last three have a character that turns the order of others or takes no place, which ls shows as it is.
 
@@ -807,7 +809,7 @@ Each was a file in a folder; the last three have a character that turns the orde
   hint: 'a'$'\357\273\277': No such file or directory
   [1]
 
-# Work on an input that comes slowly
+## Work on an input that comes slowly
 
   $ for n in 1 2 3 4 5 6 7 8; do printf %01000d 0; sleep 0.25; done | bx xxd
   (\\x1b\[Kbx: [0-9]+[.][0-9] [kM]B)+\\x1b\[K (re)

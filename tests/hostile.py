@@ -1,40 +1,59 @@
 #!/usr/bin/env python3
-"""Plays the transcripts of tests: the program on real files under bad conditions, its package, and what names a
-release.
+"""Plays transcripts: the program on real files under bad conditions, its faults and hints, its package, what names a
+release, and the commands of README.md (`tour`) and docs/RECIPES.md (`recipes`).
 
 Usage: tests/hostile.py [--bx PATH] [SUBJECT ..]
 
-A subject is a transcript of tests/program, or `options`, `package` or `release`. It is played section by section, each
-in a folder of its own, as tools/transcript.py says; `(wants root)` behind the head of a section is what it needs, root
-or a tool. A line for each section says `ok` or `WRONG`, one for what can't run here `left out:` and why. The status is
-1 where one fails. It runs outside the gate."""
+A subject is a file of tests or tests/program that ends in .t, or one of the two documents, of which all blocks of
+commands are one section. It is played section by section, each in a folder of its own, as tools/transcript.py says.
+`(wants root)` behind the head of a section is what it needs, root or a tool, and `(by hint)` a function of head.sh that
+runs the lines with bx. A line for each section says `ok` or `WRONG`, one for what can't run here `left out:` and why.
+The status is 1 where one fails. It runs outside the gate."""
 import os
 import re
+import shlex
 import shutil
 
 from common import ROOT, asked, counts, finish, folder, left_out, say
 from transcript import differences, outputs, set_in, steps
 
 FOLDER = ROOT / "tests" / "program"
-PATHS = [*sorted(FOLDER.glob("*.t")), *(ROOT / "tests" / name for name in ("options.t", "package.t", "release.t"))]
-SUBJECTS = {path.stem: path for path in PATHS}
+OTHERS = ["options", "hints", "package", "release"]
+PATHS = [*sorted(FOLDER.glob("*.t")), *(ROOT / "tests" / f"{name}.t" for name in OTHERS)]
+SUBJECTS = {path.stem: path for path in PATHS} | {"tour": ROOT / "README.md", "recipes": ROOT / "docs" / "RECIPES.md"}
 
 
-def play(bx, subject, part):
-    """Plays a section of a transcript: its head, and its lines."""
-    title, tour = part.split("\n")[0], steps(set_in(part))
-    needs = "".join(re.findall(r" \(wants (.*)\)$", title)).split()
+def sections(path):
+    """The sections of a transcript: the head, and the steps."""
+    text = path.read_text(encoding="utf-8")
+    if path.suffix == ".md":
+        lines = "".join(re.findall(r"^```console\n(.*?)^```", text, re.M | re.S)).splitlines()
+        return [(f"{path.name} writes what stands there", steps(lines))]
+    return [(part.split("\n")[0], steps(set_in(part))) for part in re.split(r"^# ", text, flags=re.M)[1:]]
+
+
+def lacks(title):
+    """What a section needs and this machine hasn't."""
+    needs = "".join(re.findall(r" \(wants (.*?)\)", title)).split()
     there = {need for need in needs if os.path.ismount(need) or shutil.which(need)}
     there |= {"root"} if os.getuid() == 0 else set()
-    missing = [need for need in needs if need not in there]
+    return [need for need in needs if need not in there]
+
+
+def play(bx, subject, title, tour):
+    """Plays a section of a transcript."""
+    missing, by = lacks(title), re.search(r" \(by (\w+)\)", title)
     if missing:
         left_out(f"{subject}: {title} (there is no {', '.join(missing)})")
         return
+    commands = [f"{by[1]} {shlex.quote(command)}" if by and re.search(r"\bbx ", command) else command
+                for command, _ in tour]
     with folder() as path:
-        tally, head = path / "tally", (FOLDER / "head.sh").read_text(encoding="utf-8")
+        tally = path / "tally"
         tally.touch()
         tally.chmod(0o666)
-        given = outputs([command for command, _ in tour], bx, path, head, True, TALLY=str(tally), FOLDER=str(FOLDER))
+        given = outputs(commands, bx, path, (FOLDER / "head.sh").read_text(encoding="utf-8"),
+                        SUBJECTS[subject].suffix == ".t", TALLY=str(tally), FOLDER=str(FOLDER))
         checks = len(tour) + tally.stat().st_size
     last = (given[-1:] or [[]])[0][-1:]
     if last and last[0].startswith("left out: "):
@@ -48,8 +67,8 @@ def play(bx, subject, part):
 def main():
     options = asked(__doc__, names=SUBJECTS)
     for subject in options.names:
-        for part in re.split(r"^# ", SUBJECTS[subject].read_text(encoding="utf-8"), flags=re.M)[1:]:
-            play(options.bx, subject, part)
+        for title, tour in sections(SUBJECTS[subject]):
+            play(options.bx, subject, title, tour)
     finish()
 
 

@@ -126,3 +126,17 @@ status = subprocess.run(sys.argv[2:], stdout=subprocess.DEVNULL, stderr=subproce
 most = resource.getrusage(resource.RUSAGE_CHILDREN).ru_maxrss
 sys.exit(f"status {status}, {most} KiB" if status or most > int(sys.argv[1]) else 0)' "$@"
 }
+
+# What standard error gets of a line on a terminal. It says so where a pipe gets something else than that without hints
+# and without what says how far work is. Each runs in a copy of this folder; standard output goes nowhere.
+hint() { # LINE
+  local terminal pipe status
+  terminal=$(set -o pipefail; copied; SHELL=$BASH script -qec "($1) > /dev/null" /dev/null < /dev/null | tr -d '\r')
+  status=$?
+  pipe=$(copied; bash -c "($1) > /dev/null" 2>&1 < /dev/null)
+  [ $? = $status ] || echo 'another status in a pipe'
+  [ -z "$terminal" ] || echo "$terminal"
+  [ "$pipe" = "$(sed -e '/^hint: /d' -e 's/.*\x1b\[K//' -e '/^$/d' <<< "$terminal")" ] || echo "in a pipe: $pipe"
+  return $status
+}
+copied() { rm -rf ../copy && cp -a . ../copy && cd ../copy || exit; }
