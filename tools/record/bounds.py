@@ -12,38 +12,16 @@ seed. Three files are written:
 The player makes the bytes of a seed and the lines of a dump by the definitions of docs/CASES.md. This script makes
 them too, and stops where the real xxd writes other lines. bounds.txt has the lines of the cases of images."""
 import functools
-import hashlib
 import re
 import sys
 
 from record import form
 from record.real import Tools, told_records, versions
-from record.words import Case
+from record.words import Case, case_lines
 from shared import read
 
-KIB = 1024
 TOOLS = Tools()
 ROW = b"".join(b"stuvwxyz"[:n] + bytes([0, 10, 127, 200][n % 4:][:1]) for n in range(9)) + b"a longer one"
-# The forms of each tool, and how many bytes it reads or puts at once in that form.
-BLOCKS = {
-    "xxd": [12784, 16 * KIB], "xxd -b": [4092, 16 * KIB], "xxd -p": [16380], "xxd -i": [5460],
-    "xxd -c 256 -g 0": [16 * KIB],
-    "xxd -c 1": [2184], "od": [16 * KIB], "od -c": [16 * KIB], "od -t x1 -v": [16 * KIB], "od -t d8": [16 * KIB],
-    "hexdump -C": [16 * KIB], "strings": [16 * KIB], "strings -t d": [3584, 16 * KIB], "dd": [512, 128 * KIB],
-    "dd bs=61": [128 * KIB],
-    "dd bs=61 conv=sync": [131028], "dd bs=512 conv=swab": [128 * KIB], "dd bs=128K": [128 * KIB],
-    "dd ibs=131071 conv=sync": [131071],
-    "dd ibs=131074 conv=swab": [131074], "dd ibs=100 obs=131073": [131073], "dd cbs=256 conv=block": [128 * KIB],
-    "dd cbs=80 conv=unblock": [128 * KIB],
-}
-
-
-@functools.cache
-def made_of(text):
-    """The bytes of parts: N@SEED, N*DIGITS."""
-    parts = re.findall(r"(\d+)(?:@(\d+)|\*(\w+))", text)
-    return b"".join(form.seeded(int(n), int(seed)) if seed else int(n) * bytes.fromhex(digits)
-                    for n, seed, digits in parts)
 
 
 def bare(line):
@@ -51,9 +29,21 @@ def bare(line):
     return re.sub(r"(?<=: )$", '""', re.sub(r"(?<= )0(?:@\d+|\*\w*)(?: |$)", "", line))
 
 
-def around(size):
-    """One below, at and above a size, and one above three of them."""
-    return [size - 1, size, size + 1, 3 * size + 1]
+def part(head):
+    """A part of bounds.txt."""
+    return re.split(rf"(?m)^#+ {head}\n\n", read("tools/record/bounds.txt"))[1].split("\n\n#")[0]
+
+
+def rows(head):
+    """The rows of a table of bounds.txt, in cells."""
+    return [[cell.strip() for cell in line.split("|")] for line in part(head).splitlines() if " | " in line]
+
+
+def sizes_of(cell):
+    """The sizes that a cell names."""
+    around = [[n - 1, n, n + 1, 3 * n + 1] if mark else [n]
+              for mark, n in ((word[0] == "~", int(word.strip("~"))) for word in cell.split())]
+    return sum(around, [])
 
 
 def given_to(line, size):
@@ -64,36 +54,17 @@ def given_to(line, size):
 
 
 def dump_cases():
-    """Inputs of lengths around each block; of 70,000 bytes, whole, of one byte, skipped into, and cut; runs of letters
-    around the most that strings keeps, and records around the spaces that dd puts at once."""
-    for line, sizes in BLOCKS.items():
-        yield from ((line, given_to(line, size)) for block in sizes for size in around(block))
-    whole = ["xxd", "xxd -b", "xxd -p", "xxd -i", "od", "od -c", "hexdump -C", "strings", "strings -t x -n 2", "dd",
-             "dd bs=70000"]
-    yield from ((line, given_to(line, 70000)) for line in whole)
-    yield from ((line, f"{size}*61") for line in ("od", "hexdump -C", "xxd", "strings", "strings -t d")
-                for size in (16385, 49153, 70000))
-    skips = ["od -j", "xxd -s", "hexdump -C -s", "od -N", "xxd -l", "hexdump -C -n"]
-    yield from ((f"{line} {size}", "70000@1") for line in skips for size in around(16 * KIB))
-    yield from ((f"dd bs={size} skip=1", f"{3 * size + 5}@1") for size in (128 * KIB - 1, 128 * KIB, 128 * KIB + 1))
-    yield from ((f"dd bs=512 {word}={n}", f"{3 * 128 * KIB + 700}@1") for word in ("skip", "count")
-                for n in (255, 256, 257, 769))
-    for size in around(4096):
-        runs = f"1*00 {size}*61 1*00 4095*62 1*0a {16 * KIB}*63"
-        yield from ((line, runs) for line in ("strings -n 4096", "strings -n 4096 -t d", "strings -n 4095 -t x"))
-    yield from ((f"dd cbs={size} conv=block", "1*61 1*0a 3*62 1*0a") for size in around(1024))
+    """Words, and what they read."""
+    return [(line.format(size), given.format(size) or given_to(line, size)) for lines, given, sizes in rows("Dumps")
+            for line in lines.split("; ") for size in sizes_of(sizes)]
 
 
 def dump_lines(number, line, given, said):
     """A case of words."""
     tool, *options = line.split()
-    case = Case(tool, options, made_of(given), "")
+    case = Case(tool, options, form.made_of(given), line)
     TOOLS.record(case)
-    lines = ["", f"case: {number:03} {line}, {len(case.data)} bytes", f"from: {said[tool]}", f"words: {line}",
-             bare(f"input: {given}"),
-             f"sum: {len(case.output)} {hashlib.md5(case.output).hexdigest()}"]
-    lines += [f"count: {case.count}"] if case.count is not None else []
-    return lines + ([f"records: {case.records}"] if case.records else [])
+    return case_lines(number, case, said[tool], bare(f"input: {given}"))
 
 
 def filled(lines):
@@ -103,13 +74,13 @@ def filled(lines):
     for number, line in enumerate(lines):
         word, _, rest = line.partition(": ")
         if word == "image":
-            image = made_of(rest)
+            image = form.made_of(rest)
         elif word == "dd":
             operands = rest.split()
         elif word == "input":
-            found, (_, said, status) = TOOLS.onto(image, ["dd", *operands], made_of(rest))
+            found, (_, said, status) = TOOLS.onto(image, ["dd", *operands], form.made_of(rest))
             counts = told_records(said)
-            if status or found != made_of(lines[number + 2]):
+            if status or found != form.made_of(lines[number + 2]):
                 sys.exit(f"dd {' '.join(operands)}, {rest}: the tool left something else")
         elif line.startswith("> "):
             check_dump(*line[2:].split(" ", 1))
@@ -118,7 +89,7 @@ def filled(lines):
 
 @functools.cache
 def check_dump(at, parts):
-    data = made_of(parts)
+    data = form.made_of(parts)
     made = b"".join(form.dump_line(int(at) + i, data[i:i + 16]).encode() + b"\n" for i in range(0, len(data), 16))
     if TOOLS.run(["xxd", "-o", at], data)[0] != made:
         sys.exit(f"xxd of {parts}: the tool writes something else")
@@ -126,8 +97,7 @@ def check_dump(at, parts):
 
 def case(name, **values):
     """The lines of a case of bounds.txt with its values."""
-    text = read("tools/record/bounds.txt").split(f"# {name}\n\n")[1].split("\n\n#")[0]
-    return [bare(line) for line in text.rstrip("\n").format(**values).split("\n")]
+    return [bare(line) for line in part(name).rstrip("\n").format(**values).split("\n")]
 
 
 def length_cases(version):
@@ -138,21 +108,11 @@ def length_cases(version):
 
 
 def image_cases():
-    for boundary, about in ((2 * KIB, "rows that are put at once"), (4 * KIB, "pages of an image in memory"),
-                            (64 * KIB, "windows of what a change overwrites"), (256 * KIB, "parts of a run")):
-        yield from (case("whole", size=size, about=about) for size in around(boundary))
-    for about, *sizes in (("windows of a text", 61655, 61656, 61657, 185024, 185025),
-                          ("pages of a text", 61663, 61664, 61665, 184993),
-                          ("a length between", 70000)):
-        yield from (case("whole", size=size, about=about) for size in sizes)
-    # the entry fills a page up to its save line where the last run has two bytes
-    yield from (case("pieces", last=last, rest=100 - last, length=262142 + last) for last in (1, 2, 3))
-    yield from (case("stack", size=size) for size in (61655, 61656, 61657))
-    # within an image up to its end or past it
-    yield from (case("plain", size=size, at=at, length=length) for size, at, length in
-                ((70000, 0, 70000), (70000, 65535, 70000), (262145, 1, 262144)))
-    yield from (case("seek", at=at, size=size) for at, size in ((4095, 4098), (16383, 20000), (61656, 61657)))
-    yield from (case("unfinished", size=size) for size in (61655, 61656, 61657, 61670, 185025))
+    for name, *cells in rows("Images"):
+        values = dict(cell.split("=") for cell in cells)
+        for size in sizes_of(values.pop("size")):
+            numbers = {key: int(value) for key, value in values.items() if value.isdigit()}
+            yield case(name, **{**values, **numbers, "size": size})
 
 
 def run(options):

@@ -1,5 +1,6 @@
 """The form of case files (docs/CASES.md): bytes, texts and words as lines, and the bytes and lines that they stand
 for."""
+import functools
 import pathlib
 import re
 
@@ -14,6 +15,14 @@ def seeded(count, seed):
         seed = (seed * 1103515245 + 12345) % 2**32
         made.append(seed // 65536 % 256)
     return bytes(made)
+
+
+@functools.cache
+def made_of(text):
+    """The bytes of parts: N@SEED, N*DIGITS, DIGITS."""
+    parts = re.findall(r"(?:(\d+)@(\d+)|(?:(\d+)\*)?([0-9a-f]*))(?: |$)", text)
+    return b"".join(seeded(int(count), int(seed)) if seed else int(times or 1) * bytes.fromhex(digits)
+                    for count, seed, times, digits in parts)
 
 
 def dump_line(at, row):

@@ -12,19 +12,11 @@ import subprocess
 import tempfile
 
 from record import form
+from shared import read
 
-WINDOW = 32768
 # a longer patch is told by its sum
 MOST_TEXT = 1500
-
-
-class Image:
-    """Bytes, and how a case file writes them."""
-
-    def __init__(self, *parts):
-        self.bytes = b"".join(part if isinstance(part, bytes) else form.seeded(*part) for part in parts)
-        written = [part.hex() if isinstance(part, bytes) else f"{part[0]}@{part[1]}" for part in parts]
-        self.text = " ".join(part for part in written if part) or '""'
+LENGTHS = [0, 1, 15, 16, 17, 40, 300, 32767, 32768, 32769]
 
 
 def runs(old, new, rows):
@@ -88,53 +80,34 @@ def is_right(plain, rows, named):
     return plain == named and named.items() <= rows.items() and {at // 16 for at in rows} <= {at // 16 for at in named}
 
 
-def case(folder, name, old, new):
+def case(folder, name, *texts):
     """The lines of a case."""
-    out = ["", f"case: {name}", "from: FORMATS.md, patches; cmp -l, diffutils 3.8", f"old: {old.text}",
-           f"new: {new.text}"]
-    lines, rows = patch(old.bytes, new.bytes), patch(old.bytes, new.bytes, True)
-    assert is_right(text_of(lines).encode(), text_of(rows).encode(), by_cmp(folder, old.bytes, new.bytes))
+    old, new = map(form.made_of, texts)
+    out = ["", f"case: {name}", "from: FORMATS.md, patches; cmp -l, diffutils 3.8",
+           *(f"{word}: " + (text or '""') for word, text in zip(("old", "new"), texts))]
+    lines, rows = patch(old, new), patch(old, new, True)
+    assert is_right(text_of(lines).encode(), text_of(rows).encode(), by_cmp(folder, old, new))
     if len(text_of(lines)) > MOST_TEXT:
         return out + [f"sum: {len(text_of(lines))} {hashlib.md5(text_of(lines).encode()).hexdigest()}"]
     out += ["output:", *(f"| {line}" for line in lines)] if lines else []
     return out + ["rows:" if rows else 'rows: ""', *(f"| {line}" for line in rows)]
 
 
-def chosen():
-    """Pairs by hand: names and images."""
-    word, other = b"ABCDEFGH", b"ABxyEFGH\0Z"
-    yield "two bytes, and two more", Image(word), Image(other)
-    yield "two bytes, and two fewer", Image(other), Image(word)
-    yield "nothing and nothing", Image(), Image()
-    yield "equal", Image((70000, 7)), Image((70000, 7))
-    yield "from nothing", Image(), Image((33, 3))
-    yield "to nothing", Image((33, 3)), Image()
-    yield "zeros behind the end", Image(b"A"), Image(b"A", bytes(20))
-    yield "each second byte", Image(bytes(32)), Image(b"\0a" * 16)
-    yield "a run over a multiple of 16", Image((10, 1), b"=" * 12, (42, 9)), Image((10, 1), b"@" * 12, (42, 9))
-    for end in (1, 15, 16, 17, 31, 32, 33):
-        yield f"the last byte of {end}", Image((end - 1, 4), b"a"), Image((end - 1, 4), b"b")
-    for at in (WINDOW - 1, WINDOW, WINDOW + 1, 2 * WINDOW - 1, 2 * WINDOW):
-        yield f"one byte at {at}", Image((at, 5), b"a", (40, 6)), Image((at, 5), b"b", (40, 6))
-        yield f"from {at} bytes on", Image((at, 5)), Image((at, 5), b"more")
-        yield f"up to {at} bytes", Image((at, 5), b"more"), Image((at, 5))
-    front, end = (WINDOW - 5, 2), (9, 1)
-    yield "a run over the end of a window", Image(front, bytes(10), end), Image(front, b"!" * 10, end)
-    yield "an equal window between two others", Image(b"a", (3 * WINDOW, 8), b"c"), Image(b"b", (3 * WINDOW, 8), b"d")
-
-
-def drawn(rng, most=6):
-    """A pair with changes, inserts, cuts and equal stretches; of a larger one some parts are zeros, and the others any
-    bytes."""
-    old, new = [], []
-    for _ in range(rng.randrange(1, most)):
-        part = (rng.choice([0, 1, 15, 16, 17, 40, 300, WINDOW - 1, WINDOW, WINDOW + 1]), rng.randrange(1, 10**6))
-        part = part if most == 6 else rng.choice((bytes, rng.randbytes, rng.randbytes))(part[0])
-        kind = rng.choice(["equal", "equal", "equal", "insert", "cut", "change"])
-        old += [part] if kind != "insert" else []
-        new += [part] if kind in ("equal", "insert") else []
-        new += [(rng.randrange(0, 30), rng.randrange(1, 10**6))] if kind == "change" else []
-    return Image(*old), Image(*new)
+def pairs(rng, count, is_compared):
+    """Names and pairs of images, in parts: those of patches.txt, and so many with changes, inserts, cuts and equal
+    stretches. Of those that are compared some parts are zeros, and the others any bytes."""
+    yield from (re.split(r" ?\| ?", line) for line in read("tools/record/patches.txt").splitlines() if " | " in line)
+    for number in range(1, count + 1):
+        old, new = [], []
+        for _ in range(rng.randrange(1, 10 if is_compared else 6)):
+            length, seed = rng.choice(LENGTHS), rng.randrange(1, 10**6)
+            make = rng.choice((bytes, rng.randbytes, rng.randbytes)) if is_compared else None
+            part = make(length).hex() if make else f"{length}@{seed}"
+            kind = rng.choice(["equal", "equal", "equal", "insert", "cut", "change"])
+            old += [part] if kind != "insert" else []
+            new += [part] if kind in ("equal", "insert") else []
+            new += [f"{rng.randrange(0, 30)}@{rng.randrange(1, 10**6)}"] if kind == "change" else []
+        yield f"drawn {number}", " ".join(old), " ".join(new)
 
 
 # What is done with a patch, each tenth pair and else those in the middle: the words, what they read, what they write
@@ -157,9 +130,9 @@ def fails(bx, folder, texts, steps):
 
 def differ(options, rng, folder):
     """Whether bx names other addresses of a pair than `cmp -l`, or doesn't apply its patch and take it back."""
-    pairs, bad = [*chosen(), *((f"drawn {number + 1}", *drawn(rng, 10)) for number in range(1000))], 0
-    for number, (title, *pair) in enumerate(pairs):
-        old, new = (image.bytes for image in pair)
+    count = bad = 0
+    for title, *pair in pairs(rng, 1000, True):
+        old, new = map(form.made_of, pair)
         named, texts = by_cmp(folder, old, new), {"": b"", "old": old, "new": new}
         for name, words in (("fix", ["old", "new"]), ("rows", ["-v", "old", "new"]), ("back", ["new", "old"])):
             done = run_in(folder, [options.bx, "diff", *words])
@@ -170,10 +143,10 @@ def differ(options, rng, folder):
         is_headed = all(texts[name][:texts[name].find(b"\n") + 1] == head for name, head in (
             ("fix", head_of(old, new)), ("rows", head_of(old, new)), ("back", head_of(new, old))))
         wrong = None if is_headed and is_right(texts["fix"], texts["rows"], named) else "diff"
-        wrong = wrong or fails(options.bx, folder, texts, STEPS if number % 10 == 0 else STEPS[2:5])
-        bad += bool(wrong)
+        wrong = wrong or fails(options.bx, folder, texts, STEPS if count % 10 == 0 else STEPS[2:5])
+        count, bad = count + 1, bad + bool(wrong)
         print(f"{wrong}: {title}\n" if wrong else "", end="")
-    print(f"patches: {len(pairs)} pairs, {bad} differ")
+    print(f"patches: {count} pairs, {bad} differ")
     return bad > 0
 
 
@@ -182,8 +155,7 @@ def run(options):
     with tempfile.TemporaryDirectory() as name:
         if options.compare:
             return differ(options, rng, pathlib.Path(name))
-        out = ["# Patches between two images. tools/cases.py wrote this file.", "kind: patches"]
-        for title, *pair in [*chosen(), *((f"drawn {number + 1}", *drawn(rng)) for number in range(60))]:
-            out += case(pathlib.Path(name), title, *pair)
-    form.write("patches", out, options.out)
+        cases = [case(pathlib.Path(name), *row) for row in pairs(rng, 60, False)]
+    lines = ["# Patches between two images. tools/cases.py wrote this file.", "kind: patches", *sum(cases, [])]
+    form.write("patches", lines, options.out)
     return False

@@ -21,6 +21,7 @@ What is drawn keeps to the options on which man/bx.1 says that bx and the tool a
 
 Words that a tool refuses, with status 1 and no output, stand in refused.txt, with the fault and by it the status of bx.
 """
+import hashlib
 import itertools
 import pathlib
 import random
@@ -168,8 +169,8 @@ def refused_cases(tool):
 
 def word_cases(tool, rng):
     """All cases of words of a tool."""
-    one, names, most = (dd_case, DD_NAMES, 3) if tool == "dd" else (dump_case, drawn_of(tool, random.Random(0), b""), 3)
-    yield from (one(tool, chosen, rng) for chosen in choices(tool, names, most)
+    one, names = (dd_case, DD_NAMES) if tool == "dd" else (dump_case, drawn_of(tool, random.Random(0), b""))
+    yield from (one(tool, chosen, rng) for chosen in choices(tool, names, 3)
                 for _ in range(DRAWS[tool][len(chosen)]))
     yield from length_cases(tool)
     if tool == "dd":
@@ -226,8 +227,9 @@ def image_cases(tool, rng):
             for placed in ([], ["seek"], ["notrunc"], ["seek", "notrunc"])]
 
 
-def case_lines(number_of, case, version):
-    """The lines of a case: of words, or dd onto an image and its undo."""
+def case_lines(number_of, case, version, given=None):
+    """The lines of a case: of words, or dd onto an image and its undo. With a line of what is given its output is told
+    by a sum."""
     size = "" if case.data is None else f", {len(case.data)} byte{'' if len(case.data) == 1 else 's'}"
     source = f"{version}; FORMATS.md, undoing" if case.image is not None else \
         f"{version} refuses; FORMATS.md, faults" if case.fault else version
@@ -238,8 +240,11 @@ def case_lines(number_of, case, version):
         lines += [f"reply: copied 1 {case.records}", *form.bytes_lines("image", case.made)]
         return lines + ["undo: 1", "reply: undone 0", *form.bytes_lines("image", case.image)]
     lines.append("words: " + " ".join([case.tool, *map(form.word_text, case.words)]))
-    lines += form.bytes_lines("input", case.data) if case.data is not None else []
-    lines += form.text_lines("output", case.output) if case.output else []
+    if given:
+        lines += [given, f"sum: {len(case.output)} {hashlib.md5(case.output).hexdigest()}"]
+    else:
+        lines += form.bytes_lines("input", case.data) if case.data is not None else []
+        lines += form.text_lines("output", case.output) if case.output else []
     lines += [f"count: {case.count}"] if case.count is not None else []
     lines += [f"records: {case.records}"] if case.records else []
     return lines + ([f"fault: {case.fault}", f"status: {2 if case.fault == BAD else 1}"] if case.fault else [])
