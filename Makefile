@@ -76,8 +76,8 @@ docs:
 	tools/docs.py --write
 
 # What bash, zsh and fish offer, where they are installed.
-check-completions:
-	tests/completions.py
+check-completions: $(built)
+	tests/hostile.py --bx $(program) completions
 
 # The real tools beside bx, on random inputs and options; SEED draws others.
 compare: $(built)

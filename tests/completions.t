@@ -1,14 +1,68 @@
-What bash, zsh and fish offer for the last word of a line, where `<TAB>` is: of dd the value alone, behind a `=`. There are the files
-`a file`, `image`, `image.bxj` and `image.bxj.redo`. `-h`, `--help`, `-V` and `--version` are left out. tests/completions.py asks.
+What bash, zsh and fish offer for the last word of a line, where `<TAB>` is, in order: of dd the value alone, behind a `=`. `-h`,
+`--help`, `-V` and `--version` are left out. What bx takes is compared with the same files by options.t.
+
+  $ files=$(realpath "$FOLDER/../../completions"); touch 'a file' image image.bxj image.bxj.redo
+
+Prints offers in a line, without options that each command has, and of dd without what stands in front of a value.
+
+  $ offered() {
+  >   sed -E 's/^\w+=(.)/\1/; s/.*,//; /^(-h|--help|-V|--version|)$/d' | sort -u | sed "s/.* .*/'&'/" | paste -sd' ' | grep .
+  >   true
+  > }
+
+The function of bash is called with the words as bash cuts them, at '=' too.
+
+  $ bash_offers() { # LINE
+  >   local line=${1%<TAB>}
+  >   . "$files/bx.bash"
+  >   [[ $line != *' dd '* ]] || line=$(sed -E 's/=$/ =/; s/=([^ ])/ = \1/g' <<< "$line")
+  >   read -ra COMP_WORDS <<< "$line"
+  >   [[ $1 != *[\ ]'<TAB>' ]] || COMP_WORDS+=('')
+  >   COMP_CWORD=$((${#COMP_WORDS[@]} - 1)) COMPREPLY=()
+  >   _bx
+  >   printf '%s\n' "${COMPREPLY[@]}" | offered
+  > }
+
+  $ fish_offers() { # LINE
+  >   command -v fish > /dev/null || left_out 'fish is not installed'
+  >   HOME=$PWD fish --no-config -c "source $files/bx.fish; complete -C '${1%<TAB>}'" | cut -f 1 | sed 's/\\ / /g' | offered
+  > }
+
+What the completion of zsh adds, at a terminal of its own, is written down by a `compadd` of our own.
+
+  $ zsh_offers() { # LINE
+  >   command -v zsh > /dev/null || left_out 'zsh is not installed'
+  >   cat > ../start <<'ZSH'
+  > PS1=; autoload -U compinit; compinit -u -D; compdef _bx bx
+  > zstyle ':completion:*' verbose no; zstyle ':completion:*' menu no
+  > compadd() {
+  >   if [[ ${@[1,(i)(-|--)]} == *-(O|A|D)* ]]; then builtin compadd "$@"; return; fi
+  >   local -a hits; builtin compadd -A hits -D nothing "$@" 2> /dev/null; builtin compadd -A hits "$@"
+  >   print -rl -- $hits >> ../hits; return 1
+  > }
+  > ask() { zle complete-word; print '=asked='; exit }
+  > zle -N ask; bindkey '^X' ask; print '=ready='
+  > ZSH
+  >   cat > ../terminal <<'ZSH'
+  > zmodload zsh/zpty; zpty shell 'zsh -f -i'
+  > zpty -w shell "fpath=($1 \$fpath); . ../start"; zpty -r shell said '*=ready=*'
+  > zpty -w -n shell $2$'\x18'; zpty -r shell said '*=asked=*'
+  > ZSH
+  >   : > ../hits
+  >   TERM=dumb COLUMNS=500 timeout 60 zsh -f ../terminal "$files" "${1%<TAB>}"
+  >   sed 's/\\ / /g' ../hits | offered
+  > }
+
+# Words (by bash_offers, zsh_offers, fish_offers)
 
   $ bx <TAB>
-  xxd od hexdump strings dd revert undo redo log show diff patch forget help
+  dd diff forget help hexdump log od patch redo revert show strings undo xxd
   $ bx re<TAB>
-  revert redo
+  redo revert
   $ bx help <TAB>
-  xxd od hexdump strings dd revert undo redo log show diff patch forget
+  dd diff forget hexdump log od patch redo revert show strings undo xxd
   $ bx od -A <TAB>
-  d o x n
+  d n o x
   $ bx od -t <TAB>
   c d1 d2 d4 d8 o1 o2 o4 o8 u1 u2 u4 u8 x1 x2 x4 x8
   $ bx od -t x<TAB>
@@ -49,11 +103,11 @@ What bash, zsh and fish offer for the last word of a line, where `<TAB>` is: of 
   $ bx redo im<TAB>
   image
   $ bx dd <TAB>
-  if= of= ibs= obs= bs= cbs= skip= seek= count= conv=
+  bs= cbs= conv= count= ibs= if= obs= of= seek= skip=
   $ bx dd c<TAB>
-  cbs= count= conv=
+  cbs= conv= count=
   $ bx dd if=image <TAB>
-  of= ibs= obs= bs= cbs= skip= seek= count= conv=
+  bs= cbs= conv= count= ibs= obs= of= seek= skip=
   $ bx dd if=image of<TAB>
   of=
   $ bx dd if=<TAB>
@@ -63,7 +117,7 @@ What bash, zsh and fish offer for the last word of a line, where `<TAB>` is: of 
   $ bx dd if=im<TAB>
   image image.bxj image.bxj.redo
   $ bx dd conv=<TAB>
-  block unblock lcase ucase swab sync notrunc
+  block lcase notrunc swab sync ucase unblock
   $ bx dd conv=s<TAB>
   swab sync
   $ bx dd conv=lcase,s<TAB>
@@ -74,7 +128,7 @@ What bash, zsh and fish offer for the last word of a line, where `<TAB>` is: of 
   $ bx dd -J <TAB>
   'a file' image image.bxj image.bxj.redo
 
-Options, of bash and fish alone: zsh lists them in its own way.
+# Options: zsh lists them in its own way (by bash_offers, fish_offers)
 
   $ bx xxd -<TAB>
   -b -c -g -i -l -o -p -s -u
@@ -85,20 +139,20 @@ Options, of bash and fish alone: zsh lists them in its own way.
   $ bx strings -<TAB>
   -a -n -t
   $ bx revert -<TAB>
-  -J -U -f -n -p -s --dry-run --fresh --mounted
+  --dry-run --fresh --mounted -J -U -f -n -p -s
   $ bx undo -<TAB>
-  -J -U -k --anyway --mounted
+  --anyway --mounted -J -U -k
   $ bx redo -<TAB>
-  -J -U -k --anyway --mounted
+  --anyway --mounted -J -U -k
   $ bx log -<TAB>
-  -J -U -v --mounted
+  --mounted -J -U -v
   $ bx show -<TAB>
   -J -d -k -p -r
   $ bx diff -<TAB>
   -v
   $ bx patch -<TAB>
-  -J -R -U -f -n --dry-run --fresh --mounted
+  --dry-run --fresh --mounted -J -R -U -f -n
   $ bx forget -<TAB>
-  -J -U --mounted
+  --mounted -J -U
   $ bx dd -<TAB>
-  -J -U -n --dry-run --fresh --mounted
+  --dry-run --fresh --mounted -J -U -n

@@ -2,6 +2,21 @@ What standard error gets at each fault, and after a success. On a terminal it is
 that don't begin with `hint: `; standard output goes nowhere. Each command of bx has a copy of the folder to itself. `(re)` stands
 behind a line that is a regular expression.
 
+What standard error gets of a line on a terminal. It says so where a pipe gets something else than that without hints and without what
+says how far work is. Each runs in a copy of this folder; standard output goes nowhere.
+
+  $ hint() { # LINE
+  >   local terminal pipe status
+  >   terminal=$(set -o pipefail; copied; SHELL=$BASH script -qec "($1) > /dev/null" /dev/null < /dev/null | tr -d '\r')
+  >   status=$?
+  >   pipe=$(copied; bash -c "($1) > /dev/null" 2>&1 < /dev/null)
+  >   [ $? = $status ] || echo 'another status in a pipe'
+  >   [ -z "$terminal" ] || echo "$terminal"
+  >   [ "$pipe" = "$(sed -e '/^hint: /d' -e 's/.*\x1b\[K//' -e '/^$/d' <<< "$terminal")" ] || echo "in a pipe: $pipe"
+  >   return $status
+  > }
+  > copied() { rm -rf ../copy && cp -a . ../copy && cd ../copy || exit; }
+
 # Standard error on a terminal and in a pipe (by hint)
 
 ## What stands in the folder

@@ -5,10 +5,11 @@ release, and the commands of README.md (`tour`) and docs/RECIPES.md (`recipes`).
 Usage: tests/hostile.py [--bx PATH] [SUBJECT ..]
 
 A subject is a file of tests or tests/program that ends in .t, or one of the two documents, of which all blocks of
-commands are one section. It is played section by section, each in a folder of its own, as tools/transcript.py says.
-`(wants root)` behind the head of a section is what it needs, root or a tool, and `(by hint)` a function of head.sh that
-runs the lines with bx. A line for each section says `ok` or `WRONG`, one for what can't run here `left out:` and why.
-The status is 1 where one fails. It runs outside the gate."""
+commands are one section. It is played section by section, each in a folder of its own and behind what stands in front
+of the first, as tools/transcript.py says.
+`(wants root)` behind the head of a section is what it needs, root or a tool, and `(by hint)` a function that runs the
+lines with bx, once for each where there are several. A line for each section says `ok` or `WRONG`, one for what can't
+run here `left out:` and why. The status is 1 where one fails. It runs outside the gate."""
 import os
 import re
 import shlex
@@ -18,7 +19,7 @@ from common import ROOT, asked, counts, finish, folder, left_out, say
 from transcript import differences, outputs, set_in, steps
 
 FOLDER = ROOT / "tests" / "program"
-OTHERS = ["options", "hints", "package", "release"]
+OTHERS = ["options", "hints", "completions", "package", "release"]
 PATHS = [*sorted(FOLDER.glob("*.t")), *(ROOT / "tests" / f"{name}.t" for name in OTHERS)]
 SUBJECTS = {path.stem: path for path in PATHS} | {"tour": ROOT / "README.md", "recipes": ROOT / "docs" / "RECIPES.md"}
 
@@ -29,7 +30,8 @@ def sections(path):
     if path.suffix == ".md":
         lines = "".join(re.findall(r"^```console\n(.*?)^```", text, re.M | re.S)).splitlines()
         return [(f"{path.name} writes what stands there", steps(lines))]
-    return [(part.split("\n")[0], steps(set_in(part))) for part in re.split(r"^# ", text, flags=re.M)[1:]]
+    front, *parts = re.split(r"^# ", text, flags=re.M)
+    return [(part.split("\n")[0], steps(set_in(front + part))) for part in parts]
 
 
 def lacks(title):
@@ -40,13 +42,13 @@ def lacks(title):
     return [need for need in needs if need not in there]
 
 
-def play(bx, subject, title, tour):
-    """Plays a section of a transcript."""
-    missing, by = lacks(title), re.search(r" \(by (\w+)\)", title)
+def play(bx, subject, title, tour, by):
+    """Plays a section of a transcript, with a function that runs its lines with bx, if there is one."""
+    missing = lacks(title)
     if missing:
         left_out(f"{subject}: {title} (there is no {', '.join(missing)})")
         return
-    commands = [f"{by[1]} {shlex.quote(command)}" if by and re.search(r"\bbx ", command) else command
+    commands = [f"{by} {shlex.quote(command)}" if by and re.search(r"\bbx ", command) else command
                 for command, _ in tour]
     with folder() as path:
         tally = path / "tally"
@@ -60,7 +62,7 @@ def play(bx, subject, title, tour):
         left_out(f"{subject}: {title} ({last[0][10:]})")
         return
     wrong = list(differences(tour, given))
-    say(not wrong, f"{subject}: {title}", "\n".join(["", *wrong]) if wrong else f"{checks} steps")
+    say(not wrong, f"{subject}: {title}{by and ', ' + by}", "\n".join(["", *wrong]) if wrong else f"{checks} steps")
     counts.update({True: checks - max(len(wrong), 1), False: max(len(wrong) - 1, 0)})
 
 
@@ -68,7 +70,8 @@ def main():
     options = asked(__doc__, names=SUBJECTS)
     for subject in options.names:
         for title, tour in sections(SUBJECTS[subject]):
-            play(options.bx, subject, title, tour)
+            for by in "".join(re.findall(r" \(by (.*)\)$", title)).split(", "):
+                play(options.bx, subject, title, tour, by)
     finish()
 
 

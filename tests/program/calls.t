@@ -1,5 +1,15 @@
 What a file system may answer to locks and to the sync of a folder, and calls that fail in turn, by shim.c.
 
+Builds shim.c, by which a call of a command fails.
+
+  $ shim() { cc -shared -fPIC -O1 -o shim.so "$FOLDER/shim.c" -ldl; }
+
+  $ failing() { # MODE AT COMMAND ..: AT is a number, or the name of an error
+  >   local at=$2
+  >   [[ $at != E* ]] || at=$(python3 -c "import errno; print(errno.$at)")
+  >   SHIM_MODE=$1 SHIM_AT=$at SHIM_COUNT=$PWD/../count LD_PRELOAD=$PWD/shim.so "${@:3}"
+  > }
+
 # A folder that answers a sync with an error (wants cc)
 
 One that has no such sync, or is not to be synced by this user, is passed by, and any other error refuses the command and changes

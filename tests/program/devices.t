@@ -1,5 +1,17 @@
 Block devices, as loop devices over a file.
 
+Each line of standard input is words of bx that do the same on the device $dev and on the file `plain` of its length.
+
+  $ alike() {
+  >   local words one other
+  >   while IFS= read -r words <&9; do
+  >     echo >> "$TALLY"
+  >     one=${words//DEV/$dev} other=${words//DEV/plain}
+  >     bx ${one/JOURNAL/device.bxj} > one 2>&1 && bx ${other/JOURNAL/plain.bxj} > other 2>&1 && cmp one other &&
+  >       cmp "$dev" plain && cmp device.bxj plain.bxj && cmp device.bxj.redo plain.bxj.redo || echo "$words: $(cat one)"
+  >   done 9<&0
+  > }
+
 # A device is an image as a file of its length is (wants root losetup)
 
   $ head -c 1M /dev/urandom > ../disk; dev=$(losetup -f --show ../disk) || left_out 'there are no loop devices'

@@ -1,5 +1,14 @@
 How much memory changes, undos, redos and recoveries hold, and memory that is refused in the toolchain's checked build.
 
+A command that has to hold no more memory at any time.
+
+  $ within() { # KIB COMMAND ..
+  >   python3 -c 'import resource, subprocess, sys
+  > status = subprocess.run(sys.argv[2:], stdout=subprocess.DEVNULL, stderr=subprocess.DEVNULL).returncode
+  > most = resource.getrusage(resource.RUSAGE_CHILDREN).ru_maxrss
+  > sys.exit(f"status {status}, {most} KiB" if status or most > int(sys.argv[1]) else 0)' "$@"
+  > }
+
 # Changes, undos and redos of 64 MiB
 
 A change holds its new bytes, and beside them no more than 16 MiB: 65536 KiB in 88473, of a dump in 95027. An undo holds what it

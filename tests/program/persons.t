@@ -1,5 +1,28 @@
 Whose texts are made and opened, and with which permissions.
 
+  $ as() { # USER[:GROUP[,GROUP..]] COMMAND ..
+  >   local user=${1%:*} groups=${1#*:}
+  >   shift
+  >   setpriv --reuid "$user" --regid "${groups%%,*}" --groups "$groups" -- "$@"
+  > }
+
+Each command that opens a text refuses IMAGE, and every file is as before.
+
+  $ opening() { # IMAGE [FRONT ..]
+  >   local image=$1 words
+  >   shift
+  >   for words in 'revert -f dump IMG' 'dd if=dump of=IMG' 'undo IMG' 'redo -k 0 IMG' 'log IMG' 'log -v IMG' 'show IMG' \
+  >     'show -r -k 0 IMG'; do
+  >     echo "${words/IMG/$image}"
+  >   done | refused 'cannot open file' "$@"
+  > }
+
+  $ put() { # OWNER[:GROUP] BITS NAME [TEXT]
+  >   printf %b "${4-}" > "$3"
+  >   chmod "$2" "$3"
+  >   chown "$1" "$3"
+  > }
+
 # The bits of texts
 
 Journal and redo file have no bit that their image lacks, and none to execute, under any umask; of a new image all three have
