@@ -100,6 +100,7 @@ hints: $(built)
 # The order in which the files of a command reach the disk, by strace; and losses of power, played on what bx wrote, and (as root)
 # on what the kernel's page cache held back.
 power: $(built)
+	tests/hostile.py --bx $(program) orders
 	tests/power.py --bx $(program)
 
 # Texts, journals and words that AFL++ makes of tests/fuzz/corpus, ten minutes of them (MINUTES=60: an hour); it needs afl-fuzz.

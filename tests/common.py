@@ -1,11 +1,9 @@
-"""What the tests of the program share: it runs on files of a folder, what these hold, and a line for each case."""
+"""What the tests of the program share: a folder to work in, a line for each case, and the end."""
 import collections
 import contextlib
 import os
 import pathlib
-import shlex
 import signal
-import subprocess
 import sys
 import tempfile
 
@@ -14,20 +12,7 @@ sys.path.insert(0, str(ROOT / "tools"))
 
 import shared  # pylint: disable=wrong-import-position
 
-Done = collections.namedtuple("Done", "status out err")
 counts = collections.Counter()
-
-
-def run(bx, words, given=b"", front=(), **how):
-    """Runs bx: its status, and what it writes."""
-    done = subprocess.run([*front, bx, *shlex.split(words)], input=given, capture_output=True, check=False, timeout=600,
-                          env={**os.environ, "LC_ALL": "C"}, **how)
-    return Done(done.returncode, done.stdout, done.stderr.decode())
-
-
-def held(*names):
-    """What some files hold; None where there is none."""
-    return tuple(pathlib.Path(name).read_bytes() if os.path.isfile(name) else None for name in names)
 
 
 def say(well, name, detail=""):
@@ -38,11 +23,6 @@ def say(well, name, detail=""):
 
 def left_out(why):
     print(f"left out: {why}", flush=True)
-
-
-def cut(image, at, data):
-    """An image with bytes at a place; what lies between is zeros."""
-    return image[:at].ljust(at, b"\0") + data + image[at + len(data):]
 
 
 @contextlib.contextmanager

@@ -3,10 +3,6 @@
 
 Usage: tests/power.py [--bx PATH] [--sessions N] [--seed N] [--jobs N] [--limit N] [NAME ..]
 
-orders: what each command syncs, and in which order, by the calls that strace sees it make, as tests/power.txt has
-them, beside the table in docs/FORMATS.md, "Order of device calls"; that a file that was written is synced before
-another one is written, and the folders of the names before the first.
-
 replay: random sessions of reverts, dd, undos and redos run under strace, on small images. Their calls are replayed.
 Before each sync and after each answer what a loss of power may leave (replay/losses.py), or a sample of it, is written
 into files. `bx log` opens them: it has to find the images before the command, after it, or after some of its steps,
@@ -14,13 +10,14 @@ and `bx undo` of all changes has to lead back to the first image. Some commands 
 then the power is lost, and the session goes on with what was found. Then each sync is left out in turn: some content
 has to be lost, but for two syncs with no known loss.
 
-cache: the same on a file system in memory, mounted by FUSE with a cache that writes back. What bx writes stays in the
-kernel's page cache, and reaches the file system at a sync, or when the kernel chooses. After each request that changes
-the file system, what it holds is what a loss of power leaves, also without a name whose folder wasn't synced since.
-With -U something has to be lost. As root, where the kernel has FUSE.
+cache: the same on a file system in memory, mounted by pyfuse3 with a cache that writes back. What bx writes stays in
+the kernel's page cache, and reaches the file system at a sync, or when the kernel chooses. After each request that
+changes the file system, what it holds is what a loss of power leaves, also without a name whose folder wasn't synced
+since. With -U something has to be lost. As root, where the kernel has FUSE.
 
 Outside the gate. Without a name all run, with about N contents at a moment (--limit), and a line says what is left
 out. It exits 1 where something is lost, or nothing where it should be."""
+import importlib
 import os
 import random
 import re
@@ -28,61 +25,20 @@ import shutil
 import tempfile
 
 from common import asked, finish, folder, left_out, say
-from replay.fuse import CachedSession, mounted
 from replay.judge import LOG, REFUSED, Judge, dd, redo, revert, undo
 from replay.room import Room
 from replay.session import Session
 from shared import read
 
 IMAGE = b"ABCDEFGH"
-HEAD = "change2 0000000{} 0000000000000008\n"
-BEGUN = {"head": HEAD, "saved": HEAD + "00000000: 41                                       A\nsave 0000000{}\n"}
 COMMANDS = {"change": revert((2, b"xy")), "other": revert((6, b"z")), "third": revert((0, b"q")), "undo": undo(1),
             "undo of two": undo(2), "redo": redo(1), "log": LOG}
 
 
-def rows(head):
-    """The rows of a table of tests/power.txt."""
-    text = read("tests/power.txt").split(f"# {head}\n")[1].split("\n# ")[0]
-    return [[cell.strip() for cell in line.split("|")] for line in text.splitlines() if "|" in line][1:]
-
-
-def wrong_in(calls):
-    """What is wrong with the order of writes and syncs; none where it is right."""
-    left, is_named = "", False
-    for what, letter, *_ in calls:
-        if what == "sync":
-            is_named, left = is_named or letter == "F", left.replace(letter, "")
-        elif what != "name":
-            if not is_named:
-                return f"{letter} is written before the folder of the texts is synced"
-            if left not in ("", letter):
-                return f"{letter} is written while {left} is not on the disk"
-            left = letter
-    return f"{left} is not on the disk at the end" if left else None
-
-
-def orders(judge, _options):
-    """The orders of syncs."""
-    for changes, undone, begun, words, status, order in rows("Orders"):
-        with folder() as path:
-            room, is_there = Room(judge.bx, path), changes != "none"
-            (path / "dump").write_text("00000002: 7879\n", encoding="ascii")
-            (path / "bad").write_text("none\n", encoding="ascii")
-            room.put((IMAGE if is_there else None,))
-            for command in [*["revert -f dump IMAGE"] * int(changes), f"undo -k {undone} IMAGE"] if is_there else []:
-                room.run(command)
-            if begun:
-                image, journal, redo_text = room.get()
-                room.put((image, (journal or b"") + BEGUN[begun].replace("{}", "2" if journal else "1").encode(),
-                          redo_text))
-            done, calls = room.trace(words)
-        found, order = "".join(letter for what, letter, *_ in calls if what == "sync"), order.replace(" ", "")
-        wrong = f"status {done.status}" if done.status != int(status) else None
-        wrong = wrong or (wrong_in(calls) if " -U " not in words else None)
-        wrong = wrong or (f"synced {found or 'nothing'}, and not {order or 'nothing'}" if found != order else None)
-        name = f"{changes} changes, {undone} undone{', one unfinished' * bool(begun)}: {words}"
-        say(not wrong, name, wrong or f"{len(found)} syncs")
+def rows():
+    """The rows of tests/power.txt."""
+    lines = (line.split("|") for line in read("tests/power.txt").splitlines() if " | " in line)
+    return [[cell.strip() for cell in cells] for cells in lines][1:]
 
 
 def some_bytes(rng, most):
@@ -122,10 +78,10 @@ def replayed(judge, rng, options):
     return session
 
 
-def on_mount(judge, rng, _options, is_unsynced=False):
+def on_mount(judge, rng, options, is_unsynced=False):
     """A random session on images of some pages, on the file system."""
-    with folder() as path, mounted(path) as news:
-        session = CachedSession(judge, path / "mounted", news, rng.randbytes(rng.randint(0, 20000)))
+    with folder() as path, options.fuse.mounted(path) as news:
+        session = options.fuse.CachedSession(judge, path / "mounted", news, rng.randbytes(rng.randint(0, 20000)))
         session.run(some_change(rng, session.state.stack[0], 200, 45), is_unsynced)
         for _ in range(rng.randint(5, 8)):
             session.run(some_command(rng, session.state, 200, 45), is_unsynced)
@@ -167,7 +123,7 @@ def replay(judge, options):
     """Sessions under strace, and each sync left out: whether something is lost with it alone, but for those known to
     be safe."""
     sessions(judge, options, replayed)
-    for row in rows("Left out"):
+    for row in rows():
         lost_with, lost = is_lost(judge, options, row, None), is_lost(judge, options, row, row[3])
         say(lost == (row[4] == "lost") and not lost_with, f"without the sync of {row[0]}",
             f"{'' if lost else 'nothing '}lost{', and with it too' * lost_with}")
@@ -176,16 +132,17 @@ def replay(judge, options):
 def cache(judge, options):
     """Sessions on the file system, and with -U, where something has to be lost."""
     try:
-        with folder() as path, mounted(path):
+        options.fuse = importlib.import_module("replay.fuse")
+        with folder() as path, options.fuse.mounted(path):
             pass
-    except OSError as error:
-        left_out(f"losses of power under a file system of its own (none can be mounted: {error.strerror})")
+    except (ImportError, OSError) as error:
+        left_out(f"losses of power under a file system of its own ({error})")
         return
     sessions(judge, options, on_mount, "session on the page cache")
     say(sessions(judge, options, lambda *words: on_mount(*words, True), "session with -U"), "with -U something is lost")
 
 
-CHECKS = {"orders": orders, "replay": replay, "cache": cache}
+CHECKS = {"replay": replay, "cache": cache}
 
 
 def main():

@@ -4,7 +4,7 @@ import collections
 import concurrent.futures
 import queue
 
-from common import cut
+from replay.losses import cut, sized
 from replay.room import Room
 
 # A stack of images, the newest first, and those that were undone, the one that is redone next first.
@@ -19,7 +19,7 @@ Found = collections.namedtuple("Found", "fault count image recovered first undon
 def change(words, data, base, pieces):
     """A change of the image's length, where `base` isn't None, and of pieces at their places."""
     def steps(state):
-        image = state.stack[0] if base is None else state.stack[0][:base].ljust(base, b"\0")
+        image = state.stack[0] if base is None else sized(state.stack[0], base)
         for at, piece in pieces:
             image = cut(image, at, piece)
         return [state, State((image, *state.stack), ())]
@@ -79,12 +79,12 @@ class Judge:
         try:
             room.put(content)
             log = room.run("log -U IMAGE")
-            if log.status:
-                return Found(log.err.strip())
-            left, count = room.get(), log.out.count(b"\n")
+            if log.returncode:
+                return Found(log.stderr.strip())
+            left, count = room.get(), log.stdout.count("\n")
             if left not in self.led:
                 self.led[left] = lead(room, left, count)
-            return self.led[left]._replace(recovered="recovered" in log.err)
+            return self.led[left]._replace(recovered="recovered" in log.stderr)
         finally:
             self.rooms.put(room)
 
@@ -100,8 +100,8 @@ def lead(room, left, count):
     for at, (word, steps) in enumerate((("undo", count), ("redo", undone and count + undone))):
         if steps:
             done = room.run(f"{word} -U -k {steps} IMAGE")
-            if done.status:
-                return Found(f"{word} -k {steps}: {done.err.strip()}")
+            if done.returncode:
+                return Found(f"{word} -k {steps}: {done.stderr.strip()}")
             ends[at] = room.get()[0]
     return Found(None, count, image, False, ends[0], undone, ends[1])
 

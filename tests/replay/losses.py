@@ -13,6 +13,16 @@ SPOILED = b"\xee"
 NEWLINE = 10
 
 
+def cut(image, at, data):
+    """An image with bytes at a place; what lies between is zeros."""
+    return image[:at].ljust(at, b"\0") + data + image[at + len(data):]
+
+
+def sized(image, length):
+    """An image of another length; what is new is zeros."""
+    return image[:length].ljust(length, b"\0")
+
+
 class File:
     """A file since its last sync: what it held and which bytes were touched; and whether it had a name since its
     folder's."""
@@ -40,13 +50,13 @@ class File:
         if self.is_text and at < self.kept:
             raise ValueError(f"a text is overwritten at {at}")
         self.touched.append((min(at, len(now)), at + len(data)))
-        self.contents.append(now[:at].ljust(at, b"\0") + data + now[at + len(data):])
+        self.contents.append(cut(now, at, data))
 
     def length(self, length):
         now = self.contents[-1]
         self.touched.append((min(length, len(now)), max(length, len(now))))
         self.kept = min(self.kept, length)
-        self.contents.append(now[:length].ljust(length, b"\0"))
+        self.contents.append(sized(now, length))
 
     def name(self, named):
         """The file gets its name, or loses it; an empty one alone, so that its bytes don't matter."""

@@ -3,8 +3,8 @@ replayed on."""
 import os
 import pathlib
 import re
+import subprocess
 
-from common import held, run
 from replay.losses import File
 
 # The letters of an order: the folder of the texts, the folder of the image, journal, image, redo file.
@@ -34,15 +34,17 @@ class Room:
                 (self.path / name).write_bytes(data)
 
     def get(self):
-        return held(*(self.path / name for name in FILES))
+        paths = [self.path / name for name in FILES]
+        return tuple(path.read_bytes() if path.exists() else None for path in paths)
 
     def run(self, words, given=b"", front=(), unsynced=False):
-        """Runs a command on the image; what it reads stands in the file `input`."""
+        """Runs a command on the image: its status, and what it writes. What it reads stands in the file `input`."""
         (self.path / "input").write_bytes(given)
         words = words.replace(" ", " -U ", 1) if unsynced else words
         for name, file in (("IMAGE", "images/image"), ("OF", "of=images/image")):
             words = words.replace(name, f"-J texts/journal {file}")
-        return run(self.bx, words, front=front, cwd=self.path)
+        return subprocess.run([*front, self.bx, *words.split()], cwd=self.path, stdin=subprocess.DEVNULL, check=False,
+                              capture_output=True, text=True, errors="replace", timeout=600)
 
     def trace(self, words, given=b"", unsynced=False):
         """Runs a command under strace: what it answers, and its calls."""

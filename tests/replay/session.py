@@ -16,13 +16,11 @@ class Watched:
         self.judge, self.room, self.state = judge, room, State((image or b"",), ())
         self.lost, self.commands, self.moments = [], 0, 0
 
-    def answers(self, command, unsynced, how):
-        """Runs a command in a way of its own, which gives what it answers and something more: the latter."""
+    def answered(self, command, done):
+        """Counts a command, and looks at its status."""
         self.commands += 1
-        done, more = how(command.words, command.input, unsynced=unsynced)
-        if done.status != command.status:
-            raise ValueError(f"{command.words}: {done.err}")
-        return more
+        if done.returncode != command.status:
+            raise ValueError(f"{command.words}: {done.stderr}")
 
     def look(self, words, contents, states, answered=False):
         """Looks at what may be found now, up to the first content that is lost: what was found that fits, with its
@@ -58,7 +56,9 @@ class Session(Watched):
         named by its file and its number among those of the file, as J:0, and a call that writes by its number alone,
         as W:0."""
         steps, self.fitting, seen = command.steps(self.state), [], collections.Counter()
-        for what, letter, *words in self.answers(command, unsynced, self.room.trace):
+        done, calls = self.room.trace(command.words, command.input, unsynced)
+        self.answered(command, done)
+        for what, letter, *words in calls:
             kind = letter if what == "sync" else "N" if what == "name" else "W"
             here = f"{kind}:{seen[kind]}"
             if here == until:

@@ -1,0 +1,90 @@
+What each command syncs, and in which order, by the calls that strace sees it make, beside the table in docs/FORMATS.md, "Order of
+device calls": F and I are the folders of the texts and of the image, J the journal, D the image, R the redo file. A command that may
+write syncs all five first; a change then JRDJ, with a J before it where it is the journal's first byte, and an undo or a redo of one
+change JDRJ. `wrong:` stands where a file is written before the folder of the texts is synced, or while another one is not on the disk.
+
+  $ head='change2 0000000N 0000000000000008\n' saved="${head}00000000: 41                                       A\nsave 0000000N\n"
+  $ line() { echo "${*/IMAGE/-J texts/journal images/image}" | sed 's|OF$|-J texts/journal of=images/image|'; }
+
+An image of ABCDEFGH with changes of which some are undone, and a text behind them that goes to the first line of an entry, or to its
+save line:
+
+  $ given() { # CHANGES UNDONE [TEXT]
+  >   local n=$(($1 > 0 ? 2 : 1))
+  >   rm -rf images texts; mkdir images texts; echo '00000002: 7879' > dump; echo none > bad; printf ABCDEFGH > images/image
+  >   for _ in $(seq "$1"); do bx $(line revert -f dump IMAGE); done
+  >   bx $(line undo -k "$2" IMAGE) > /dev/null 2>&1
+  >   printf "${3//N/$n}" >> texts/journal
+  > }
+  $ synced() { # WORDS ..
+  >   local status
+  >   strace -f -y -o ../calls -e trace=fsync,fdatasync,ftruncate,fallocate,/write,copy_file_range bx $(line "$@") > /dev/null 2>&1
+  >   status=$?
+  >   sed -nE 's/^([0-9]+ +)?(\w+)\([0-9]+<[^>]*\/(texts|images|image|journal|journal\.redo)>.* = [0-9]+.*/\2 \3/p' ../calls | awk -v unsynced="$*" '
+  >     BEGIN { letter["texts"] = "F"; letter["images"] = "I"; letter["image"] = "D"; letter["journal"] = "J"; letter["journal.redo"] = "R" }
+  >     { at = letter[$2] }
+  >     /^f(data)?sync/ { order = order at; named = named || at == "F"; if (left == at) left = ""; next }
+  >     unsynced !~ / -U / && (!named || left && left != at) { print "wrong: " $0 }
+  >     { left = at }
+  >     END { if (left && unsynced !~ / -U /) print "wrong: " left; if (order) print order }'
+  >   return $status
+  > }
+
+# Syncs (wants strace)
+
+  $ given 0 0; rm -r images/* texts/*; synced revert -f dump IMAGE
+  FIJDRJJRDJ
+  $ given 0 0; synced revert -f dump IMAGE
+  FIJDRJJRDJ
+  $ given 1 0; synced revert -f dump IMAGE
+  FIJDRJRDJ
+  $ given 2 1; synced revert -f dump IMAGE
+  FIJDRJRDJ
+  $ given 0 0; synced dd if=dump OF
+  FIJDRJJRDJ
+  $ given 0 0; synced dd if=dump obs=1 seek=100 OF
+  FIJDRJJRDJ
+  $ given 1 0; synced undo -k 0 IMAGE
+  FIJDR
+  $ given 1 0; synced undo IMAGE
+  FIJDRJDRJJ
+  $ given 4 0; synced undo -k 3 IMAGE
+  FIJDRJDRJJDRJJDRJ
+  $ given 2 1; synced redo -k 0 IMAGE
+  FIJDR
+  $ given 1 1; synced redo IMAGE
+  FIJDRJJDRJ
+  $ given 4 4; synced redo -k 3 IMAGE
+  FIJDRJJDRJJDRJJDRJ
+  $ given 1 0 "$head"; synced undo -k 9 IMAGE
+  FIJDRRJ
+  [1]
+  $ given 1 0 "$saved"; synced undo -k 9 IMAGE
+  FIJDRRDJ
+  [1]
+  $ given 1 0; synced undo -k 9 IMAGE
+  FI
+  [1]
+  $ given 1 0; synced redo IMAGE
+  FI
+  [1]
+  $ given 0 0; synced revert -f bad IMAGE
+  FI
+  [1]
+  $ given 3 0; synced log IMAGE
+  $ given 1 0 "$head"; synced log IMAGE
+  FIJDRRJ
+  $ given 0 0 "$head"; synced log IMAGE
+  FIJDJJ
+  $ given 0 0 "$saved"; synced log IMAGE
+  FIJDDJJ
+  $ given 0 0; synced xxd images/image
+  $ given 0 0; synced dd if=images/image
+  $ given 0 0; rm -r images/* texts/*; synced revert -U -f dump IMAGE
+  $ given 0 0; synced dd -U if=dump OF
+  $ given 2 0; synced undo -U -k 2 IMAGE
+  $ given 2 2; synced redo -U -k 2 IMAGE
+  $ given 1 0 "$saved"; synced undo -U -k 0 IMAGE
+  $ given 1 0; synced log -U IMAGE
+  $ given 3 0; synced show -k 3 IMAGE
+  $ given 1 0 "$saved"; synced show -k 0 IMAGE
