@@ -1,20 +1,20 @@
 #!/usr/bin/env python3
-"""Plays inputs of a subject with the built program in a folder of its own, and says what is a finding.
+"""Plays inputs of a subject with the built program in a folder of its own, and says what is a finding: for
+tests/fuzz/run.py, and as the fork server of afl-fuzz, which that starts.
 
-Usage: tests/fuzz/play.py BX SUBJECT FILE ..      (a line for each file; the status is 1 where there is a finding)
-       tests/fuzz/play.py BX SUBJECT              (as the fork server of afl-fuzz: tests/fuzz/run.py starts it so)
+Usage: tests/fuzz/play.py BX SUBJECT
 
 A finding is a crash, a run of more than a second of processor time or ten seconds, more than 64 MiB of memory, a
 changed file behind a refusal, and a command that doesn't take back what the one before it did. afl-fuzz gets an abort
 for each. What it takes for coverage, of a program that isn't instrumented, is which command gave which status, fault
 and number of lines."""
+import contextlib
 import ctypes
 import os
 import pathlib
 import re
 import resource
 import select
-import shutil
 import struct
 import subprocess
 import sys
@@ -124,14 +124,6 @@ def steps(play, there, back):
     return play
 
 
-def journal(bx, text):
-    return steps(Play(bx, _bxj=text), "undo", "redo")
-
-
-def redo(bx, text):
-    return steps(Play(bx, _bxj=b"", _bxj_redo=text), "redo", "undo")
-
-
 def words(bx, text):
     """Each line is a word. None leads out of the folder, and nothing large is written onto an image, which `dd` holds
     in memory."""
@@ -145,20 +137,20 @@ def words(bx, text):
 
 SUBJECTS = {"revert": lambda bx, text: change(bx, text, "revert"),
             "plain": lambda bx, text: change(bx, text, "revert", "-p"),
-            "patch": lambda bx, text: change(bx, text, "patch"), "journal": journal, "redo": redo, "words": words}
+            "patch": lambda bx, text: change(bx, text, "patch"),
+            "journal": lambda bx, text: steps(Play(bx, _bxj=text), "undo", "redo"),
+            "redo": lambda bx, text: steps(Play(bx, _bxj=b"", _bxj_redo=text), "redo", "undo"), "words": words}
 
 
 def play_once(bx, subject, text):
     """Plays a text in a new folder of memory, which is removed. Answers what was seen, and the finding if there is
     one."""
-    folder = tempfile.mkdtemp(prefix="bx-fuzz-", dir="/dev/shm" if os.path.isdir("/dev/shm") else None)
-    os.chdir(folder)
-    try:
-        return SUBJECTS[subject](bx, text).seen, None
-    except (Finding, OSError) as finding:
-        return [], finding
-    finally:
-        shutil.rmtree(folder)
+    memory = "/dev/shm" if os.path.isdir("/dev/shm") else None
+    with tempfile.TemporaryDirectory(prefix="bx-fuzz-", dir=memory) as folder, contextlib.chdir(folder):
+        try:
+            return SUBJECTS[subject](bx, text).seen, None
+        except (Finding, OSError) as finding:
+            return [], finding
 
 
 def serve(bx, subject):
@@ -181,18 +173,5 @@ def serve(bx, subject):
         os.write(STATUS, struct.pack("i", os.waitpid(child, 0)[1]))
 
 
-def main():
-    bx, subject, *names = sys.argv[1:]
-    if not names:
-        serve(bx, subject)
-        return
-    found = 0
-    for name, text in [(name, pathlib.Path(name).read_bytes()) for name in names]:
-        seen, finding = play_once(os.path.abspath(bx), subject, text)
-        found += finding is not None
-        print(f"{'finding' if finding else 'ok     '}  {subject} {name}: {finding or ', '.join(seen)}")
-    sys.exit(1 if found else 0)
-
-
 if __name__ == "__main__":
-    main()
+    serve(*sys.argv[1:])

@@ -17,6 +17,7 @@ import sys
 HERE = pathlib.Path(__file__).resolve().parent
 sys.path.insert(0, str(HERE.parent.parent / "tools"))
 
+from play import play_once  # pylint: disable=wrong-import-position
 from shared import asked  # pylint: disable=wrong-import-position
 
 SUBJECTS = sorted(path.name for path in (HERE / "corpus").iterdir())
@@ -25,17 +26,13 @@ AFL = {"AFL_SKIP_BIN_CHECK": "1", "AFL_SKIP_CPUFREQ": "1", "AFL_NO_AFFINITY": "1
        "AFL_I_DONT_CARE_ABOUT_MISSING_CRASHES": "1", "AFL_MAP_SIZE": "65536", "AFL_FORKSRV_INIT_TMOUT": "60000"}
 
 
-def play(bx, subject, files):
-    """Plays files of a subject, and again where there was a finding: a second may pass on a busy machine. Answers its
-    lines."""
-    lines, words = [], [str(HERE / "play.py"), bx, subject, *map(str, files)]
-    for _ in range(2):
-        done = subprocess.run(words, stdout=subprocess.PIPE, text=True, errors="replace", check=False)
-        lines = [line for line in done.stdout.splitlines() if line.startswith("finding")]
-        if done.returncode == 0:
-            break
-        lines = lines or [f"finding  {subject}: play.py ended with {done.returncode}"]
-    return lines
+def findings(bx, subject, files):
+    """The lines of files with a finding; each is played again, as a second may pass on a busy machine."""
+    for path in files:
+        text = path.read_bytes()
+        found = play_once(bx, subject, text)[1] and play_once(bx, subject, text)[1]
+        if found:
+            yield f"finding  {subject} {path}: {found}"
 
 
 def fuzz(bx, subject, seconds):
@@ -55,7 +52,7 @@ def judge(bx, subject, status):
     stats = (out / "fuzzer_stats").read_text() if (out / "fuzzer_stats").exists() else ""
     value = dict(re.findall(r"^(\w+) *: (.*)$", stats, re.M))
     kept = [path for part in ("crashes", "hangs") for path in sorted((out / part).glob("id*"))]
-    found = play(bx, subject, kept) if kept else []
+    found = list(findings(bx, subject, kept))
     print(f"{subject}: {value.get('execs_done', 'no')} inputs, {value.get('corpus_count', '0')} kept, "
           f"{len(kept)} stopped, {len(found)} findings")
     print("".join(f"{line}\n" for line in found), end="")
@@ -67,7 +64,8 @@ def judge(bx, subject, status):
 def main():
     options = asked(__doc__, minutes=10.0, names=SUBJECTS)
     bx, chosen = options.bx, options.names
-    found = [line for subject in chosen for line in play(bx, subject, sorted((HERE / "corpus" / subject).iterdir()))]
+    found = [line for subject in chosen
+             for line in findings(bx, subject, sorted((HERE / "corpus" / subject).iterdir()))]
     print("".join(f"{line}\n" for line in found), end="")
     if options.corpus or found:
         print(f"the corpus of {len(chosen)} subjects: {len(found)} findings")
