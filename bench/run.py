@@ -19,10 +19,10 @@ import sys
 import tempfile
 import time
 
-TOP = pathlib.Path(__file__).resolve().parent.parent
-sys.path.insert(0, str(TOP / "tools"))
+sys.path.insert(0, str(pathlib.Path(__file__).resolve().parent.parent / "tools"))
 
-from shared import asked, read  # pylint: disable=wrong-import-position
+import sources  # pylint: disable=wrong-import-position
+from shared import ROOT, asked, read  # pylint: disable=wrong-import-position
 
 # the group, the goal, bx's words, those of what stands beside it, its name, what comes first, and the file that both
 # leave
@@ -31,42 +31,28 @@ FILES = r"(if=)?\b(long|prose|random|less|few|zeros|text)\b"
 
 
 def table():
-    """The rows of bench/rows.txt, by their groups."""
-    set_to, found, group = {}, {}, None
+    """The rows of bench/rows.txt, those of calls, and the commands that make the inputs."""
+    set_to, found, calls, inputs, group = {}, [], [], [], ""
     for line in read("bench/rows.txt").splitlines():
-        name = re.match(r"([A-Z]+) = (.*)", line)
-        if name:
-            set_to[name[1]] = re.sub(r"^[A-Z]+\b", lambda word: set_to[word[0]], name[2])
         group = line[2:] if line.startswith("# ") else group
-        if " | " in line:
-            found.setdefault(group, []).append([cell.strip() for cell in line.split("|")])
-    calls = found.pop("calls")
-    rows = [Row(group, *row) for group, of_group in found.items() for row in of_group]
-    rows = [row._replace(real=row.ours if row.real == "=" else row.real,
-                         before=re.sub(r"^[A-Z]{3,}\b", lambda word: set_to[word[0]], row.before)) for row in rows]
-    return rows, calls
+        cells = [re.sub(r"^[A-Z]{3,}\b", lambda word: set_to.get(word[0], word[0]), cell.strip())
+                 for cell in re.split(r" = |\|", line)]
+        if group == "inputs" and line[:2] != "# ":
+            inputs.append(line)
+        elif " = " in line:
+            set_to[line.split()[0]] = cells[1]
+        elif " | " in line and group == "calls":
+            calls.append(cells)
+        elif " | " in line:
+            goal, ours, real, *rest = cells
+            found.append(Row(group, goal, ours, ours if real == "=" else real, *rest))
+    return found, calls, inputs
 
 
 def shell(words, out=subprocess.DEVNULL):
     """Runs a line of the shell; a program whose reader goes away may fail."""
     return subprocess.run(words, shell=True, stdin=subprocess.DEVNULL, stdout=out, stderr=subprocess.DEVNULL,
                           check=False, text=True).stdout
-
-
-def make(big, mid, stream):
-    """The inputs, in the current folder."""
-    for line in (f"head -c {stream}M /dev/urandom > long; head -c {stream * 3 // 4}M long | base64 > prose",
-                 f"head -c {big}M /dev/urandom > random; head -c {mid}M random > less",
-                 f"head -c {big}M /dev/zero > zeros; head -c {mid}M zeros > few",
-                 f"head -c {big * 3 // 4}M random | base64 > text",
-                 "xxd less > dump; xxd -p less > plain"):
-        shell(line)
-    pathlib.Path("byte").write_text("0: 41", encoding="ascii")
-    line = "00000000: 4142 4344 4546 4748 494a 4b4c 4d4e 4f50  ABCDEFGHIJKLMNOP\n"
-    many = "".join(f"change2 {n:08x} {16:016x}\n{line}save {n:08x}\ndone2 {n:08x} {16:016x}\n" for n in range(1, 65536))
-    pathlib.Path("many.bxj").write_text(many, encoding="ascii")
-    pathlib.Path("many").write_text("ABCDEFGHIJKLMNOP", encoding="ascii")
-    shell(f"head -c {len(many) // 68 * 16} less | xxd > same")
 
 
 def elapsed(words, before, bx):
@@ -119,7 +105,7 @@ def tell(run, group, name, beside, goal, ours, there, *more):
     """Writes a row: group, name, what stands beside it, goal, microseconds of both and of cat, KiB of both, and
     whether they are the same."""
     more = [*more, *["-"] * (4 - len(more))]
-    print("\t".join(map(str, (group, name, beside, goal, ours, there, *more))), file=run, flush=True)
+    print(group, name, beside, goal, ours, there, *more, sep="\t", file=run, flush=True)
     print(f"{name:34} {beside:26} bx {ours:9} us  there {there:9} us  ratio {there / max(ours, 1):7.2f}  goal {goal:<4}"
           + (f"  times cat {ours / max(more[0], 1):.2f}" if more[0] != "-" else "")
           + (f"  KiB {more[1]} and {more[2]}" if more[1] != "-" else "") + "  other text" * (more[3] == "no"),
@@ -144,34 +130,30 @@ def build_calls(calls):
     """Single calls of the libraries, which bx makes only together with others: bench/calls.rt.in is proved and built
     in a folder of its own over copies of the crates, since the gate proves every crate that stands in the repository.
     It stays in bench/out."""
-    crates = ["bx_text", "bx_read", "bx_image", "bx_patch", "bx_journal_store", "bx_journal_format", "bx_journal_read",
-              "bx_journal_protocol", "bx_journal"]
-    for crate in crates:
-        shutil.copytree(TOP / "crates" / crate, f"room/crates/{crate}")
+    crates = [*sources.below(sources.crates(), "bx_journal"), "bx_journal"]
+    sources.copy(crates, pathlib.Path("room"), ["calls: bx_text bx_read bx_image bx_journal_store bx_journal anyhow"])
     os.makedirs("room/crates/calls/src")
-    shutil.copy(TOP / "HANDLES", "room")
-    shutil.copy(TOP / "bench" / "calls.rt.in", "room/crates/calls/src/main.rt")
-    lines = [line for line in read("crates.txt").splitlines() if line.split(":")[0] in crates]
-    lines.append("calls: bx_text bx_read bx_image bx_journal_store bx_journal anyhow")
-    pathlib.Path("room/crates.txt").write_text("\n".join(lines) + "\n", encoding="utf-8")
+    shutil.copy(ROOT / "bench" / "calls.rt.in", "room/crates/calls/src/main.rt")
     subprocess.run(["rt", "run", "--", "none"], cwd="room/crates/calls", check=True, stdout=subprocess.DEVNULL)
     shutil.copy("room/crates/calls/out/calls", calls)
 
 
+# how often each call is made; the least time counts
+CALLS = 7
 BESIDE = {"plain": "the same plainly", "call": "perform", "undo": "undo", "beside": "open, a journal"}
 
 
 def library_calls(options, run, table_of_calls):
     """Times the calls; the bytes that reading a dump and scattered saves took, of each line and each write; and huge
     pages, where the system gives them to who asks: most of an undo is memory touched for the first time."""
-    calls = TOP / "bench" / "out" / "calls"
+    calls = ROOT / "bench" / "out" / "calls"
     build_calls(calls)
     shell("cp zeros changed; cp few applied; shuf -i 0-33554431 -n 1000000 > addresses")
     for words, rows in itertools.groupby(table_of_calls, lambda row: row[0]):
         front = "GLIBC_TUNABLES=glibc.malloc.hugetlb=1 " if words.endswith(" huge") else ""
-        lines = shell(f"{front}{calls} {words.removesuffix(' huge')}", subprocess.PIPE).splitlines()
-        told = [line.split() for line in lines]
-        fields = {line[0]: int(line[1]) for line in told if len(line) == 2}
+        line = f"{front}{calls} {words.removesuffix(' huge')}"
+        told = [line.split() for _ in range(CALLS) for line in shell(line, subprocess.PIPE).splitlines()]
+        fields = {name: min(int(of[1]) for of in told if of[0] == name) for name, *rest in told if len(rest) == 1}
         for _, goal, field, name, beside in rows:
             there = fields[beside] if beside in fields else best(options.rounds, [beside], "", options.bx)[0]
             tell(run, "calls", name, BESIDE.get(beside, beside), goal, fields[field], there)
@@ -199,13 +181,13 @@ def main():
     options.before = options.before and os.path.abspath(options.before)
     big, mid, stream = (32, 32, 32) if options.quick else (options.mib, max(options.mib // 2, 1), options.mib * 16)
     os.environ["LC_ALL"] = "C"
-    to = TOP / "bench" / "out" / ("before.tsv" if options.before else "run.tsv")
+    to = ROOT / "bench" / "out" / ("before.tsv" if options.before else "run.tsv")
     to.parent.mkdir(exist_ok=True)
     with tempfile.TemporaryDirectory() as work, open(to, "w", encoding="utf-8") as run:
         os.chdir(work)
-        make(big, mid, stream)
+        rows, calls, inputs = table()
+        shell("\n".join([f"stream={stream} big={big} mid={mid}", *inputs]))
         run.writelines(f"# {line}\n" for line in told_of(options, big, mid, stream))
-        rows, calls = table()
         for row in rows:
             time_row(row, options, run)
         if not options.programs and not options.before:

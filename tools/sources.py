@@ -2,6 +2,7 @@
 (`.antt`)."""
 import itertools
 import re
+import shutil
 
 from shared import ROOT, read
 
@@ -39,6 +40,15 @@ def folder(name, part="src"):
 def code(name):
     """The files of a crate's code."""
     return sorted(folder(name).rglob("*.rt"))
+
+
+def copy(names, top, others=()):
+    """Makes a repository of some crates in a folder, with what was built of them and with more lines in crates.txt."""
+    for name in names:
+        shutil.copytree(ROOT / "crates" / name, top / "crates" / name)
+    shutil.copy(ROOT / "HANDLES", top)
+    lines = [line for line in read("crates.txt").splitlines() if line.split(":")[0] in names]
+    (top / "crates.txt").write_text("".join(f"{line}\n" for line in [*lines, *others]), encoding="utf-8")
 
 
 def head(path):
