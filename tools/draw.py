@@ -3,12 +3,12 @@
 
 Usage: tools/draw.py [--bx PATH] [NAME ..]
 
-session: a terminal with the commands of docs/pictures/session.txt, a line each, and what they write. They are run by
-bash, one after another, in one folder, in which the file `image` holds the letters A to P.
+Each is made of a transcript, session.t or states.t, whose commands have to write what stands there, else this fails.
 
-states: the states of a pair of image and journal, and what opening does in each. docs/pictures/states.t has the
-commands, and what they have to write, else this fails; the words in the picture are those that bx wrote, in the places
-of docs/pictures/states.in.
+session: a terminal with the commands behind the first, a line each, and what they write.
+
+states: the states of a pair of image and journal, and what opening does in each; the words in the picture are those
+that bx wrote, in the places of docs/pictures/states.in.
 
 Without a name both are drawn. bench/plot.py draws the chart of speed with its tables.
 """
@@ -17,28 +17,29 @@ import sys
 import tempfile
 import textwrap
 
-from shared import ROOT, asked
+from shared import ROOT, asked, read
 from transcript import differences, outputs, set_in, steps
 
-PICTURES = ROOT / "docs" / "pictures"
 MONO = "DejaVu Sans Mono, Menlo, Consolas, monospace"
 SIZE, ROW, CHARACTER, MARGIN = 14, 20, 8.43, 18
 PROMPT, COMMAND, OUTPUT, DARK = "#8ec07c", "#fbf1c7", "#d5c4a1", "#282828"
 
 
-def shown(commands, bx):
-    """The lines of the terminal: whether each is a command, and its text."""
+def played(name, bx):
+    """The commands of a transcript, and what they write."""
+    tour = steps(set_in(read(f"docs/pictures/{name}.t")))
     with tempfile.TemporaryDirectory() as folder:
-        written = outputs(["printf ABCDEFGHIJKLMNOP > image", *commands], bx, folder)[1:]
-    lines = []
-    for command, output in zip(commands, written, strict=True):
-        lines.append((True, command))
-        lines.extend((False, line) for line in output)
-    return lines
+        given = outputs([command for command, _ in tour], bx, folder)
+    wrong = list(differences(tour, given))
+    if wrong:
+        sys.exit("\n".join(wrong))
+    return tour
 
 
-def terminal(lines):
+def session(bx):
     """The picture of the lines, as wide as the longest."""
+    lines = [(number == 0, line) for command, written in played("session", bx)[1:]
+             for number, line in enumerate([command, *written])]
     parts = [f'<g font-family="{MONO}" font-size="{SIZE}" xml:space="preserve">']
     for number, (is_command, text) in enumerate(lines):
         place = f'x="{MARGIN}" y="{MARGIN + ROW * number + SIZE}"'
@@ -52,22 +53,12 @@ def terminal(lines):
                       f'<rect width="{width}" height="{height}" rx="8" fill="{DARK}"/>', *parts, "</g>", "</svg>", ""])
 
 
-def session(bx):
-    return terminal(shown((PICTURES / "session.txt").read_text(encoding="utf-8").splitlines(), bx))
-
-
 def states(bx):
     """The picture with the words in their places, as states.in has them."""
-    tour = steps(set_in((PICTURES / "states.t").read_text(encoding="utf-8")))
-    with tempfile.TemporaryDirectory() as folder:
-        given = outputs([command for command, _ in tour], bx, folder)
-    wrong = list(differences(tour, given))
-    if wrong:
-        sys.exit("\n".join(wrong))
     words = {command.rpartition("# ")[2]: [html.escape(line, quote=False) for line in lines]
-             for (command, _), lines in zip(tour, given) if lines}
+             for command, lines in played("states", bx) if lines}
     words |= {name: textwrap.wrap(words[name][0], 31) for name in ("dropped", "taken")}
-    return (PICTURES / "states.in").read_text(encoding="utf-8").format(**words)
+    return read("docs/pictures/states.in").format(**words)
 
 
 NAMES = {"session": session, "states": states}
@@ -76,7 +67,7 @@ NAMES = {"session": session, "states": states}
 def main():
     options = asked(__doc__, names=NAMES)
     for name in options.names:
-        (PICTURES / f"{name}.svg").write_text(NAMES[name](options.bx), encoding="utf-8")
+        (ROOT / "docs" / "pictures" / f"{name}.svg").write_text(NAMES[name](options.bx), encoding="utf-8")
 
 
 if __name__ == "__main__":

@@ -30,21 +30,8 @@ gzip -9n "$tree/usr/share/doc/bx/changelog" "$tree/usr/share/man/man1/bx.1"
 mkdir -p "$work/debian" "$tree/DEBIAN"
 printf 'Source: bx\n\nPackage: bx\nArchitecture: any\n' > "$work/debian/control"
 depends=$(cd "$work" && dpkg-shlibdeps -O bx/usr/bin/bx 2> /dev/null | sed -n 's/^shlibs:Depends=//p')
-cat > "$tree/DEBIAN/control" <<CONTROL
-Package: bx
-Version: $version
-Architecture: $architecture
-Maintainer: $maintainer
-Section: utils
-Priority: optional
-Installed-Size: $(du -sk --exclude=DEBIAN "$tree" | cut -f1)
-${depends:+Depends: $depends
-}Description: dump, patch and convert bytes, with undo
- bx dumps files as xxd, od, hexdump -C and strings do, copies and converts as
- dd does, and writes dumps back onto an image. What is overwritten is kept in
- a journal that a person can read, from which each change can be taken back:
- bytes and length.
-CONTROL
+sed -e "s/VERSION/$version/; s/ARCHITECTURE/$architecture/; s/MAINTAINER/$maintainer/; s/DEPENDS/$depends/" \
+  -e "s/SIZE/$(du -sk --exclude=DEBIAN "$tree" | cut -f1)/; /^Depends: $/d" tools/control.txt > "$tree/DEBIAN/control"
 (cd "$tree" && find usr -type f -print0 | sort -z | xargs -0 md5sum > DEBIAN/md5sums)
 mkdir -p "$folder"
 package=$folder/bx_${version}_${architecture}.deb

@@ -4,9 +4,9 @@ A public contract is a clause of an exported function, method, trait or type of 
 on by crates.txt; of an inner part only its laws and what another crate exports are public. The names in its clauses
 are followed through specs/. What the contracts of calls meet is what a reader has to believe. A law is a public
 function that takes nothing and does nothing, so its clauses are proved of definitions: what laws alone meet is a
-second reading of them, and stands in the page's part D. docs/believe.txt has the parts and the order of files; --write
-makes the page of it, with the sentence that stands above each definition in specs/, and without it the page is
-compared."""
+second reading of them, and stands in the page's part D. docs/believe.txt has the front, the parts and the order of
+files; --write makes the page of it, with the sentence that stands above each definition in specs/, and without it the
+page is compared."""
 import re
 
 import sources
@@ -18,13 +18,6 @@ TOP = "bx_cli"
 SHARED = ["model", "show"]
 # the page's part of what laws alone name
 TOLD = "D"
-INTRO = """# What must be believed
-
-Written by `tools/docs.py --write` of `docs/believe.txt` and the sentence above each definition. A contract says what
-its words mean, and the words of public contracts are defined in the `specs/` of the crates. Here are all definitions
-that a public contract names, directly or through another one. Parts A to C have to be believed to know what a call
-does, and nothing else.
-"""
 
 
 def named():
@@ -69,10 +62,11 @@ def size(some):
 
 
 def filled(order, believed, told):
-    """The page by the order of its files, the lines of each part, and what is wrong with the order."""
+    """The page by its front and the order of its files, the lines of each part, and what is wrong with the order."""
+    front, parts = order.split("\n---\n")
     left = {False: by_place(believed), True: by_place(told)}
-    lines, sizes, bad, part = [INTRO], {}, [], ""
-    for line in order.split("\n"):
+    lines, sizes, bad, part = [front, ""], {}, [], ""
+    for line in parts.split("\n"):
         if begun := re.match(r"(\w)\. (.*?): (.*)", line):
             part = begun[1]
             sizes[part] = 0

@@ -1,20 +1,13 @@
 """Writes the call trees of docs/calls.txt with the file and the first sentence of each function, and looks whether
 each call is made.
 
-docs/calls.txt has a heading for each tree (`# A change`), and below it a function on each line: it is called by the
-one above it that is indented less. Behind a name that more than one file of a product crate defines stands the end of
-its file. The page is docs/generated/CALLS.md; without --write it is compared."""
+docs/calls.txt has the page's front, and a heading for each tree (`# A change`), and below it a function on each line:
+it is called by the one above it that is indented less. Behind a name that more than one file of a product crate
+defines stands the end of its file. The page is docs/generated/CALLS.md; without --write it is compared."""
 import re
 
 import sources
 from shared import read
-
-TOP = """# Who calls whom
-
-Written by `tools/docs.py --write` of `docs/calls.txt`: each function is called by the one above it that is indented
-less, in this order, and `make check-docs` looks whether it is. Behind it stand its file, with the crate in front, and
-its first sentence.
-"""
 
 
 def functions():
@@ -47,8 +40,9 @@ def tree(lines, known):
 
 
 def check(options):
-    known, page = functions(), [TOP]
-    for part in read("docs/calls.txt").removeprefix("# ").split("\n# "):
+    known, (front, trees) = functions(), read("docs/calls.txt").split("\n---\n# ")
+    page = [front, ""]
+    for part in trees.split("\n# "):
         title, *lines = filter(str.strip, part.split("\n"))
         page += [f"## {title}", "", "```", *tree(lines, known), "```", ""]
     wrong = [line for line in page if line.startswith("wrong: ")]

@@ -62,5 +62,6 @@ def check(options):
         here = [f"{name}:{text.count(chr(10), 0, match.start()) + 1}: {phrase}"
                 for name, text in places[place].items() for match in re.finditer(PHRASES[phrase], text, re.I)]
         most, total = CEILINGS.get((place, phrase), 0), total + len(here)
-        bad += [*here, f"{place}: '{phrase}' stands {len(here)} times, and may {most} times"] if len(here) > most else []
+        if len(here) > most:
+            bad += [*here, f"{place}: '{phrase}' stands {len(here)} times, and may {most} times"]
     return bad, f"{total} phrases that are to go, none above its ceiling; {count} words in what people write"
