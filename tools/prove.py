@@ -21,7 +21,6 @@ import sources
 
 EACH = 4 * 2**20  # KiB of memory
 PROGRAM = "bx"
-PARTS = ["src", "specs", "proofs"]
 
 
 def room():
@@ -31,34 +30,23 @@ def room():
     return max(1, min(len(os.sched_getaffinity(0)), free // EACH))
 
 
-def link(one, other):
-    """Puts a file elsewhere, on the same disk without copying it."""
-    try:
-        os.link(one, other)
-    except OSError:
-        shutil.copy2(one, other)
-
-
 def carry(folder, to):
-    """Puts a folder that `rt` made in the place of another one."""
+    """Puts a folder in the place of another one."""
     if folder.is_dir():
         shutil.rmtree(to, ignore_errors=True)
-        shutil.copytree(folder, to, copy_function=link)
+        shutil.copytree(folder, to)
 
 
 def prove(name, below, top, jobs):
     """Builds a library in a copy of it and of those below, and brings what is built here. Answers the status and what
     `rt` said."""
-    here = sources.ROOT / "crates"
+    here = shared.ROOT / "crates"
     for other in [*below, name]:
-        for part in PARTS:
-            if (here / other / part).is_dir():
-                shutil.copytree(here / other / part, top / "crates" / other / part)
-        carry(here / other / "out" / "rlib", top / "crates" / other / "out" / "rlib")
+        for part in ("src", "specs", "proofs", "out/rlib"):
+            carry(here / other / part, top / "crates" / other / part)
     carry(here / name / "out" / "incremental", top / "crates" / name / "out" / "incremental")
-    lines = (sources.ROOT / "crates.txt").read_text(encoding="utf-8").splitlines()
-    (top / "crates.txt").write_text("".join(f"{it}\n" for it in lines if it.split(":")[0] in [*below, name]),
-                                    encoding="utf-8")
+    lines = [line for line in shared.read("crates.txt").splitlines() if line.split(":")[0] in [*below, name]]
+    (top / "crates.txt").write_text("\n".join(lines) + "\n", encoding="utf-8")
     done = subprocess.run(["rt", "lib", "--jobs", str(jobs)], cwd=top / "crates" / name, stdin=subprocess.DEVNULL,
                           stdout=subprocess.PIPE, stderr=subprocess.STDOUT, text=True, errors="replace", check=False)
     for part in ("rlib", "incremental"):
@@ -69,8 +57,7 @@ def prove(name, below, top, jobs):
 
 def chains(listed, names):
     """How many lines stand on the longest chain from each crate up to the program."""
-    lines = {name: sum(path.read_bytes().count(b"\n")
-                       for path in (sources.ROOT / "crates" / name).rglob("src/**/*.rt")) for name in names}
+    lines = {name: sum(path.read_bytes().count(b"\n") for path in sources.code(name)) for name in names}
     found = {}
     for name in reversed(names):
         found[name] = lines[name] + max([found[other] for other in names if name in listed[other]], default=0)
@@ -106,7 +93,7 @@ def main():
     with tempfile.TemporaryDirectory(prefix="bx-prove-") as place:
         if not prove_all(listed, sources.below(listed, PROGRAM), most, place):
             sys.exit(1)
-    done = subprocess.run(["rt", "check", "--jobs", str(most)], cwd=sources.ROOT / "crates" / PROGRAM, check=False)
+    done = subprocess.run(["rt", "check", "--jobs", str(most)], cwd=shared.ROOT / "crates" / PROGRAM, check=False)
     sys.exit(1 if done.returncode else 0)
 
 
