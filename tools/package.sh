@@ -36,5 +36,5 @@ sed -e "s/VERSION/$version/; s/ARCHITECTURE/$architecture/; s/MAINTAINER/$mainta
 mkdir -p "$folder"
 package=$folder/bx_${version}_${architecture}.deb
 dpkg-deb --root-owner-group --build "$tree" "$package" > /dev/null
-if command -v lintian > /dev/null; then lintian --fail-on error "$package"; fi
+if command -v lintian > /dev/null; then lintian --allow-root --fail-on error "$package"; fi
 echo "$package"
