@@ -73,11 +73,11 @@ save line:
   [1]
   $ given 3 0; synced log IMAGE
   $ given 1 0 "$head"; synced log IMAGE
-  FIJDRRJ
+  FIJDRRJJDR
   $ given 0 0 "$head"; synced log IMAGE
-  FIJDJJ
+  FIJDRRJJJDR
   $ given 0 0 "$saved"; synced log IMAGE
-  FIJDDJJ
+  FIJDRRDJJJDR
   $ given 0 0; synced xxd images/image
   $ given 0 0; synced dd if=images/image
   $ given 0 0; rm -r images/* texts/*; synced revert -U -f dump IMAGE

@@ -69,36 +69,37 @@ fn told_of(case: &WordsCase) -> Told<'_> {
 }
 
 /// Plays a dump of an image that holds the case's input. Tells whether all are right.
-fn play_case(rt: &HostRuntime, case: &Case, names: &Names) -> Result<bool, Wrong> {
-    let Test::Words(words) = &case.test else {
-        return Err(Wrong::Unknown);
+fn play_job<'a>(
+    rt: &HostRuntime,
+    name: &str,
+    words: &'a WordsCase,
+    names: &'a Names,
+    job: &'a DumpJob,
+) -> bool {
+    let image: &[u8] = match &words.input {
+        Some(input) => input.as_slice(),
+        None => b"",
     };
-    let (alloc, name) = (rt.alloc(), case.name.as_str());
-    let job = job_of(alloc, words)?;
     let whole = Asking {
-        alloc,
+        alloc: rt.alloc(),
         names,
         held: Held {
-            image: match &words.input {
-                Some(input) => input.as_slice(),
-                None => b"",
-            },
+            image,
             journal: b"",
             redo: b"",
         },
         odd: None,
-        asked: Asked::Dump(&job),
+        asked: Asked::Dump(job),
         told: told_of(words),
     };
     let _ = print!(rt; "{name}");
     let mut right = play_each(rt, &whole, &EACH);
-    let odd = Some(&PIPE);
     let _ = print!(rt; "{name}, a pipe");
-    right = play_each(rt, &Asking { odd, ..whole }, &EACH) && right;
-    let (odd, (_, which, _, why)) = (Some(&MISSING), MISSING);
+    right = play_each(rt, &whole.of_odd(&PIPE, whole.told), &EACH) && right;
+    let (_, which, _, why) = MISSING;
     let told = Told::Unopened(Unopened { which, why });
     let _ = print!(rt; "{name}, missing");
-    Ok(play_each(rt, &Asking { odd, told, ..whole }, &EACH) && right)
+    play_each(rt, &whole.of_odd(&MISSING, told), &EACH) && right
 }
 
 /// Plays these cases. Tells whether all are right.
@@ -106,7 +107,11 @@ pub fn play_dumps(rt: &HostRuntime, cases: &[Case]) -> Result<bool, Wrong> {
     let names = names(rt.alloc())?;
     let mut right = true;
     for case in cases {
-        right = play_case(rt, case, &names)? && right;
+        let Test::Words(words) = &case.test else {
+            return Err(Wrong::Unknown);
+        };
+        let job = job_of(rt.alloc(), words)?;
+        right = play_job(rt, case.name.as_str(), words, &names, &job) && right;
     }
     Ok(right)
 }

@@ -9,6 +9,7 @@ use crate::seen::{Asking, play_each, tell};
 use crate::setting::{Held, names};
 use crate::sweeps::Failing;
 use bx_program_files::{Names, Unopened};
+use std::alloc::Global;
 use test_case_files::{Case, LooksCase, Test};
 
 /// What fails in turn.
@@ -38,8 +39,20 @@ fn told_of_odd<'a>(view: &View<'a>, odd: &Odd) -> Told<'a> {
     }
 }
 
+/// What is asked by a look at files that hold this, of which none is odd.
+fn asking_of<'a>(alloc: Global, names: &'a Names, held: Held<'a>, view: &View<'a>) -> Asking<'a> {
+    Asking {
+        alloc,
+        names,
+        held,
+        odd: None,
+        asked: view.asked,
+        told: view.told,
+    }
+}
+
 /// Plays each look of a case. Tells whether all are right.
-fn play_case(rt: &HostRuntime, case: &Case, names: &Names) -> Result<bool, Wrong> {
+fn play_case<'a>(rt: &HostRuntime, case: &'a Case, names: &'a Names) -> Result<bool, Wrong> {
     let Test::Looks(looks) = &case.test else {
         return Err(Wrong::Unknown);
     };
@@ -48,21 +61,19 @@ fn play_case(rt: &HostRuntime, case: &Case, names: &Names) -> Result<bool, Wrong
     let mut right = true;
     for view in &views_of(alloc, looks, log.as_slice())? {
         let _ = print!(rt; "{}, {}", case.name, view.name);
-        let asking = Asking {
-            alloc,
-            names,
-            held: held_of(looks),
-            odd: None,
-            asked: view.asked,
-            told: view.told,
-        };
+        let asking = asking_of(alloc, names, held_of(looks), view);
         right = play_each(rt, &asking, &EACH) && right;
     }
     Ok(right)
 }
 
 /// Plays each look of a case where a file is odd. Tells whether all are right.
-fn play_odd(rt: &HostRuntime, case: &Case, names: &Names, odd: &Odd) -> Result<bool, Wrong> {
+fn play_odd<'a>(
+    rt: &HostRuntime,
+    case: &'a Case,
+    names: &'a Names,
+    odd: &'a Odd,
+) -> Result<bool, Wrong> {
     let Test::Looks(looks) = &case.test else {
         return Err(Wrong::Unknown);
     };

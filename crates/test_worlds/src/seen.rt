@@ -38,7 +38,16 @@ fn taking_writes(fails: Fails) -> Fails {
     }
 }
 
-impl Asking<'_> {
+impl<'a> Asking<'a> {
+    /// The same where a file is odd, and this has to come of it.
+    pub fn of_odd(self, odd: &'a Odd, told: Told<'a>) -> Asking<'a> {
+        Asking {
+            odd: Some(odd),
+            told,
+            ..self
+        }
+    }
+
     /// A world with the files.
     fn world(&self) -> Result<MemoryWorld, Wrong> {
         let world = match self.odd {
