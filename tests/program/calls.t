@@ -154,7 +154,7 @@ Of a dump, where memory is refused nothing is written, or all of it where dd's r
   $ whole() { [ $status = 0 ] && cmp -s out plain.out; }
   $ refuses() {
   >   [ "$(tail -n 1 err)" = 'bx: out of memory' ] || { whole; return; }
-  >   [ $status = 1 ] && { [ ! -s out ] || [[ $words = dd* ]] && cmp -s out plain.out; }
+  >   [[ $status = 1 && ! -s out ]] || { [[ $status = 1 && $words = dd* ]] && cmp -s out plain.out; }
   > }
   $ fails() { [ $status = 1 ] && cmp -s out <(head -c $(stat -c %s out) plain.out) && grep -qE "$fault" err || whole; }
   $ for words in xxd 'xxd -i' 'od -t x2' 'hexdump -C' 'strings -t x' 'dd cbs=4 conv=block,ucase' --help; do

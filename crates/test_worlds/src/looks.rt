@@ -39,7 +39,7 @@ fn told_of_odd<'a>(view: &View<'a>, odd: &Odd) -> Told<'a> {
     }
 }
 
-/// What is asked by a look at files that hold this, of which none is odd.
+/// What a look asks of files that hold this, where none is odd.
 fn asking_of<'a>(alloc: Global, names: &'a Names, held: Held<'a>, view: &View<'a>) -> Asking<'a> {
     Asking {
         alloc,
