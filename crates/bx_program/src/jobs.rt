@@ -23,8 +23,8 @@ use crate::stopped::{Noted, STANDARD_INPUT, Stopped};
 use crate::streams::closed::Held;
 use crate::streams::input::{MOST_INPUT, open, size_of};
 use bx_cli::{
-    ChangeJob, DdImageJob, Done, DumpJob, Fault, ForgetJob, Form, Job, RevertJob, Target,
-    change_from, plan_words, run_dump,
+    ChangeJob, DdImageJob, Done, DumpJob, Fault, ForgetJob, Form, Job, RevertJob, change_from,
+    plan_words, run_dump,
 };
 use bx_dd::Counts;
 use bx_image::Change;

@@ -6,7 +6,7 @@ use crate::files::look::{is_missing, refuse_without_journal};
 use crate::files::names::{names_of, world_of};
 use crate::files::unopened::not_opened;
 use crate::hints::remarks::Remarks;
-use crate::history::forget::{forget, is_kept};
+use crate::history::forget::{empty_texts, is_kept};
 use crate::history::open_to_change;
 use crate::requests::request_change;
 use crate::stopped::Stopped;
@@ -82,7 +82,7 @@ where
     refuse_without_journal(rt, target)?;
     match open_to_change(rt, target, progress) {
         Err(stopped) if !is_kept(stopped.fault) => Err(stopped),
-        Ok(()) | Err(_) => forget(rt, target, progress),
+        Ok(()) | Err(_) => empty_texts(rt, target, progress),
     }
 }
 

@@ -44,6 +44,18 @@ where
     R: Files<File = File> + Print + Eprint + Clock + AllocGlobal,
 {
     examine(rt, target, progress)?;
+    empty_texts(rt, target, progress)
+}
+
+/// Drops the history of an image in which nothing is unfinished.
+pub fn empty_texts<'a, R>(
+    rt: &R,
+    target: &'a Target,
+    progress: &Progress<'_, R>,
+) -> Result<(), Stopped<'a>>
+where
+    R: Files<File = File> + Print + Eprint + Clock + AllocGlobal,
+{
     let files = open_texts(rt, target)?;
     let mut devices = settled(rt, files, target, progress)?;
     let outcome = forget_devices(&mut devices);
