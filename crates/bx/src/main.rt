@@ -31,6 +31,7 @@ fn status(outcome: Result<(), Fault>) -> u8
 
 fn main(rt: HostRuntime) -> ExitCode {
     let terminals = Terminals {
+        input: rt.stdin().is_terminal(),
         output: rt.stdout().is_terminal(),
         errors: rt.stderr().is_terminal(),
     };

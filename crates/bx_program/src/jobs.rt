@@ -126,6 +126,7 @@ where
     R: Files<File = File> + Input + Print + Eprint + Clock + AllocGlobal,
 {
     let terminals = Terminals {
+        input: false,
         output: false,
         errors: false,
     };
@@ -289,7 +290,7 @@ where
             read
         }
         None => {
-            let progress = remarks.progress_of_input(rt, None);
+            let progress = remarks.progress_of_standard(rt);
             let read = change_of(alloc, job, STANDARD_INPUT, rt.reader(), seen, &progress);
             progress.end();
             read
@@ -403,7 +404,7 @@ fn dump_standard<R, W: Write>(
 where
     R: Input + Eprint + Clock + AllocGlobal,
 {
-    let progress = remarks.progress_of_dump(rt, most_of(job));
+    let progress = remarks.progress_of_dumped(rt, most_of(job));
     let mut reader = Noted::new(rt.reader());
     let mut counted = Counted::new(&mut reader, &progress);
     let outcome = run_dump(rt.alloc(), job, job.skip().passable(0), &mut counted, out);

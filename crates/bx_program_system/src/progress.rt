@@ -9,9 +9,11 @@ const FIRST: u64 = 1000;
 /// The count of milliseconds after which the line is written again.
 const AGAIN: u64 = 200;
 
-/// Which of the standard streams a person looks at.
+/// Which of the standard streams are a terminal's, where a person types and looks.
 #[derive(Clone, Copy)]
 pub struct Terminals {
+    /// Standard input.
+    pub input: bool,
     /// Standard output.
     pub output: bool,
     /// Standard error.

@@ -6,7 +6,7 @@ use crate::hints::products::tell_of_products;
 use crate::hints::quoted::quoted;
 use crate::hints::seen::Seen;
 use bx_cli::{ChangeJob, Job, Target};
-use bx_dd::Counts;
+use bx_dd::{Counts, Plan};
 use bx_image::Change;
 use bx_journal::How;
 use bx_program_system::{Progress, Terminals};
@@ -22,6 +22,8 @@ pub struct Remarks {
     person: bool,
     // a person looks at standard output too
     on_output: bool,
+    // a person types standard input
+    is_typed: bool,
     // the image was missing before
     is_new: bool,
     // something was undone before, and could be made again
@@ -46,6 +48,7 @@ impl Remarks {
         Remarks {
             person: terminals.errors,
             on_output: terminals.output,
+            is_typed: terminals.input,
             is_new: false,
             was_undone: false,
             is_later: false,
@@ -65,12 +68,37 @@ impl Remarks {
         Progress::new(rt, self.person && !self.on_output, total)
     }
 
+    /// The same of standard input, where a line has no place in what a person types.
+    pub fn progress_of_dumped<'r, R>(&self, rt: &'r R, total: Option<u64>) -> Progress<'r, R>
+    where
+        R: Clock + Eprint,
+    {
+        let shows = self.person && !self.on_output && !self.is_typed;
+        Progress::new(rt, shows, total)
+    }
+
     /// The same, for work that writes nothing to standard output while it reads.
     pub fn progress_of_input<'r, R>(&self, rt: &'r R, total: Option<u64>) -> Progress<'r, R>
     where
         R: Clock + Eprint,
     {
         Progress::new(rt, self.person, total)
+    }
+
+    /// The same of standard input, where nobody types it.
+    pub fn progress_of_standard<'r, R: Clock + Eprint>(&self, rt: &'r R) -> Progress<'r, R> {
+        Progress::new(rt, self.person && !self.is_typed, None)
+    }
+
+    /// The same of what dd reads, and of what it makes of it.
+    pub fn progress_of_copy<'r, R>(&self, rt: &'r R, plan: &Plan) -> Progress<'r, R>
+    where
+        R: Clock + Eprint,
+    {
+        match plan.input {
+            Some(_) => self.progress_of_input(rt, None),
+            None => self.progress_of_standard(rt),
+        }
     }
 
     /// Looks whether the job's image is missing, how long it is, and whether something is undone, before the job opens a file.

@@ -29,7 +29,7 @@ pub fn copy_onto<'a, R>(
 where
     R: Files<File = File> + Input + Print + Eprint + Clock + AllocGlobal,
 {
-    let progress = remarks.progress_of_input(rt, None);
+    let progress = remarks.progress_of_copy(rt, &job.plan);
     let advice = Advice::before(rt, &job.target, job.fresh);
     let counts = copy_input(rt, job, &progress, remarks)?;
     advice.keep(rt, &job.target);

@@ -85,7 +85,7 @@ where
             asked_of(alloc, job, name.as_str(), text?)
         }
         None => {
-            let progress = remarks.progress_of_input(rt, None);
+            let progress = remarks.progress_of_standard(rt);
             let text = text_of(alloc, STANDARD_INPUT, rt.reader(), &progress);
             progress.end();
             asked_of(alloc, job, STANDARD_INPUT, text?)

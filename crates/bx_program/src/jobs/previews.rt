@@ -67,7 +67,7 @@ pub fn preview_copy<'a, R, W: Write>(
 where
     R: Files<File = File> + Input + Eprint + Clock + AllocGlobal,
 {
-    let progress = remarks.progress_of_input(rt, None);
+    let progress = remarks.progress_of_copy(rt, &job.plan);
     let skip = job.skip();
     match &job.plan.input {
         Some(name) => copy_from(rt, job, file(rt, skip, name)?, &progress, out),
