@@ -43,6 +43,18 @@ The report of dd is a part of what it does, but where it wrote a file:
   bx: read failed
   [1]
 
+# Standard input that a person types
+
+No line on how far work is stands in what is typed.
+
+  $ fresh ABxyEFGH; for words in xxd 'revert img' 'dd of=img' 'dd -n of=img'; do
+  >   (for place in 1 2 3; do echo "$place: 41"; sleep 0.7; done; printf '\004') |
+  >     SHELL=$BASH script -qec "bx $words > /dev/null" /dev/null | tr -d '\r'
+  > done | grep -v ' records ' | sort | uniq -c
+        4 1: 41
+        4 2: 41
+        4 3: 41
+
 # Each set of closed standard streams
 
 No file of the user's takes the number of a closed stream, and using one fails. A line has the journal, the streams without which
