@@ -58,26 +58,29 @@ pub capped_all : (limit : Option ℕ) (xs : List ℕ) → IfSome limit (λ most.
 capped_all None xs within = refl
 capped_all (Some most) xs within = take_all most xs within
 
--- the reader stopped
-pub rest_read_stop : (text : List ℕ → List ℕ) (limit : Option ℕ) (before : ℕ) (r0 r1 r2 w0 w1 : Option (List ℕ)) (input : List ℕ) (from taken less : ℕ) (fault : IoFault) →
-    from + length input ≡ taken → taken ≤ 2 ^ 40 → IfSome limit (λ most. length input + less ≤ most) → ((more : List ℕ) → (rest : List ℕ) × (text (input ++ more) ≡ text input ++ rest)) →
-    Consumes r0 r1 input → Appends w0 w1 (text input) → StopsAfter r1 r2 less (2 ^ 40 - taken) fault → WritesFrontBut 0 (λ xs. text (limited_to limit xs)) 0 limit from before (streams r0 r2 w0 w1) fault
-rest_read_stop text limit before r0 r1 r2 w0 w1 input from taken less fault len few within goes reads writes stop =
-    let cut = capped_more limit input stop.0 (within_along limit (length input + less) (length input) (omega arith) within) in
+-- the reader stopped, behind bytes that are held
+pub rest_read_stop : (text : List ℕ → List ℕ) (limit : Option ℕ) (before : ℕ) (r0 r1 r2 w0 w1 : Option (List ℕ)) (input held : List ℕ) (from taken less : ℕ) (fault : IoFault) →
+    from + length (input ++ held) ≡ taken → taken ≤ 2 ^ 40 → IfSome limit (λ most. length (input ++ held) + less ≤ most) →
+    ((more : List ℕ) → (rest : List ℕ) × (text (input ++ more) ≡ text input ++ rest)) → Consumes r0 r1 (input ++ held) → Appends w0 w1 (text input) →
+    StopsAfter r1 r2 less (2 ^ 40 - taken) fault → WritesFrontBut 0 (λ xs. text (limited_to limit xs)) 0 limit from before (streams r0 r2 w0 w1) fault
+rest_read_stop text limit before r0 r1 r2 w0 w1 input held from taken less fault len few within goes reads writes stop =
+    let read = input ++ held in
+    let join : read ++ stop.0 ≡ input ++ (held ++ stop.0) = append_assoc input held stop.0 in
+    let cut = capped_more limit input (held ++ stop.0) (within_along limit (length read + less) (length input) (omega (arith, length-append input held)) within) in
     let more = goes cut.0 in
-    let is : text (limited_to limit (input ++ stop.0)) ≡ text input ++ more.0 = ap text cut.1 ∙ more.1 in
-    let front : take (length (text input)) (text (limited_to limit (input ++ stop.0))) ≡ text input =
+    let is : text (limited_to limit (read ++ stop.0)) ≡ text input ++ more.0 = ap (λ xs. text (limited_to limit xs)) join ∙ ap text cut.1 ∙ more.1 in
+    let front : take (length (text input)) (text (limited_to limit (read ++ stop.0))) ≡ text input =
     ap (take (length (text input))) is ∙ take_at (text input) more.0 (length (text input)) refl in
-    let all : from + length (input ++ stop.0) ≡ taken + length stop.0 = omega (arith, length-append input stop.0) in record {
-      input = input ++ stop.0;
+    let all : from + length (read ++ stop.0) ≡ taken + length stop.0 = omega (arith, length-append read stop.0) in record {
+      input = read ++ stop.0;
       written = length (text input);
-      consumed = Consumes-trans r0 r1 r2 input stop.0 reads stop.1;
-      asked = asked_behind limit 0 (length input + less) (length (input ++ stop.0))
-          (omega (arith, length-append input stop.0, read_within fault less (2 ^ 40 - taken) (length stop.0) stop.2)) within;
+      consumed = Consumes-trans r0 r1 r2 read stop.0 reads stop.1;
+      asked = asked_behind limit 0 (length read + less) (length (read ++ stop.0))
+          (omega (arith, length-append read stop.0, read_within fault less (2 ^ 40 - taken) (length stop.0) stop.2)) within;
       within = omega (arith, ap length is, length-append (text input) more.0);
       appended = rw front writes;
       cause = rw all (dump_cause fault (taken + less) (taken + length stop.0) (before + length (text input)) _ (cause_more fault less (taken + less) (2 ^ 40 - taken) (2 ^ 40) (length stop.0) (taken + length stop.0) taken stop.2 refl (omega arith) (omega arith)));
-      ahead = keeps_read fault less (2 ^ 40 - taken) (length stop.0) 0 (length (text input)) (λ xs. text (limited_to limit xs)) (input ++ stop.0) stop.2;
+      ahead = keeps_read fault less (2 ^ 40 - taken) (length stop.0) 0 (length (text input)) (λ xs. text (limited_to limit xs)) (read ++ stop.0) stop.2;
     }
 
 -- the writer stopped
@@ -105,6 +108,15 @@ rest_write_stop text limit from before r0 r1 w0 w1 w2 front last page written No
 rest_write_stop text limit from before r0 r1 w0 w1 w2 front last page written ReadFailed reads few block within writes len is stop = absurd stop
 rest_write_stop text limit from before r0 r1 w0 w1 w2 front last page written InputTooLong reads few block within writes len is stop = absurd stop
 rest_write_stop text limit from before r0 r1 w0 w1 w2 front last page written SkipPastEnd reads few block within writes len is stop = absurd stop
+
+-- what is held is no more than is asked for
+pub held_fits : (limit : Option ℕ) (done held want size : ℕ) → held ≤ size → IfSome limit (λ most. done + held ≤ most) → (want < size → limit ≡ Some (done + want)) → held ≤ want
+held_fits limit done held want size fits within last =
+    ⊎_elim (λ same. omega arith) (λ other. ⊎_elim (λ short. held_last limit (last short) within) (λ over. omega arith) other) (cases_order want size)
+  where
+    held_last : (most : Option ℕ) → most ≡ Some (done + want) → IfSome most (λ n. done + held ≤ n) → held ≤ want
+    held_last None e p = absurd cc
+    held_last (Some n) e p = let same : n ≡ done + want = cc in omega arith
 
 -- the end of the input, or of what may be dumped
 pub last_at_end : (limit : Option ℕ) (n : ℕ) (r : Option (List ℕ)) → IfSome limit (λ most. n ≤ most) → IsAtEnd r → IsLast limit n r

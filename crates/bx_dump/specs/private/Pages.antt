@@ -5,6 +5,7 @@ use Rattle.std.specs.Io.KnownBytes.{Appends, Consumes, IsAtEnd}
 use Rattle.bx_text.specs.declared.fault.IoFault.{IoFault}
 use Rattle.bx_dump.specs.Pages.{bytes_dumped}
 use Rattle.bx_dump.specs.private.Dumped.{StopsDump, KeepsUp}
+use Rattle.bx_dump.specs.declared.driver.pages.Asked.{Asked}
 use Rattle.bx_dump.specs.declared.driver.pages.Part.{Part}
 
 -- What a call read and wrote: what was left of the input before and after it, and what was written.
@@ -73,6 +74,17 @@ WritesNext text from limit io part = WritesRest text from limit io part.read par
 -- a front of it was written, after `before` bytes of other texts
 abbrev pub StopsNext : (List ℕ → List ℕ) → ℕ → Option ℕ → ℕ → Streams → IoFault → Type 0
 StopsNext text from limit before io fault = WritesFrontBut 0 (λ input. text (limited_to limit input)) 0 limit from before io fault
+
+-- the same where a front of what comes next was read before, which `taken` counts too
+abbrev pub WritesBegun : List ℕ → (List ℕ → List ℕ) → ℕ → Asked → Streams → Part → Type 0
+WritesBegun front text taken asked io part =
+    (from : ℕ) (old : Option (List ℕ)) → from + length front ≡ taken → Consumes old io.old_input front →
+    WritesNext text from asked.limit (streams old io.new_input io.old_output io.new_output) part
+
+abbrev pub StopsBegun : List ℕ → (List ℕ → List ℕ) → ℕ → Asked → Streams → IoFault → Type 0
+StopsBegun front text taken asked io fault =
+    (from : ℕ) (old : Option (List ℕ)) → from + length front ≡ taken → Consumes old io.old_input front →
+    StopsNext text from asked.limit asked.before (streams old io.new_input io.old_output io.new_output) fault
 
 -- the text of the part was written
 abbrev pub WritesTextOf : (List ℕ → List ℕ) → ℕ → Option ℕ → Streams → Part → Type 0

@@ -4,7 +4,7 @@ ghost use Rattle.bx_text.specs.Fold.{folded};
 ghost use Rattle.bx_text.specs.private.Fold.{line_count, IsTaken};
 ghost use Rattle.bx_dump.specs.private.Folded.{PutsLines, PutsNext, ShowsNext, TakesLines, TakesNext};
 
-use crate::driver::pages::{BLOCK, Pages};
+use crate::driver::pages::{BLOCK, Pages, START};
 use bx_text::{Fold, Show};
 
 /// The form of a dump's lines.
@@ -130,8 +130,14 @@ impl<F: Form> Pages for FoldedPages<F> {
 
     ghost block = { λ _. 16384 };
 
+    ghost room = { λ _ n. 128 * ((n + 15) / 16) };
+
     fn block_len(&self) -> usize {
         BLOCK
+    }
+
+    fn start_len(&self) -> usize {
+        START
     }
 
     fn put(&mut self, page: &mut [u8], done: u64, bytes: &[u8]) -> usize {

@@ -1,6 +1,9 @@
 //! Dumps of inputs, a page of text at a time.
-ghost use Rattle.std.specs.Prelude.{◌≡◌, ℕ, ◌+◌, ◌-◌, ◌^◌, ◌<◌, ◌≤◌, true, List, [], ◌++◌, length, take, Option, IfErr, IfOk, IfSome, Some};
-ghost use Rattle.bx_dump.specs.private.Pages.{StopsNext, StopsTextOf, WritesNext, WritesTextOf, streams_of};
+ghost use Rattle.std.specs.Prelude.{◌≡◌, ℕ, ◌+◌, ◌-◌, ◌^◌, ◌<◌, ◌≤◌, true, List, [], ◌++◌, length, take, Option, IfErr, IfOk, IfSome, OnOk, Some};
+ghost use Rattle.std.specs.Io.KnownBytes.{Appends};
+ghost use Rattle.bx_text.specs.Stream.{IsReadCause, Skips, StopsIn};
+ghost use Rattle.bx_text.specs.Writing.{WritesFront};
+ghost use Rattle.bx_dump.specs.private.Pages.{StopsBegun, StopsNext, StopsTextOf, WritesBegun, WritesNext, WritesTextOf, streams_of};
 
 use bx_text::{IoFault, Meter, State, emit_after};
 use std::io::{Read, Write};
@@ -14,6 +17,12 @@ pub const BLOCK: usize = 16384;
 /// How many bytes of text there is room for: 128 for each line of 16 bytes.
 pub const PAGE: usize = 131072;
 
+/// The most bytes of an input that are read first: one that ends there is put into a small page.
+pub const START: usize = 512;
+
+/// How many bytes of text a small page has room for: 128 for each line of 16 bytes, too.
+pub const SMALL_PAGE: usize = 4096;
+
 /// What turns the bytes of an input into text, a block at a time.
 pub trait Pages {
     /// The text for bytes at the front of an input, which more bytes only make longer.
@@ -25,24 +34,34 @@ pub trait Pages {
     /// The bytes of a block.
     ghost block: { Self → ℕ };
 
+    /// How long a page has to be for this many bytes.
+    ghost room: { Self → ℕ → ℕ };
+
     /// How many bytes are put at once.
     fn block_len(&self) -> usize
         ensures value { result ≡ block self.now }
         ensures some { 0 < result }
-        ensures most { result ≤ BLOCK };
+        ensures most { result ≤ BLOCK }
+        ensures fits { (n : ℕ) → n ≤ result → room self.now n ≤ PAGE };
+
+    /// How many bytes a small page has room for, of those that are read first.
+    fn start_len(&self) -> usize
+        ensures most { result ≤ START }
+        ensures fits { (n : ℕ) → n ≤ result → room self.now n ≤ SMALL_PAGE };
 
     /// Puts the text for the next bytes at the front of the page, and answers how long it is. The rest of the page is working space.
     fn put(&mut self, page: &mut [u8], done: u64, bytes: &[u8]) -> usize
-        requires page { length page.old ≡ PAGE }
+        requires page { room self.old (length bytes.now) ≤ length page.old }
         requires few { done + length bytes.now ≤ 2 ^ 40 }
         requires fits { length bytes.now ≤ block self.old }
-        ensures most { result ≤ PAGE }
+        ensures most { result ≤ length page.old }
         ensures text { (x : List ℕ) → length x ≡ done → Seen self.old x →
             written self.old (x ++ bytes.now) ≡ written self.old x ++ take result page.new }
         ensures seen { (input : List ℕ) → length input ≡ done → Seen self.old input →
             length bytes.now ≡ block self.old → Seen self.new (input ++ bytes.now) }
         ensures same { (xs : List ℕ) → written self.new xs ≡ written self.old xs }
-        ensures size { block self.new ≡ block self.old };
+        ensures size { block self.new ≡ block self.old }
+        ensures room { (n : ℕ) → room self.new n ≡ room self.old n };
 
     /// Says that later bytes only make the text longer.
     fn grows(&self)
@@ -69,6 +88,97 @@ fn next_len(size: usize, limit: Option<u64>, done: u64) -> usize
     }
 }
 
+/// What is asked for: at most how many bytes of what comes next, and behind how much text.
+#[derive(Clone, Copy)]
+pub struct Asked {
+    pub limit: Option<u64>,
+    pub before: u64,
+}
+
+/// Writes the text of a whole input that was read.
+fn dump_start<W: Write, P: Pages>(
+    w: &mut W,
+    pages: &mut P,
+    before: u64,
+    bytes: &[u8],
+) -> Result<Part, IoFault>
+    requires before { before ≤ 2 ^ 63 }
+    requires seen { P.Seen pages.old [] }
+    requires empty { P.written pages.old [] ≡ [] }
+    requires fits { length bytes.now ≤ P.block pages.old }
+    requires few { length bytes.now ≤ START }
+    requires room { P.room pages.old (length bytes.now) ≤ SMALL_PAGE }
+    ensures read { IfOk result (λ part. part.read ≡ length bytes.now) }
+    ensures long { IfOk result (λ part. part.written ≡ length (P.written pages.old bytes.now)) }
+    ensures few { IfOk result (λ part. part.written ≤ SMALL_PAGE) }
+    ensures ok { OnOk result (Appends (W.contents w.old) (W.contents w.new) (P.written pages.old bytes.now)) }
+    ensures err { IfErr result (WritesFront before (W.contents w.old) (W.contents w.new) (P.written pages.old bytes.now)) }
+{
+    let mut page = [0; SMALL_PAGE];
+    let used = pages.put(&mut page, 0, bytes);
+    match emit_after(w, before, &page[..used]) {
+        Ok(()) => Ok(Part {
+            read: bytes.len() as u64,
+            written: used as u64,
+        }),
+        Err(fault) => Err(fault),
+    }
+}
+
+// What has a block or a large page is never inlined: each page of a caller's frame is touched, whatever runs in it.
+
+/// Writes the text of bytes that were read, and of what comes next in the input, a block at a time.
+#[inline(never)]
+fn dump_blocks<R: Read, W: Write, P: Pages>(
+    meter: &mut Meter,
+    r: &mut R,
+    w: &mut W,
+    pages: &mut P,
+    asked: Asked,
+    start: &[u8],
+) -> Result<Part, IoFault>
+    requires open { meter.old.state ≡ State.Open }
+    requires limit { meter.old.limit ≡ 2 ^ 40 }
+    requires before { asked.before ≤ 2 ^ 63 }
+    requires seen { P.Seen pages.old [] }
+    requires empty { P.written pages.old [] ≡ [] }
+    requires fits { length start.now ≤ P.block pages.old }
+    requires asked { IfSome asked.limit (λ most. length start.now ≤ most) }
+    requires taken { length start.now ≤ meter.old.taken }
+    ensures ok { IfOk result (WritesBegun start.now (P.written pages.old) meter.old.taken asked (streams_of R.remaining r.old r.new W.contents w.old w.new)) }
+    ensures err { IfErr result (StopsBegun start.now (P.written pages.old) meter.old.taken asked (streams_of R.remaining r.old r.new W.contents w.old w.new)) }
+    ensures few { IfOk result (λ part. part.written ≤ 2 ^ 60) }
+    ensures count { IfOk result (λ part. part.read ≤ 2 ^ 40) }
+{
+    let mut block = [0; BLOCK];
+    let mut page = [0; PAGE];
+    let size = pages.block_len();
+    let mut held = start.len();
+    block[..held].copy_from_slice(start);
+    let mut part = Part {
+        read: 0,
+        written: 0,
+    };
+    loop {
+        pages.grows();
+        let want = next_len(size, asked.limit, part.read);
+        let n = match meter.fill(r, &mut block[held..want]) {
+            Ok(n) => held + n,
+            Err(fault) => return Err(fault),
+        };
+        held = 0;
+        let used = pages.put(&mut page, part.read, &block[..n]);
+        if let Err(fault) = emit_after(w, asked.before + part.written, &page[..used]) {
+            return Err(fault);
+        }
+        part.read += n as u64;
+        part.written += used as u64;
+        if n < size {
+            return Ok(part);
+        }
+    }
+}
+
 /// Writes the text of what comes next in the input, at most `limit` bytes of it.
 pub fn dump_pages<R: Read, W: Write, P: Pages>(
     meter: &mut Meter,
@@ -88,33 +198,45 @@ pub fn dump_pages<R: Read, W: Write, P: Pages>(
     ensures few { IfOk result (λ part. part.written ≤ 2 ^ 60) }
     ensures count { IfOk result (λ part. part.read ≤ 2 ^ 40) }
 {
-    let mut block = [0; BLOCK];
-    let mut page = [0; PAGE];
-    let size = pages.block_len();
-    let mut part = Part {
-        read: 0,
-        written: 0,
+    pages.grows();
+    let few = pages.start_len().min(pages.block_len());
+    let want = next_len(few, limit, 0);
+    let mut start = [0; START];
+    let n = match meter.fill(r, &mut start[..want]) {
+        Ok(n) => n,
+        Err(fault) => return Err(fault),
     };
-    loop {
-        pages.grows();
-        let want = next_len(size, limit, part.read);
-        let n = match meter.fill(r, &mut block[..want]) {
-            Ok(n) => n,
-            Err(fault) => return Err(fault),
-        };
-        let used = pages.put(&mut page, part.read, &block[..n]);
-        if let Err(fault) = emit_after(w, before + part.written, &page[..used]) {
-            return Err(fault);
-        }
-        part.read += n as u64;
-        part.written += used as u64;
-        if n < size {
-            return Ok(part);
-        }
+    if n < few {
+        return dump_start(w, pages, before, &start[..n]);
     }
+    dump_blocks(meter, r, w, pages, Asked { limit, before }, &start[..n])
 }
 
-// Dumps with a page are never inlined: each page of a caller's frame is touched, whatever runs in it.
+/// Reads `count` bytes away, a block at a time.
+#[inline(never)]
+fn skip_blocks<R: Read>(meter: &mut Meter, r: &mut R, count: u64) -> Result<bool, IoFault>
+    requires open { meter.old.state ≡ State.Open }
+    ensures limit { meter.new.limit ≡ meter.old.limit }
+    ensures ok { IfOk result (λ all. Skips all count (meter.old.limit - meter.old.taken) (R.remaining r.old) (R.remaining r.new)) }
+    ensures open { IfOk result (λ all. all ≡ true → (meter.new.state ≡ State.Open) × (meter.new.taken ≡ meter.old.taken + count)) }
+    ensures stopped { IfErr result (λ e. StopsIn meter.old (R.remaining r.old) (R.remaining r.new) (IsReadCause e count)) }
+{
+    meter.skip(r, count, &mut [0; BLOCK])
+}
+
+/// Reads `count` bytes away, and answers whether the input had them.
+pub fn skip_front<R: Read>(meter: &mut Meter, r: &mut R, count: u64) -> Result<bool, IoFault>
+    requires open { meter.old.state ≡ State.Open }
+    ensures limit { meter.new.limit ≡ meter.old.limit }
+    ensures ok { IfOk result (λ all. Skips all count (meter.old.limit - meter.old.taken) (R.remaining r.old) (R.remaining r.new)) }
+    ensures open { IfOk result (λ all. all ≡ true → (meter.new.state ≡ State.Open) × (meter.new.taken ≡ meter.old.taken + count)) }
+    ensures stopped { IfErr result (λ e. StopsIn meter.old (R.remaining r.old) (R.remaining r.new) (IsReadCause e count)) }
+{
+    if count > START as u64 {
+        return skip_blocks(meter, r, count);
+    }
+    meter.skip(r, count, &mut [0; START])
+}
 
 /// Writes the text of the bytes from place `from` on, at most `limit` of them, after `before` bytes that were written.
 #[inline(never)]
@@ -135,8 +257,7 @@ pub fn dump_part<R: Read, W: Write, P: Pages>(
     ensures count { IfOk result (λ part. part.read ≤ 2 ^ 40) }
 {
     let mut meter = Meter::new(LIMIT);
-    let mut block = [0; BLOCK];
-    match meter.skip(r, from, &mut block) {
+    match skip_front(&mut meter, r, from) {
         Ok(true) => {}
         Ok(false) => {
             return Ok(Part {

@@ -7,24 +7,23 @@ ghost use Rattle.bx_dump.specs.private.OdDump.{StopsOdLines, StopsShort, WritesO
 ghost use Rattle.bx_dump.specs.Pages.{WritesAll};
 
 use crate::driver::folded::FoldedPages;
-use crate::driver::pages::{BLOCK, LIMIT, Part, dump_pages};
+use crate::driver::pages::{LIMIT, Part, dump_pages, skip_front};
 use crate::od::lines::{OdLines, end_line};
 use crate::od::options::OdOptions;
 use bx_text::{IoFault, Meter, State, emit_after};
 use std::io::{Read, Write};
 
 /// Reads `count` bytes away, which the input must have.
-fn reach<R: Read>(meter: &mut Meter, r: &mut R, count: u64, block: &mut [u8]) -> Result<(), IoFault>
+fn reach<R: Read>(meter: &mut Meter, r: &mut R, count: u64) -> Result<(), IoFault>
     requires open { meter.old.state ≡ State.Open }
     requires first { meter.old.taken ≡ 0 }
     requires limit { meter.old.limit ≡ 2 ^ 40 }
-    requires block { 0 < length block.old }
     ensures limit { meter.new.limit ≡ 2 ^ 40 }
     ensures ok { OnOk result (Skips true count (2 ^ 40) (R.remaining r.old) (R.remaining r.new)) }
     ensures open { OnOk result ((meter.new.state ≡ State.Open) × (meter.new.taken ≡ count)) }
     ensures err { IfErr result (StopsShort count (R.remaining r.old) (R.remaining r.new)) }
 {
-    match meter.skip(r, count, block) {
+    match skip_front(meter, r, count) {
         Ok(true) => Ok(()),
         Ok(false) => Err(IoFault::SkipPastEnd),
         Err(fault) => Err(fault),
@@ -69,8 +68,7 @@ pub fn od<R: Read, W: Write>(r: &mut R, w: &mut W, o: &OdOptions) -> Result<u64,
     ensures err { IfErr result (StopsOd o.now (R.remaining r.old) (R.remaining r.new) (W.contents w.old) (W.contents w.new)) }
 {
     let mut meter = Meter::new(LIMIT);
-    let mut block = [0; BLOCK];
-    if let Err(fault) = reach(&mut meter, r, o.skip, &mut block) {
+    if let Err(fault) = reach(&mut meter, r, o.skip) {
         return Err(fault);
     }
     let lines = match dump_lines(&mut meter, r, w, o) {

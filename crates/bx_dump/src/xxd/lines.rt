@@ -3,7 +3,7 @@ ghost use Rattle.std.specs.Prelude.{◌≡◌, ℕ, ◌+◌, ◌-◌, ◌*◌, �
 ghost use Rattle.std.specs.List.{flat_map};
 ghost use Rattle.bx_dump_columns.specs.Lines.{in_lines};
 
-use crate::driver::pages::Pages;
+use crate::driver::pages::{Pages, SMALL_PAGE, START};
 
 /// How many lines were put, and how long they are.
 #[derive(Clone, Copy)]
@@ -116,7 +116,6 @@ fn put_next<F: LineForm>(
 /// Puts the lines for some bytes with these digits, and answers how long they are.
 fn put_lines<F: LineForm>(form: &F, text: &mut [u8], at: u64, bytes: &[u8], cells: &[u8]) -> usize
     requires room { F.room form.now * ((length bytes.now + F.cols form.now - 1) / F.cols form.now) ≤ length text.old }
-    requires small { length text.old ≤ 65536 }
     requires few { length bytes.now ≤ 16384 }
     requires address { at ≤ 2 ^ 63 + 2 ^ 40 }
     requires cells { cells.now ≡ flat_map (F.cell form.now) bytes.now }
@@ -143,7 +142,6 @@ fn put_text<F: LineForm>(
     bytes: &[u8],
 ) -> usize
     requires room { F.room form.now * ((length bytes.now + F.cols form.now - 1) / F.cols form.now) ≤ length text.old }
-    requires small { length text.old ≤ 65536 }
     requires few { length bytes.now ≤ 16384 }
     requires address { at + length bytes.now ≤ 2 ^ 63 + 2 ^ 40 }
     requires cells { F.width form.now * length bytes.now ≤ length cells.old }
@@ -196,12 +194,20 @@ impl<F: LineForm> Pages for Lines<F> {
 
     ghost block = { λ p. F.cols p.form * p.lines };
 
+    ghost room = { λ p n. F.room p.form * ((n + F.cols p.form - 1) / F.cols p.form) + F.width p.form * n };
+
     fn block_len(&self) -> usize {
         self.form.line_len() * self.lines
     }
 
+    fn start_len(&self) -> usize {
+        let cols = self.form.line_len();
+        let room = self.form.room_len() + self.form.cell_len() * cols;
+        (cols * (SMALL_PAGE / room)).min(START)
+    }
+
     fn put(&mut self, page: &mut [u8], done: u64, bytes: &[u8]) -> usize {
-        let (text, cells) = page.split_at_mut(65536);
+        let (text, cells) = page.split_at_mut(page.len() - self.form.cell_len() * bytes.len());
         put_text(&self.form, text, cells, self.start + done, bytes)
     }
 

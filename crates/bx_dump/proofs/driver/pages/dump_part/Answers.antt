@@ -17,7 +17,7 @@ returns-in-Err-clause-err g c =
 pub returns-clause-ok : goal.returns-clause-ok
 returns-clause-ok g c =
     let front = rw (c.in-Ok-true.field-0-test, c.new-meter.ensures.limit, c.new-meter.ensures.taken) at c.in-Ok-true.ensures.ok in
-    let taken : c.skip.new.self.taken ≡ c.args.from = omega (arith, (c.in-Ok-true.ensures.open c.in-Ok-true.field-0-test).1, c.new-meter.ensures.taken) in
+    let taken : c.skip_front.new.meter.taken ≡ c.args.from = omega (arith, (c.in-Ok-true.ensures.open c.in-Ok-true.field-0-test).1, c.new-meter.ensures.taken) in
     let rest = rw taken at c.dump_pages.ensures.ok in
     ok_along c.dump_pages.result _ _ (λ d p. part_whole (g.P.Pages.written c.args.pages.now) c.args.from c.args.limit _ _ _ _ _ d.read d.written front p) rest
 
@@ -25,6 +25,6 @@ pub returns-clause-err : goal.returns-clause-err
 returns-clause-err g c =
     let front = rw (c.in-Ok-true.field-0-test, c.new-meter.ensures.limit, c.new-meter.ensures.taken) at c.in-Ok-true.ensures.ok in
     let text = g.P.Pages.written c.args.pages.now in
-    let taken : c.skip.new.self.taken ≡ c.args.from = omega (arith, (c.in-Ok-true.ensures.open c.in-Ok-true.field-0-test).1, c.new-meter.ensures.taken) in
+    let taken : c.skip_front.new.meter.taken ≡ c.args.from = omega (arith, (c.in-Ok-true.ensures.open c.in-Ok-true.field-0-test).1, c.new-meter.ensures.taken) in
     let stop = rw taken at c.dump_pages.ensures.err in
     err_along c.dump_pages.result _ _ (λ e p. front_behind 0 text c.args.from c.args.limit c.args.before _ _ _ _ _ e front p) stop

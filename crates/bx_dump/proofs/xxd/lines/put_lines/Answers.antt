@@ -48,7 +48,7 @@ overflow_add-used g c =
     let n = length c.args.bytes.now in
     let below = rw c.line_len-cols.ensures.value at c.loop-k-test.true in
     let count : R * (c.loop-k.k + 1) ≤ R * ((n + C - 1) / C) = mul-le-mul_left {m = c.loop-k.k + 1} {n = (n + C - 1) / C} R (omega arith) in
-    let few : c.loop-k.used + c.put_next-used.result ≤ 65536 = omega (arith, c.loop-k.invariant.within, c.put_next-used.ensures.most, c.requires.room, c.requires.small) in
+    let few : c.loop-k.used + c.put_next-used.result ≤ length c.args.text.now = omega (arith, c.loop-k.invariant.within, c.put_next-used.ensures.most, c.requires.room) in
     omega arith
 
 pub returns-clause-within : goal.returns-clause-within

@@ -1,29 +1,20 @@
-use Rattle.std.proofs.Common.{◌≡◌, ◌+◌, ◌-◌, ◌*◌, ◌/◌, ◌≤◌, ◌++◌, length, take, arith, sym, ap, ◌∙◌}
+use Rattle.std.proofs.Common.{◌≡◌, ◌+◌, ◌*◌, ◌++◌, length, take, arith, sym, ap, ◌∙◌}
 use Rattle.std.proofs.lemmas.List.{length-append, take-append-le}
-use Rattle.std.proofs.Math.Nat.{mul-le-mul_left}
 use Rattle.bx_dump_columns.specs.Lines.{in_lines}
-use Rattle.bx_dump_columns.proofs.LinesLemmas.{in_lines-append, count_most}
+use Rattle.bx_dump_columns.proofs.LinesLemmas.{in_lines-append}
 use Rattle.bx_dump.proofs.xxd.lines.LinesPages.put.Goals as goal
 
 pub put_text-requires-clause-cells : goal.put_text-requires-clause-cells
 put_text-requires-clause-cells g c =
-    let p = c.args.self.now in
     let n = length c.args.bytes.now in
-    let W = g.F.LineForm.width p.form in
-    let block = g.F.LineForm.cols p.form * p.lines in
-    let inside : W * n ≤ W * block = mul-le-mul_left {m = n} {n = block} W c.requires.fits in
-    omega (arith, p.narrow, c.split_at_mut-text.ensures.back_len, c.requires.page)
+    let cells : c.cell_len.result * n ≡ g.F.LineForm.width c.args.self.now.form * n = ap (λ w. w * n) c.cell_len.ensures.value in
+    omega (arith, cells, c.split_at_mut-text.ensures.back_len, c.requires.page)
 
 pub put_text-requires-clause-room : goal.put_text-requires-clause-room
 put_text-requires-clause-room g c =
-    let p = c.args.self.now in
     let n = length c.args.bytes.now in
-    let C = g.F.LineForm.cols p.form in
-    let R = g.F.LineForm.room p.form in
-    let few : (n + C - 1) / C ≤ p.lines = count_most n C p.lines p.broad c.requires.fits in
-    let inside : R * ((n + C - 1) / C) ≤ R * p.lines = mul-le-mul_left {m = (n + C - 1) / C} {n = p.lines} R few in
-    let room : length c.split_at_mut-text.result.0.now ≡ 65536 = omega (arith, c.split_at_mut-text.ensures.front_len) in
-    omega (arith, p.short)
+    let cells : c.cell_len.result * n ≡ g.F.LineForm.width c.args.self.now.form * n = ap (λ w. w * n) c.cell_len.ensures.value in
+    omega (arith, cells, c.split_at_mut-text.ensures.front_len, c.requires.page)
 
 pub returns-clause-text : goal.returns-clause-text
 returns-clause-text g c input len seen =
