@@ -35,6 +35,7 @@ pub mod FollowLemmas
 pub mod OverLemmas
 pub mod GatherLemmas
 pub mod LinesLemmas
+pub mod LongLemmas
 pub mod Bounds
 pub mod GrammarLemmas
 pub mod FullLemmas

@@ -1,6 +1,7 @@
 -- A line that is surely too long, and what follows a reading that stops.
 use Rattle.std.proofs.Common.{◌≡◌, ℕ, suc, ◌+◌, ◌≤◌, Bool, true, false, eqb, List, [], ◌∷◌, ◌++◌, length, length-append, take, drop, refl, ap, sym, ◌∙◌, inl, inr, ◌⊎◌, arith, append_assoc, Option, Some, None, Result, Ok, Err, not}
 use Rattle.std.specs.Prelude.{◌&&◌, nat_le, if◌then◌else◌, codes}
+use Rattle.std.specs.Option.{option_and_then}
 use Rattle.std.specs.Str.{bytes_eq}
 use Rattle.std.proofs.lemmas.Grind.{common_steps}
 use Rattle.bx_read.specs.Grammar.{IsLine as IsDumpLine}
@@ -36,7 +37,7 @@ unfolding start_line
 start_few First n len = omega (arith, length-append (start_head First n) (hex_digits 8 len), length-hex_digits 8 len, head_size First n)
 start_few Second n len = omega (arith, length-append (start_head Second n) (hex_digits 16 len), length-hex_digits 16 len, head_size Second n)
 
-save_few : (n : ℕ) → length (save_line n) ≤ 40
+pub save_few : (n : ℕ) → length (save_line n) ≤ 40
 unfolding save_line
 save_few n = omega (arith, length-append (codes "save ") (hex_digits 8 n), length-hex_digits 8 n)
 
@@ -101,9 +102,66 @@ piece_front front more p long e = by (read_line 1 (front ++ more)) refl
     by (Ok got) is = rw (read_front front more got long is) (rw is at e)
     by (Err fault) is = absurd (let none = rw is at e in cc)
 
+-- and a line whose first bytes are one is, whatever follows them
+read_more : (front more : List ℕ) (got : ℕ × List ℕ) → 1024 ≤ length front → read_line 1 front ≡ Ok got → read_line 1 (front ++ more) ≡ Ok got
+read_more front more got long e =
+    let found = read_line-found 1 front got.0 got.1 e in
+    by found.0 found.1
+  where
+    by : (bytes : List ℕ) → IsDumpLine front got.0 got.1 bytes → read_line 1 (front ++ more) ≡ Ok got
+    by bytes is =
+        let whole : (digits tail : List ℕ) → length (digits ++ 58 ∷ 32 ∷ (got.1 ++ tail)) ≡ length digits + 2 + length got.1 + length tail =
+        λ digits tail. omega (arith, length-append digits (58 ∷ 32 ∷ (got.1 ++ tail)), length-append got.1 tail) in
+        let most = pairs_long got.1 bytes is.pairs in
+        let size : length front ≡ length is.digits + 2 + length got.1 + length is.tail = ap length is.spelled ∙ whole is.digits is.tail in
+        elim is.ends [
+          | inl none ↦ absurd (omega (arith, long, size, most, is.few_digits, is.few_pairs, ap length none))
+          | inr (inl one) ↦ absurd (omega (arith, long, size, most, is.few_digits, is.few_pairs, ap length one))
+          | inr (inr two) ↦
+              let tail : List ℕ = 32 ∷ 32 ∷ (two.0 ++ more) in
+              let behind : is.tail ++ more ≡ tail = ap (λ t. t ++ more) two.1 in
+              let parts : front ++ more ≡ is.digits ++ 58 ∷ 32 ∷ (got.1 ++ tail) =
+              ap (λ t. t ++ more) is.spelled ∙ append_assoc is.digits (58 ∷ 32 ∷ (got.1 ++ is.tail)) more
+              ∙ ap (λ t. is.digits ++ 58 ∷ 32 ∷ t) (append_assoc got.1 is.tail more ∙ ap (λ t. got.1 ++ t) behind) in
+              read_line-only 1 (front ++ more) got.0 got.1 bytes (record {
+                digits = is.digits;
+                tail = tail;
+                spelled = parts;
+                address = is.address;
+                some_digits = is.some_digits;
+                few_digits = is.few_digits;
+                value = is.value;
+                small = is.small;
+                pairs = is.pairs;
+                few_pairs = is.few_pairs;
+                ends = inr (inr (two.0 ++ more, refl));
+              })
+        ]
+
+piece_more : (front more : List ℕ) (p : Run) → 1024 ≤ length front → run_of_line front ≡ Some p → run_of_line (front ++ more) ≡ Some p
+unfolding run_of_line
+piece_more front more p long e = by (read_line 1 front) refl
+  where
+    by : (read : Result (ℕ × List ℕ) ReadFault) → read_line 1 front ≡ read → run_of_line (front ++ more) ≡ Some p
+    by (Ok got) is = rw (read_more front more got long is) (rw is at e)
+    by (Err fault) is = absurd (let none = rw is at e in cc)
+
 none_of : {A : Type 0} (o : Option A) → ((x : A) → o ≡ Some x → ⊥) → o ≡ None
 none_of None h = refl
 none_of (Some x) h = absurd (h x refl)
+
+piece_same : (front more : List ℕ) → 1024 ≤ length front → run_of_line (front ++ more) ≡ run_of_line front
+piece_same front more long = by (run_of_line front) refl
+  where
+    by : (o : Option Run) → run_of_line front ≡ o → run_of_line (front ++ more) ≡ run_of_line front
+    by (Some p) is = piece_more front more p long is ∙ sym is
+    by None is = none_of (run_of_line (front ++ more)) (λ p e. let clash = sym is ∙ piece_front front more p long e in cc) ∙ sym is
+
+-- its first bytes say what a saved line gives
+pub saved_same : (len : ℕ) (front more : List ℕ) → 1024 ≤ length front → saved_in len (front ++ more) ≡ saved_in len front
+unfolding saved_in
+saved_same len front more long =
+    ap (λ (o : Option Run). option_and_then (λ (piece : Run). if nat_le (length piece.bytes) 16 && nat_le (piece.at + length piece.bytes) len then Some piece else None) o) (piece_same front more long)
 
 -- a saved line too
 next_front : (es : List Entry) (stage : Stage) (front more : List ℕ) (q : Reading) → 1024 ≤ length front → next_at es stage (front ++ more) ≡ Some q → next_at es stage front ≡ None → ⊥
@@ -126,6 +184,22 @@ next_front es (Saving v s) front more q long e none = by (bytes_eq (front ++ mor
 next_front es (Ending v s) front more q long e none =
     let n = next_ending es v s (front ++ more) q e in
     omega (arith, long, length-append front more, ap length n.2.2, end_few v (suc (length es)) n.2.0)
+
+-- a line that is in place by its first bytes is, whatever follows them
+pub next_more : (es : List Entry) (stage : Stage) (front more : List ℕ) (q : Reading) → 1024 ≤ length front → next_at es stage front ≡ Some q → next_at es stage (front ++ more) ≡ Some q
+unfolding next_at
+next_more es Between front more q long e =
+    let b = next_between es front q e in
+    absurd (omega (arith, long, ap length b.1.6, start_few b.1.0 (suc (length es)) b.1.1))
+next_more es (Saving v s) front more q long e = by (bytes_eq (front ++ more) (save_line (suc (length es)))) (bytes_eq front (save_line (suc (length es)))) refl refl
+  where
+    by : (b c : Bool) → bytes_eq (front ++ more) (save_line (suc (length es))) ≡ b → bytes_eq front (save_line (suc (length es))) ≡ c → next_at es (Saving v s) (front ++ more) ≡ Some q
+    by true c is same = absurd (omega (arith, long, length-append front more, ap length (same_bytes (front ++ more) (save_line (suc (length es))) is), save_few (suc (length es))))
+    by false true is same = absurd (omega (arith, long, ap length (same_bytes front (save_line (suc (length es))) same), save_few (suc (length es))))
+    by false false is same = rw (is, saved_same s.len front more long) (rw same at e)
+next_more es (Ending v s) front more q long e =
+    let n = next_ending es v s front q e in
+    absurd (omega (arith, long, ap length n.2.2, end_few v (suc (length es)) n.2.0))
 
 -- the first line of a text, if it has a newline
 first_line : (t : List ℕ) → HasNoNewline t ⊎ ((line behind : List ℕ) × (t ≡ line ++ 10 ∷ behind) × HasNoNewline line)

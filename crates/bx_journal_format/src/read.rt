@@ -3,6 +3,7 @@ pub(crate) mod classify;
 pub(crate) mod count;
 pub(crate) mod damage;
 pub(crate) mod lines;
+pub(crate) mod long;
 pub(crate) mod marks;
 pub(crate) mod parts;
 pub(crate) mod ranges;

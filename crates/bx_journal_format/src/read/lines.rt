@@ -78,7 +78,10 @@ fn go_on_in<A: Allocator>(
 }
 
 /// The stage without the room that its last run has for lines that come later, where it has some.
-fn without_room<A: Allocator>(stage: StageRead<A>, has_room: bool) -> Result<StageRead<A>, NoMemory>
+pub fn without_room<A: Allocator>(
+    stage: StageRead<A>,
+    has_room: bool,
+) -> Result<StageRead<A>, NoMemory>
     ensures { IfOk result (IsReadAlike stage) }
 {
     let mut stage = stage;

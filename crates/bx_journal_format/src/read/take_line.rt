@@ -29,7 +29,7 @@ fn place_at<A: Allocator>(stage: &StageRead<A>) -> Place
 }
 
 /// What a line is at a stage behind a front and these entries.
-fn event_at<A: Allocator>(
+pub fn event_at<A: Allocator>(
     front: Front,
     entries: &[EntryRead<A>],
     stage: &StageRead<A>,
@@ -54,7 +54,7 @@ fn no_runs<A: Allocator + Clone>(alloc: &A) -> Result<Vec<Piece<A>, A>, NoMemory
 }
 
 /// The stage with a saved line more.
-fn with_line<A: Allocator + Clone>(
+pub fn with_line<A: Allocator + Clone>(
     alloc: &A,
     stage: StageRead<A>,
     line: SavedLine,
