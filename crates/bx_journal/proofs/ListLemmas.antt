@@ -49,7 +49,7 @@ unfolding split after_lines
 listed_none s rows none empty = record { reading = start; reads = refl; whole = refl; is = sym none; rows_are = empty }
 
 -- one line more
-listed_on : (text line : List ℕ) (s u : Summed) (rows : List LogRow) → IsListed text s rows → HasNoNewline line → ((r : Reading) → summed_of r ≡ s → SumsTo r line u)
+pub listed_on : (text line : List ℕ) (s u : Summed) (rows : List LogRow) → IsListed text s rows → HasNoNewline line → ((r : Reading) → summed_of r ≡ s → SumsTo r line u)
     → IsListed (text ++ ended line) u (rows ++ ended_row u.tally.place u)
 unfolding split
 listed_on text line s u rows h plain lead =
@@ -131,9 +131,9 @@ pub listed_same : (front window : List ℕ) (s : Summed) (rows : List LogRow) �
 listed_same front window s rows h = subst (λ l. IsListed l s rows) (sym (append-nil front)) h
 
 -- the rows of a text that stands between two entries at its end
-pub listed_all : {A : Type 0} → (H now : Type 0) (stored text : List ℕ) (size len count : ℕ) (r : Reached (RowScan A)) → (H → now) → (H → text ≡ stored) → (H → len ≡ length stored) → r.at ≡ len
-    → IsReached now text (λ s t. IsListed t s.sums s.rows.items) size 0 len r → r.scan.sums.tally.place ≡ BetweenPlace → r.scan.sums.tally.count ≡ count → AreRowsOf H stored r.scan.rows.items count
-listed_all H now stored text size len count r still same long all reached place many =
+pub listed_all : {A : Type 0} → (H now : Type 0) (stored text : List ℕ) (len count : ℕ) (r : Reached (RowScan A)) → (H → now) → (H → text ≡ stored) → (H → len ≡ length stored) → r.at ≡ len
+    → IsReached now text (λ s t. IsListed t s.sums s.rows.items) len r → r.scan.sums.tally.place ≡ BetweenPlace → r.scan.sums.tally.count ≡ count → AreRowsOf H stored r.scan.rows.items count
+listed_all H now stored text len count r still same long all reached place many =
     let h = reached.led.leads in
     let between : h.reading.stage ≡ Between = subst (HasForm h.reading.stage) place (has_form h.reading.stage r.scan.sums.tally.place (ap (λ (s : Summed). s.tally.place) h.is)) in
     record {

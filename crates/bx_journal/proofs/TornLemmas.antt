@@ -20,7 +20,7 @@ use Rattle.bx_journal_read.specs.model.Redo.{IsClean}
 use Rattle.bx_journal_read.specs.model.Stack.{HaveLengths, Recovers, image_at, stack_of}
 use Rattle.bx_journal_read.specs.model.Undoing.{HasLeft}
 use Rattle.bx_journal_read.specs.scan.Recovery.{HasMark, IsTorn}
-use Rattle.bx_journal_read.specs.scan.Restoring.{AllShorter, StandsAt}
+use Rattle.bx_journal_read.specs.scan.Restoring.{StandsAt}
 use Rattle.bx_journal_read.specs.scan.Step.{HasTail}
 use Rattle.bx_journal_read.proofs.OpenLemmas.{begins_told}
 use Rattle.bx_journal_read.proofs.ReadingLemmas.{IsSane, have_lengths, length-restore, read_sane}
@@ -88,7 +88,6 @@ stands_shown text m s st =
         whole = subst (λ u. (split u).rest ≡ []) ends st.ends.whole;
       };
       order = st.order;
-      short = subst (λ u. AllShorter m.longest (split u).lines) ends st.short;
     }
 
 pub stands_in : (text bytes : List ℕ) (m : Mark) (s : Kept) → text ≡ bytes → StandsAt (shown bytes) m s → StandsAt text m s

@@ -24,8 +24,7 @@ use std::io::Write;
 /// it takes windows of 256 KiB, and 56 bytes for each entry.
 ///
 /// # Errors
-/// `NoMemory`, also where a saved line has more than 256 KiB, `DeviceFailed`, and `Damaged` with the line from 1; `WriteFailed` with
-/// how many bytes were written.
+/// `NoMemory`, `DeviceFailed`, and `Damaged` with the line from 1; `WriteFailed` with how many bytes were written.
 pub fn log_ranges<T: TextStore, A: Allocator + Clone, W: Write>(
     alloc: &A,
     journal: &mut T,
@@ -156,8 +155,8 @@ fn put_found<D: Device, T: TextStore, A: Allocator + Clone, W: Write>(
 ///
 /// # Errors
 /// `TooFew` or `NothingToRedo` where the text has fewer entries, `Damaged` or `RedoDamaged` with the line from 1, before
-/// anything is written: a redo text with something unfinished is damaged at the line where that begins. `NoMemory`, also where a
-/// saved line has more than 256 KiB, and `DeviceFailed`; `WriteFailed` with how many bytes were written.
+/// anything is written: a redo text with something unfinished is damaged at the line where that begins. `NoMemory`, and
+/// `DeviceFailed`; `WriteFailed` with how many bytes were written.
 pub fn show_steps<D: Device, T: TextStore, A: Allocator + Clone, W: Write>(
     alloc: &A,
     image: &mut D,

@@ -12,7 +12,7 @@ use Rattle.bx_journal_protocol.specs.declared.protocol.undo_entry.Placed.{Placed
 use Rattle.bx_journal_read.specs.declared.scan.mark.Mark.{Mark}
 use Rattle.bx_journal_protocol.specs.protocol.Placed.{AllFit, ArePlaced, IsPlaced}
 use Rattle.bx_journal_read.specs.model.Redo.{LeavesEither, Side}
-use Rattle.bx_journal_read.specs.scan.Restoring.{AllShorter, StandsAt}
+use Rattle.bx_journal_read.specs.scan.Restoring.{IsEnough, StandsAt}
 use Rattle.bx_journal_read.specs.scan.Step.{TakesBack}
 use Rattle.bx_journal_protocol.specs.protocol.Turns.{kept_text, side_of}
 use Rattle.bx_journal_read.specs.model.Undoing.{AreReadFrom}
@@ -31,7 +31,6 @@ stands_cut text new n m s st fits within is =
       begins = mark_in text m.lines n (record { entries = st.entries; stage = Saving st.version (record { len = m.len; runs = [] }) }) st.begins (omega (arith, st.order, fits)) within;
       ends = mark_in text m.saved n (record { entries = st.entries; stage = Ending st.version s }) st.ends fits within;
       order = st.order;
-      short = subst (λ t. AllShorter m.longest (split t).lines) (sym same) st.short;
     })
 
 -- an entry at its place
@@ -136,15 +135,15 @@ place_popped {honest = honest} {text = text} {es = es} ps {p = p} is placed =
     popped_by honest text es (reverse es) p (reverse ps) (sym (reverse-reverse es))
     (subst (ArePlaced honest text (reverse es)) (reverse_last ps p) (subst (λ all. ArePlaced honest text (reverse es) (reverse all)) is placed))
 
--- a place lies in order, within an image's room, and its lines within a window
+-- a place lies in order, within an image's room, and any line within a window
 pub record Fits (room window : ℕ) (p : Placed) : Type 0 where
   pub begins : p.begins ≤ p.mark.lines
   pub lines : p.mark.lines ≤ p.mark.saved
   pub len : p.mark.len ≤ room
-  pub longest : p.mark.longest ≤ window
+  pub enough : IsEnough window
 
 fit_in : (room window : ℕ) (ps : List Placed) (p : Placed) → AllFit room window (ps ++ p ∷ []) → AllFit room window ps × Fits room window p
-fit_in room window [] p fit = (tt, record { begins = fit.0; lines = fit.1; len = fit.2; longest = fit.3 })
+fit_in room window [] p fit = (tt, record { begins = fit.0; lines = fit.1; len = fit.2; enough = fit.3 })
 fit_in room window (q ∷ ps) p fit = let rest = fit_in room window ps p fit.4 in ((fit.0, fit.1, fit.2, fit.3, rest.0), rest.1)
 
 pub fit_popped : {room window : ℕ} {all : List Placed} (ps : List Placed) {p : Placed} → all ≡ ps ++ p ∷ [] → AllFit room window all → AllFit room window ps × Fits room window p

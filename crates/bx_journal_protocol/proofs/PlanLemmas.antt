@@ -17,13 +17,11 @@ use Rattle.bx_journal_protocol.specs.declared.protocol.undo_entry.Placed.{Placed
 use Rattle.bx_journal_protocol.specs.declared.before.overwritten.Overwritten.{Overwritten}
 use Rattle.bx_journal_protocol.specs.before.Overwritten.{AreAllWithin, AreOrdered, AreOverwritten, HaveZeros, IsOrdered, IsOverwritten, place_in}
 use Rattle.bx_journal_protocol.specs.protocol.Placed.{AllFit, ArePlaced, IsPlaced}
-use Rattle.bx_journal_read.specs.scan.Restoring.{AllShorter, StandsAt}
+use Rattle.bx_journal_read.specs.scan.Restoring.{IsEnough, StandsAt}
 use Rattle.bx_journal_protocol.specs.protocol.Takens.{AreZeros, IsZeros, length_at}
-use Rattle.bx_journal_read.specs.scan.Windows.{HasShortLines}
 use Rattle.bx_journal_read.proofs.StandLemmas.{stands_of}
 use Rattle.bx_journal_protocol.proofs.TakenLemmas.{reverse_last}
 use Rattle.bx_journal_protocol.proofs.TakingLemmas.{length_here}
-use Rattle.bx_journal_read.proofs.WalkLemmas.{window_shorter}
 use Rattle.bx_journal_format.proofs.Splits.{split-append}
 
 -- what restoring the next entry overwrites
@@ -77,36 +75,22 @@ ordered_drop zero es all = all
 ordered_drop (suc n) [] all = tt
 ordered_drop (suc n) (e ∷ es) all = ordered_drop n es all.1
 
-stands_here : {A : Type 0} (text : List ℕ) (done : List Entry) (e : EntryRead A) (most : ℕ) → HasMarks text done e.version (entry_of e) e.begins e.saved → AllShorter most (split (take e.saved text)).lines
-    → StandsAt text (place_in most e).mark (kept_of e.kept)
-stands_here text done e most marks short = stands_of text done e.version (kept_of e.kept) e.begins e.saved most marks.beginning marks.saving marks.order short
+stands_here : {A : Type 0} (text : List ℕ) (done : List Entry) (e : EntryRead A) → HasMarks text done e.version (entry_of e) e.begins e.saved → StandsAt text (place_in e).mark (kept_of e.kept)
+stands_here text done e marks = stands_of text done e.version (kept_of e.kept) e.begins e.saved marks.beginning marks.saving marks.order
 
 pub marked_ordered : {A : Type 0} (text : List ℕ) (done : List Entry) (from to : ℕ) (es : List (EntryRead A)) → AreMarked text done from es to → AreOrdered es
 marked_ordered text done from to [] marked = tt
 marked_ordered text done from to (e ∷ es) marked =
-    let bytes : List ℕ = take e.saved text in
-    ((stands_here text done e (length bytes) marked.1 (window_shorter bytes (length bytes) (omega arith))).order, marked_ordered text (entry_of e ∷ done) e.saved to es marked.2)
-
--- no line of a front of a text is longer than those of the text
-shorter_front : (most : ℕ) (a b : List (List ℕ)) → AllShorter most (a ++ b) → AllShorter most a
-shorter_front most [] b h = tt
-shorter_front most (l ∷ a) b h = (h.0, shorter_front most a b h.1)
-
-front_shorter : (text : List ℕ) (n most : ℕ) → (split (take n text)).rest ≡ [] → AllShorter most (split text).lines → AllShorter most (split (take n text)).lines
-front_shorter text n most whole short =
-    let lines : (split text).lines ≡ (split (take n text)).lines ++ (split (drop n text)).lines =
-    ap (λ t. (split t).lines) (sym (take-append-drop n text)) ∙ ap (λ s. s.lines) (split-append (take n text) (drop n text) whole) in
-    shorter_front most (split (take n text)).lines (split (drop n text)).lines (subst (AllShorter most) lines short)
+    ((stands_here text done e marked.1).order, marked_ordered text (entry_of e ∷ done) e.saved to es marked.2)
 
 -- where the last entries stand
-placed_one : {A : Type 0} (honest : Type 0) (stored text : List ℕ) (done : List Entry) (e : EntryRead A) (most : ℕ) → (honest → stored ≡ text) → HasShortLines honest stored most
-    → HasMarks text done e.version (entry_of e) e.begins e.saved → IsPlaced honest stored e (place_in most e)
-placed_one honest stored text done e most is short marks = record {
+placed_one : {A : Type 0} (honest : Type 0) (stored text : List ℕ) (done : List Entry) (e : EntryRead A) → (honest → stored ≡ text) → HasMarks text done e.version (entry_of e) e.begins e.saved
+    → IsPlaced honest stored e (place_in e)
+placed_one honest stored text done e is marks = record {
   begins = refl;
   saved = refl;
   len = refl;
-  stands = λ h. subst (λ u. StandsAt u (place_in most e).mark (kept_of e.kept)) (sym (is h))
-      (stands_here text done e most marks (front_shorter text e.saved most marks.saving.whole (subst (λ u. AllShorter most (split u).lines) (is h) (short h))));
+  stands = λ h. subst (λ u. StandsAt u (place_in e).mark (kept_of e.kept)) (sym (is h)) (stands_here text done e marks);
 }
 
 placed_more : {A : Type 0} (honest : Type 0) (stored : List ℕ) (es fs : List (EntryRead A)) (ps : List Placed) → ArePlaced honest stored es ps → ArePlaced honest stored (es ++ fs) ps
@@ -125,34 +109,34 @@ length_map : {X Y : Type 0} (f : X → Y) (xs : List X) → length (map f xs) �
 length_map f [] = refl
 length_map f (x ∷ xs) = ap suc (length_map f xs)
 
-pub placed_last : {A : Type 0} (honest : Type 0) (stored text : List ℕ) (done : List Entry) (from to : ℕ) (es : List (EntryRead A)) (most n : ℕ) → (honest → stored ≡ text) → HasShortLines honest stored most
-    → AreMarked text done from es to → ArePlaced honest stored (reverse es) (reverse (map (place_in most) (drop n es)))
-placed_last honest stored text done from to [] most zero is short marked = tt
-placed_last honest stored text done from to [] most (suc n) is short marked = tt
-placed_last honest stored text done from to (e ∷ es) most zero is short marked =
-    let ps : List Placed = map (place_in most) es in
-    let long : length (reverse ps) ≡ length (reverse es) = length-reverse ps ∙ length_map (place_in most) es ∙ sym (length-reverse es) in
-    let rest : ArePlaced honest stored (reverse es) (reverse ps) = placed_last honest stored text (entry_of e ∷ done) e.saved to es most zero is short marked.2 in
-    subst (λ fs. ArePlaced honest stored fs (reverse (place_in most e ∷ ps))) (sym (reverse-append (e ∷ []) es))
-    (subst (ArePlaced honest stored (reverse es ++ e ∷ [])) (sym (reverse-append (place_in most e ∷ []) ps))
-    (placed_next honest stored (reverse es) (reverse ps) e (place_in most e) long rest (placed_one honest stored text done e most is short marked.1)))
-placed_last honest stored text done from to (e ∷ es) most (suc n) is short marked =
-    let ps : List Placed = reverse (map (place_in most) (drop n es)) in
-    let rest : ArePlaced honest stored (reverse es) ps = placed_last honest stored text (entry_of e ∷ done) e.saved to es most n is short marked.2 in
+pub placed_last : {A : Type 0} (honest : Type 0) (stored text : List ℕ) (done : List Entry) (from to : ℕ) (es : List (EntryRead A)) (n : ℕ) → (honest → stored ≡ text)
+    → AreMarked text done from es to → ArePlaced honest stored (reverse es) (reverse (map place_in (drop n es)))
+placed_last honest stored text done from to [] zero is marked = tt
+placed_last honest stored text done from to [] (suc n) is marked = tt
+placed_last honest stored text done from to (e ∷ es) zero is marked =
+    let ps : List Placed = map place_in es in
+    let long : length (reverse ps) ≡ length (reverse es) = length-reverse ps ∙ length_map place_in es ∙ sym (length-reverse es) in
+    let rest : ArePlaced honest stored (reverse es) (reverse ps) = placed_last honest stored text (entry_of e ∷ done) e.saved to es zero is marked.2 in
+    subst (λ fs. ArePlaced honest stored fs (reverse (place_in e ∷ ps))) (sym (reverse-append (e ∷ []) es))
+    (subst (ArePlaced honest stored (reverse es ++ e ∷ [])) (sym (reverse-append (place_in e ∷ []) ps))
+    (placed_next honest stored (reverse es) (reverse ps) e (place_in e) long rest (placed_one honest stored text done e is marked.1)))
+placed_last honest stored text done from to (e ∷ es) (suc n) is marked =
+    let ps : List Placed = reverse (map place_in (drop n es)) in
+    let rest : ArePlaced honest stored (reverse es) ps = placed_last honest stored text (entry_of e ∷ done) e.saved to es n is marked.2 in
     subst (λ fs. ArePlaced honest stored fs ps) (sym (reverse-append (e ∷ []) es)) (placed_more honest stored (reverse es) (e ∷ []) ps rest)
 
 -- they lie in order, within the room of an image
-pub places_fit : {A : Type 0} (es : List (EntryRead A)) (most window longest room : ℕ) → AreOrdered es → All (λ (e : EntryRead A). e.kept.len ≤ longest) es → longest ≤ room → most ≤ window
-    → AllFit room window (map (place_in most) es)
-places_fit [] most window longest room order below le fits = tt
-places_fit (e ∷ es) most window longest room order below le fits =
-    (omega arith, order.0, omega (arith, below 0 e (omega arith), le), fits, places_fit es most window longest room order.1 (λ k d h. below (suc k) d (omega (arith, h))) le fits)
+pub places_fit : {A : Type 0} (es : List (EntryRead A)) (window longest room : ℕ) → AreOrdered es → All (λ (e : EntryRead A). e.kept.len ≤ longest) es → longest ≤ room → IsEnough window
+    → AllFit room window (map place_in es)
+places_fit [] window longest room order below le fits = tt
+places_fit (e ∷ es) window longest room order below le fits =
+    (omega arith, order.0, omega (arith, below 0 e (omega arith), le), fits, places_fit es window longest room order.1 (λ k d h. below (suc k) d (omega (arith, h))) le fits)
 
-pub places_many : {A : Type 0} (es : List (EntryRead A)) (most k : ℕ) (ps : List Placed) → k ≤ length es → ps ≡ map (place_in most) (drop (length es - k) es) → length ps ≡ k
-places_many es most k ps few is =
+pub places_many : {A : Type 0} (es : List (EntryRead A)) (k : ℕ) (ps : List Placed) → k ≤ length es → ps ≡ map place_in (drop (length es - k) es) → length ps ≡ k
+places_many es k ps few is =
     let n : ℕ = length es - k in
     let whole : length es ≡ length (take n es) + length (drop n es) = ap length (sym (take-append-drop n es)) ∙ length-append (take n es) (drop n es) in
-    ap length is ∙ length_map (place_in most) (drop n es) ∙ omega (arith, whole, length-take n es, few)
+    ap length is ∙ length_map place_in (drop n es) ∙ omega (arith, whole, length-take n es, few)
 
 pub fit_more : (room more window : ℕ) (ps : List Placed) → room ≤ more → AllFit room window ps → AllFit more window ps
 fit_more room more window [] le fit = tt

@@ -18,25 +18,23 @@ use Rattle.bx_journal_read.specs.scan.Damage.{IsDamagedIn, IsInPlace, IsPlainTo}
 use Rattle.bx_journal_read.specs.scan.Windows.{IsReached, IsWalkedTo}
 
 -- lines in place were walked along
-pub placed_of : (honest : Type 0) (stored : List ℕ) (size len : ℕ) (r : Reached PlaceScan) → IsReached honest stored IsInPlace size 0 len r
-    → IsWalkedTo honest stored false size len (record { tally = r.scan.tally; at = r.at; lines = r.scan.lines })
-unfolding split
-placed_of honest stored size len r reached = record {
+pub placed_of : (honest : Type 0) (stored : List ℕ) (len : ℕ) (r : Reached PlaceScan) → IsReached honest stored IsInPlace len r
+    → IsWalkedTo honest stored false len (record { tally = r.scan.tally; at = r.at; lines = r.scan.lines })
+placed_of honest stored len r reached = record {
   led = record { text = reached.led.text; is = reached.led.is; long = reached.led.long; leads = reached.led.leads.tallied };
   below = reached.below;
   lines = omega (arith, reached.led.leads.lines, reached.led.long);
   few = reached.led.leads.few;
-  short = reached.short size (omega arith) (λ h. tt);
 }
 
 at_seam : (a b : List ℕ) (n : ℕ) → length a ≡ n → (take n (a ++ b) ≡ a) × (drop n (a ++ b) ≡ b)
 at_seam a b n long = subst (λ k. (take k (a ++ b) ≡ a) × (drop k (a ++ b) ≡ b)) long (take-append_seam a b, drop-append_seam a b)
 
 -- what follows the lines that were walked along stops the reading
-pub damaged_behind : (H : Type 0) (stored bytes : List ℕ) (size len n : ℕ) (all : Bool) (w : Walk) → IsWalkedTo H stored false size len w → (H → bytes ≡ take n (drop w.at stored)) → length bytes ≡ n → w.at + n ≤ len
+pub damaged_behind : (H : Type 0) (stored bytes : List ℕ) (len n : ℕ) (all : Bool) (w : Walk) → IsWalkedTo H stored false len w → (H → bytes ≡ take n (drop w.at stored)) → length bytes ≡ n → w.at + n ≤ len
     → (all ≡ true → n ≡ len - w.at) → ((r : Reading) → tally_of r ≡ w.tally → (more : List ℕ) → (all ≡ true → more ≡ []) → StopsAt r (bytes ++ more))
     → IsDamagedIn H (take len stored) (w.lines + 1)
-damaged_behind H stored bytes size len n all w walked read long below ends stops =
+damaged_behind H stored bytes len n all w walked read long below ends stops =
     let a : List ℕ = walked.led.text in
     let t = walked.led.leads in
     let r : Reading = t.reading in
@@ -90,9 +88,9 @@ plain_on H stored part from at n p read long plain = record {
 }
 
 -- what ends in a line that is surely too long is damaged there
-pub damaged_long : (H : Type 0) (stored : List ℕ) (size len : ℕ) (w : Walk) → IsWalkedTo H stored false size len w → 1024 ≤ len - w.at → IsPlainTo H stored w.at len → IsDamagedIn H (take len stored) (w.lines + 1)
-damaged_long H stored size len w walked long p =
+pub damaged_long : (H : Type 0) (stored : List ℕ) (len : ℕ) (w : Walk) → IsWalkedTo H stored false len w → 1024 ≤ len - w.at → IsPlainTo H stored w.at len → IsDamagedIn H (take len stored) (w.lines + 1)
+damaged_long H stored len w walked long p =
     let n : ℕ = len - w.at in
     let count : length p.bytes ≡ n = omega (arith, p.long) in
-    damaged_behind H stored p.bytes size len n true w walked p.is count (omega (arith, walked.below)) (λ e. refl)
+    damaged_behind H stored p.bytes len n true w walked p.is count (omega (arith, walked.below)) (λ e. refl)
     (λ r same more none. subst (StopsAt r) (sym (ap (λ u. p.bytes ++ u) (none refl) ∙ append-nil p.bytes)) (endless_stops r p.bytes p.plain (omega (arith, count, long))))

@@ -15,8 +15,7 @@ use Rattle.bx_journal_read.specs.declared.scan.entries.FinishedRead.{FinishedRea
 use Rattle.bx_journal_read.specs.declared.fault.SessionFault.{SessionFault}
 use Rattle.bx_journal_read.specs.declared.fault.SessionFault.TheVariants.{NoMemory, DeviceFailed}
 use Rattle.bx_journal_read.specs.model.Undoing.{AgainFault, IsReadFrom, IsReadLast, IsReadBehind, IsLastFrom}
-use Rattle.bx_journal_read.specs.scan.Restoring.{AllShorter}
-use Rattle.bx_journal_read.specs.scan.Windows.{HasShortLines, IsFrontCounted, KeepsShort}
+use Rattle.bx_journal_read.specs.scan.Windows.{IsFrontCounted}
 
 -- what was counted is a front
 pub front_is : (honest : Type 0) (stored : List ℕ) (f : Front) → (c : IsFrontCounted honest stored false f) → IsFront c.front c.counted.counted.entries f
@@ -94,30 +93,3 @@ few_of_all honest stored count k (Err e) few f = tt
 pub again_fault : (honest : Type 0) (text : List ℕ) (count : ℕ) (e : SessionFault) → (e ≡ NoMemory) ⊎ (e ≡ DeviceFailed) → AgainFault honest text count e
 again_fault honest text count e (inl is) = subst (AgainFault honest text count) (sym is) tt
 again_fault honest text count e (inr is) = subst (AgainFault honest text count) (sym is) tt
-
--- what was read up to the end is all of the text
-pub short_all : (honest : Type 0) (stored : List ℕ) (size from to len longest : ℕ) → KeepsShort honest stored size from to → size ≤ longest → HasShortLines honest (take from stored) longest
-    → to ≡ len → (honest → len ≡ length stored) → HasShortLines honest stored longest
-short_all honest stored size from to len longest keeps le first all long h =
-    subst (λ t. AllShorter longest (split t).lines) (take_all to stored (omega (arith, all, long h))) (keeps longest le first h)
-
--- the same of what was found, if anything was
-pub found_short : {A : Type 0} → (honest : Type 0) (stored : List ℕ) (longest : ℕ) (o : Option (FinishedRead A)) → HasShortLines honest stored longest → IfSome o (λ r. r.longest ≡ longest)
-    → IfSome o (λ r. HasShortLines honest stored r.longest)
-found_short honest stored longest None short same = tt
-found_short honest stored longest (Some r) short same = λ h. subst (λ n. AllShorter n (split stored).lines) (sym same) (short h)
-
--- and of a store that is the same as before
-pub short_before : (H now : Type 0) (stored text : List ℕ) (longest : ℕ) → (H → now) → (H → text ≡ stored) → HasShortLines now text longest → HasShortLines H stored longest
-short_before H now stored text longest still same short h = subst (λ t. AllShorter longest (split t).lines) (same h) (short (still h))
-
-pub found_short_before : {A E : Type 0} → (H now : Type 0) (stored text : List ℕ) (r : Result (Option (FinishedRead A)) E) → (H → now) → (H → text ≡ stored)
-    → IfOk r (λ o. IfSome o (λ f. HasShortLines now text f.longest)) → IfOk r (λ o. IfSome o (λ f. HasShortLines H stored f.longest))
-found_short_before H now stored text (Ok None) still same short = tt
-found_short_before H now stored text (Ok (Some f)) still same short = short_before H now stored text f.longest still same short
-found_short_before H now stored text (Err e) still same short = tt
-
-pub again_short : {A E : Type 0} → (H now : Type 0) (stored text : List ℕ) (r : Result (FinishedRead A) E) → (H → now) → (H → text ≡ stored)
-    → IfOk r (λ f. HasShortLines now text f.longest) → IfOk r (λ f. HasShortLines H stored f.longest)
-again_short H now stored text (Ok f) still same short = short_before H now stored text f.longest still same short
-again_short H now stored text (Err e) still same short = tt

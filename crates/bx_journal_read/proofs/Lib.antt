@@ -20,6 +20,7 @@ pub mod ZeroLemmas
 pub mod ShownTail
 pub mod UnfitLemmas
 pub mod LastLemmas
+pub mod LongLines
 pub mod MarkedLemmas
 pub mod PutLemmas
 pub mod RowTexts
@@ -29,3 +30,4 @@ pub mod StepsShown
 pub mod AddedLemmas
 pub mod BesideLemmas
 pub mod StopLemmas
+pub mod CutLemmas

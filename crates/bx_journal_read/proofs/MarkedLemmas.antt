@@ -21,9 +21,9 @@ use Rattle.bx_journal_read.specs.show.Showing.{AreAllMarks, AreMarksOf, FindsMar
 use Rattle.bx_journal_read.specs.scan.Windows.{IsReached}
 
 -- a text that stands between two entries is finished entries alone
-pub marked_all : {A : Type 0} → (honest : Type 0) (stored : List ℕ) (size len : ℕ) (r : Reached (MarkScan A)) → IsReached honest stored (λ s text. IsMarked text s.marking s.marks.items) size 0 len r → r.at ≡ len
+pub marked_all : {A : Type 0} → (honest : Type 0) (stored : List ℕ) (len : ℕ) (r : Reached (MarkScan A)) → IsReached honest stored (λ s text. IsMarked text s.marking s.marks.items) len r → r.at ≡ len
     → r.scan.marking.sums.tally.place ≡ BetweenPlace → AreMarksOf honest stored len r.scan.marks.items
-marked_all honest stored size len r reached all place =
+marked_all honest stored len r reached all place =
     let h = reached.led.leads in
     let m = r.scan.marking in
     let between : h.reading.stage ≡ Between = subst (HasForm h.reading.stage) place (has_form h.reading.stage m.sums.tally.place (ap (λ (s : Summed). s.tally.place) h.is)) in

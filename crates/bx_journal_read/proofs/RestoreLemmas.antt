@@ -1,5 +1,5 @@
 -- A record that is restored from its text a window at a time.
-use Rattle.std.proofs.Common.{◌≡◌, ℕ, zero, suc, ◌+◌, ◌-◌, ◌<◌, ◌≤◌, ◌⊎◌, inl, inr, Bool, true, false, List, [], ◌∷◌, ◌++◌, length, length-append, length-take, min, take, drop, refl, ap, sym, ◌∙◌, subst, arith, append_assoc, Option, Some, None, map, slice_index_or}
+use Rattle.std.proofs.Common.{◌≡◌, ℕ, zero, suc, ◌+◌, ◌-◌, ◌<◌, ◌≤◌, ◌⊎◌, inl, inr, Bool, true, false, List, [], ◌∷◌, ◌++◌, length, length-append, length-take, min, take, drop, refl, ap, sym, ◌∙◌, subst, arith, append_assoc, append-nil, Option, Some, None, map, slice_index_or}
 use Rattle.std.specs.Prelude.{if◌then◌else◌, option_map, All}
 use Rattle.std.specs.Option.{option_or}
 use Rattle.std.specs.Str.{bytes_eq}
@@ -23,11 +23,16 @@ use Rattle.bx_journal_format.proofs.Gathered.{with_run-byte}
 use Rattle.bx_journal_format.proofs.Inverse.{bind_some, map_some, next_between, next_ending, next_saving}
 use Rattle.bx_journal_format.proofs.RowLemmas.{or_assoc, or_none, restore_same}
 use Rattle.bx_journal_format.proofs.Runs.{after_lines-append}
-use Rattle.bx_journal_format.proofs.Splits.{AllPlain, split-append}
+use Rattle.bx_journal_format.proofs.Splits.{AllPlain, plain_front, split-append}
+use Rattle.bx_journal_format.proofs.Stops.{next_more as in_place_more, saved_same}
 use Rattle.bx_journal_format.proofs.TallyLemmas.{take_sum}
+use Rattle.bx_journal_format.specs.read.Plain.{HasNoNewline}
+use Rattle.bx_journal_read.specs.declared.scan.long.Cut.{Cut}
 use Rattle.bx_journal_read.specs.declared.scan.mark.Mark.{Mark}
+use Rattle.bx_journal_read.specs.scan.Long.{BeginsAlike, IsCut, passed_of}
+use Rattle.bx_journal_read.proofs.LongLines.{stands_for}
 use Rattle.bx_journal_read.specs.model.Phase.{IsCutOf, IsPartOf}
-use Rattle.bx_journal_read.specs.scan.Restoring.{AllShorter, AreNamed, IsRestoredTo, Names, RestoresWindow, StandsAt}
+use Rattle.bx_journal_read.specs.scan.Restoring.{AreNamed, IsRestoredTo, Names, RestoresWindow, StandsAt}
 use Rattle.bx_journal_read.proofs.WindowLemmas.{front_of}
 
 with_runs-byte : (ps runs : List Run) (i : ℕ) → byte_in (with_runs runs ps) i ≡ option_or (byte_in ps i) (byte_in runs i)
@@ -169,46 +174,31 @@ runs_named r s old runs rest is names = named_each r s runs names (λ i none.
     let before : option_or (byte_in runs i) (byte_in old i) ≡ None = sym (with_runs-byte runs old i) ∙ (or_some (byte_in rest i) (byte_in (with_runs old runs) i) all).1 in
     (or_some (byte_in runs i) (byte_in old i) before).0)
 
-shorter_behind : (most : ℕ) (a b : List (List ℕ)) → AllShorter most (a ++ b) → AllShorter most b
-shorter_behind most [] b h = h
-shorter_behind most (l ∷ a) b h = shorter_behind most a b h.1
-
--- a window that is longer than the first line begins with it
-window_begins : (l r : List ℕ) (w : ℕ) → length l < w → take w (l ++ 10 ∷ r) ≡ l ++ 10 ∷ take (w - (length l + 1)) r
-window_begins l r w less =
-    let count : length l + suc (w - (length l + 1)) ≡ w = omega (arith, less) in
-    ap (λ n. take n (l ++ 10 ∷ r)) (sym count) ∙ take-append-add l (10 ∷ r) (suc (w - (length l + 1)))
-
-given_lines : (es : List Entry) (v : Version) (k s : Kept) (ls : List (List ℕ)) (text : List ℕ) (n most size room : ℕ)
+given_lines : (es : List Entry) (v : Version) (k s : Kept) (ls : List (List ℕ)) (text : List ℕ) (n room : ℕ)
     → after_lines (record { entries = es; stage = Saving v k }) ls ≡ Some (record { entries = es; stage = Ending v s })
-    → AllShorter most ls → AllPlain ls → text_of_lines ls ≡ take n text → 0 < room → most ≤ size → TakesSome k.len (take (min size n) text) room 0 → s.runs ≡ k.runs
+    → AllPlain ls → text_of_lines ls ≡ take n text → 0 < room → TakesSome k.len (take n text) room 0 → s.runs ≡ k.runs
 unfolding after_lines
-given_lines es v k s [] text n most size room e short plain is some longest takes = absurd (saving_not_ending es v k s (record { entries = es; stage = Saving v k }) (record { entries = es; stage = Ending v s }) refl refl e)
-given_lines es v k s (l ∷ ls) text n most size room e short plain is some longest takes =
+given_lines es v k s [] text n room e plain is some takes = absurd (saving_not_ending es v k s (record { entries = es; stage = Saving v k }) (record { entries = es; stage = Ending v s }) refl refl e)
+given_lines es v k s (l ∷ ls) text n room e plain is some takes =
     let b = bind_some (λ q. after_lines q ls) (next_at es (Saving v k) l) (record { entries = es; stage = Ending v s }) e in
     elim (line_gives es v k l b.0 b.1) [
       | inl ended ↦
           let same = ending_stays es v k s ls (subst (λ q. after_lines q ls ≡ Some (record { entries = es; stage = Ending v s })) ended b.2) in
           ap (λ (t : Kept). t.runs) same
       | inr gives ↦
-          let r : List ℕ = text_of_lines ls ++ drop n text in
-          let all : text ≡ l ++ 10 ∷ r =
-          sym (take-append-drop n text) ∙ ap (λ t. t ++ drop n text) (sym is) ∙ append_assoc (l ++ 10 ∷ []) (text_of_lines ls) (drop n text) ∙ append_assoc l (10 ∷ []) r in
-          let long : length l + 1 ≤ n = omega (arith, ap length is, length-take n text, length-append (l ++ 10 ∷ []) (text_of_lines ls), length-append l (10 ∷ [])) in
-          let begins = ap (take (min size n)) all ∙ window_begins l r (min size n) (omega (arith, long, short.0, longest)) in
-          let none = takes l (take (min size n - (length l + 1)) r) gives.0 some plain.0 begins gives.1 in
+          let begins : take n text ≡ l ++ 10 ∷ text_of_lines ls = sym is ∙ append_assoc l (10 ∷ []) (text_of_lines ls) in
+          let none = takes l (text_of_lines ls) gives.0 some plain.0 begins gives.1 in
           absurd (omega (arith, none))
     ]
 
 -- where nothing is taken the save line comes next, so all is restored
-pub all_given : (text : List ℕ) (m : Mark) (s : Kept) (st : StandsAt text m s) (runs : List Run) (at size room : ℕ) → IsIn (take at text) st.entries st.version (record { len = m.len; runs = runs })
-    → at ≤ m.saved → 0 < room → m.longest ≤ size → TakesSome m.len (take (min size (m.saved - at)) (drop at text)) room 0 → s.runs ≡ runs
-all_given text m s st runs at size room inside le some longest takes =
+pub all_given : (text : List ℕ) (m : Mark) (s : Kept) (st : StandsAt text m s) (runs : List Run) (at room : ℕ) → IsIn (take at text) st.entries st.version (record { len = m.len; runs = runs })
+    → at ≤ m.saved → 0 < room → TakesSome m.len (take (m.saved - at) (drop at text)) room 0 → s.runs ≡ runs
+all_given text m s st runs at room inside le some takes =
     let k : Kept = record { len = m.len; runs = runs } in
     let b : List ℕ = take (m.saved - at) (drop at text) in
     let to = lines_to text st.entries st.version k s at m.saved inside st.ends le in
-    let short : AllShorter m.longest (split b).lines = shorter_behind m.longest (split (take at text)).lines (split b).lines (subst (AllShorter m.longest) to.parts st.short) in
-    given_lines st.entries st.version k s (split b).lines (drop at text) (m.saved - at) m.longest size room to.lines short (lines_plain b) (joined_lines b to.whole) some longest takes
+    given_lines st.entries st.version k s (split b).lines (drop at text) (m.saved - at) room to.lines (lines_plain b) (joined_lines b to.whole) some takes
 
 -- the save line's end isn't among saved lines
 pub not_ended : (text : List ℕ) (m : Mark) (s : Kept) (st : StandsAt text m s) (runs : List Run) → IsIn (take m.saved text) st.entries st.version (record { len = m.len; runs = runs }) → ⊥
@@ -233,9 +223,9 @@ unfolding placed with_runs
 restored_none text m s st x = record { runs = []; within = tt; inside = record { lines = st.begins.lines; whole = st.begins.whole }; image = refl }
 
 -- a window more
-pub restored_on : (text : List ℕ) (es : List Entry) (v : Version) (len size room at n : ℕ) (x y z : List ℕ) → IsRestoredTo text es v len at x y → RestoresWindow text len size room at n y z
+pub restored_on : (text : List ℕ) (es : List Entry) (v : Version) (len more room at n : ℕ) (x y z : List ℕ) → IsRestoredTo text es v len at x y → RestoresWindow text len more room at n y z
     → IsRestoredTo text es v len (at + n) x z
-restored_on text es v len size room at n x y z to more = record {
+restored_on text es v len rest room at n x y z to more = record {
   runs = to.runs ++ more.runs;
   within = within-append len to.runs more.runs to.within more.within;
   inside = subst (λ rs. IsIn (take (at + n) text) es v (record { len = len; runs = rs })) (sym (with_runs-append [] to.runs more.runs)) (more.leads es v (with_runs [] to.runs) to.inside);
@@ -300,3 +290,45 @@ takes_room len window room n none takes = subst (TakesSome len window room) none
 
 pub names_itself : (s : Kept) → Names s s
 names_itself s i below none = (below, none)
+
+-- what a window of lines gives, behind a place: also where its line is cut
+after_one : (r q : Reading) (front more : List ℕ) → 1024 ≤ length front → after_lines r (front ∷ []) ≡ Some q → after_lines r ((front ++ more) ∷ []) ≡ Some q
+unfolding after_lines
+after_one r q front more enough e =
+    let b = bind_some (λ p. after_lines p []) (next_at r.entries r.stage front) q e in
+    rw (in_place_more r.entries r.stage front more b.0 enough b.1) b.2
+
+pub cut_given : (honest : Type 0) (text : List ℕ) (len at to taken : ℕ) (window old new : List ℕ) (c : Cut) (parts : List Part) → honest → IsCut honest text at to window c → old ≡ take c.count window → GivesParts len old new parts taken
+    → (es : List Entry) (v : Version) (runs : List Run) → IsIn (take at text) es v (record { len = len; runs = runs })
+    → IsIn (take (at + passed_of c taken) text) es v (record { len = len; runs = with_runs runs (map (part_run new) parts) })
+cut_given honest text len at to taken window old new c parts h cut is gives es v runs inside =
+    let a : List ℕ = take at text in
+    let r : Reading = record { entries = es; stage = Saving v (record { len = len; runs = runs }) } in
+    let q : Reading = record { entries = es; stage = Saving v (record { len = len; runs = with_runs runs (map (part_run new) parts) }) } in
+    let bytes : List ℕ = take taken (take c.count window) in
+    let same : take taken old ≡ bytes = ap (take taken) is in
+    let led = subst (λ t. IsIn (a ++ t) es v (record { len = len; runs = with_runs runs (map (part_run new) parts) })) same (gives.leads a es v runs inside) in
+    let both = split-append a bytes inside.whole in
+    let whole : (split bytes).rest ≡ [] = sym (ap (λ s. s.rest) both) ∙ led.whole in
+    let below : taken ≤ c.count = omega (arith, gives.within, ap length is, length-take c.count window, cut.within) in
+    let s = stands_for honest text at to window c taken cut below whole in
+    let lines : after_lines r (split bytes).lines ≡ Some q = sym (after_lines-append start r (split a).lines (split bytes).lines inside.lines) ∙ ap (after_lines start) (sym (ap (λ p. p.lines) both)) ∙ led.lines in
+    let more : after_lines r (split s.text).lines ≡ Some q = s.alike (λ ls. after_lines r ls ≡ Some q) (λ front rest enough e. after_one r q front rest enough e) lines in
+    let next = split-append a s.text inside.whole in
+    let to_is : a ++ s.text ≡ take (at + passed_of c taken) text = ap (λ t. a ++ t) (s.is h) ∙ sym (take_sum at (passed_of c taken) text) in
+    subst (λ t. IsIn t es v (record { len = len; runs = with_runs runs (map (part_run new) parts) })) to_is (record {
+      lines = ap (λ p. after_lines start p.lines) next ∙ after_lines-append start r (split a).lines (split s.text).lines inside.lines ∙ more;
+      whole = ap (λ p. p.rest) next ∙ s.whole;
+    })
+
+-- where a whole line is there, something is taken
+pub cut_some : (len room taken n : ℕ) (text bytes : List ℕ) → TakesSome len bytes room taken → BeginsAlike text bytes → taken ≤ n → TakesSome len text room n
+cut_some len room taken n text bytes takes begins most line rest run some plain is gives =
+    let b = begins line rest is plain in
+    let apart : HasNoNewline (b.0 ++ b.1) = subst HasNoNewline b.4 plain in
+    let own : saved_in len b.0 ≡ Some run =
+    elim b.5 [
+      | inl enough ↦ sym (saved_same len b.0 b.1 enough) ∙ ap (saved_in len) (sym b.4) ∙ gives
+      | inr none ↦ ap (saved_in len) (sym (b.4 ∙ ap (λ t. b.0 ++ t) none ∙ append-nil b.0)) ∙ gives
+    ] in
+    omega (arith, takes b.0 b.2 run some (plain_front b.0 b.1 apart) b.3 own, most)

@@ -1,35 +1,29 @@
 -- A text that is read in windows: a window more.
-use Rattle.std.proofs.Common.{◌≡◌, ℕ, ◌+◌, ◌≤◌, List, [], ◌++◌, length, length-append, length-take, take, drop, ap, sym, ◌∙◌, subst, arith, Option, Some, Result, Ok}
+use Rattle.std.proofs.Common.{◌≡◌, ℕ, ◌+◌, ◌<◌, ◌≤◌, inl, inr, List, [], ◌∷◌, ◌++◌, length, length-append, length-take, take, drop, ap, sym, ◌∙◌, subst, arith, Option, Some, None, Result, Ok, Err}
 use Rattle.std.specs.Prelude.{IfOk, IfSome}
 use Rattle.std.proofs.lemmas.List.{take_all}
-use Rattle.bx_journal_format.specs.Text.{split}
-use Rattle.bx_journal_format.proofs.Splits.{split-append}
 use Rattle.bx_journal_format.proofs.TallyLemmas.{take_sum}
 use Rattle.bx_journal_read.specs.declared.scan.count.CountScan.{CountScan}
 use Rattle.bx_journal_read.specs.declared.scan.windows.Reached.{Reached}
-use Rattle.bx_journal_read.specs.scan.Restoring.{AllShorter}
-use Rattle.bx_journal_read.specs.scan.Windows.{IsCountedBy, IsLedTo, IsReached, IsWalkedTo}
-use Rattle.bx_journal_read.proofs.WalkLemmas.{shorter_append, window_shorter}
+use Rattle.bx_journal_read.specs.declared.scan.windows.Taken.{Taken}
+use Rattle.bx_journal_format.specs.Text.{ended}
+use Rattle.bx_journal_read.specs.scan.Long.{IsLongLine}
+use Rattle.bx_journal_read.specs.scan.Windows.{IfReached, IsCountedBy, IsLedTo, IsReached, IsWalkedTo, TakesLong}
 use Rattle.bx_journal_read.proofs.WindowLemmas.{front_of}
 
 -- a window more
-pub reached_on : {S : Type 0} → (honest : Type 0) (stored window : List ℕ) (Leads : S → List ℕ → Type 0) (size from len at m n : ℕ) (old new : S)
-    → (r : IsReached honest stored Leads size from len (record { scan = old; at = at })) → (honest → window ≡ take m (drop at stored)) → n ≤ length window → length window ≤ size → at + length window ≤ len
-    → (split r.led.text).rest ≡ [] → Leads new (r.led.text ++ take n window) → IsReached honest stored Leads size from len (record { scan = new; at = at + n })
-reached_on honest stored window Leads size from len at m n old new r read within fits below whole leads =
-    let a : List ℕ = r.led.text in
+pub reached_on : {S : Type 0} → (honest : Type 0) (stored window : List ℕ) (Leads : S → List ℕ → Type 0) (len at m n : ℕ) (old new : S)
+    → (led : IsLedTo honest stored Leads at old) → (honest → window ≡ take m (drop at stored)) → n ≤ length window → at + length window ≤ len
+    → Leads new (led.text ++ take n window) → IsReached honest stored Leads len (record { scan = new; at = at + n })
+reached_on honest stored window Leads len at m n old new led read within below leads =
+    let a : List ℕ = led.text in
     let bytes : List ℕ = take n window in
     let more : length bytes ≡ n = omega (arith, length-take n window, within) in
     let is : honest → a ++ bytes ≡ take (at + n) stored =
-    λ h. ap (λ l. l ++ bytes) (r.led.is h) ∙ ap (λ l. take at stored ++ l) (front_of n m window (drop at stored) within (read h)) ∙ sym (take_sum at n stored) in
+    λ h. ap (λ l. l ++ bytes) (led.is h) ∙ ap (λ l. take at stored ++ l) (front_of n m window (drop at stored) within (read h)) ∙ sym (take_sum at n stored) in
     record {
-      led = record { text = a ++ bytes; is = is; long = omega (arith, length-append a bytes, r.led.long, more); leads = leads };
+      led = record { text = a ++ bytes; is = is; long = omega (arith, length-append a bytes, led.long, more); leads = leads };
       below = omega (arith, within, below);
-      short = λ longest le first h.
-          let before : AllShorter longest (split a).lines = subst (λ t. AllShorter longest (split t).lines) (sym (r.led.is h)) (r.short longest le first h) in
-          subst (λ t. AllShorter longest (split t).lines) (is h)
-          (subst (AllShorter longest) (sym (ap (λ s. s.lines) (split-append a bytes whole)))
-          (shorter_append longest (split a).lines (split bytes).lines before (window_shorter bytes longest (omega (arith, more, within, fits, le)))));
     }
 
 -- what is said of a place that was reached
@@ -46,13 +40,51 @@ pub reached_all : {S : Type 0} → (H now : Type 0) (stored text : List ℕ) (Le
 reached_all H now stored text Leads len at scan still same long all led h = sym (led.is (still h) ∙ ap (take at) (same h) ∙ take_all at stored (omega (arith, all, long h)))
 
 -- what was counted was walked along
-pub walked_of : (honest : Type 0) (stored : List ℕ) (first : CountScan) (size len : ℕ) (r : Reached CountScan) → IsReached honest stored (IsCountedBy first) size 0 len r
-    → IsWalkedTo honest stored first.only_second size len (record { tally = r.scan.tally; at = r.at; lines = r.scan.lines })
-unfolding split
-walked_of honest stored first size len r reached = record {
+pub walked_of : (honest : Type 0) (stored : List ℕ) (first : CountScan) (len : ℕ) (r : Reached CountScan) → IsReached honest stored (IsCountedBy first) len r
+    → IsWalkedTo honest stored first.only_second len (record { tally = r.scan.tally; at = r.at; lines = r.scan.lines })
+walked_of honest stored first len r reached = record {
   led = record { text = reached.led.text; is = reached.led.is; long = reached.led.long; leads = reached.led.leads.tallied };
   below = reached.below;
   lines = omega (arith, reached.led.leads.lines, reached.led.long);
   few = reached.led.leads.few;
-  short = reached.short size (omega arith) (λ h. tt);
 }
+
+-- a line that is longer than a window more
+pub reached_long : {S : Type 0} → (honest : Type 0) (stored front : List ℕ) (Leads : S → List ℕ → Type 0) (len at size : ℕ) (old new : S) → (led : IsLedTo honest stored Leads at old)
+    → (l : IsLongLine honest stored at len front size) → Leads new (led.text ++ ended (front ++ l.more)) → IsReached honest stored Leads len (record { scan = new; at = at + size + 1 })
+reached_long honest stored front Leads len at size old new led l leads =
+    let line : List ℕ = ended (front ++ l.more) in
+    let place : at + (size + 1) ≡ at + size + 1 = omega arith in
+    record {
+      led = record {
+        text = led.text ++ line;
+        is = λ h. ap (λ t. t ++ line) (led.is h) ∙ ap (λ t. take at stored ++ t) (sym (l.is h)) ∙ sym (take_sum at (size + 1) stored) ∙ ap (λ n. take n stored) place;
+        long = omega (arith, length-append led.text line, length-append (front ++ l.more) (10 ∷ []), length-append front l.more, led.long, l.long);
+        leads = leads;
+      };
+      below = omega (arith, l.within);
+    }
+
+-- or it isn't taken
+pub long_reached : {S : Type 0} → (honest : Type 0) (stored front : List ℕ) (Leads : S → List ℕ → Type 0) (len at size : ℕ) (old : S) (t : Taken S) → (led : IsLedTo honest stored Leads at old)
+    → (l : IsLongLine honest stored at len front size) → TakesLong Leads led.text (ended (front ++ l.more)) t → 0 < t.taken → IsReached honest stored Leads len (record { scan = t.scan; at = at + size + 1 })
+long_reached honest stored front Leads len at size old t led l takes some =
+    elim takes [
+      | inl none ↦ absurd (omega (arith, none.0, some))
+      | inr more ↦ reached_long honest stored front Leads len at size old t.scan led l more.1
+    ]
+
+pub long_stays : {S : Type 0} → (honest : Type 0) (stored line : List ℕ) (Leads : S → List ℕ → Type 0) (len at : ℕ) (old : S) (t : Taken S) → (led : IsLedTo honest stored Leads at old) → at ≤ len
+    → TakesLong Leads led.text line t → t.taken ≡ 0 → IsReached honest stored Leads len (record { scan = t.scan; at = at })
+long_stays honest stored line Leads len at old t led below takes none =
+    elim takes [
+      | inl same ↦ record { led = record { text = led.text; is = led.is; long = led.long; leads = same.1 }; below = below }
+      | inr more ↦ absurd (omega (arith, more.0, none))
+    ]
+
+-- what is said of a place that was reached is weaker
+pub reached_weaker : {R E F : Type 0} → (P Q : R → Type 0) → ((r : R) → P r → Q r) → (result : Result (Result (Option R) E) F) → IfReached result P → IfReached result Q
+reached_weaker P Q more (Ok (Ok (Some r))) h = more r h
+reached_weaker P Q more (Ok (Ok None)) h = tt
+reached_weaker P Q more (Ok (Err e)) h = tt
+reached_weaker P Q more (Err e) h = tt

@@ -19,19 +19,8 @@ use Rattle.bx_journal_format.proofs.Inverse.{bind_some, next_between, next_endin
 use Rattle.bx_journal_format.proofs.Runs.{after_lines-append}
 use Rattle.bx_journal_format.proofs.Splits.{AllPlain, split-append, split-ended}
 use Rattle.bx_journal_format.proofs.TallyLemmas.{last, take_sum}
-use Rattle.bx_journal_read.specs.scan.Restoring.{AllShorter, StandsAt}
+use Rattle.bx_journal_read.specs.scan.Restoring.{StandsAt}
 use Rattle.bx_journal_read.proofs.RestoreLemmas.{line_gives, lines_more, same_reading}
-
--- lines that are a text are shorter than it
-pub joined_shorter : (most : ℕ) (ls : List (List ℕ)) → length (text_of_lines ls) ≤ most → AllShorter most ls
-joined_shorter most [] le = tt
-joined_shorter most (l ∷ ls) le =
-    let long = length-append (ended l) (text_of_lines ls) in
-    let own = length-append l (10 ∷ []) in
-    (omega (arith, le, long, own), joined_shorter most ls (omega (arith, le, long, own)))
-
-pub lines_shorter : (text : List ℕ) (most : ℕ) → (split text).rest ≡ [] → length text ≤ most → AllShorter most (split text).lines
-lines_shorter text most whole le = joined_shorter most (split text).lines (omega (arith, le, ap length (joined_lines text whole)))
 
 -- the version and the length of an entry stay among its lines
 pub record StaysOf (v w : Version) (k s : Kept) : Type 0 where
@@ -120,10 +109,10 @@ first_of es w s (l ∷ ls) bytes e plain is =
     take_front (x ∷ a) b = ap (λ t. x ∷ t) (take_front a b)
 
 -- so its saved lines begin behind its first line
-pub stands_of : (text : List ℕ) (es : List Entry) (v : Version) (s : Kept) (from saved longest : ℕ) → IsMark text from (record { entries = es; stage = Between }) → IsMark text saved (record { entries = es; stage = Ending v s })
-    → from ≤ saved → AllShorter longest (split (take saved text)).lines → StandsAt text (record { lines = from + start_size v + 1; saved = saved; len = s.len; longest = longest }) s
+pub stands_of : (text : List ℕ) (es : List Entry) (v : Version) (s : Kept) (from saved : ℕ) → IsMark text from (record { entries = es; stage = Between }) → IsMark text saved (record { entries = es; stage = Ending v s })
+    → from ≤ saved → StandsAt text (record { lines = from + start_size v + 1; saved = saved; len = s.len }) s
 unfolding split
-stands_of text es v s from saved longest mark ends le short =
+stands_of text es v s from saved mark ends le =
     let a : List ℕ = take from text in
     let b : List ℕ = take (saved - from) (drop from text) in
     let count : from + (saved - from) ≡ saved = omega (arith, le) in
@@ -153,7 +142,6 @@ stands_of text es v s from saved longest mark ends le short =
       };
       ends = ends;
       order = omega (arith, place, f.most, length-take (saved - from) (drop from text), le);
-      short = short;
     }
   where
     take_within : (n : ℕ) (a b : List ℕ) → n ≤ length a → take n (a ++ b) ≡ take n a
@@ -161,10 +149,8 @@ stands_of text es v s from saved longest mark ends le short =
 
 -- the record of an entry that was read up to its save line
 pub ending_stands : {A : Type 0} → (text : List ℕ) (es : List (EntryRead A)) (v : Version) (kept : Saved A) (begins saved at : ℕ) → IsStageMarked text [] es (EndingRead v kept begins saved) at
-    → StandsAt text (record { lines = begins + start_size v + 1; saved = saved; len = kept.len; longest = saved }) (kept_of kept)
-ending_stands text es v kept begins saved at marked =
-    stands_of text (entries_of es) v (kept_of kept) begins saved saved marked.1 marked.2 marked.3
-    (lines_shorter (take saved text) saved marked.2.whole (omega (arith, length-take saved text)))
+    → StandsAt text (record { lines = begins + start_size v + 1; saved = saved; len = kept.len }) (kept_of kept)
+ending_stands text es v kept begins saved at marked = stands_of text (entries_of es) v (kept_of kept) begins saved marked.1 marked.2 marked.3
 
 -- whose saved lines begin within the text
 pub ending_fits : {A : Type 0} → (text : List ℕ) (es : List (EntryRead A)) (v : Version) (kept : Saved A) (begins saved at : ℕ) → IsStageMarked text [] es (EndingRead v kept begins saved) at

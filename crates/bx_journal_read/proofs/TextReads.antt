@@ -1,5 +1,5 @@
 -- Calls that only read a text, one behind another.
-use Rattle.std.proofs.Common.{◌≡◌, ◌∙◌, inr, ℕ, Bool, true, false, List, Ok, Err, take, drop, ap, refl, subst, arith}
+use Rattle.std.proofs.Common.{◌≡◌, ◌∙◌, inr, ℕ, Bool, true, false, List, Ok, Err, take, drop, ap, sym, refl, subst, arith}
 use Rattle.bx_image.specs.Device.{GoesOn}
 use Rattle.bx_image.specs.Power.{NoMore}
 use Rattle.bx_image.proofs.Devices.{GoesOn_refl, GoesOn_then}
@@ -7,10 +7,11 @@ use Rattle.bx_image.proofs.Survivors.{NoMore_then}
 use Rattle.bx_journal_store.specs.declared.store.TextStore.{Ghosts as StoreViews}
 use Rattle.bx_journal_read.specs.declared.scan.count.Walk.{Walk}
 use Rattle.bx_journal_read.specs.declared.scan.torn.Torn.{Torn}
+use Rattle.bx_journal_read.specs.declared.scan.windows.Reached.{Reached}
 use Rattle.bx_journal_read.specs.declared.fault.SessionFault.TheVariants.{DeviceFailed}
 use Rattle.bx_journal_read.specs.scan.Looking.{LooksThrough, OnlyReadsText}
 use Rattle.bx_journal_read.specs.scan.Recovery.{IsTornIn, IsUnfinishedIn}
-use Rattle.bx_journal_read.specs.scan.Windows.{IsWalkedTo}
+use Rattle.bx_journal_read.specs.scan.Windows.{IsLedTo, IsReached, IsWalkedTo}
 use Rattle.bx_journal_read.proofs.WalkLemmas.{walked_after}
 
 module _ {T : Type 0} (t : StoreViews T) where
@@ -59,10 +60,21 @@ module _ {T : Type 0} (t : StoreViews T) where
       read (first.goes_on.honesty.1 h) ∙ ap (λ k. take k (drop at (t.text now))) is ∙ ap (λ y. take n (drop at y)) (first.text h)
 
   -- what was walked along is so behind it
-  pub read_walked : {old now : T} → OnlyReadsText t false old now → (size more len : ℕ) (w : Walk) → more ≡ size → IsWalkedTo (t.honest old) (t.text old) false size len w
-      → IsWalkedTo (t.honest now) (t.text now) false more len w
-  read_walked {old = old} {now = now} first size more len w same walked =
-      walked_after (t.honest old) (t.honest now) (t.text old) (t.text now) false size more len w first.goes_on.honesty.0 first.text same walked
+  pub read_walked : {old now : T} → OnlyReadsText t false old now → (len : ℕ) (w : Walk) → IsWalkedTo (t.honest old) (t.text old) false len w → IsWalkedTo (t.honest now) (t.text now) false len w
+  read_walked {old = old} {now = now} first len w walked = walked_after (t.honest old) (t.honest now) (t.text old) (t.text now) false len w first.goes_on.honesty.0 first.text walked
+
+  -- so does what a text leads to
+  pub read_led : {S : Type 0} {old now : T} → OnlyReadsText t false old now → (Leads : S → List ℕ → Type 0) (at : ℕ) (scan : S) → IsLedTo (t.honest old) (t.text old) Leads at scan
+      → IsLedTo (t.honest now) (t.text now) Leads at scan
+  read_led first Leads at scan led =
+      record { text = led.text; is = λ n. let h = first.goes_on.honesty.0 n in led.is h ∙ ap (take at) (sym (first.text h)); long = led.long; leads = led.leads }
+
+  pub read_reached : {S : Type 0} {old now : T} → OnlyReadsText t false old now → (Leads : S → List ℕ → Type 0) (len : ℕ) (r : Reached S) → IsReached (t.honest now) (t.text now) Leads len r
+      → IsReached (t.honest old) (t.text old) Leads len r
+  read_reached first Leads len r reached = record {
+    led = record { text = reached.led.text; is = λ h. reached.led.is (first.goes_on.honesty.1 h) ∙ ap (take r.at) (first.text h); long = reached.led.long; leads = reached.led.leads };
+    below = reached.below;
+  }
 
   -- what is found unfinished behind it is so before
   pub read_unfinished : {old now : T} → OnlyReadsText t false old now → (torn : Torn) → IsUnfinishedIn (t.honest now) (t.text now) torn → IsUnfinishedIn (t.honest old) (t.text old) torn

@@ -20,12 +20,11 @@ use Rattle.bx_journal_read.specs.declared.scan.mark.Mark.{Mark}
 use Rattle.bx_journal_read.specs.declared.scan.count.Walk.{Walk}
 use Rattle.bx_journal_read.specs.scan.Recovery.{HasMark, HasTorn}
 use Rattle.std.proofs.lemmas.List.{take-append-drop}
-use Rattle.bx_journal_read.specs.scan.Restoring.{AllShorter, StandsAt}
+use Rattle.bx_journal_read.specs.scan.Restoring.{StandsAt}
 use Rattle.bx_journal_read.specs.scan.Windows.{IsFrontCounted, IsWalkedTo}
 use Rattle.bx_journal_format.proofs.TallyLemmas.{has_form, take_sum}
 use Rattle.bx_journal_read.proofs.RestoreLemmas.{lines_more, same_reading}
-use Rattle.bx_journal_read.proofs.StandLemmas.{joined_shorter, saving_of}
-use Rattle.bx_journal_read.proofs.Tails.{joined_rest}
+use Rattle.bx_journal_read.proofs.StandLemmas.{saving_of}
 
 -- where no entry was finished the finished entries are the same
 entries_next : (es : List Entry) (stage : Stage) (line : List ℕ) (q : Reading) → next_at es stage line ≡ Some q → length q.entries ≤ length es → q.entries ≡ es
@@ -47,15 +46,6 @@ entries_same (l ∷ ls) r q e long =
     let more = lines_more ls b.0 q b.2 in
     let first : b.0.entries ≡ r.entries = entries_next r.entries r.stage l b.0 b.1 (omega (arith, more, long)) in
     sym first ∙ entries_same ls b.0 q b.2 (omega (arith, long, ap length first))
-
--- with the lines of a window no line is as long as the windows are
-pub shorter_append : (most : ℕ) (a b : List (List ℕ)) → AllShorter most a → AllShorter most b → AllShorter most (a ++ b)
-shorter_append most [] b h k = k
-shorter_append most (l ∷ a) b h k = (h.0, shorter_append most a b h.1 k)
-
-pub window_shorter : (bytes : List ℕ) (most : ℕ) → length bytes ≤ most → AllShorter most (split bytes).lines
-window_shorter bytes most le =
-    joined_shorter most (split bytes).lines (omega (arith, le, ap length (joined_rest bytes), length-append (text_of_lines (split bytes).lines) (split bytes).rest))
 
 -- the lines between two places
 pub lines_between : (text : List ℕ) (p q : Reading) (n m : ℕ) → IsMark text n p → IsMark text m q → n ≤ m → after_lines p (split (take (m - n) (drop n text))).lines ≡ Some q
@@ -132,12 +122,12 @@ finished_end text f w r es first last le reads rest fin =
     omega (arith, all, length-take (w - f) (drop f text), length-drop f text, le, last.within, ap length (sym rest ∙ fin.whole), length-drop w text)
 
 -- what was found at the end of a text that was walked along
-pub torn_found : (text : List ℕ) (size len : ℕ) (w : Walk) (f : Front) (mark : Option Mark) → IsWalkedTo (Unit {0}) text false size len w → IsFrontCounted (Unit {0}) text false f → len ≡ length text
+pub torn_found : (text : List ℕ) (len : ℕ) (w : Walk) (f : Front) (mark : Option Mark) → IsWalkedTo (Unit {0}) text false len w → IsFrontCounted (Unit {0}) text false f → len ≡ length text
     → f.count ≡ w.tally.count → f.at ≤ w.at
     → ((r : Reading) → tally_of r ≡ w.tally → IsRest r.entries r.stage (drop w.at text) × HasNoNewline (drop w.at text))
-    → ((r : Reading) → IsMark text f.at (record { entries = r.entries; stage = Between }) → IsMark text w.at r → tally_of r ≡ w.tally → AllShorter size (split (take w.at text)).lines → HasMark text r.stage mark)
+    → ((r : Reading) → IsMark text f.at (record { entries = r.entries; stage = Between }) → IsMark text w.at r → tally_of r ≡ w.tally → HasMark text r.stage mark)
     → HasTorn text (record { count = f.count; told = f.told; begins = f.at; mark = mark })
-torn_found text size len w f mark walked front long count le rest find =
+torn_found text len w f mark walked front long count le rest find =
     let t = walked.led.leads in
     let r : Reading = t.reading in
     let is : walked.led.text ≡ take w.at text = walked.led.is tt in
@@ -172,7 +162,7 @@ torn_found text size len w f mark walked front long count le rest find =
         count = c.counted ∙ ap length same;
         told = c.told_is ∙ ap told_by same;
         few = front.few;
-        mark = find r first last t.is (walked.short tt);
+        mark = find r first last t.is;
       };
     }
 
@@ -193,17 +183,16 @@ mark_ending text r t w m is place stands =
     subst (λ stage. HasMark text stage (Some m)) (sym form.1) (stands form.0 form.1)
 
 -- what was walked along of a store is so of it later
-pub walked_after : (H now : Type 0) (stored text : List ℕ) (only : Bool) (size more len : ℕ) (w : Walk) → (now → H) → (H → text ≡ stored) → more ≡ size → IsWalkedTo H stored only size len w → IsWalkedTo now text only more len w
-walked_after H now stored text only size more len w back same long walked = record {
+pub walked_after : (H now : Type 0) (stored text : List ℕ) (only : Bool) (len : ℕ) (w : Walk) → (now → H) → (H → text ≡ stored) → IsWalkedTo H stored only len w → IsWalkedTo now text only len w
+walked_after H now stored text only len w back same walked = record {
   led = record { text = walked.led.text; is = λ n. walked.led.is (back n) ∙ ap (take w.at) (sym (same (back n))); long = walked.led.long; leads = walked.led.leads };
   below = walked.below;
   lines = walked.lines;
   few = walked.few;
-  short = λ n. subst (λ k. AllShorter k (split (take w.at text)).lines) (sym long) (subst (λ t. AllShorter size (split (take w.at t)).lines) (sym (same (back n))) (walked.short (back n)));
 }
 
-pub walked_surely : (H : Type 0) (text : List ℕ) (only : Bool) (size len : ℕ) (w : Walk) → H → IsWalkedTo H text only size len w → IsWalkedTo (Unit {0}) text only size len w
-walked_surely H text only size len w h walked = walked_after H (Unit {0}) text text only size size len w (λ u. h) (λ h. refl) refl walked
+pub walked_surely : (H : Type 0) (text : List ℕ) (only : Bool) (len : ℕ) (w : Walk) → H → IsWalkedTo H text only len w → IsWalkedTo (Unit {0}) text only len w
+walked_surely H text only len w h walked = walked_after H (Unit {0}) text text only len w (λ u. h) (λ h. refl) walked
 
 pub front_surely : (H : Type 0) (stored text : List ℕ) (only : Bool) (f : Front) → H → stored ≡ text → IsFrontCounted H stored only f → IsFrontCounted (Unit {0}) text only f
 front_surely H stored text only f h same c = record { front = c.front; is = λ u. c.is h ∙ ap (take f.at) same; long = c.long; counted = c.counted; lines = c.lines; few = c.few }

@@ -20,7 +20,7 @@ use Rattle.bx_journal_read.specs.declared.scan.mark.Mark.{Mark}
 use Rattle.bx_journal_read.specs.declared.scan.torn.Torn.{Torn}
 use Rattle.bx_journal_read.specs.declared.scan.count.Walk.{Walk}
 use Rattle.bx_journal_read.specs.scan.Recovery.{HasMark, HasTorn, IsTorn, IsTornFront, IsTornIn, IsUnfinishedIn}
-use Rattle.bx_journal_read.specs.scan.Restoring.{AllShorter, StandsAt}
+use Rattle.bx_journal_read.specs.scan.Restoring.{StandsAt}
 use Rattle.bx_journal_read.specs.scan.Windows.{HasNoZero, IsFrontCounted, IsWalkedTo, is_no_zero}
 use Rattle.bx_journal_read.proofs.ShownTail.{shown_tail}
 use Rattle.bx_journal_read.proofs.WalkLemmas.{finished_end}
@@ -126,7 +126,6 @@ stands_front text n m s below st = record {
   begins = mark_front text n m.lines _ (omega (arith, st.order, below)) st.begins;
   ends = mark_front text n m.saved _ below st.ends;
   order = st.order;
-  short = subst (λ u. AllShorter m.longest (split u).lines) (sym (take-take m.saved n text below)) st.short;
 }
 
 pub has_front : (text : List ℕ) (n : ℕ) (stage : Stage) (mark : Option Mark) → IfSome mark (λ m. m.saved ≤ n) → HasMark text stage mark → HasMark (take n text) stage mark
@@ -138,13 +137,12 @@ has_front text n (Saving v s) (Some m) below h = absurd h
 has_front text n (Ending v s) None below h = absurd h
 
 -- a walk along the lines of a text, as one of its front
-pub walked_front : (text : List ℕ) (size n : ℕ) (w : Walk) → IsWalkedTo (Unit {0}) text false size n w → IsWalkedTo (Unit {0}) (take n text) false size n w
-walked_front text size n w walked = record {
+pub walked_front : (text : List ℕ) (n : ℕ) (w : Walk) → IsWalkedTo (Unit {0}) text false n w → IsWalkedTo (Unit {0}) (take n text) false n w
+walked_front text n w walked = record {
   led = record { text = walked.led.text; is = λ u. walked.led.is u ∙ sym (take-take w.at n text walked.below); long = walked.led.long; leads = walked.led.leads };
   below = walked.below;
   lines = walked.lines;
   few = walked.few;
-  short = λ u. subst (λ t. AllShorter size (split t).lines) (sym (take-take w.at n text walked.below)) (walked.short u);
 }
 
 pub counted_front : (text : List ℕ) (n : ℕ) (f : Front) → f.at ≤ n → IsFrontCounted (Unit {0}) text false f → IsFrontCounted (Unit {0}) (take n text) false f

@@ -1,5 +1,6 @@
 -- How a text is read in windows.
 pub mod Damage
+pub mod Long
 pub mod Looking
 pub mod Recovery
 pub mod Restoring

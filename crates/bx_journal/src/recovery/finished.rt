@@ -67,8 +67,8 @@ fn find_unfit_line<T: TextStore, A: Allocator + Clone>(
     unfit_line(alloc, redo, changes)
 }
 
-/// What a redo text is that wasn't counted: the line at which it is none is found in windows, and only where that isn't found so, where a saved
-/// line is very long, the text is read whole. It changes nothing.
+/// What a redo text is that wasn't counted: the line at which it is none is found in windows, and only where that isn't found so the text is
+/// read whole. It changes nothing.
 fn read_redo<T: TextStore, A: Allocator + Clone>(
     alloc: &A,
     redo: &mut T,

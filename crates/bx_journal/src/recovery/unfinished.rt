@@ -128,11 +128,11 @@ fn buffers_for<A: Allocator + Clone>(
     ensures buffers { IfOk result (HasBuffersFor mark) }
     ensures fault { IfErr result (λ e. e ≡ SessionFault.NoMemory) }
 {
-    let longest = match mark {
+    let len = match mark {
         None => 0,
-        Some(at) => at.longest,
+        Some(at) => at.saved,
     };
-    buffers_of(alloc, longest)
+    buffers_of(alloc, len)
 }
 
 /// What opening takes before its first write, with all on the disk that the three have.

@@ -41,7 +41,7 @@ abbrev pub AreOrdered : {A : Type 0} → List (EntryRead A) → Type 0
 AreOrdered [] = Unit {0}
 AreOrdered (e ∷ es) = IsOrdered e × AreOrdered es
 
--- where an entry stands in a text without a line that is longer than this
-abbrev pub place_in : {A : Type 0} → ℕ → EntryRead A → Placed
-place_in longest e =
-    record { begins = e.begins; mark = record { lines = e.begins + start_size e.version + 1; saved = e.saved; len = e.kept.len; longest = longest } }
+-- where an entry stands in its text
+abbrev pub place_in : {A : Type 0} → EntryRead A → Placed
+place_in e =
+    record { begins = e.begins; mark = record { lines = e.begins + start_size e.version + 1; saved = e.saved; len = e.kept.len } }

@@ -2,11 +2,12 @@
 use Rattle.std.specs.Prelude.{◌<◌, ◌≤◌, ℕ, Option, length, IfSome, vec_capacity}
 use Rattle.bx_journal_protocol.specs.declared.protocol.restore.Buffers.{Buffers}
 use Rattle.bx_journal_read.specs.declared.scan.mark.Mark.{Mark}
+use Rattle.bx_journal_read.specs.scan.Restoring.{IsEnough}
 
 -- restoring what is unfinished takes no more memory
 abbrev pub HasRoomToRestore : Option Mark → ℕ → Type 0
 HasRoomToRestore mark room = IfSome mark (λ m. m.len ≤ room)
 
--- the buffers have a window for the longest line, and room for a part
+-- the buffers have a window for any line, and room for a part
 abbrev pub HasBuffersFor : {A : Type 0} → Option Mark → Buffers A → Type 0
-HasBuffersFor mark b = IfSome mark (λ m. (m.longest ≤ length b.window.items) × (0 < vec_capacity b.parts))
+HasBuffersFor mark b = IfSome mark (λ m. IsEnough (length b.window.items) × (0 < vec_capacity b.parts))

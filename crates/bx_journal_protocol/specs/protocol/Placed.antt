@@ -7,7 +7,7 @@ use Rattle.bx_journal_protocol.specs.declared.devices.Devices.{Devices}
 use Rattle.bx_journal_format.specs.Kept.{kept_of}
 use Rattle.bx_journal_format.specs.declared.read.types.EntryRead.{EntryRead}
 use Rattle.bx_journal_protocol.specs.declared.protocol.undo_entry.Placed.{Placed}
-use Rattle.bx_journal_read.specs.scan.Restoring.{StandsAt}
+use Rattle.bx_journal_read.specs.scan.Restoring.{IsEnough, StandsAt}
 use Rattle.bx_journal_protocol.specs.protocol.Takens.{AreReady}
 use Rattle.bx_journal_read.specs.model.Undoing.{AreReadFrom}
 
@@ -24,11 +24,11 @@ ArePlaced honest text es [] = Unit {0}
 ArePlaced honest text [] (p ∷ ps) = ⊥
 ArePlaced honest text (e ∷ es) (p ∷ ps) = IsPlaced honest text e p × ArePlaced honest text es ps
 
--- the places lie in order, within an image's room, and their lines within a window
+-- the places lie in order, within an image's room, and any line within a window
 abbrev pub AllFit : ℕ → ℕ → List Placed → Type 0
 AllFit room window [] = Unit {0}
 AllFit room window (p ∷ ps) =
-    (p.begins ≤ p.mark.lines) × (p.mark.lines ≤ p.mark.saved) × (p.mark.len ≤ room) × (p.mark.longest ≤ window) × AllFit room window ps
+    (p.begins ≤ p.mark.lines) × (p.mark.lines ≤ p.mark.saved) × (p.mark.len ≤ room) × IsEnough window × AllFit room window ps
 
 -- the last entries of a text stand at these places, where the store is honest, and the records of what their undos take of the image are ready
 pub record ArePrepared {A : Type 0} (honest : Type 0) (x : List ℕ) (text_honest : Type 0) (stored : List ℕ) (places : List Placed)

@@ -14,18 +14,18 @@ use Rattle.bx_journal_format.specs.Shown.{shown}
 use Rattle.bx_journal_protocol.specs.declared.protocol.restore.Buffers.{Buffers}
 use Rattle.bx_journal_read.specs.declared.scan.mark.Mark.{Mark}
 use Rattle.bx_journal_protocol.specs.declared.protocol.undo_entry.Placed.{Placed}
-use Rattle.bx_journal_read.specs.scan.Restoring.{StandsAt}
+use Rattle.bx_journal_read.specs.scan.Restoring.{IsEnough, StandsAt}
 use Rattle.bx_journal_protocol.specs.protocol.Written.{AreSettled}
 use Rattle.bx_journal_read.specs.model.Redo.{LeavesEither}
 use Rattle.bx_journal_read.specs.scan.Step.{TakesBack}
 use Rattle.bx_journal_protocol.specs.protocol.Turns.{kept_text, side_of}
 use Rattle.bx_journal_store.specs.Store.{IsCutInPart}
 
--- a record in its text has room in the image, and its lines in a window
+-- a record in its text has room in the image, and any line in a window
 pub record CanRestore {A : Type 0} (room : ℕ) (mark : Mark) (buffers : Buffers A) : Type 0 where
   pub image_room : mark.len ≤ room
   pub order : mark.lines ≤ mark.saved
-  pub window : mark.longest ≤ length buffers.window.items
+  pub window : IsEnough (length buffers.window.items)
   pub parts : 0 < vec_capacity buffers.parts
 
 -- a window is as long as it was, and there is room for as many parts

@@ -12,10 +12,10 @@ fn is_countable(place: u64)
     ensures { place < 2 ^ 64 }
 {}
 
-/// Where an entry stands in a text without a line that is longer than this.
-fn place_of<A: Allocator>(entry: &EntryRead<A>, longest: u64) -> Placed
+/// Where an entry stands in its text.
+fn place_of<A: Allocator>(entry: &EntryRead<A>) -> Placed
     requires { IsOrdered entry.now }
-    ensures { result ≡ place_in longest entry.now }
+    ensures { result ≡ place_in entry.now }
 {
     is_countable(entry.saved);
     Placed {
@@ -24,7 +24,6 @@ fn place_of<A: Allocator>(entry: &EntryRead<A>, longest: u64) -> Placed
             lines: entry.begins + start_size(entry.version) + 1,
             saved: entry.saved,
             len: entry.kept.len,
-            longest,
         },
     }
 }
@@ -33,15 +32,14 @@ fn place_of<A: Allocator>(entry: &EntryRead<A>, longest: u64) -> Placed
 pub fn places<A: Allocator + Clone>(
     alloc: &A,
     entries: &[EntryRead<A>],
-    longest: u64,
 ) -> Result<Vec<Placed, A>, SessionFault>
     requires order { AreOrdered entries.now }
-    ensures places { IfOk result (λ ps. ps.items ≡ map (place_in longest) entries.now) }
+    ensures places { IfOk result (λ ps. ps.items ≡ map place_in entries.now) }
     ensures kind { IfErr result (λ e. e ≡ SessionFault.NoMemory) }
 {
     let mut placed = Vec::with_capacity(alloc.clone()?, entries.len())?;
     for entry in entries {
-        if placed.push(place_of(entry, longest)).is_err() {
+        if placed.push(place_of(entry)).is_err() {
             return Err(SessionFault::NoMemory);
         }
     }

@@ -9,7 +9,6 @@ ghost use Rattle.bx_journal_protocol.specs.protocol.Placed.{AllFit, ArePreparedI
 ghost use Rattle.bx_journal_protocol.specs.before.Plan.{IsPlan, IsTakenFor};
 ghost use Rattle.bx_journal_protocol.specs.protocol.Takens.{AreReadyLast, AllShaped, HasRoomForEntries, entries_len as entries_long};
 ghost use Rattle.bx_journal_read.specs.model.Undoing.{AreReadFrom, HasRoomFor};
-ghost use Rattle.bx_journal_read.specs.scan.Windows.{HasShortLines};
 
 use crate::before::overwritten::{Overwritten, all_overwritten, all_zeros};
 use crate::before::places::places;
@@ -64,12 +63,12 @@ fn plan_last<A: Allocator + Clone>(
 ) -> Result<Plan<A>, SessionFault>
     requires few { k ≤ length read.now.entries.items }
     requires order { AreOrdered read.now.entries.items }
-    ensures plan { IfOk result (IsPlan read.now.entries.items read.now.longest k len) }
+    ensures plan { IfOk result (IsPlan read.now.entries.items k len) }
     ensures kind { IfErr result (λ e. e ≡ SessionFault.NoMemory) }
 {
     let entries = read.entries.as_slice();
     let (_, last) = entries.split_at(entries.len() - k as usize);
-    let placed = places(alloc, last, read.longest)?;
+    let placed = places(alloc, last)?;
     let overwritten = all_overwritten(alloc, entries, k, len)?;
     Ok(Plan {
         placed,
@@ -87,7 +86,7 @@ fn plan_of<A: Allocator + Clone>(
 ) -> Result<Plan<A>, SessionFault>
     requires few { k ≤ length read.entries.items }
     requires order { AreOrdered read.entries.items }
-    ensures plan { IfOk result (IsPlan read.entries.items read.longest k len) }
+    ensures plan { IfOk result (IsPlan read.entries.items k len) }
     ensures kind { IfErr result (λ e. e ≡ SessionFault.NoMemory) }
 {
     plan_last(alloc, &read, k, len)
@@ -117,10 +116,10 @@ fn take_memory<A: Allocator + Clone>(
 ) -> Result<Taking<A>, SessionFault>
     requires few { k ≤ length read.entries.items }
     requires order { AreOrdered read.entries.items }
-    ensures taken { IfOk result (IsTakenFor read.entries.items read.longest k len) }
+    ensures taken { IfOk result (IsTakenFor read.entries.items k len) }
     ensures kind { IfErr result (λ e. e ≡ SessionFault.NoMemory) }
 {
-    let most = read.longest;
+    let text_len = read.len;
     let plan = plan_of(alloc, read, k, len)?;
     let Plan {
         placed,
@@ -129,7 +128,7 @@ fn take_memory<A: Allocator + Clone>(
     } = plan;
     let takens = all_zeros(alloc, overwritten.as_slice())?;
     let page = new_page(alloc.clone()?, entries_len(takens.as_slice()))?;
-    let buffers = buffers_of(alloc, most)?;
+    let buffers = buffers_of(alloc, text_len)?;
     Ok(Taking {
         takens,
         placed,
@@ -151,7 +150,7 @@ fn take_records<D: Device, T: TextStore, A: Allocator + Clone>(
     requires to_countable { T.failures devices.old.redo < u64.MAX }
     requires few { k ≤ length read.entries.items }
     requires order { AreOrdered read.entries.items }
-    ensures places { IfOk result (λ o. o.placed.items ≡ map (place_in read.longest) (drop (length read.entries.items - k) read.entries.items)) }
+    ensures places { IfOk result (λ o. o.placed.items ≡ map place_in (drop (length read.entries.items - k) read.entries.items)) }
     ensures fit { IfOk result (λ o. AllFit (D.room devices.new.image) (length o.buffers.window.items) o.placed.items) }
     ensures parts { IfOk result (λ o. 0 < vec_capacity o.buffers.parts) }
     ensures filled { D.honest devices.old.image → IfOk result (λ o. AreReadyLast (D.image devices.old.image) read.entries.items o.takens.items) }
@@ -201,7 +200,6 @@ pub fn prepare_takens<D: Device, T: TextStore, A: Allocator + Clone>(
     requires to_countable { T.failures devices.old.redo < u64.MAX }
     requires few { k ≤ length read.entries.items }
     requires read { AreReadFrom (T.honest devices.old.journal) (T.text devices.old.journal) read.entries.items }
-    requires short { HasShortLines (T.honest devices.old.journal) (T.text devices.old.journal) read.longest }
     ensures prepared { IfOk result (λ o. ArePreparedIn D.Device T.TextStore devices.new o.placed.items o.takens.items) }
     ensures fit { IfOk result (λ o. AllFit (D.room devices.new.image) (length o.buffers.window.items) o.placed.items) }
     ensures parts { IfOk result (λ o. 0 < vec_capacity o.buffers.parts) }

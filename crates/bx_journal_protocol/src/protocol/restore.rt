@@ -1,5 +1,5 @@
 //! Restoring a record from the text in which it stands, a window at a time: nothing of it is held. All memory is taken before.
-ghost use Rattle.std.specs.Prelude.{◌≡◌, ◌↔◌, ◌+◌, ◌-◌, ◌<◌, ◌≤◌, List, ℕ, min, length, map, All, IfOk, IfErr, OnOk, OnErr, is_err, vec_capacity};
+ghost use Rattle.std.specs.Prelude.{◌≡◌, ◌↔◌, ◌+◌, ◌-◌, ◌<◌, ◌≤◌, List, ℕ, length, map, All, IfOk, IfErr, OnOk, OnErr, is_err, vec_capacity};
 ghost use Rattle.bx_image.specs.Change.{placed, restore, KeepsUnmapped};
 ghost use Rattle.bx_image.specs.Device.{GoesOn};
 ghost use Rattle.bx_image.specs.Image.{cut};
@@ -9,12 +9,12 @@ ghost use Rattle.bx_journal_format.specs.count.Parts.{LiesIn, part_run};
 ghost use Rattle.bx_journal_read.specs.scan.Looking.{OneMore};
 ghost use Rattle.bx_journal_protocol.specs.protocol.Fading.{AllKeepUnmapped};
 ghost use Rattle.bx_journal_read.specs.model.Phase.{StaysOpen};
-ghost use Rattle.bx_journal_read.specs.scan.Restoring.{AreNamed, IsRestoredTo, Names, RestoresWindow, StandsAt};
+ghost use Rattle.bx_journal_read.specs.scan.Restoring.{AreNamed, IsRestoredTo, IsEnough, Names, RestoresWindow, StandsAt};
 
 use crate::protocol::image::{restore_len, restore_part};
 use bx_image::{Device, DeviceFailed};
 use bx_journal_format::{Part, parts_in};
-use bx_journal_read::{Mark, SessionFault};
+use bx_journal_read::{Mark, SessionFault, enough_of, passed, read_cut};
 use bx_journal_store::TextStore;
 use std::alloc::{Allocator, Global};
 
@@ -28,13 +28,13 @@ pub struct Buffers<A: Allocator = Global> {
 /// No saved line that `bx` writes is shorter, its newline included.
 const SHORTEST_LINE: usize = 53;
 
-/// What restoring takes, where no line of the text is longer than this.
-pub fn buffers_of<A: Allocator + Clone>(alloc: &A, longest: u64) -> Result<Buffers<A>, SessionFault>
-    ensures window { IfOk result (λ b. length b.window.items ≡ longest) }
+/// What restoring takes from a text of `len` bytes.
+pub fn buffers_of<A: Allocator + Clone>(alloc: &A, len: u64) -> Result<Buffers<A>, SessionFault>
+    ensures window { IfOk result (λ b. IsEnough (length b.window.items)) }
     ensures parts { IfOk result (λ b. 0 < vec_capacity b.parts) }
     ensures kind { IfErr result (λ e. e ≡ SessionFault.NoMemory) }
 {
-    let size = longest as usize;
+    let size = enough_of(len) as usize;
     let window = vec![in alloc.clone()?; 0u8; size]?;
     let parts = Vec::with_capacity(alloc.clone()?, size / SHORTEST_LINE + 1)?;
     Ok(Buffers { window, parts })
@@ -79,9 +79,10 @@ fn restore_window<D: Device, T: TextStore, A: Allocator>(
     requires room { mark.len ≤ D.room image.old }
     requires within { T.honest from.old → mark.saved ≤ length (T.text from.old) }
     requires below { at ≤ mark.saved }
+    requires window { IsEnough (length window.old) }
     ensures below { IfOk result (λ n. at + n ≤ mark.saved) }
     ensures restored { D.honest image.old → T.honest from.old → (text : List ℕ) → T.text from.old ≡ text → IfOk result (λ n. RestoresWindow text mark.len
-        (min (length window.old) (mark.saved - at)) (vec_capacity parts.old) at n (D.image image.old) (D.image image.new)) }
+        (mark.saved - at) (vec_capacity parts.old) at n (D.image image.old) (D.image image.new)) }
     ensures keeps { D.honest image.old → T.honest from.old → (text : List ℕ) → T.text from.old ≡ text → (s r : Kept) (stands : StandsAt text mark s)
         → Names r s → (x : List ℕ) → IsRestoredTo text stands.entries stands.version mark.len at x (D.image image.old)
         → KeepsUnmapped r (D.image image.old) (D.image image.new) × Follows (KeepsUnmapped r) (D.survives image.old) (D.survives image.new) }
@@ -96,12 +97,11 @@ fn restore_window<D: Device, T: TextStore, A: Allocator>(
     ensures no_failure { OnOk result ((D.failures image.new ≡ D.failures image.old) × (T.failures from.new ≡ T.failures from.old)) }
     ensures failure { OnErr result (OneMore (D.failures image.old) (T.failures from.old) (D.failures image.new) (T.failures from.new)) }
 {
-    let more = (window.len() as u64).min(mark.saved - at) as usize;
-    let (now, _) = window.split_at_mut(more);
-    from.read_at(at, now)?;
+    let cut = read_cut(from, window, at, mark.saved)?;
+    let (now, _) = window.split_at_mut(cut.count);
     let taken = parts_in(mark.len, now, parts);
     restore_parts(image, mark.len, now, parts)?;
-    Ok(taken as u64)
+    Ok(passed(cut, taken))
 }
 
 /// Restores the saved lines of a record, a window at a time. It ends where a window begins with another line: in a text that is as it was
@@ -118,7 +118,7 @@ fn restore_lines<D: Device, T: TextStore, A: Allocator>(
     requires room { mark.len ≤ D.room image.old }
     requires within { T.honest from.old → mark.saved ≤ length (T.text from.old) }
     requires order { mark.lines ≤ mark.saved }
-    requires window { mark.longest ≤ length window.old }
+    requires window { IsEnough (length window.old) }
     requires parts { 0 < vec_capacity parts.old }
     ensures ok { D.honest image.old → T.honest from.old → (s : Kept) → StandsAt (T.text from.old) mark s → (x : List ℕ) → D.image image.old ≡ cut x mark.len
         → OnOk result (D.image image.new ≡ restore s x) }
@@ -161,7 +161,7 @@ pub fn restore_windows<D: Device, T: TextStore, A: Allocator>(
     requires room { mark.len ≤ D.room image.old }
     requires within { T.honest from.old → mark.saved ≤ length (T.text from.old) }
     requires order { mark.lines ≤ mark.saved }
-    requires window { mark.longest ≤ length window.old }
+    requires window { IsEnough (length window.old) }
     requires parts { 0 < vec_capacity parts.old }
     ensures ok { D.honest image.old → T.honest from.old → (s : Kept) → StandsAt (T.text from.old) mark s
         → OnOk result (D.image image.new ≡ restore s (D.image image.old)) }

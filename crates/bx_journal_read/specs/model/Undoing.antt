@@ -16,7 +16,6 @@ use Rattle.bx_journal_format.specs.read.Lines.{IsReadUpTo}
 use Rattle.bx_journal_format.specs.count.Mark.{IsMark}
 use Rattle.bx_journal_format.specs.Parsed.{AllKept, AreMarked, entries_of, entries_onto}
 use Rattle.bx_journal_read.specs.scan.Looking.{LooksAt}
-use Rattle.bx_journal_read.specs.scan.Windows.{HasShortLines}
 use Rattle.bx_journal_read.specs.declared.scan.entries.FinishedRead.{FinishedRead}
 
 -- what is left of a text: a prefix, which is these finished entries alone
@@ -110,7 +109,6 @@ pub record IsLastFrom {A : Type 0} (honest : Type 0) (stored : List ℕ) (len : 
 pub record LooksForLast {T A : Type 0} (t : StoreViews T) (count k : ℕ) (result : Result (Option (FinishedRead A)) SessionFault) (old new : T) : Type 0 where
   pub read : IfOk result (λ found. IfSome found (λ o. IsLastFrom (t.honest old) (t.text old) o.len o.entries.items count))
   pub few : IfOk result (λ found. IfSome found (λ o. k ≤ length o.entries.items))
-  pub short : IfOk result (λ found. IfSome found (λ o. HasShortLines (t.honest old) (t.text old) o.longest))
   pub fault : IfErr result LacksOrFails
   pub looks : LooksAt t.honest t.text t.failures result old new
   pub found_before : t.honest old → NoMore (t.survives old) (t.survives new)

@@ -9,12 +9,11 @@ use Rattle.bx_journal_format.specs.declared.format.version.Version.{Version}
 use Rattle.bx_journal_read.specs.declared.scan.mark.Mark.{Mark}
 use Rattle.bx_journal_read.specs.model.Phase.{IsPartOf}
 
--- with its newline no line is longer than this
-abbrev pub AllShorter : ℕ → List (List ℕ) → Type 0
-AllShorter most [] = Unit {0}
-AllShorter most (line ∷ lines) = (length line < most) × AllShorter most lines
+-- a window of this size is enough to read any line with
+abbrev pub IsEnough : ℕ → Type 0
+IsEnough size = 1024 < size
 
--- The saved lines of this record begin at the one place, and its save line ends at the other. No line up to there is longer than recorded
+-- The saved lines of this record begin at the one place, and its save line ends at the other
 pub record StandsAt (text : List ℕ) (m : Mark) (s : Kept) : Type 0 where
   pub entries : List Entry
   pub version : Version
@@ -22,7 +21,6 @@ pub record StandsAt (text : List ℕ) (m : Mark) (s : Kept) : Type 0 where
   pub begins : IsMark text m.lines (record { entries = entries; stage = Saving version (record { len = m.len; runs = [] }) })
   pub ends : IsMark text m.saved (record { entries = entries; stage = Ending version s })
   pub order : m.lines ≤ m.saved
-  pub short : AllShorter m.longest (split (take m.saved text)).lines
 
 -- below its length the one record leaves out only addresses that the other one leaves out, and that lie below its length too
 abbrev pub Names : Kept → Kept → Type 0
@@ -33,13 +31,13 @@ abbrev pub AreNamed : Kept → List Run → Type 0
 AreNamed r [] = Unit {0}
 AreNamed r (run ∷ runs) = IsPartOf r run.at (length run.bytes) × AreNamed r runs
 
--- n bytes of a text at a place are saved lines in an entry of an image of this length, and their runs were placed on the image
-pub record RestoresWindow (text : List ℕ) (len size room at n : ℕ) (x y : List ℕ) : Type 0 where
+-- the first n of some bytes of a text at a place are saved lines in an entry of an image of this length, and their runs were placed on the image
+pub record RestoresWindow (text : List ℕ) (len more room at n : ℕ) (x y : List ℕ) : Type 0 where
   pub runs : List Run
   pub within : AllWithin len runs
   pub leads : (entries : List Entry) (v : Version) (old : List Run) → IsIn (take at text) entries v (record { len = len; runs = old })
       → IsIn (take (at + n) text) entries v (record { len = len; runs = with_runs old runs })
-  pub some : TakesSome len (take size (drop at text)) room n
+  pub some : TakesSome len (take more (drop at text)) room n
   pub image : y ≡ placed runs x
 
 -- the saved lines of an entry up to a place are restored, from the image x on

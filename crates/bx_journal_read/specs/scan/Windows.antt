@@ -1,13 +1,13 @@
 -- A store's text that is read in windows.
-use Rattle.std.specs.Prelude.{◌≡◌, ◌<◌, ◌≤◌, ℕ, ◌+◌, ◌-◌, Bool, IsTrue, ◌==◌, not, List, length, take, drop, Option, None, Result, IfOk, IfSome}
+use Rattle.std.specs.Prelude.{◌≡◌, ◌⊎◌, ◌++◌, ◌<◌, ◌≤◌, ℕ, ◌+◌, ◌-◌, Bool, IsTrue, ◌==◌, not, List, length, take, drop, Option, None, Result, IfOk, IfSome}
 use Rattle.std.specs.List.{list_all}
 use Rattle.bx_journal_format.specs.declared.read.types.Front.{Front}
 use Rattle.bx_journal_read.specs.declared.scan.count.CountedText.{CountedText}
 use Rattle.bx_journal_read.specs.declared.scan.count.CountScan.{CountScan}
 use Rattle.bx_journal_read.specs.declared.scan.count.Walk.{Walk}
 use Rattle.bx_journal_read.specs.declared.scan.windows.Reached.{Reached}
+use Rattle.bx_journal_read.specs.declared.scan.windows.Taken.{Taken}
 use Rattle.bx_journal_format.specs.Text.{split}
-use Rattle.bx_journal_read.specs.scan.Restoring.{AllShorter}
 use Rattle.bx_journal_format.specs.count.Tally.{IsTallied, IsCountedAll}
 
 -- the text up to a place leads to a state: the store's, where that is honest
@@ -17,20 +17,14 @@ pub record IsLedTo {S : Type 0} (honest : Type 0) (stored : List ℕ) (Leads : S
   pub long : length text ≡ at
   pub leads : Leads scan text
 
--- no line of a text is as long as this: of the store's, where that is honest
-abbrev pub HasShortLines : Type 0 → List ℕ → ℕ → Type 0
-HasShortLines honest stored longest = honest → AllShorter longest (split stored).lines
+-- a line leads from a text to a state, or it isn't taken
+abbrev pub TakesLong : {S : Type 0} → (S → List ℕ → Type 0) → List ℕ → List ℕ → Taken S → Type 0
+TakesLong Leads text line t = ((t.taken ≡ 0) × Leads t.scan text) ⊎ ((0 < t.taken) × Leads t.scan (text ++ line))
 
--- where no line up to the one place is as long as this, which is a window or more, none up to the other is
-abbrev pub KeepsShort : Type 0 → List ℕ → ℕ → ℕ → ℕ → Type 0
-KeepsShort honest stored size from to =
-    (longest : ℕ) → size ≤ longest → HasShortLines honest (take from stored) longest → HasShortLines honest (take to stored) longest
-
--- the text up to a place before `len` leads to a state; no line behind `from` is as long as the windows are
-pub record IsReached {S : Type 0} (honest : Type 0) (stored : List ℕ) (Leads : S → List ℕ → Type 0) (size from len : ℕ) (r : Reached S) : Type 0 where
+-- the text up to a place before `len` leads to a state
+pub record IsReached {S : Type 0} (honest : Type 0) (stored : List ℕ) (Leads : S → List ℕ → Type 0) (len : ℕ) (r : Reached S) : Type 0 where
   pub led : IsLedTo honest stored Leads r.at r.scan
   pub below : r.at ≤ len
-  pub short : KeepsShort honest stored size from r.at
 
 -- what is said of the place that was reached, if one was
 abbrev pub IfReached : {R E F : Type 0} → Result (Result (Option R) E) F → (R → Type 0) → Type 0
@@ -43,13 +37,12 @@ pub record IsCountedBy (first now : CountScan) (text : List ℕ) : Type 0 where
   pub lines : now.lines ≤ length text
   pub few : now.tally.count ≤ 65535
 
--- the lines of a text were walked along up to a place, which lead to a tally; no line of the store's, where that is honest, is as long as the window
-pub record IsWalkedTo (honest : Type 0) (stored : List ℕ) (only_second : Bool) (size len : ℕ) (w : Walk) : Type 0 where
+-- the lines of a text were walked along up to a place, which lead to a tally
+pub record IsWalkedTo (honest : Type 0) (stored : List ℕ) (only_second : Bool) (len : ℕ) (w : Walk) : Type 0 where
   pub led : IsLedTo honest stored (λ (w : Walk) text. IsTallied only_second text w.tally w.lines) w.at w
   pub below : w.at ≤ len
   pub lines : w.lines ≤ w.at
   pub few : w.tally.count ≤ 65535
-  pub short : HasShortLines honest (take w.at stored) size
 
 -- a front of a text is `f.count` finished entries alone: of the store's, where that is honest
 pub record IsFrontCounted (honest : Type 0) (stored : List ℕ) (only_second : Bool) (f : Front) : Type 0 where

@@ -1,14 +1,16 @@
 //! A text that is counted in windows.
-ghost use Rattle.std.specs.Prelude.{◌≡◌, ◌<◌, ◌≤◌, length, take, min, is_err, IfOk, IfErr, IfSome};
+ghost use Rattle.std.specs.Prelude.{◌≡◌, ◌<◌, ◌≤◌, length, take, is_err, IfOk, IfErr, IfSome};
 ghost use Rattle.bx_image.specs.Power.{NoMore};
 ghost use Rattle.bx_journal_read.specs.scan.Looking.{LooksAt, LooksThrough, OnlyReadsText};
 ghost use Rattle.bx_journal_read.specs.model.Fault.{LacksOrFails};
-ghost use Rattle.bx_journal_read.specs.scan.Windows.{HasShortLines, IsAllCounted, IsCountedBy, IsFrontCounted, IsWalkedTo};
+ghost use Rattle.bx_journal_read.specs.scan.Windows.{IsAllCounted, IsCountedBy, IsFrontCounted, IsWalkedTo};
 
 use crate::fault::SessionFault;
 use crate::scan::windows::{Scan, Taken, WINDOW, scan_start};
 use bx_image::DeviceFailed;
-use bx_journal_format::{Counted, Front, MOST_CHANGES, Tally, count_lines, counted_by, no_entries};
+use bx_journal_format::{
+    Counted, Front, MOST_CHANGES, Tally, count_lines, count_one, counted_by, no_entries,
+};
 use bx_journal_store::TextStore;
 use bx_text::NoMemory;
 use std::alloc::Allocator;
@@ -67,6 +69,26 @@ impl Scan for CountScan {
         }))
     }
 
+    fn take_long(
+        self,
+        _at: u64,
+        _size: u64,
+        line: &[u8],
+    ) -> Result<Option<Taken<CountScan>>, NoMemory> {
+        let Some(tally) = count_one(self.tally, line, self.only_second) else {
+            return Ok(None);
+        };
+        Ok(Some(Taken {
+            scan: CountScan {
+                tally,
+                lines: self.lines + 1,
+                only_second: self.only_second,
+                limit: self.limit,
+            },
+            taken: line.len(),
+        }))
+    }
+
     ghost whole = { λ first now text h. h.tallied.whole };
 }
 
@@ -82,7 +104,7 @@ pub fn walk_windows<T: TextStore>(
 ) -> Result<Option<Walk>, DeviceFailed>
     requires countable { T.failures store.old < u64.MAX }
     requires within { T.honest store.old → len ≤ length (T.text store.old) }
-    ensures walked { IfOk result (λ found. IfSome found (IsWalkedTo (T.honest store.old) (T.text store.old) only_second (length window.old) len)) }
+    ensures walked { IfOk result (λ found. IfSome found (IsWalkedTo (T.honest store.old) (T.text store.old) only_second len)) }
     ensures window { length window.new ≡ length window.old }
     ensures reads { OnlyReadsText T.TextStore (is_err result) store.old store.new }
 {
@@ -104,8 +126,7 @@ pub fn walk_windows<T: TextStore>(
 }
 
 /// Counts the first entries in a text's first `len` bytes, a window at a time: as many as the limit says, or all. It answers none where the
-/// text is anything but finished entries up to there, with `only_second` also where one tells no length, and where a line is
-/// longer than the window.
+/// text is anything but finished entries up to there, with `only_second` also where one tells no length.
 pub fn count_windows<T: TextStore>(
     store: &mut T,
     window: &mut [u8],
@@ -116,7 +137,6 @@ pub fn count_windows<T: TextStore>(
     requires countable { T.failures store.old < u64.MAX }
     requires within { T.honest store.old → len ≤ length (T.text store.old) }
     ensures counted { IfOk result (λ found. IfSome found (IsFrontCounted (T.honest store.old) (T.text store.old) only_second)) }
-    ensures short { IfOk result (λ found. IfSome found (λ f. HasShortLines (T.honest store.old) (take f.at (T.text store.old)) (length window.old))) }
     ensures window { length window.new ≡ length window.old }
     ensures within { IfOk result (λ found. IfSome found (λ f. f.at ≤ len)) }
     ensures reads { OnlyReadsText T.TextStore (is_err result) store.old store.new }
@@ -140,8 +160,7 @@ pub fn count_windows<T: TextStore>(
 }
 
 /// Counts the first entries of a text of `len` bytes, as many as the limit says or all, in as much memory for any length. It
-/// answers none where they can't be counted so: where they aren't finished entries, with `only_second` also where one tells
-/// no length, and where a line is very long.
+/// answers none where they aren't finished entries, with `only_second` also where one tells no length.
 pub fn count_front<T: TextStore, A: Allocator + Clone>(
     alloc: &A,
     store: &mut T,
@@ -152,7 +171,6 @@ pub fn count_front<T: TextStore, A: Allocator + Clone>(
     requires countable { T.failures store.old < u64.MAX }
     requires long { T.honest store.old → len ≡ length (T.text store.old) }
     ensures counted { IfOk result (λ found. IfSome found (IsFrontCounted (T.honest store.old) (T.text store.old) only_second)) }
-    ensures short { IfOk result (λ found. IfSome found (λ f. HasShortLines (T.honest store.old) (take f.at (T.text store.old)) (min WINDOW len))) }
     ensures within { IfOk result (λ found. IfSome found (λ f. f.at ≤ len)) }
     ensures reads { LooksThrough T.TextStore result store.old store.new }
 {
@@ -162,8 +180,8 @@ pub fn count_front<T: TextStore, A: Allocator + Clone>(
     Ok(found)
 }
 
-/// Counts the entries of a text in as much memory for any length. It answers none where it can't be counted so: where it is
-/// anything but finished entries, with `only_second` also where one tells no length, and where a line is very long.
+/// Counts the entries of a text in as much memory for any length. It answers none where it is anything but
+/// finished entries, with `only_second` also where one tells no length.
 pub fn count_text<T: TextStore, A: Allocator + Clone>(
     alloc: &A,
     store: &mut T,

@@ -7,10 +7,11 @@ ghost use Rattle.bx_journal_read.specs.scan.Windows.{IsWalkedTo};
 
 use crate::fault::SessionFault;
 use crate::scan::count::Walk;
+use crate::scan::long::newline_from;
 use crate::scan::shown::shown_in;
 use crate::scan::windows::{Scan, Taken, WINDOW, scan_start};
 use bx_image::DeviceFailed;
-use bx_journal_format::{SURELY_LONG, Tally, is_damaged, line_end, lines_in_place, no_entries};
+use bx_journal_format::{SURELY_LONG, Tally, count_one, is_damaged, lines_in_place, no_entries};
 use bx_journal_store::TextStore;
 use bx_text::NoMemory;
 use std::alloc::Allocator;
@@ -41,11 +42,32 @@ impl Scan for PlaceScan {
         }))
     }
 
+    fn take_long(
+        self,
+        _at: u64,
+        _size: u64,
+        line: &[u8],
+    ) -> Result<Option<Taken<PlaceScan>>, NoMemory> {
+        let Some(tally) = count_one(self.tally, line, false) else {
+            return Ok(Some(Taken {
+                scan: self,
+                taken: 0,
+            }));
+        };
+        Ok(Some(Taken {
+            scan: PlaceScan {
+                tally,
+                lines: self.lines + 1,
+            },
+            taken: line.len(),
+        }))
+    }
+
     ghost whole = { λ first now text h. h.tallied.whole };
 }
 
-/// Walks along the lines of a text's first `len` bytes that are in place, a window at a time: up to the first that isn't, to one that is
-/// longer than the window, or as far as whole lines go.
+/// Walks along the lines of a text's first `len` bytes that are in place, a window at a time: up to the first that isn't, or as far as
+/// whole lines go.
 fn walk_in_place<T: TextStore>(
     store: &mut T,
     window: &mut [u8],
@@ -53,7 +75,7 @@ fn walk_in_place<T: TextStore>(
 ) -> Result<Option<Walk>, DeviceFailed>
     requires countable { T.failures store.old < u64.MAX }
     requires within { T.honest store.old → len ≤ length (T.text store.old) }
-    ensures walked { IfOk result (λ found. IfSome found (IsWalkedTo (T.honest store.old) (T.text store.old) false (length window.old) len)) }
+    ensures walked { IfOk result (λ found. IfSome found (IsWalkedTo (T.honest store.old) (T.text store.old) false len)) }
     ensures window { length window.new ≡ length window.old }
     ensures reads { OnlyReadsText T.TextStore (is_err result) store.old store.new }
 {
@@ -82,7 +104,7 @@ fn is_damaged_behind<T: TextStore>(
 ) -> Result<bool, DeviceFailed>
     requires countable { T.failures store.old < u64.MAX }
     requires within { T.honest store.old → len ≤ length (T.text store.old) }
-    requires walked { IsWalkedTo (T.honest store.old) (T.text store.old) false (length window.old) len walk }
+    requires walked { IsWalkedTo (T.honest store.old) (T.text store.old) false len walk }
     ensures damaged { IfOk result (λ b. IsTrue b → IsDamagedIn (T.honest store.old) (take len (T.text store.old)) (walk.lines + 1)) }
     ensures window { length window.new ≡ length window.old }
     ensures reads { OnlyReadsText T.TextStore (is_err result) store.old store.new }
@@ -109,17 +131,8 @@ fn is_endless<T: TextStore>(
     ensures window { length window.new ≡ length window.old }
     ensures reads { OnlyReadsText T.TextStore (is_err result) store.old store.new }
 {
-    let mut at = from;
-    while at < len {
-        let count = (len - at).min(window.len() as u64) as usize;
-        let (part, _) = window.split_at_mut(count);
-        store.read_at(at, part)?;
-        if let Some(_) = line_end(part) {
-            return Ok(false);
-        }
-        at += count as u64;
-    }
-    Ok(true)
+    let end = newline_from(store, window, from, len)?;
+    Ok(end == len)
 }
 
 /// Whether a text's first `len` bytes end in a line that is surely too long to stand there, behind those that were walked along.
@@ -131,7 +144,7 @@ fn ends_long<T: TextStore>(
 ) -> Result<bool, DeviceFailed>
     requires countable { T.failures store.old < u64.MAX }
     requires within { T.honest store.old → len ≤ length (T.text store.old) }
-    requires walked { IsWalkedTo (T.honest store.old) (T.text store.old) false (length window.old) len walk }
+    requires walked { IsWalkedTo (T.honest store.old) (T.text store.old) false len walk }
     ensures damaged { IfOk result (λ b. IsTrue b → IsDamagedIn (T.honest store.old) (take len (T.text store.old)) (walk.lines + 1)) }
     ensures reads { OnlyReadsText T.TextStore (is_err result) store.old store.new }
 {
@@ -153,7 +166,7 @@ fn is_damaged_at<T: TextStore>(
 ) -> Result<bool, DeviceFailed>
     requires countable { T.failures store.old < u64.MAX }
     requires within { T.honest store.old → len ≤ length (T.text store.old) }
-    requires walked { IsWalkedTo (T.honest store.old) (T.text store.old) false (length window.old) len walk }
+    requires walked { IsWalkedTo (T.honest store.old) (T.text store.old) false len walk }
     ensures damaged { IfOk result (λ b. IsTrue b → IsDamagedIn (T.honest store.old) (take len (T.text store.old)) (walk.lines + 1)) }
     ensures reads { OnlyReadsText T.TextStore (is_err result) store.old store.new }
 {
@@ -164,8 +177,7 @@ fn is_damaged_at<T: TextStore>(
     ends_long(store, window, len, walk)
 }
 
-/// The line, from 1, at which a text's first `len` bytes are damaged. It answers none where they aren't, and where a saved line that is in
-/// place is longer than the window.
+/// The line, from 1, at which a text's first `len` bytes are damaged. It answers none where they aren't.
 fn find_line<T: TextStore>(
     store: &mut T,
     window: &mut [u8],
@@ -228,7 +240,7 @@ fn find_read<T: TextStore>(
 }
 
 /// The line at which a text is damaged, in as much memory for any length; with `fades` at which what is read of a journal's text is. It answers none
-/// where it isn't damaged, and where a saved line that is in place is very long.
+/// where it isn't damaged.
 pub fn text_damage<T: TextStore, A: Allocator + Clone>(
     alloc: &A,
     store: &mut T,

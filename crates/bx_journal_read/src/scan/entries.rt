@@ -1,30 +1,28 @@
 //! The journal of an open session, read once more: all of it, or its last entries alone.
-ghost use Rattle.std.specs.Prelude.{◌≡◌, ◌<◌, ◌≤◌, List, ℕ, false, length, take, min, IfOk, IfErr, IfSome, IfNone};
+ghost use Rattle.std.specs.Prelude.{◌≡◌, ◌<◌, ◌≤◌, List, ℕ, false, length, take, IfOk, IfErr, IfSome, IfNone};
 ghost use Rattle.bx_image.specs.Power.{NoMore};
 ghost use Rattle.bx_journal_format.specs.Text.{Entry};
 ghost use Rattle.bx_journal_format.specs.read.Journal.{HasRead};
 ghost use Rattle.bx_journal_format.specs.read.Lines.{IsReadUpTo};
 ghost use Rattle.bx_journal_read.specs.scan.Looking.{LooksAt, LooksThrough};
 ghost use Rattle.bx_journal_read.specs.model.Undoing.{AgainFault, HasCount, FindsLast, IsLastFrom, IsReadAgain, IsReadBehind, IsReadFrom, LooksForLast, read_whole};
-ghost use Rattle.bx_journal_read.specs.scan.Windows.{HasShortLines, IsFrontCounted, KeepsShort};
+ghost use Rattle.bx_journal_read.specs.scan.Windows.{IsFrontCounted};
 
 use crate::fault::{SessionFault, of_text};
 use crate::scan::count::count_front;
 use crate::scan::whole::read_journal;
 use crate::scan::windows::{Scan, Taken, WINDOW, scan_windows};
 use bx_journal_format::{
-    EntryRead, Front, JournalRead, LinesRead, StageRead, nothing_read, read_lines,
+    EntryRead, Front, JournalRead, LinesRead, StageRead, nothing_read, read_lines, read_long,
 };
 use bx_journal_store::TextStore;
 use bx_text::NoMemory;
 use std::alloc::{Allocator, Global};
 
-/// How many bytes a text of finished entries alone has, and those entries, or the last of them. No line of the text is longer than
-/// `longest`, newline included.
+/// How many bytes a text of finished entries alone has, and those entries, or the last of them.
 #[derive(Drop)]
 pub struct FinishedRead<A: Allocator = Global> {
     pub len: u64,
-    pub longest: u64,
     pub entries: Vec<EntryRead<A>, A>,
 }
 
@@ -32,7 +30,6 @@ pub struct FinishedRead<A: Allocator = Global> {
 fn finished<A: Allocator>(len: u64, journal: JournalRead<A>, count: u32) -> Option<FinishedRead<A>>
     ensures some { (text : List ℕ) → HasRead text journal → len ≡ length text → IfSome result (λ o. IsReadAgain text o.entries.items count) }
     ensures len { IfSome result (λ o. o.len ≡ len) }
-    ensures longest { IfSome result (λ o. o.longest ≡ len) }
     ensures none { (text : List ℕ) → HasRead text journal → len ≡ length text → IfNone result (HasCount text count → ⊥) }
 {
     let JournalRead {
@@ -48,11 +45,7 @@ fn finished<A: Allocator>(len: u64, journal: JournalRead<A>, count: u32) -> Opti
             if entries.len() != count as usize {
                 return None;
             }
-            Some(FinishedRead {
-                len,
-                longest: len,
-                entries,
-            })
+            Some(FinishedRead { len, entries })
         }
         StageRead::Saving { .. } => None,
         StageRead::Ending { .. } => None,
@@ -67,7 +60,6 @@ pub fn read_again<T: TextStore, A: Allocator + Clone>(
 ) -> Result<FinishedRead<A>, SessionFault>
     requires { T.failures store.old < u64.MAX }
     ensures read { IfOk result (λ o. IsReadFrom (T.honest store.old) (T.text store.old) o.len o.entries.items count) }
-    ensures short { IfOk result (λ o. HasShortLines (T.honest store.old) (T.text store.old) o.longest) }
     ensures fault { IfErr result (AgainFault (T.honest store.old) (T.text store.old) count) }
     ensures looks { LooksAt T.honest T.text T.failures result store.old store.new }
     ensures survives { T.honest store.old → NoMore (T.survives store.old) (T.survives store.new) }
@@ -119,11 +111,31 @@ impl<'a, A: Allocator + Clone> Scan for EntryScan<'a, A> {
         }))
     }
 
+    fn take_long(
+        self,
+        _at: u64,
+        size: u64,
+        line: &[u8],
+    ) -> Result<Option<Taken<EntryScan<'a, A>>>, NoMemory> {
+        let EntryScan { alloc, front, read } = self;
+        let Some(next) = read_long(alloc, front, read, line, size)? else {
+            return Ok(None);
+        };
+        Ok(Some(Taken {
+            scan: EntryScan {
+                alloc,
+                front,
+                read: next,
+            },
+            taken: line.len(),
+        }))
+    }
+
     ghost whole = { λ first now text h. read_whole text h.0 first.front now.read h.1 };
 }
 
 /// Reads what stands behind a front in a text of `len` bytes, a window at a time. What is left of a window's last line is
-/// read again with the next one. It answers none where a line is out of place, and where one is longer than the window.
+/// read again with the next one. It answers none where a line is out of place.
 fn read_windows<T: TextStore, A: Allocator + Clone>(
     alloc: &A,
     store: &mut T,
@@ -137,7 +149,6 @@ fn read_windows<T: TextStore, A: Allocator + Clone>(
     requires front { IsFrontCounted (T.honest store.old) (T.text store.old) false front }
     ensures read { IfOk result (λ found. IfSome found (IsReadBehind (T.honest store.old) (T.text store.old) front)) }
     ensures all { IfOk result (λ found. IfSome found (λ r. r.at ≡ len)) }
-    ensures short { IfOk result (λ found. IfSome found (λ r. KeepsShort (T.honest store.old) (T.text store.old) (length window.old) front.at r.at)) }
     ensures reads { LooksThrough T.TextStore result store.old store.new }
 {
     let read = nothing_read(alloc, front)?;
@@ -156,7 +167,6 @@ fn read_windows<T: TextStore, A: Allocator + Clone>(
 /// least k.
 fn last_of<A: Allocator>(
     len: u64,
-    longest: u64,
     first: u32,
     read: LinesRead<A>,
     k: u32,
@@ -164,7 +174,6 @@ fn last_of<A: Allocator>(
 ) -> Option<FinishedRead<A>>
     ensures some { FindsLast read first len count result }
     ensures len { IfSome result (λ o. o.len ≡ len) }
-    ensures longest { IfSome result (λ o. o.longest ≡ longest) }
     ensures few { IfSome result (λ o. k ≤ length o.entries.items) }
 {
     let LinesRead { entries, stage, .. } = read;
@@ -176,11 +185,7 @@ fn last_of<A: Allocator>(
             if entries.len() < k as usize {
                 return None;
             }
-            Some(FinishedRead {
-                len,
-                longest,
-                entries,
-            })
+            Some(FinishedRead { len, entries })
         }
         StageRead::Saving { .. } => None,
         StageRead::Ending { .. } => None,
@@ -189,7 +194,7 @@ fn last_of<A: Allocator>(
 
 /// Reads what stands behind a front of finished entries in a text of `len` bytes: the last k entries at least, of `count` in
 /// all. It takes the memory of their saved bytes, and of a window. It answers none where the text isn't `count` finished
-/// entries alone, and where a line is longer than the window. It changes nothing.
+/// entries alone. It changes nothing.
 fn read_from<T: TextStore, A: Allocator + Clone>(
     alloc: &A,
     store: &mut T,
@@ -202,21 +207,19 @@ fn read_from<T: TextStore, A: Allocator + Clone>(
     requires within { front.at ≤ len }
     requires long { T.honest store.old → len ≡ length (T.text store.old) }
     requires front { IsFrontCounted (T.honest store.old) (T.text store.old) false front }
-    requires short { HasShortLines (T.honest store.old) (take front.at (T.text store.old)) (min WINDOW len) }
     ensures { LooksForLast T.TextStore count k result store.old store.new }
 {
-    let longest = WINDOW.min(len);
-    let size = longest.min(len - front.at) as usize;
+    let size = WINDOW.min(len - front.at) as usize;
     let mut window = vec![in alloc.clone()?; 0u8; size]?;
     let found = read_windows(alloc, store, window.as_mut_slice(), front, len)?;
     let Some(read) = found else {
         return Ok(None);
     };
-    Ok(last_of(len, longest, front.count, read, k, count))
+    Ok(last_of(len, front.count, read, k, count))
 }
 
 /// Reads the last k entries of a text that is to be `count` finished entries alone. It answers none where the text isn't
-/// that, or a line is very long. It changes nothing.
+/// that. It changes nothing.
 fn find_last<T: TextStore, A: Allocator + Clone>(
     alloc: &A,
     store: &mut T,
@@ -247,7 +250,6 @@ pub fn read_last_of<T: TextStore, A: Allocator + Clone>(
     requires few { k ≤ count }
     ensures read { IfOk result (λ o. IsLastFrom (T.honest store.old) (T.text store.old) o.len o.entries.items count) }
     ensures few { IfOk result (λ o. k ≤ length o.entries.items) }
-    ensures short { IfOk result (λ o. HasShortLines (T.honest store.old) (T.text store.old) o.longest) }
     ensures fault { IfErr result (AgainFault (T.honest store.old) (T.text store.old) count) }
     ensures looks { LooksAt T.honest T.text T.failures result store.old store.new }
     ensures survives { T.honest store.old → NoMore (T.survives store.old) (T.survives store.new) }

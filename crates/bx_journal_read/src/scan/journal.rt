@@ -87,7 +87,6 @@ fn as_torn<A: Allocator>(journal: &JournalRead<A>) -> Torn
                 lines: *begins + start_size(*version) + 1,
                 saved: *saved,
                 len: kept.len,
-                longest: *saved,
             }),
         },
     }
@@ -183,8 +182,7 @@ fn find_in<T: TextStore>(
     Ok(Some(Found::Unfinished(torn)))
 }
 
-/// What a text is, found in as much memory for any length. It answers none where it can't be found so: where the text is damaged or has a
-/// very long line.
+/// What a text is, found in as much memory for any length. It answers none where it can't be found so, as where the text is damaged.
 fn find_text<T: TextStore, A: Allocator + Clone>(
     alloc: &A,
     store: &mut T,

@@ -8,7 +8,7 @@ ghost use Rattle.bx_journal_format.specs.read.Plain.{HasNoNewline};
 ghost use Rattle.bx_journal_format.specs.count.Tally.{tally_of};
 ghost use Rattle.bx_journal_read.specs.scan.Looking.{OnlyReadsText};
 ghost use Rattle.bx_journal_read.specs.scan.Recovery.{HasMark, IsTornFront, IsUnfinishedIn};
-ghost use Rattle.bx_journal_read.specs.scan.Restoring.{AllShorter, StandsAt};
+ghost use Rattle.bx_journal_read.specs.scan.Restoring.{StandsAt};
 ghost use Rattle.bx_journal_read.specs.scan.Windows.{IsWalkedTo, rest_to};
 
 use crate::scan::count::{ALL, Walk, count_windows, walk_windows};
@@ -105,13 +105,12 @@ fn find_record<T: TextStore>(
     requires within { T.honest store.old → walk.at ≤ length (T.text store.old) }
     ensures record_ { T.honest store.old → (r : Reading) (s : Kept) → IsMark (T.text store.old) begins (record { entries = r.entries; stage = Resting })
         → IsMark (T.text store.old) walk.at r → tally_of r ≡ walk.tally → r.stage ≡ Closing version s
-        → AllShorter (length window.old) (split (take walk.at (T.text store.old))).lines → IfOk result (λ found. IfSome found (λ m. StandsAt (T.text store.old) m s)) }
+        → IfOk result (λ found. IfSome found (λ m. StandsAt (T.text store.old) m s)) }
     ensures order { IfOk result (λ found. IfSome found (λ m. m.lines ≤ m.saved)) }
     ensures ends { IfOk result (λ found. IfSome found (λ m. m.saved ≡ walk.at)) }
     ensures window { length window.new ≡ length window.old }
     ensures reads { OnlyReadsText T.TextStore (is_err result) store.old store.new }
 {
-    let longest = window.len() as u64;
     let found = find_len(store, window, begins, walk)?;
     let Some(len) = found else {
         return Ok(None);
@@ -124,7 +123,6 @@ fn find_record<T: TextStore>(
         lines: begins + first + 1,
         saved: walk.at,
         len,
-        longest,
     }))
 }
 
@@ -139,8 +137,7 @@ fn find_mark<T: TextStore>(
     requires below { begins ≤ walk.at }
     requires within { T.honest store.old → walk.at ≤ length (T.text store.old) }
     ensures mark { T.honest store.old → (r : Reading) → IsMark (T.text store.old) begins (record { entries = r.entries; stage = Resting })
-        → IsMark (T.text store.old) walk.at r → tally_of r ≡ walk.tally
-        → AllShorter (length window.old) (split (take walk.at (T.text store.old))).lines → IfOk result (λ found. IfSome found (HasMark (T.text store.old) r.stage)) }
+        → IsMark (T.text store.old) walk.at r → tally_of r ≡ walk.tally → IfOk result (λ found. IfSome found (HasMark (T.text store.old) r.stage)) }
     ensures order { IfOk result (λ found. IfSome found (λ mark. IfSome mark (λ m. m.lines ≤ m.saved))) }
     ensures ends { IfOk result (λ found. IfSome found (λ mark. IfSome mark (λ m. m.saved ≡ walk.at))) }
     ensures window { length window.new ≡ length window.old }
@@ -169,7 +166,7 @@ pub fn find_end<T: TextStore>(
 ) -> Result<Option<Torn>, DeviceFailed>
     requires countable { T.failures store.old < u64.MAX }
     requires within { T.honest store.old → len ≤ length (T.text store.old) }
-    requires walked { IsWalkedTo (T.honest store.old) (T.text store.old) false (length window.old) len walk }
+    requires walked { IsWalkedTo (T.honest store.old) (T.text store.old) false len walk }
     ensures found { IfOk result (λ found. IfSome found (IsTornFront (T.honest store.old) (T.text store.old) len)) }
     ensures window { length window.new ≡ length window.old }
     ensures reads { OnlyReadsText T.TextStore (is_err result) store.old store.new }
@@ -211,7 +208,7 @@ pub fn find_torn<T: TextStore>(
     requires countable { T.failures store.old < u64.MAX }
     requires long { T.honest store.old → len ≡ length (T.text store.old) }
     requires some { 0 < length window.old }
-    requires walked { IsWalkedTo (T.honest store.old) (T.text store.old) false (length window.old) len walk }
+    requires walked { IsWalkedTo (T.honest store.old) (T.text store.old) false len walk }
     ensures found { IfOk result (λ found. IfSome found (IsUnfinishedIn (T.honest store.old) (T.text store.old))) }
     ensures window { length window.new ≡ length window.old }
     ensures reads { OnlyReadsText T.TextStore (is_err result) store.old store.new }

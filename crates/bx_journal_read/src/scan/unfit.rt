@@ -213,8 +213,8 @@ fn find_unfit<T: TextStore>(
 }
 
 /// The line, from 1, at which a text is no redo text beside `changes` changes, in as much memory for any length: where what is unfinished
-/// begins, or the first entry that tells no length, or else the first that is too many. It answers none where there is none, where the text is
-/// damaged, and where a saved line is very long.
+/// begins, or the first entry that tells no length, or else the first that is too many. It answers none where there is none, and where the
+/// text is damaged.
 pub fn unfit_line<T: TextStore, A: Allocator + Clone>(
     alloc: &A,
     store: &mut T,

@@ -8,6 +8,7 @@ ghost use Rattle.bx_journal_read.specs.show.Showing.{WritesBeside, WritesFrom, l
 ghost use Rattle.bx_journal_read.specs.show.Stopping.{CountsBytes, IsOfReading, StopsPrefix};
 
 use crate::SessionFault;
+use crate::scan::long::{passed, read_cut};
 use crate::show::cache::{Cached, keep};
 use crate::show::fault::ShowFault;
 use crate::show::lines::{GATHERED, push_signed};
@@ -155,9 +156,8 @@ fn put_window<D: Device, T: TextStore, A: Allocator, W: Write>(
     ensures puts { WritesBeside D.Device T.TextStore result device.old device.new store.old store.new }
 {
     let window = writing.window.as_mut_slice();
-    let more = (window.len() as u64).min(now.mark.to - now.done.at) as usize;
-    let (part, _) = window.split_at_mut(more);
-    store.read_at(now.done.at, part)?;
+    let cut = read_cut(store, window, now.done.at, now.mark.to)?;
+    let (part, _) = window.split_at(cut.count);
     let text = &mut writing.gathered;
     text.clear();
     let lines = push_lines(device, now.done.cached, page, now.mark.len, part, text)?;
@@ -166,7 +166,7 @@ fn put_window<D: Device, T: TextStore, A: Allocator, W: Write>(
     }
     writing.written = put(out, writing.written, text.as_slice())?;
     Ok(Compared {
-        at: now.done.at + lines.taken as u64,
+        at: now.done.at + passed(cut, lines.taken),
         cached: lines.cached,
     })
 }
@@ -212,7 +212,7 @@ fn put_windows<D: Device, T: TextStore, A: Allocator, W: Write>(
 /// ends before it.
 ///
 /// # Errors
-/// `NoMemory`, also where a line is longer than the window, `DeviceFailed`, and `WriteFailed` with how many bytes were written.
+/// `NoMemory`, `DeviceFailed`, and `WriteFailed` with how many bytes were written.
 pub fn put_differences<D: Device, T: TextStore, A: Allocator + Clone, W: Write>(
     device: &mut D,
     store: &mut T,

@@ -8,6 +8,7 @@ ghost use Rattle.bx_journal_read.specs.show.Showing.{WritesFrom, lines_at};
 ghost use Rattle.bx_journal_read.specs.show.Stopping.{CountsBytes, StopsPrefix};
 
 use crate::SessionFault;
+use crate::scan::long::{passed, read_cut};
 use crate::show::fault::ShowFault;
 use crate::show::writing::{Writing, put};
 use bx_journal_format::{Mark, line_end, row_of, saved_in};
@@ -96,9 +97,8 @@ fn put_window<T: TextStore, A: Allocator, W: Write>(
     ensures puts { WritesFrom T.honest T.text T.failures result store.old store.new }
 {
     let window = writing.window.as_mut_slice();
-    let more = (window.len() as u64).min(mark.to - at) as usize;
-    let (part, _) = window.split_at_mut(more);
-    store.read_at(at, part)?;
+    let cut = read_cut(store, window, at, mark.to)?;
+    let (part, _) = window.split_at(cut.count);
     let text = &mut writing.gathered;
     text.clear();
     let taken = push_lines(text, mark.len, part)?;
@@ -106,13 +106,13 @@ fn put_window<T: TextStore, A: Allocator, W: Write>(
         return Err(ShowFault::Text(SessionFault::NoMemory));
     }
     writing.written = put(out, writing.written, text.as_slice())?;
-    Ok(at + taken as u64)
+    Ok(at + passed(cut, taken))
 }
 
 /// Writes the saved lines of an entry, each made from the bytes that it gives.
 ///
 /// # Errors
-/// `NoMemory`, also where a line is longer than the window, `DeviceFailed`, and `WriteFailed` with how many bytes were written.
+/// `NoMemory`, `DeviceFailed`, and `WriteFailed` with how many bytes were written.
 pub fn put_lines<T: TextStore, A: Allocator, W: Write>(
     store: &mut T,
     writing: &mut Writing<A>,

@@ -6,7 +6,7 @@ ghost use Rattle.bx_journal_read.specs.model.Fault.{LacksOrFails};
 ghost use Rattle.bx_journal_read.specs.show.Showing.{AreAllMarks, AreMarksOf, FindsMarks};
 
 use crate::{Scan, SessionFault, Taken, WINDOW, read_text, scan_windows};
-use bx_journal_format::{Mark, Marking, Place, mark_lines, nothing_marked};
+use bx_journal_format::{Mark, Marking, Place, mark_lines, mark_long, nothing_marked};
 use bx_journal_store::TextStore;
 use bx_text::NoMemory;
 use std::alloc::{Allocator, Global};
@@ -40,6 +40,25 @@ impl<A: Allocator> Scan for MarkScan<A> {
         }))
     }
 
+    fn take_long(
+        self,
+        at: u64,
+        size: u64,
+        line: &[u8],
+    ) -> Result<Option<Taken<MarkScan<A>>>, NoMemory> {
+        let MarkScan { marks, marking } = self;
+        let Some(next) = mark_long(marking, line, at + size + 1) else {
+            return Ok(None);
+        };
+        Ok(Some(Taken {
+            scan: MarkScan {
+                marks,
+                marking: next,
+            },
+            taken: line.len(),
+        }))
+    }
+
     ghost whole = { λ first now text h. h.whole };
 }
 
@@ -55,7 +74,7 @@ fn is_between(marking: Marking) -> bool
 }
 
 /// The marks of the entries that are the first `len` bytes of a text. It answers none where these are anything but finished
-/// entries, and where a line is longer than a window.
+/// entries.
 pub fn marks_to<T: TextStore, A: Allocator + Clone>(
     alloc: &A,
     store: &mut T,
@@ -86,8 +105,8 @@ pub fn marks_to<T: TextStore, A: Allocator + Clone>(
     Ok(Some(end.scan.marks))
 }
 
-/// The marks of the entries of a text, in as much memory beside them for any length. It answers none where they can't be had
-/// so: where the text is anything but finished entries, and where a line is longer than a window.
+/// The marks of the entries of a text, in as much memory beside them for any length. It answers none where the text is
+/// anything but finished entries.
 pub fn marks_in_windows<T: TextStore, A: Allocator + Clone>(
     alloc: &A,
     store: &mut T,
@@ -102,7 +121,7 @@ pub fn marks_in_windows<T: TextStore, A: Allocator + Clone>(
     Ok(found)
 }
 
-/// Why a text can't be marked: as opening reads it, or a line is longer than a window.
+/// Why a text can't be marked: as opening reads it.
 fn refuse_marks<T: TextStore, A: Allocator + Clone>(
     alloc: &A,
     store: &mut T,

@@ -5,6 +5,7 @@ ghost use Rattle.bx_journal_read.specs.show.Showing.{PutsOn, StopsRanges, Writes
 ghost use Rattle.bx_journal_read.specs.show.Stopping.{CountsBytes, StopsPrefix};
 
 use crate::SessionFault;
+use crate::scan::long::{passed, read_cut};
 use crate::show::fault::ShowFault;
 use crate::show::writing::put;
 use bx_journal_format::{Mark, RangedLines, Ranging, nothing_ranged, range_last, range_lines};
@@ -37,9 +38,8 @@ fn put_window<T: TextStore, A: Allocator + Clone, W: Write>(
     ensures stops { T.honest store.old → IfErr result (StopsRanges (T.text store.old) mark done (W.contents out.old) (W.contents out.new)) }
     ensures puts { WritesFrom T.honest T.text T.failures result store.old store.new }
 {
-    let more = (window.len() as u64).min(mark.to - done.at) as usize;
-    let (now, _) = window.split_at_mut(more);
-    store.read_at(done.at, now)?;
+    let cut = read_cut(store, window, done.at, mark.to)?;
+    let (now, _) = window.split_at(cut.count);
     let mut text = String::new(alloc.clone()?);
     let lines = range_lines(&mut text, done.ranging, mark.len, now)?;
     if lines.taken == 0 {
@@ -48,7 +48,7 @@ fn put_window<T: TextStore, A: Allocator + Clone, W: Write>(
     let written = put(out, done.written, text.as_bytes())?;
     Ok(Done {
         ranging: lines.ranging,
-        at: done.at + lines.taken as u64,
+        at: done.at + passed(cut, lines.taken),
         written,
     })
 }

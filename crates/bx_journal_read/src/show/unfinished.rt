@@ -23,7 +23,7 @@ pub struct Marked<A: Allocator = Global> {
     pub torn: Option<Torn>,
 }
 
-/// The marks of the entries before what is unfinished. A line of them that is longer than a window is too long.
+/// The marks of the entries before what is unfinished.
 fn marks_before<T: TextStore, A: Allocator + Clone>(
     alloc: &A,
     store: &mut T,
@@ -46,7 +46,7 @@ fn marks_before<T: TextStore, A: Allocator + Clone>(
     })
 }
 
-/// The marks of a text that isn't finished entries alone, or has a line that is longer than a window.
+/// The marks of a text that isn't finished entries alone.
 fn marks_of_unfinished<T: TextStore, A: Allocator + Clone>(
     alloc: &A,
     store: &mut T,

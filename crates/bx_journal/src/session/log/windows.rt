@@ -99,6 +99,23 @@ impl<A: Allocator> Scan for RowScan<A> {
         }))
     }
 
+    fn take_long(
+        self,
+        _at: u64,
+        _size: u64,
+        line: &[u8],
+    ) -> Result<Option<Taken<RowScan<A>>>, NoMemory> {
+        let RowScan { mut rows, sums } = self;
+        let Some(next) = sum_one(sums, line) else {
+            return Ok(None);
+        };
+        push_ended(&mut rows, next)?;
+        Ok(Some(Taken {
+            scan: RowScan { rows, sums: next },
+            taken: line.len(),
+        }))
+    }
+
     ghost whole = { λ first now text h. h.whole };
 }
 
@@ -113,8 +130,8 @@ fn are_all(sums: Summed, count: u32) -> bool
     }
 }
 
-/// The rows of a text, in as much memory beside them for any length. It answers none where they can't be had so: where the
-/// text is anything but `count` finished entries, and where a line is very long.
+/// The rows of a text, in as much memory beside them for any length. It answers none where the text is anything but `count` finished
+/// entries.
 pub fn rows_in_windows<T: TextStore, A: Allocator + Clone>(
     alloc: &A,
     journal: &mut T,

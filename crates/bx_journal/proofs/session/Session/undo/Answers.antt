@@ -14,7 +14,6 @@ use Rattle.bx_journal_protocol.specs.model.Power.{FoundBefore}
 use Rattle.bx_journal.proofs.SafeLemmas.{accepts, any_fault, interrupts, refuses}
 use Rattle.bx_journal_protocol.proofs.LookedLemmas.{left_since, looked_at, none_failed, pair_step, read_since, rest_step, standing_step, taken_step}
 use Rattle.bx_journal_read.specs.model.Images.{undo_of}
-use Rattle.bx_journal_read.proofs.LastLemmas.{short_before}
 use Rattle.bx_journal_protocol.proofs.LoopLemmas.{standing}
 use Rattle.bx_journal_protocol.proofs.StepSurvivors.{found_at_rest, found_of, found_some}
 use Rattle.bx_journal.proofs.session.Session.undo.Goals as goal
@@ -46,12 +45,6 @@ returns-in_err-read-clause-faults g c =
 pub prepare_takens-requires-clause-read : goal.prepare_takens-requires-clause-read
 prepare_takens-requires-clause-read g c =
     let looks = c.read_last_of.ensures.looks in read_since looks.honesty.0 looks.same c.in_ok-read.ensures.read
-
-pub prepare_takens-requires-clause-short : goal.prepare_takens-requires-clause-short
-prepare_takens-requires-clause-short g c =
-    let looks = c.read_last_of.ensures.looks in
-    short_before (g.T.TextStore.honest c.read_last_of.new.store) (g.T.TextStore.honest c.self.inside.devices.journal) (g.T.TextStore.text c.read_last_of.new.store) (g.T.TextStore.text c.self.inside.devices.journal)
-    c.in_ok-read.read.longest looks.honesty.0 (λ h. sym (looks.same (looks.honesty.0 h))) c.in_ok-read.ensures.short
 
 pub returns-in-Ok-clause-accepted : goal.returns-in-Ok-clause-accepted
 returns-in-Ok-clause-accepted g c =

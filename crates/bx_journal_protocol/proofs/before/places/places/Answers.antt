@@ -20,11 +20,11 @@ loop-entry-preserved g c =
     let es = c.args.entries.now in
     let i = c.loop-entry.entry-index in
     let e : EntryRead g.row.A.Denot = c.entry-item.result in
-    let f : EntryRead g.row.A.Denot → Placed = place_in c.args.longest in
+    let f : EntryRead g.row.A.Denot → Placed = place_in in
     let p : Placed = c.place_of.result in
     let items : c.push.new.self.items ≡ c.loop-entry.placed.items ++ p ∷ [] = grind (arith, common_steps) in
     let more : take (i + 1) es ≡ take i es ++ e ∷ [] = take_more es i e c.loop-entry-test.true ∙ ap (λ u. take i es ++ u ∷ []) (sym c.entry-item.is) in
     items ∙ ap (λ ps. ps ++ p ∷ []) c.loop-entry.invariant ∙ ap (λ q. map f (take i es) ++ q ∷ []) c.place_of.ensures ∙ sym (map_append f (take i es) (e ∷ [])) ∙ ap (map f) (sym more)
 
 pub returns-clause-places : goal.returns-clause-places
-returns-clause-places g c = c.loop-entry.invariant ∙ ap (map (place_in c.args.longest)) (take_all c.loop-entry.entry-index c.args.entries.now (omega arith))
+returns-clause-places g c = c.loop-entry.invariant ∙ ap (map place_in) (take_all c.loop-entry.entry-index c.args.entries.now (omega arith))

@@ -21,7 +21,7 @@ returns-clause-plan g c =
     let es : List (EntryRead g.row.A.Denot) = c.args.read.now.entries.items in
     let is = last g (goal.at.returns-clause-plan g c).After-split_at in
     record {
-      places = c.in_ok-placed.ensures.places ∙ ap (map (place_in c.args.read.now.longest)) is;
+      places = c.in_ok-placed.ensures.places ∙ ap (map place_in) is;
       overwritten = subst (λ fs. AreOverwritten c.args.len (reverse fs) (reverse c.in_ok-overwritten.overwritten.items)) c.as_slice-entries.ensures.value c.in_ok-overwritten.ensures.overwritten;
       within = c.in_ok-overwritten.ensures.within;
       count = c.in_ok-overwritten.ensures.count;

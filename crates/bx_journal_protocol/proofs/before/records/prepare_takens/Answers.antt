@@ -1,9 +1,7 @@
 use Rattle.std.proofs.Common.{◌≡◌, ◌-◌, ◌∙◌, List, length, ap, subst, sym, arith}
 use Rattle.std.specs.Prelude.{reverse}
-use Rattle.bx_journal_format.specs.Text.{split}
 use Rattle.bx_journal_format.specs.declared.read.types.EntryRead.{EntryRead}
 use Rattle.bx_journal_protocol.specs.protocol.Placed.{ArePlaced}
-use Rattle.bx_journal_read.specs.scan.Restoring.{AllShorter}
 use Rattle.bx_journal_protocol.specs.protocol.Takens.{AreReady}
 use Rattle.bx_journal_protocol.proofs.LookedLemmas.{found_then, stayed_then}
 use Rattle.bx_journal_protocol.proofs.PlanLemmas.{fit_more, marked_ordered, placed_last, places_many}
@@ -23,13 +21,12 @@ returns-clause-prepared g c =
     let back = λ (h : g.T.TextStore.honest c.settle.new.devices.journal). first.journal_honesty.0 (last.steps_on.journal_honesty.0 h) in
     let same = λ (h : g.T.TextStore.honest c.settle.new.devices.journal). last.stayed.text_same (first.journal_honesty.1 (back h)) ∙ first.text_same (back h) in
     let is = λ (h : g.T.TextStore.honest c.settle.new.devices.journal). same h ∙ read.is (back h) in
-    let short = λ (h : g.T.TextStore.honest c.settle.new.devices.journal). subst (λ t. AllShorter c.args.read.longest (split t).lines) (sym (same h)) (c.requires.short (back h)) in
     record {
       entries = es;
       read = record { text = read.text; older = read.older; is = is; mark = read.mark; marked = read.marked };
       few = omega (arith, c.in-Ok.ensures.count, c.requires.few);
       placed = subst (λ ps. ArePlaced (g.T.TextStore.honest c.settle.new.devices.journal) (g.T.TextStore.text c.settle.new.devices.journal) (reverse es) (reverse ps)) (sym c.in-Ok.ensures.places)
-          (placed_last (g.T.TextStore.honest c.settle.new.devices.journal) (g.T.TextStore.text c.settle.new.devices.journal) read.text read.older 0 (length read.text) es c.args.read.longest n is short read.marked);
+          (placed_last (g.T.TextStore.honest c.settle.new.devices.journal) (g.T.TextStore.text c.settle.new.devices.journal) read.text read.older 0 (length read.text) es n is read.marked);
       ready = λ h.
           let here = first.image_honesty.0 (last.steps_on.image_honesty.0 h) in
           subst (λ x. AreReady x (reverse es) (reverse c.in-Ok.taking.takens.items)) (sym (last.stayed.image_same (first.image_honesty.1 here) ∙ first.image_same here)) (c.in-Ok.ensures.filled here);
@@ -39,7 +36,7 @@ pub returns-clause-fit : goal.returns-clause-fit
 returns-clause-fit g c = fit_more (g.D.Device.room c.take_records.new.devices.image) (g.D.Device.room c.settle.new.devices.image) (length c.in-Ok.taking.buffers.window.items) c.in-Ok.taking.placed.items c.settle.ensures.room c.in-Ok.ensures.fit
 
 pub returns-clause-same : goal.returns-clause-same
-returns-clause-same g c = places_many c.args.read.entries.items c.args.read.longest c.args.k c.in-Ok.taking.placed.items c.requires.few c.in-Ok.ensures.places ∙ sym c.in-Ok.ensures.count
+returns-clause-same g c = places_many c.args.read.entries.items c.args.k c.in-Ok.taking.placed.items c.requires.few c.in-Ok.ensures.places ∙ sym c.in-Ok.ensures.count
 
 pub returns-clause-roomed : goal.returns-clause-roomed
 returns-clause-roomed g c th =

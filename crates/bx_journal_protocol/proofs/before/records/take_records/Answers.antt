@@ -19,8 +19,8 @@ returns-clause-fit g c =
     let taken = c.in-Ok.ensures.taken in
     let o = c.in-Ok.taking in
     subst (AllFit (g.D.Device.room c.fill_last.new.image) (length o.buffers.window.items)) (sym taken.places)
-    (places_fit (drop n es) c.args.read.longest (length o.buffers.window.items) o.longest (g.D.Device.room c.fill_last.new.image) (ordered_drop n es c.requires.order) taken.longest
-    (omega (arith, c.in_ok-make_room.ensures.image, c.fill_last.ensures.goes_on.no_less_room)) (omega (arith, taken.window)))
+    (places_fit (drop n es) (length o.buffers.window.items) o.longest (g.D.Device.room c.fill_last.new.image) (ordered_drop n es c.requires.order) taken.longest
+    (omega (arith, c.in_ok-make_room.ensures.image, c.fill_last.ensures.goes_on.no_less_room)) taken.window)
 
 pub returns-clause-filled : goal.returns-clause-filled
 returns-clause-filled g c honest =

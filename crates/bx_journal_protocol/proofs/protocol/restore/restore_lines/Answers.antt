@@ -49,8 +49,8 @@ returns-then-taken-eq0-clause-ok g c dh th s st x is =
     let none : c.in_ok-taken.taken ≡ 0 = omega (arith, c.if-taken-eq0.true) in
     let stays : here + c.in_ok-taken.taken ≡ here = omega (arith, none) in
     let inside = subst (λ a. IsIn (take a text) st.entries st.version (record { len = c.args.mark.len; runs = with_runs [] to.runs })) stays to.inside in
-    let given = all_given text c.args.mark s st (with_runs [] to.runs) here (length c.loop-at.window) (vec_capacity c.loop-at.parts) inside inv.below
-    (omega (arith, inv.parts, c.requires.parts)) (omega (arith, inv.window, c.requires.window)) (takes_room c.args.mark.len _ _ _ none window.some) in
+    let given = all_given text c.args.mark s st (with_runs [] to.runs) here (vec_capacity c.loop-at.parts) inside inv.below
+    (omega (arith, inv.parts, c.requires.parts)) (takes_room c.args.mark.len _ _ _ none window.some) in
     placed_restores s to.runs c.args.mark.len x (g.D.Device.image c.args.image.now) _ st.len to.within given to.image is
 
 pub loop-at-preserved : goal.loop-at-preserved

@@ -60,7 +60,7 @@ undo_entry-requires-clause-restorable g c =
     record {
       image_room = fit.len;
       order = fit.lines;
-      window = fit.longest;
+      window = fit.enough;
       parts = c.loop-i.invariant.parts;
     }
 

@@ -9,8 +9,8 @@ pub is_damaged_at-requires-clause-walked : goal.is_damaged_at-requires-clause-wa
 is_damaged_at-requires-clause-walked g c =
     let T = g.T.TextStore in
     let now = c.in_ok-found.ensures in
-    let walked = subst (λ o. IfSome o (IsWalkedTo (T.honest c.args.store.now) (T.text c.args.store.now) false (length c.args.window.now) c.args.len)) c.in-Some.is now.walked in
-    read_walked T now.reads (length c.args.window.now) (length c.walk_in_place.new.window) c.args.len c.in-Some.walk now.window walked
+    let walked = subst (λ o. IfSome o (IsWalkedTo (T.honest c.args.store.now) (T.text c.args.store.now) false c.args.len)) c.in-Some.is now.walked in
+    read_walked T now.reads c.args.len c.in-Some.walk walked
 
 pub returns-then-damaged-clause-line : goal.returns-then-damaged-clause-line
 returns-then-damaged-clause-line g c =
@@ -22,5 +22,5 @@ returns-then-damaged-clause-line g c =
 pub overflow_add-result : goal.overflow_add-result
 overflow_add-result g c =
     let T = g.T.TextStore in
-    let walked = subst (λ o. IfSome o (IsWalkedTo (T.honest c.args.store.now) (T.text c.args.store.now) false (length c.args.window.now) c.args.len)) c.in-Some.is c.in_ok-found.ensures.walked in
+    let walked = subst (λ o. IfSome o (IsWalkedTo (T.honest c.args.store.now) (T.text c.args.store.now) false c.args.len)) c.in-Some.is c.in_ok-found.ensures.walked in
     omega (arith, walked.lines, c.if-walk-len.false)

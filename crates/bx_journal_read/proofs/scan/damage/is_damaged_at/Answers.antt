@@ -10,7 +10,7 @@ pub ends_long-requires-clause-walked : goal.ends_long-requires-clause-walked
 ends_long-requires-clause-walked g c =
     let T = g.T.TextStore in
     let now = c.in_ok-damaged.ensures in
-    read_walked T now.reads (length c.args.window.now) (length c.is_damaged_behind.new.window) c.args.len c.args.walk now.window c.requires.walked
+    read_walked T now.reads c.args.len c.args.walk c.requires.walked
 
 pub returns-clause-damaged : goal.returns-clause-damaged
 returns-clause-damaged g c =

@@ -1,35 +1,9 @@
-use Rattle.std.proofs.Common.{◌≡◌, ℕ, List, length, refl, subst, arith}
+use Rattle.std.proofs.Common.{◌≡◌, subst, arith}
+use Rattle.std.proofs.lemmas.Grind.{common_steps}
 use Rattle.bx_journal_read.specs.scan.Damage.{IsPlainTo}
-use Rattle.bx_journal_read.proofs.DamageLemmas.{plain_none, plain_on}
-use Rattle.bx_journal_read.proofs.TextReads.{read_bytes, read_none, read_then}
 use Rattle.bx_journal_read.proofs.scan.damage.is_endless.Goals as goal
-
-pub loop-at-init : goal.loop-at-init
-loop-at-init g c = record {
-  below = c.requires.below;
-  plain = plain_none (g.T.TextStore.honest c.args.store.now) (g.T.TextStore.text c.args.store.now) c.args.from;
-  window = refl;
-  reads = read_none g.T.TextStore c.args.store.now;
-}
-
-pub loop-at-preserved : goal.loop-at-preserved
-loop-at-preserved g c =
-    let inv = c.loop-at.invariant in
-    let now = c.in_ok-read_at.ensures in
-    let stored : List ℕ = g.T.TextStore.text c.args.store.now in
-    let n : ℕ = c.min-count.result in
-    let is : length c.split_at_mut-part.result.0.now ≡ n = omega (arith, c.split_at_mut-part.ensures.front_len) in
-    record {
-      below = omega (arith, inv.below, c.min-count.ensures);
-      plain = plain_on (g.T.TextStore.honest c.args.store.now) stored c.read_at.new.buf c.args.from c.loop-at.at n inv.plain
-          (read_bytes g.T.TextStore inv.reads c.read_at.new.buf c.loop-at.at _ n is now.bytes)
-          (omega (arith, c.read_at.auto.buf, is)) c.in_default.ensures.none;
-      window = omega (arith, inv.window, c.read_at.auto.buf);
-      reads = read_then g.T.TextStore inv.reads now.text now.survives now.goes_on;
-    }
 
 pub returns-clause-plain : goal.returns-clause-plain
 returns-clause-plain g c yes_ =
-    let inv = c.loop-at.invariant in
-    let end : c.loop-at.at ≡ c.args.len = omega (arith, inv.below, c.loop-at-test.false) in
-    subst (IsPlainTo (g.T.TextStore.honest c.args.store.now) (g.T.TextStore.text c.args.store.now) c.args.from) end inv.plain
+    let same : c.in_ok-end.end ≡ c.args.len = grind (arith, common_steps) in
+    subst (IsPlainTo (g.T.TextStore.honest c.args.store.now) (g.T.TextStore.text c.args.store.now) c.args.from) same c.in_ok-end.ensures.newline.plain

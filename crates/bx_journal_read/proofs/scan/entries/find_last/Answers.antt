@@ -1,11 +1,9 @@
-use Rattle.std.proofs.Common.{false, ◌≤◌, length, take, min, ap, sym, ◌∙◌, subst, rules}
+use Rattle.std.proofs.Common.{false, ◌≤◌, length, ap, sym, ◌∙◌, subst, rules}
 use Rattle.std.specs.Prelude.{IfSome}
 use Rattle.bx_image.proofs.Survivors.{NoMore_then}
 use Rattle.bx_journal_format.specs.declared.read.types.Front.{Front}
-use Rattle.bx_journal_format.specs.Text.{split}
-use Rattle.bx_journal_read.specs.scan.Restoring.{AllShorter}
-use Rattle.bx_journal_read.specs.scan.Windows.{HasShortLines, IsFrontCounted}
-use Rattle.bx_journal_read.proofs.LastLemmas.{found_last_before, found_short_before}
+use Rattle.bx_journal_read.specs.scan.Windows.{IsFrontCounted}
+use Rattle.bx_journal_read.proofs.LastLemmas.{found_last_before}
 use Rattle.bx_journal_read.proofs.WindowLemmas.{front_after}
 use Rattle.bx_journal_read.proofs.scan.entries.find_last.Goals as goal
 
@@ -29,17 +27,9 @@ returns g c = record {
   read = found_last_before (g.T.TextStore.honest c.args.store.now) (g.T.TextStore.honest c.count_front.new.store) (g.T.TextStore.text c.args.store.now) (g.T.TextStore.text c.count_front.new.store)
       (λ h. c.count_front.ensures.reads.looks.honesty.1 (c.len.ensures.goes_on.honesty.1 h)) (λ h. c.count_front.ensures.reads.looks.same (c.len.ensures.goes_on.honesty.1 h) ∙ c.len.ensures.text h) c.args.count c.read_from.result c.read_from.ensures.read;
   few = c.read_from.ensures.few;
-  short = found_short_before (g.T.TextStore.honest c.args.store.now) (g.T.TextStore.honest c.count_front.new.store) (g.T.TextStore.text c.args.store.now) (g.T.TextStore.text c.count_front.new.store) c.read_from.result
-      (λ h. c.count_front.ensures.reads.looks.honesty.1 (c.len.ensures.goes_on.honesty.1 h)) (λ h. c.count_front.ensures.reads.looks.same (c.len.ensures.goes_on.honesty.1 h) ∙ c.len.ensures.text h) c.read_from.ensures.short;
   fault = c.read_from.ensures.fault;
   looks = search rules;
   found_before = λ h.
       let first = c.len.ensures.goes_on.honesty.1 h in
       NoMore_then _ _ _ (c.len.ensures.survives h) (NoMore_then _ _ _ (c.count_front.ensures.reads.survives first) (c.read_from.ensures.found_before (c.count_front.ensures.reads.looks.honesty.1 first)));
 }
-
-pub read_from-requires-clause-short : goal.read_from-requires-clause-short
-read_from-requires-clause-short g c h =
-    let before = c.count_front.ensures.reads.looks.honesty.0 h in
-    let short = subst (λ o. IfSome o (λ (f : Front). HasShortLines (g.T.TextStore.honest c.len.new.self) (take f.at (g.T.TextStore.text c.len.new.self)) (min 262144 c.in_ok-len.len))) c.in-Some.is c.in_ok-found.ensures.short in
-    subst (λ t. AllShorter (min 262144 c.in_ok-len.len) (split (take c.in-Some.front.at t)).lines) (sym (c.count_front.ensures.reads.looks.same before)) (short before)

@@ -1,8 +1,5 @@
-use Rattle.std.proofs.Common.{◌≡◌, ◌≤◌, ◌∙◌, length, sym, subst, arith}
-use Rattle.bx_journal_format.specs.Text.{split}
-use Rattle.bx_journal_read.specs.scan.Restoring.{AllShorter}
+use Rattle.std.proofs.Common.{◌≡◌, ◌∙◌, length, sym, arith}
 use Rattle.bx_journal_read.proofs.AgainLemmas.{apart_of}
-use Rattle.bx_journal_read.proofs.WalkLemmas.{window_shorter}
 use Rattle.bx_journal_read.proofs.scan.entries.read_again.Goals as goal
 
 pub returns-in-None-clause-fault : goal.returns-in-None-clause-fault
@@ -22,9 +19,3 @@ returns-in-Some-clause-read g c =
       countable = omega (arith, bytes.ok.0, bytes.ok.1, bytes.small);
       read = c.in-Some.ensures.some bytes.items c.in-Ok-read_journal.ensures.read long;
     }
-
-pub returns-in-Some-clause-short : goal.returns-in-Some-clause-short
-returns-in-Some-clause-short g c th =
-    let bytes = c.in-Ok.bytes in
-    let long : length bytes.items ≤ c.in-Some.read.longest = omega (arith, c.in-Some.ensures.longest, c.len-len.ensures, bytes.ok.0, bytes.ok.1) in
-    subst (λ t. AllShorter c.in-Some.read.longest (split t).lines) (c.in-Ok.ensures.bytes th) (window_shorter bytes.items c.in-Some.read.longest long)

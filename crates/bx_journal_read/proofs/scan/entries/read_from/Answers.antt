@@ -1,9 +1,8 @@
-use Rattle.std.proofs.Common.{◌≡◌, ◌∙◌, List, ℕ, length, take, ap, sym, refl, subst, arith, rules}
+use Rattle.std.proofs.Common.{◌≡◌, ◌∙◌, List, ℕ, sym, refl, subst, rules}
 use Rattle.std.specs.Prelude.{IfSome}
 use Rattle.bx_journal_format.specs.declared.read.lines.LinesRead.{LinesRead}
 use Rattle.bx_journal_read.specs.model.Undoing.{IsReadBehind}
-use Rattle.bx_journal_read.specs.scan.Windows.{HasShortLines, KeepsShort}
-use Rattle.bx_journal_read.proofs.LastLemmas.{behind_all, found_short, last_from, short_all}
+use Rattle.bx_journal_read.proofs.LastLemmas.{behind_all, last_from}
 use Rattle.bx_journal_read.proofs.scan.entries.read_from.Goals as goal
 
 pub returns : goal.returns
@@ -13,16 +12,10 @@ returns g c =
     let found = c.in_ok-found.ensures in
     let b = subst (λ o. IfSome o (IsReadBehind honest stored c.args.front)) c.in-Some.is found.read in
     let all = subst (λ o. IfSome o (λ (r : LinesRead g.row.A.Denot). r.at ≡ c.args.len)) c.in-Some.is found.all in
-    let keeps = subst (λ o. IfSome o (λ (r : LinesRead g.row.A.Denot). KeepsShort honest stored (length c.in_ok-window.window.items) c.args.front.at r.at)) c.in-Some.is
-    (subst (λ n. IfSome c.in_ok-found.found (λ (r : LinesRead g.row.A.Denot). KeepsShort honest stored n c.args.front.at r.at)) (ap length c.as_mut_slice.ensures.value) found.short) in
-    let first = subst (HasShortLines honest (take c.args.front.at stored)) (sym c.min-longest.ensures) c.requires.short in
     record {
       read = last_from honest stored b.text c.args.len c.args.count c.last_of.result (behind_all honest stored c.args.front c.args.len c.in-Some.read b all c.requires.long) (sym (b.read.long ∙ all))
           (c.last_of.ensures.some b.text b.older c.args.front b.read refl all) c.last_of.ensures.len;
       few = c.last_of.ensures.few;
-      short = found_short honest stored c.min-longest.result c.last_of.result
-          (short_all honest stored (length c.in_ok-window.window.items) c.args.front.at c.in-Some.read.at c.args.len c.min-longest.result keeps (omega (arith, c.in_ok-window.ensures.len, c.min-size.ensures)) first all c.requires.long)
-          c.last_of.ensures.longest;
       fault = tt;
       looks = search rules;
       found_before = c.read_windows.ensures.reads.survives;

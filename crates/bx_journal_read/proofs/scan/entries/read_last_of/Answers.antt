@@ -3,8 +3,7 @@ use Rattle.std.specs.Prelude.{IfSome}
 use Rattle.bx_image.proofs.Survivors.{NoMore_then}
 use Rattle.bx_journal_read.specs.declared.scan.entries.FinishedRead.{FinishedRead}
 use Rattle.bx_journal_read.specs.model.Undoing.{IsLastFrom}
-use Rattle.bx_journal_read.specs.scan.Windows.{HasShortLines}
-use Rattle.bx_journal_read.proofs.LastLemmas.{again_last, again_fault, again_short, few_of_all}
+use Rattle.bx_journal_read.proofs.LastLemmas.{again_last, again_fault, few_of_all}
 use Rattle.bx_journal_read.proofs.WindowLemmas.{again_behind, looks_before}
 use Rattle.bx_journal_read.proofs.scan.entries.read_last_of.Goals as goal
 
@@ -35,12 +34,3 @@ returns-in-None-clause-looks g c = looks_before c.in-Ok.ensures.looks c.read_aga
 
 pub returns-in-None-clause-survives : goal.returns-in-None-clause-survives
 returns-in-None-clause-survives g c h = NoMore_then _ _ _ (c.in-Ok.ensures.found_before h) (c.read_again.ensures.survives (c.in-Ok.ensures.looks.honesty.1 h))
-
-pub returns-in-Some-clause-short : goal.returns-in-Some-clause-short
-returns-in-Some-clause-short g c =
-    subst (λ o. IfSome o (λ (f : FinishedRead g.row.A.Denot). HasShortLines (g.T.TextStore.honest c.args.store.now) (g.T.TextStore.text c.args.store.now) f.longest)) c.in-Some.is c.in-Ok.ensures.short
-
-pub returns-in-None-clause-short : goal.returns-in-None-clause-short
-returns-in-None-clause-short g c =
-    again_short (g.T.TextStore.honest c.args.store.now) (g.T.TextStore.honest c.find_last.new.store) (g.T.TextStore.text c.args.store.now) (g.T.TextStore.text c.find_last.new.store) c.read_again.result
-    c.find_last.ensures.looks.honesty.1 c.find_last.ensures.looks.same c.read_again.ensures.short

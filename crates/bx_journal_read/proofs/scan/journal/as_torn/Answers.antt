@@ -33,10 +33,10 @@ returns-in-Ending-clause-torn g c text read =
     let j = c.args.journal.now in
     let marked = subst (λ stage. IsStageMarked text [] j.entries.items stage j.whole) c.in-Ending.is read.places.marked in
     let stands = ending_stands text j.entries.items c.in-Ending.version c.in-Ending.kept c.in-Ending.begins c.in-Ending.saved j.whole marked in
-    let here = subst (λ n. StandsAt text (record { lines = c.in-Ending.begins + n + 1; saved = c.in-Ending.saved; len = c.in-Ending.kept.len; longest = c.in-Ending.saved }) (kept_of c.in-Ending.kept)) (sym c.start_size.ensures) stands in
+    let here = subst (λ n. StandsAt text (record { lines = c.in-Ending.begins + n + 1; saved = c.in-Ending.saved; len = c.in-Ending.kept.len }) (kept_of c.in-Ending.kept)) (sym c.start_size.ensures) stands in
     torn_read text j _ read (ap (λ stage. begins_at stage j.whole) (sym c.in-Ending.is)) (omega (arith, c.len-count.ensures, j.entries.ok.0, j.entries.ok.1))
     (c.told_length-told.ensures ∙ ap (λ es. told_by (entries_of es)) c.deref.ensures.value)
-    (subst (λ stage. HasMark text (stage_of stage) (Some (record { lines = c.in-Ending.begins + c.start_size.result + 1; saved = c.in-Ending.saved; len = c.in-Ending.kept.len; longest = c.in-Ending.saved }))) (sym c.in-Ending.is) here)
+    (subst (λ stage. HasMark text (stage_of stage) (Some (record { lines = c.in-Ending.begins + c.start_size.result + 1; saved = c.in-Ending.saved; len = c.in-Ending.kept.len }))) (sym c.in-Ending.is) here)
 
 pub overflow_add-result : goal.overflow_add-result
 overflow_add-result g c =

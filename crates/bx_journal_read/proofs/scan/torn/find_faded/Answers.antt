@@ -21,8 +21,8 @@ pub find_end-requires-clause-walked : goal.find_end-requires-clause-walked
 find_end-requires-clause-walked g c =
     let T = g.T.TextStore in
     let now = c.in_ok-walked.ensures in
-    let walked = subst (λ o. IfSome o (IsWalkedTo (T.honest c.shown_in.new.store) (T.text c.shown_in.new.store) false (length c.shown_in.new.window) c.in_ok-shown.shown)) c.in-Some.is now.walked in
-    read_walked T now.reads (length c.shown_in.new.window) (length c.walk_windows.new.window) c.in_ok-shown.shown c.in-Some.walk now.window walked
+    let walked = subst (λ o. IfSome o (IsWalkedTo (T.honest c.shown_in.new.store) (T.text c.shown_in.new.store) false c.in_ok-shown.shown)) c.in-Some.is now.walked in
+    read_walked T now.reads c.in_ok-shown.shown c.in-Some.walk walked
 
 pub returns-clause-found : goal.returns-clause-found
 returns-clause-found g c =

@@ -1,7 +1,7 @@
 use Rattle.std.proofs.Common.{◌≡◌, ◌-◌, ◌≤◌, length, false}
 use Rattle.bx_journal_read.specs.scan.Damage.{IsPlainTo}
 use Rattle.bx_journal_read.specs.scan.Looking.{OnlyReadsText}
-use Rattle.bx_journal_read.proofs.scan.damage.is_endless.Given as goal
+use Rattle.bx_journal_read.proofs.scan.long.newline_from.Given as goal
 
 -- what was looked at has no newline
 abbrev pub invariant-loop-at : goal.invariant-loop-at
