@@ -52,6 +52,21 @@ One of 51 MiB that is unfinished, of the older form, or of too many entries take
   bx: redo line 1196603 is damaged
   [1]
 
+# A saved line with a text column of 51 MiB
+
+It is opened, logged, shown and undone as one with a column of a byte, in 20 MB at most:
+
+  $ for column in 1 51M; do
+  >   fresh ABxyEFGH '' ''
+  >   { printf 'change2 00000001 0000000000000008\n00000002: 4344  '; head -c $column /dev/zero | tr '\0' x; } > img.bxj
+  >   printf '\nsave 00000001\ndone2 00000001 0000000000000008\n' >> img.bxj
+  >   (ulimit -v 20000; bx log img; bx log -v img; bx show img; bx show -d img; bx undo img) > out$column 2>&1; echo $?; cat img; echo
+  > done; cmp out1 out51M
+  0
+  ABCDEFGH
+  0
+  ABCDEFGH
+
 # Memory refused in the checked build (wants rt)
 
 It takes some two minutes for each number of RT_TRY (1 10 40), and is left out by RT_TRY=no. A run that faults, hangs, or ends

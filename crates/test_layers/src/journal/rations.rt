@@ -184,6 +184,27 @@ fn long_saved_line_in_windows(rt: HostRuntime) -> Result<(), Fail> {
     Ok(())
 }
 
+/// An entry of one byte whose saved line has a text column of four megabytes.
+fn wide_entry(alloc: Global) -> Result<Vec<u8>, AllocError> {
+    let mut text = Vec::new(alloc);
+    text.extend_from_slice(b"change2 00000001 0000000000000001\n00000000: 41  ")?;
+    text.resize(4_000_000, b'A')?;
+    text.extend_from_slice(b"\nsave 00000001\ndone2 00000001 0000000000000001\n")?;
+    Ok(text)
+}
+
+// One that is in place is opened, taken back and rolled back in the memory of some windows: less than it has.
+#[test]
+fn wide_line_in_windows(rt: HostRuntime) -> Result<(), Fail> {
+    let alloc = rt.alloc();
+    let mut text = wide_entry(alloc)?;
+    assert!(rt; reaches_in(alloc, 1, text.as_slice(), 300_000, Goal::Opening)?);
+    assert!(rt; reaches_in(alloc, 1, text.as_slice(), 2_000_000, Goal::Undo)?);
+    text.truncate(text.len().saturating_sub(32));
+    assert!(rt; reaches_in(alloc, 1, text.as_slice(), 1_000_000, Goal::Rollback)?);
+    Ok(())
+}
+
 // A redo text that isn't damaged, but unfinished or of the older form, is refused in the memory of three windows: less than it has.
 #[test]
 fn unfit_redo_in_windows(rt: HostRuntime) -> Result<(), Fail> {
