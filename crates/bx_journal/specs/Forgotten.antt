@@ -106,6 +106,14 @@ module _ {D T : Type 0} (d : DeviceViews D) (t : StoreViews T) where
 abbrev pub HaveLost : {D T : Type 0} → StoreViews T → Devices D T → Devices D T → Type 0
 HaveLost t old new = LeavesTexts (t.text old.journal) (t.text old.redo) (t.text new.journal) (t.text new.redo)
 
+-- both texts are as they were
+abbrev pub KeepTexts : {D T : Type 0} → StoreViews T → Devices D T → Devices D T → Type 0
+KeepTexts t old new = (t.text new.journal ≡ t.text old.journal) × (t.text new.redo ≡ t.text old.redo)
+
+-- behind an interruption both are fronts of what they were, and behind each other fault as they were
+abbrev pub LoseOrKeep : {D T V : Type 0} → StoreViews T → Devices D T → Devices D T → Result V SessionFault → Type 0
+LoseOrKeep t old new result = IfErr result (λ e. AfterFault e (HaveLost t old new) (KeepTexts t old new))
+
 -- Where no text of three is cut in part, opening finds the images that it found in the three before, the same with nothing undone, or the old
 -- image alone
 abbrev pub IsFoundInPart : {D T : Type 0} → DeviceViews D → StoreViews T → Devices D T → Images → List ℕ → List ℕ → List ℕ → Type 0

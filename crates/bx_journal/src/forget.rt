@@ -7,7 +7,7 @@ ghost use Rattle.bx_journal_protocol.specs.model.Power.{FoundBefore};
 ghost use Rattle.bx_journal_protocol.specs.protocol.Written.{AreSettled};
 ghost use Rattle.bx_journal_read.specs.model.Calls.{AfterFault};
 ghost use Rattle.bx_journal_store.specs.Store.{IsCutInPart};
-ghost use Rattle.bx_journal.specs.Forgotten.{AreAlone, BehindInterruption, FadesInOrder, ForgetDevicesFault, ForgetsInPart, HaveLost, KeepImage, LeavesTexts};
+ghost use Rattle.bx_journal.specs.Forgotten.{AreAlone, BehindInterruption, FadesInOrder, ForgetDevicesFault, ForgetsInPart, KeepImage, LeavesTexts, LoseOrKeep};
 ghost use Rattle.bx_journal.specs.Opened.{OfAll};
 
 use bx_image::{Device, DeviceFailed};
@@ -59,7 +59,7 @@ pub fn forget_devices<D: Device, T: TextStore>(
     ensures image { D.honest devices.old.image → D.image devices.new.image ≡ D.image devices.old.image }
     ensures alone { OfAll D.Device T.TextStore devices.old (OnOk result (AreAlone D.Device T.TextStore (D.image devices.old.image) devices.new)) }
     ensures fault { IfErr result ForgetDevicesFault }
-    ensures left { OfAll D.Device T.TextStore devices.old (BehindInterruption result (HaveLost T.TextStore devices.old devices.new)) }
+    ensures left { OfAll D.Device T.TextStore devices.old (LoseOrKeep T.TextStore devices.old devices.new result) }
     ensures finds { OfAll D.Device T.TextStore devices.old (ForgetsInPart D.Device T.TextStore devices.old devices.new result) }
     ensures survives { OfAll D.Device T.TextStore devices.old (BehindInterruption result (KeepImage D.Device T.TextStore devices.old devices.new)) }
     ensures found_before { IfErr result (λ e. AfterFault e (Unit {0}) (FoundBefore D.Device T.TextStore devices.old devices.new)) }
