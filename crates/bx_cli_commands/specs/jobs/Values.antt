@@ -1,5 +1,6 @@
 -- What the values of options are, by their words.
-use Rattle.std.specs.Prelude.{◌≡◌, ℕ, Bool, true, false, ◌++◌, ◌^◌, ◌==◌, ◌&&◌, nat_le, if◌then◌else◌, List, [], ◌∷◌, Option, None, Some, Result, Ok, Err, codes}
+use Rattle.std.specs.Prelude.{◌≡◌, ◌<◌, ℕ, Bool, true, false, ◌++◌, ◌^◌, ◌==◌, ◌&&◌, nat_le, if◌then◌else◌, List, [], ◌∷◌, Option, None, Some, Result, Ok, Err, codes}
+use Rattle.std.specs.Str.Parse.{IsNumeral, digits_value}
 use Rattle.bx_text.specs.declared.number.size.SizeFault.{SizeFault}
 use Rattle.bx_text.specs.declared.number.size.SizeStyle.{SizeStyle}
 use Rattle.bx_text.specs.declared.number.size.SizeStyle.TheVariants.{Bare}
@@ -45,6 +46,16 @@ few_columns (Err e) = Err e
 -- the columns that a word gives, which has no suffix; the default where there is no word
 abbrev pub columns_of : ℕ → Option (List ℕ) → Result ℕ Fault
 columns_of default text = few_columns (option_value_or Bare default text)
+
+-- a word is read as the number that its decimal digits write, at most another; any other word is refused
+abbrev pub IsCount : ℕ → List ℕ → Result ℕ Fault → Type 0
+IsCount most text (Ok n) = IsNumeral 10 text × (n ≡ digits_value 10 text)
+IsCount most text (Err e) = (e ≡ Usage) × (IsNumeral 10 text → most < digits_value 10 text)
+
+-- the same of a word that may be missing: it is then the default
+abbrev pub IsCountOf : ℕ → ℕ → Option (List ℕ) → Result ℕ Fault → Type 0
+IsCountOf default most None count = count ≡ Ok default
+IsCountOf default most (Some text) count = IsCount most text count
 
 -- ---- letters
 

@@ -1,13 +1,13 @@
 //! The values of options, read from their words.
-ghost use Rattle.std.specs.Prelude.{◌≡◌, ◌⊎◌, ◌≤◌, ◌^◌, IfOk, IfErr, IfSome};
+ghost use Rattle.std.specs.Prelude.{◌≡◌, ◌⊎◌, ◌≤◌, ◌^◌, IfOk, IfErr, IfSome, IsErrOf, string_bytes};
 ghost use Rattle.std.specs.Option.{option_copied};
-ghost use Rattle.bx_cli_commands.specs.jobs.Values.{IsApart, base_in, columns_of, journal_of, kind_in, option_value, option_value_or};
+ghost use Rattle.bx_cli_commands.specs.jobs.Values.{IsApart, IsCountOf, base_in, columns_of, journal_of, kind_in, option_value, option_value_or};
 ghost use Rattle.bx_text.specs.declared.fault.IoFault.{IoFault};
 
 use crate::{Fault, Texts};
 use bx_dump::od::{Address, Kind, NumForm, Size};
 use bx_text::{Name, SizeStyle, read_size};
-use std::alloc::Global;
+use std::alloc::{AllocError, Global};
 
 /// The most bytes on a line of `xxd`.
 pub const MOST_COLUMNS: u64 = 256;
@@ -49,12 +49,13 @@ pub fn number_or(text: Option<&str>, style: SizeStyle, default: u64) -> Result<u
 /// A number of decimal digits alone, at most `most`; the default where there is no text.
 pub fn count_or(text: Option<&str>, default: u64, most: u64) -> Result<u64, Fault>
     requires { default ≤ most }
-    ensures { IfOk result (λ n. n ≤ most) }
+    ensures value { IsCountOf default most (option_copied text.entry) result }
+    ensures most { IfOk result (λ n. n ≤ most) }
 {
     let Some(text) = text else {
         return Ok(default);
     };
-    if text.is_empty() || !text.bytes().all(|b| b.is_ascii_digit()) {
+    if let [b'+', ..] = text.as_bytes() {
         return Err(Fault::Usage);
     }
     match text.parse::<u64>() {
@@ -126,16 +127,24 @@ pub fn name_of(alloc: Global, text: &str) -> Result<Name, Fault>
     Ok(Name::from_string(String::from_str(alloc, text)?))
 }
 
+/// The journal of an image, by its own name or else by the image's.
+fn journal_name(alloc: Global, journal: Option<&str>, image: &str) -> Result<String, AllocError>
+    ensures { IfOk result (λ name. string_bytes name ≡ journal_of image.now (option_copied journal.entry)) }
+{
+    match journal {
+        Some(journal) => String::from_str(alloc, journal),
+        None => format!(in alloc; "{image}.bxj"),
+    }
+}
+
 /// The journal of an image, by its own name or else by the image's, and the redo file beside it: neither is the image.
 pub fn texts_of(alloc: Global, journal: Option<&str>, image: &str) -> Result<Texts, Fault>
     ensures journal { IfOk result (λ t. t.journal ≡ journal_of image.now (option_copied journal.entry)) }
     ensures apart { IfOk result (λ t. IsApart image.now t.journal) }
     ensures fault { IfErr result (λ e. (e ≡ Fault.Io IoFault.NoMemory) ⊎ (e ≡ Fault.Usage)) }
+    ensures refused { IsErrOf result Fault.Usage → IsApart image.now (journal_of image.now (option_copied journal.entry)) → ⊥ }
 {
-    let journal = match journal {
-        Some(journal) => String::from_str(alloc, journal)?,
-        None => format!(in alloc; "{image}.bxj")?,
-    };
+    let journal = journal_name(alloc, journal, image)?;
     if journal.as_str() == image {
         return Err(Fault::Usage);
     }
