@@ -130,7 +130,7 @@ held_files d t names f w x named holds = record {
   redo_is = holds.redo_is ∙ sym (ap (λ o. option_map_or w.bytes o []) named.redo);
 }
 
--- the lines of a journal of so many changes are its log
+-- the lines of a journal that has `count` changes are its log
 pub log_of : (text : List ℕ) (rows : List LogRow) (log : List ℕ) (count : ℕ) → HasCount text count
     → ((es : List Entry) → IsFinished text es → rows ≡ rows_of es) → log ≡ flat_map log_line rows → IsLogOf text log
 log_of text rows log count has rows_are is = ((has.0, has.1), is ∙ ap (flat_map log_line) (rows_are has.0 has.1))

@@ -33,7 +33,7 @@ abbrev pub stepped_text : Way → List ℕ → List ℕ → List ℕ
 stepped_text Undo journal redo = journal
 stepped_text Redo journal redo = redo
 
--- the same steps, where so many changes stand
+-- the same steps, beside the changes that stand
 abbrev pub steps_from : Steps → ℕ → Steps
 steps_from s changes = record { way = s.way; count = s.count; changes = changes; compares = s.compares }
 
