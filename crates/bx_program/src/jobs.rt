@@ -18,13 +18,13 @@ use crate::jobs::copies::{copy_onto, most_of_dd, tell};
 use crate::jobs::looks::look;
 use crate::jobs::previews::{preview_copy, preview_read};
 use crate::jobs::steps::take_steps;
-use crate::requests::request_dump;
+use crate::requests::{request_dump, request_input};
 use crate::stopped::{Noted, STANDARD_INPUT, Stopped};
 use crate::streams::closed::Held;
 use crate::streams::input::{MOST_INPUT, open, size_of};
 use bx_cli::{
     ChangeJob, DdImageJob, Done, DumpJob, Fault, ForgetJob, Form, Job, RevertJob, change_from,
-    plan_words, run_dump,
+    plan_words,
 };
 use bx_dd::Counts;
 use bx_image::Change;
@@ -402,12 +402,13 @@ fn dump_standard<R, W: Write>(
     remarks: &Remarks,
 ) -> Result<Done, Stopped<'static>>
 where
-    R: Input + Eprint + Clock + AllocGlobal,
+    R: Files<File = File> + Input + Print + Eprint + Clock + AllocGlobal,
 {
     let progress = remarks.progress_of_dumped(rt, most_of(job));
     let mut reader = Noted::new(rt.reader());
-    let mut counted = Counted::new(&mut reader, &progress);
-    let outcome = run_dump(rt.alloc(), job, job.skip().passable(0), &mut counted, out);
+    let counted = Counted::new(&mut reader, &progress);
+    let mut world = SystemWorld::new(rt, &progress, false);
+    let outcome = request_input(&mut world, rt.alloc(), job, counted, out);
     progress.end();
     match outcome {
         Ok(done) => Ok(done),

@@ -1,7 +1,7 @@
 //! Commands on named files: each is a request of the one call whose contract has all of them, and has an answer of its own.
 ghost use Rattle.bx_program_sessions.specs.Task.{IsNearTask};
 
-use bx_cli::{Done, DumpJob};
+use bx_cli::{Done, DumpJob, Fault};
 use bx_journal::Way;
 use bx_program_commands::{Outcome, Report, Request, run_request};
 use bx_program_dumps::Undumped;
@@ -76,6 +76,26 @@ where
     let request: Request<'_, Empty> = Request::Dump { job, name };
     match run_request(world, alloc, request, out) {
         Outcome::Dumped(outcome) => outcome,
+        Outcome::Moved(_) | Outcome::Changed(_) | Outcome::Looked(_) => unreachable!(),
+    }
+}
+
+/// Writes what a job makes of an input, from where it stands.
+pub fn request_input<R, I: Read + Drop, O: Write>(
+    world: &mut SystemWorld<'_, '_, R>,
+    alloc: Global,
+    job: &DumpJob,
+    input: I,
+    out: &mut O,
+) -> Result<Done, Fault>
+where
+    R: Files<File = File> + Print + Eprint + Clock + AllocGlobal,
+{
+    let request = Request::DumpInput { job, input };
+    match run_request(world, alloc, request, out) {
+        Outcome::Dumped(Ok(done)) => Ok(done),
+        Outcome::Dumped(Err(Undumped::Stopped(fault))) => Err(fault),
+        Outcome::Dumped(Err(Undumped::Unopened(_) | Undumped::Unplaced(_))) => unreachable!(),
         Outcome::Moved(_) | Outcome::Changed(_) | Outcome::Looked(_) => unreachable!(),
     }
 }

@@ -25,7 +25,7 @@ use Rattle.bx_program_sessions.specs.Task.{IsNearTask}
 use Rattle.bx_program_sessions.specs.declared.moves.Moved.{Moved}
 use Rattle.bx_program_sessions.specs.declared.named.Answer.{Answer}
 use Rattle.bx_program_sessions.specs.declared.task.Task.{Task}
-use Rattle.bx_program_dumps.specs.Dumps.{CountsUndumped, DumpsNamed, StopsNamed}
+use Rattle.bx_program_dumps.specs.Dumps.{CountsUndumped, DumpsInput, DumpsNamed, IsStopped, StopsInput, StopsNamed}
 use Rattle.bx_program_dumps.specs.declared.undumped.Undumped.{Undumped}
 use Rattle.bx_program_commands.specs.Outcome.{ended_by}
 use Rattle.bx_program_commands.specs.Reports.{Reports}
@@ -33,7 +33,7 @@ use Rattle.bx_program_commands.specs.Scene.{Scene}
 use Rattle.bx_program_commands.specs.declared.outcome.Outcome.{Outcome}
 use Rattle.bx_program_commands.specs.declared.outcome.Outcome.TheVariants as of
 use Rattle.bx_program_commands.specs.declared.request.Request.{Request}
-use Rattle.bx_program_commands.specs.declared.request.Request.TheVariants.{Move, Change, Dump, Look}
+use Rattle.bx_program_commands.specs.declared.request.Request.TheVariants.{Move, Change, Dump, DumpInput, Look}
 
 -- Of files that hold images an undo or a redo leaves those with `count` changes moved and writes how many stand, or it stops and says why; of
 -- files in which opening finds images, as after a crash, it does so on what is recovered
@@ -64,11 +64,17 @@ pub record DoesDump (job : DumpJob) (name : List ℕ) (outcome : Result Done Und
       (λ e. StopsNamed job name old.sight e old.written new.written)
   pub counted : CountsUndumped outcome old.refusals new.refusals
 
--- each command has an answer of its own
+-- A dump of an input writes the job's text of all bytes that it gives from where it stands, or a front of it and says why
+pub record DoesDumpInput (job : DumpJob) (input : Option (List ℕ)) (outcome : Result Done Undumped) (old new : Scene) : Type 0 where
+  pub text : MatchResult outcome (λ done. DumpsInput job input done old.written new.written) (StopsInput job input old.written new.written)
+  pub counted : new.refusals ≡ old.refusals
+
+-- each command has an answer of its own; an input is open, and no seek places it
 abbrev pub Answers : {R : Type 0} → Request R → Outcome → Type 0
 Answers (Move names mounted way count) (of.Moved moved) = Unit {0}
 Answers (Change names mounted task) (of.Changed answer) = Unit {0}
 Answers (Dump job name) (of.Dumped outcome) = Unit {0}
+Answers (DumpInput job input) (of.Dumped outcome) = IfErr outcome IsStopped
 Answers (Look names report) (of.Looked outcome) = Unit {0}
 Answers request outcome = ⊥
 
@@ -77,6 +83,7 @@ abbrev pub Fulfills : {R : Type 0} → (R → Option (List ℕ)) → Request R �
 Fulfills remaining (Move names mounted way count) (of.Moved moved) old new = DoesMove names.now way count moved old.sight new.sight
 Fulfills remaining (Change names mounted task) (of.Changed answer) old new = DoesChange remaining names.now task answer old.sight new.sight
 Fulfills remaining (Dump job name) (of.Dumped outcome) old new = DoesDump job.now name.now outcome old new
+Fulfills remaining (DumpInput job input) (of.Dumped outcome) old new = DoesDumpInput job.now (remaining input) outcome old new
 Fulfills remaining (Look names report) (of.Looked outcome) old new = Reports names.now report outcome old new
 Fulfills remaining request outcome old new = ⊥
 
@@ -108,6 +115,7 @@ abbrev pub MayOpen : {R : Type 0} → Request R → Sight → Type 0
 MayOpen (Move names mounted way count) w = AreFit names.now mounted w
 MayOpen (Change names mounted task) w = AreFit names.now mounted w
 MayOpen (Dump job name) w = Unit {0}
+MayOpen (DumpInput job input) w = Unit {0}
 MayOpen (Look names report) w = AreReadable names.now w
 
 -- why a file of an image may not be opened
@@ -115,6 +123,7 @@ abbrev pub MayRefuseFile : {R : Type 0} → Request R → Type 0 → Sight → U
 MayRefuseFile (Move names mounted way count) counted w file = MayRefuseOpening names.now mounted false counted w file
 MayRefuseFile (Change names mounted task) counted w file = MayRefuseOpening names.now mounted true counted w file
 MayRefuseFile (Dump job name) counted w file = ⊥
+MayRefuseFile (DumpInput job input) counted w file = ⊥
 MayRefuseFile (Look names report) counted w file = MayRefuseReading names.now counted w file
 
 -- A file of an image wasn't opened: the fault says so, all files are as they were, nothing is written, and there is a reason

@@ -1,4 +1,4 @@
-//! One call for every command on named files, whose contract has all of them. An inner part of `bx_program`.
+//! One call for every command on named files, and for dumps of an input, whose contract has all of them. An inner part of `bx_program`.
 #![tactic(auto)]
 
 mod outcome;

@@ -18,7 +18,7 @@ pub enum Report {
     ShowUnfinished(Steps),
 }
 
-/// A command on named files. `R` is what dd reads.
+/// A command on named files. `R` is what dd reads, and a dump of no named file.
 pub enum Request<'a, R = Empty> {
     /// Takes the last changes back, or makes those undone last again: `undo`, `redo`.
     Move {
@@ -46,6 +46,13 @@ pub enum Request<'a, R = Empty> {
         job: &'a DumpJob,
         /// The file.
         name: &'a str,
+    },
+    /// The same of an input, from where it stands: it has no seek, and what is skipped is read.
+    DumpInput {
+        /// The job.
+        job: &'a DumpJob,
+        /// The input.
+        input: R,
     },
     /// Writes a report of the changes of an image: `log`, `show`.
     Look {

@@ -7,7 +7,7 @@ ghost use Rattle.bx_program_commands.specs.Scene.{scene};
 use crate::outcome::Outcome;
 use crate::report::write_report;
 use crate::request::Request;
-use bx_program_dumps::dump_file;
+use bx_program_dumps::{dump_file, dump_input};
 use bx_program_sessions::{change_files, move_changes};
 use bx_program_world::World;
 use std::alloc::Global;
@@ -61,6 +61,7 @@ pub fn run_request<W: World, R: Read + Drop, O: Write>(
             task,
         } => Outcome::Changed(change_files(world, alloc, names, mounted, task)),
         Request::Dump { job, name } => Outcome::Dumped(dump_file(world, alloc, job, name, out)),
+        Request::DumpInput { job, input } => Outcome::Dumped(dump_input(alloc, job, input, out)),
         Request::Look { names, report } => {
             Outcome::Looked(write_report(world, alloc, names, report, out))
         }

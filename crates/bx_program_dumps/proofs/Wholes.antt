@@ -3,7 +3,7 @@ use Rattle.std.proofs.Common.{◌≡◌, ◌⊎◌, ◌+◌, ◌-◌, ◌*◌, �
 use Rattle.std.specs.Prelude.{IfOk, MatchOption}
 use Rattle.std.specs.Option.{IsSomeAnd, option_map_or}
 use Rattle.std.specs.Io.KnownBytes.{Appends, Consumes, IsAtEnd}
-use Rattle.std.proofs.Math.Nat.{mul-add, mul_comm}
+use Rattle.std.proofs.Math.Nat.{mul-add, mul_comm, zero-mod}
 use Rattle.std.proofs.lemmas.List.{append-nil, drop-append-le, drop-drop, length-drop, length-take-le, take-append-drop, take-append-le}
 use Rattle.bx_dd.specs.declared.counts.Counts.{Counts}
 use Rattle.bx_dd.specs.declared.operands.plan.Plan.{Plan}
@@ -26,6 +26,7 @@ use Rattle.bx_cli_commands.specs.declared.jobs.dumps.DumpJob.{DumpJob}
 use Rattle.bx_cli_commands.specs.declared.jobs.dumps.DumpJob.TheVariants.{Od, Xxd, Hexdump, Strings, Dd}
 use Rattle.bx_cli_commands.specs.jobs.JobDump.{CopiesBehind, DumpsJob}
 use Rattle.bx_cli_commands.specs.jobs.Passing.{CanPass, skip_of}
+use Rattle.bx_program_dumps.specs.Dumps.{DumpsInput}
 use Rattle.bx_program_dumps.specs.Texts.{DumpsWhole, WritesWholeCopy, WritesWholeText}
 
 -- the first of the bytes from a place on, as many as there may be
@@ -118,3 +119,17 @@ pub whole_ok : (job : DumpJob) (n : ℕ) (input left old new : Option (List ℕ)
 whole_ok job n input left old new (Ok done) may is bytes le here =
     whole_of job n bytes done left old new may le (subst (λ i. DumpsJob n job i left old new done) here is)
 whole_ok job n input left old new (Err fault) may is bytes le here = tt
+
+-- nothing may always be passed
+pub none_passed : (job : DumpJob) → CanPass 0 (skip_of job)
+none_passed (Od job) = (omega arith, omega arith)
+none_passed (Xxd job) = (omega arith, omega arith)
+none_passed (Hexdump job) = (omega arith, omega arith)
+none_passed (Strings job) = (omega arith, omega arith)
+none_passed (Dd job) = (omega arith, zero-mod job.plan.ibs)
+
+-- where nothing was passed, what a job makes of an input is what it makes of all its bytes
+pub whole_input : (job : DumpJob) (done : Done) (input left old new : Option (List ℕ)) → DumpsJob 0 job input left old new done
+    → DumpsInput job input done old new
+whole_input job done None left old new is = tt
+whole_input job done (Some bytes) left old new is = whole_of job 0 bytes done left old new (none_passed job) (omega arith) is

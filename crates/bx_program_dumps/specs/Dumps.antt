@@ -1,5 +1,5 @@
--- What a dump of a named file writes.
-use Rattle.std.specs.Prelude.{◌≡◌, ◌+◌, ◌≤◌, ℕ, List, Option, None, Some, Result, Ok, Err, drop, length}
+-- What a dump of a named file writes, and of an input.
+use Rattle.std.specs.Prelude.{◌≡◌, ◌+◌, ◌≤◌, ℕ, List, Option, None, Some, Result, Ok, Err, IfSome, drop, length}
 use Rattle.bx_cli_commands.specs.declared.fault.Fault.{Fault}
 use Rattle.bx_cli_commands.specs.declared.jobs.dump.Done.{Done}
 use Rattle.bx_cli_commands.specs.declared.jobs.dumps.DumpJob.{DumpJob}
@@ -16,6 +16,20 @@ use Rattle.bx_program_dumps.specs.declared.undumped.Undumped.TheVariants.{Unopen
 -- a fault stopped the dump of an input that stands behind passed bytes, and a front of its text was written
 abbrev pub WritesDumpFront : ℕ → DumpJob → Option (List ℕ) → Option (List ℕ) → Option (List ℕ) → Fault → Type 0
 WritesDumpFront passed job input old new fault = (left : Option (List ℕ)) × StopsJob passed job input left old new fault
+
+-- what the job makes of all the bytes that an input gives was written
+abbrev pub DumpsInput : DumpJob → Option (List ℕ) → Done → Option (List ℕ) → Option (List ℕ) → Type 0
+DumpsInput job input done old new = IfSome input (λ bytes. DumpsWhole job bytes done old new)
+
+-- a fault stopped the dump
+abbrev pub IsStopped : Undumped → Type 0
+IsStopped (Stopped fault) = Unit {0}
+IsStopped e = ⊥
+
+-- a fault stopped the dump of an input, where nothing was passed, and a front of its text was written
+abbrev pub StopsInput : DumpJob → Option (List ℕ) → Option (List ℕ) → Option (List ℕ) → Undumped → Type 0
+StopsInput job input old new (Stopped fault) = WritesDumpFront 0 job input old new fault
+StopsInput job input old new e = ⊥
 
 -- ---- the bytes of a file
 

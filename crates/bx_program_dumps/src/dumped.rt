@@ -1,8 +1,8 @@
-//! A dump of a named file.
+//! A dump of a named file, and of an input.
 ghost use Rattle.std.specs.Prelude.{◌≡◌, ◌↔◌, ◌≤◌, Some, IfErr, IfOk, List, drop, length, ℕ};
 ghost use Rattle.bx_cli_commands.specs.jobs.Passing.{CanPass, skip_of};
 ghost use Rattle.bx_program_world.specs.World.{NothingNewFound};
-ghost use Rattle.bx_program_dumps.specs.Dumps.{CountsUndumped, DumpsNamed, StopsNamed, StopsOpened, WritesDumpFront};
+ghost use Rattle.bx_program_dumps.specs.Dumps.{CountsUndumped, DumpsInput, DumpsNamed, IsStopped, StopsInput, StopsNamed, StopsOpened, WritesDumpFront};
 ghost use Rattle.bx_program_dumps.specs.Texts.{DumpsWhole};
 
 use crate::placed::passed_of;
@@ -10,7 +10,7 @@ use crate::undumped::Undumped;
 use bx_cli_commands::{Done, DumpJob, Fault, run_dump};
 use bx_program_world::World;
 use std::alloc::Global;
-use std::io::Write;
+use std::io::{Read, Write};
 
 /// `bx od FILE` and its like: the writer gets exactly the text that the job makes of the file's bytes, or a front of it where
 /// a fault is answered. What stands behind the bytes that a seek passes is read, and no file is changed, made or taken away.
@@ -33,6 +33,25 @@ pub fn dump_file<W: World, O: Write>(
     match world.open_input(name) {
         Ok(file) => dump_opened(world, alloc, job, file, out),
         Err(refusal) => Err(Undumped::Unopened(refusal)),
+    }
+}
+
+/// `bx od < FILE` and its like: the writer gets exactly the text that the job makes of the bytes that an input gives from where it
+/// stands, or a front of it where a fault is answered. What is skipped is read.
+pub fn dump_input<R: Read + Drop, O: Write>(
+    alloc: Global,
+    job: &DumpJob,
+    input: R,
+    out: &mut O,
+) -> Result<Done, Undumped>
+    ensures ok { IfOk result (λ done. DumpsInput job.now (R.remaining input) done (O.contents out.old) (O.contents out.new)) }
+    ensures err { IfErr result (StopsInput job.now (R.remaining input) (O.contents out.old) (O.contents out.new)) }
+    ensures kind { IfErr result IsStopped }
+{
+    let mut input = input;
+    match run_dump(alloc, job, 0, &mut input, out) {
+        Ok(done) => Ok(done),
+        Err(why) => Err(Undumped::Stopped(why)),
     }
 }
 

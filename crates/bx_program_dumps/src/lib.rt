@@ -1,9 +1,10 @@
-//! A dump of a named file: opened by its name, lent behind the bytes that a seek passes, and closed. An inner part of `bx_program`.
+//! A dump of a named file: opened by its name, lent behind the bytes that a seek passes, and closed; and of an input, which is read
+//! from where it stands. An inner part of `bx_program`.
 #![tactic(auto)]
 
 mod dumped;
 mod placed;
 mod undumped;
 
-pub use dumped::dump_file;
+pub use dumped::{dump_file, dump_input};
 pub use undumped::Undumped;

@@ -1,4 +1,4 @@
-//! Plays dumps of an image: of a regular file, of one without a length, as a pipe, and of one that is missing.
+//! Plays dumps of an image: of a regular file, of one without a length, as a pipe, and of one that is missing; and of an input.
 use crate::oddities::{Odd, Oddity};
 use crate::report::Wrong;
 use crate::seen::asked::Asked;
@@ -99,7 +99,10 @@ fn play_job<'a>(
     let (_, which, _, why) = MISSING;
     let told = Told::Unopened(Unopened { which, why });
     let _ = print!(rt; "{name}, missing");
-    play_each(rt, &whole.of_odd(&MISSING, told), &EACH) && right
+    right = play_each(rt, &whole.of_odd(&MISSING, told), &EACH) && right;
+    let _ = print!(rt; "{name}, an input");
+    let asked = Asked::Input(job, image);
+    play_each(rt, &Asking { asked, ..whole }, &EACH) && right
 }
 
 /// Plays these cases. Tells whether all are right.

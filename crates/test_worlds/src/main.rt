@@ -16,7 +16,8 @@
 //!
 //! Looks and dumps only read. With each call of the world refused, each read of a file failing and each write of the output, what is
 //! written is the text of the case or a front of it, beside the fault of what failed; and the world is as it was, streams too. Looks are
-//! a log, one with ranges, and each look of a case; a dump is also one of a file without a length, and of one that is missing.
+//! a log, one with ranges, and each look of a case; a dump is also one of a file without a length, and of one that is missing, and
+//! of an input.
 //!
 //! A line of the output has a case, and how often it was played with each that fails; before them stand the files of `oddities.rt` that
 //! may not be opened: in the first case, in the first change, in the first one whose files are made, and in the first of looks.

@@ -1,4 +1,4 @@
-//! Named files that are only read, in a world in memory: each call fails in turn, and all is as before.
+//! Named files that are only read, and an input, in a world in memory: each call fails in turn, and all is as before.
 pub mod asked;
 mod output;
 pub mod told;
@@ -75,8 +75,10 @@ impl<'a> Asking<'a> {
         let kept = Kept::of(self.alloc, held_by(&world))?;
         let before = there_in(&world);
         let mut out = Output::new(self.alloc, failing.writes(way, call));
-        world.begin(self.plan(failing, way, call));
-        let outcome = ask(&mut world, self.alloc, self.names, self.asked, &mut out);
+        let plan = self.plan(failing, way, call);
+        let outcome = ask(
+            &mut world, self.alloc, self.names, plan, self.asked, &mut out,
+        );
         is_untouched(&world, &kept, before)?;
         let cause = failing.cause();
         let output = out.taken.as_slice();

@@ -1,11 +1,14 @@
-//! What is asked of named files that are only read.
+//! What is asked of named files that are only read, and of an input.
+ghost use Rattle.std.specs.Prelude.{◌≡◌, None};
+
 use bx_cli_commands::{Done, DumpJob, Fault};
 use bx_journal::Steps;
+use bx_program_commands::{Outcome as Answer, Request, run_request};
 use bx_program_dumps::{Undumped, dump_file};
 use bx_program_files::{Names, Unopened, Which, Why};
 use bx_program_looks::{Unseen, log, log_with_ranges, show, show_unfinished};
-use bx_program_world::{MemoryWorld, Refusal};
-use bx_text::emit;
+use bx_program_world::{LentInput, MemoryWorld, Plan, Refusal, World};
+use bx_text::{IoFault, emit};
 use std::alloc::Global;
 use std::io::Write;
 
@@ -22,6 +25,8 @@ pub enum Asked<'a> {
     Unfinished(Steps),
     /// A dump of the image.
     Dump(&'a DumpJob),
+    /// A dump of an input that has these bytes.
+    Input(&'a DumpJob, &'a [u8]),
 }
 
 /// How it ended: a dump with its counts.
@@ -64,20 +69,53 @@ fn put_dump<O: Write>(
     }
 }
 
-/// Writes what is asked of files of these names.
+/// Writes a dump of an input.
+fn put_input<O: Write>(
+    world: &mut MemoryWorld,
+    alloc: Global,
+    job: &DumpJob,
+    input: LentInput,
+    out: &mut O,
+) -> Outcome
+    requires { (⟦<MemoryWorld as World>⟧.sight world.old).lent ≡ None }
+{
+    let request = Request::DumpInput { job, input };
+    match run_request(world, alloc, request, out) {
+        Answer::Dumped(Ok(done)) => Ok(Some(done)),
+        Answer::Dumped(Err(Undumped::Stopped(fault))) => Err(Unseen::Stopped(fault)),
+        Answer::Dumped(Err(_)) | Answer::Moved(_) | Answer::Changed(_) | Answer::Looked(_) =>
+            unreachable!(),
+    }
+}
+
+/// What an input has, whose reads fail as the plan says.
+fn input_of(alloc: Global, bytes: &[u8], plan: Plan) -> Result<LentInput, Unseen> {
+    match bytes.to_vec(alloc) {
+        Ok(bytes) => Ok(LentInput::new(bytes, 0, plan.input)),
+        Err(_) => Err(Unseen::Stopped(Fault::Io(IoFault::NoMemory))),
+    }
+}
+
+/// Writes what is asked of files of these names, or of an input, in a world that does what its plan says.
 pub fn ask<O: Write>(
     world: &mut MemoryWorld,
     alloc: Global,
     names: &Names,
+    plan: Plan,
     asked: Asked<'_>,
     out: &mut O,
 ) -> Outcome {
+    world.begin(plan);
     let outcome = match asked {
         Asked::Log => put_log(world, alloc, names, out),
         Asked::Ranges => log_with_ranges(world, alloc, names, out),
         Asked::Steps(steps) => show(world, alloc, names, steps, out),
         Asked::Unfinished(steps) => show_unfinished(world, alloc, names, steps, out),
         Asked::Dump(job) => return put_dump(world, alloc, names, job, out),
+        Asked::Input(job, bytes) => {
+            let input = input_of(alloc, bytes, plan)?;
+            return put_input(world, alloc, job, input, out);
+        }
     };
     outcome.map(|()| None)
 }
