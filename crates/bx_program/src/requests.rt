@@ -3,7 +3,8 @@ ghost use Rattle.bx_program_sessions.specs.Task.{IsNearTask};
 
 use bx_cli::{Done, DumpJob, Fault};
 use bx_journal::Way;
-use bx_program_commands::{Outcome, Report, Request, run_request};
+use bx_patch::Extent;
+use bx_program_commands::{Outcome, Report, Request, Undiffed, run_request};
 use bx_program_dumps::Undumped;
 use bx_program_files::Names;
 use bx_program_looks::Unseen;
@@ -35,7 +36,9 @@ where
     };
     match run_request(world, alloc, request, &mut io::sink()) {
         Outcome::Moved(moved) => moved,
-        Outcome::Changed(_) | Outcome::Dumped(_) | Outcome::Looked(_) => unreachable!(),
+        Outcome::Changed(_) | Outcome::Dumped(_) | Outcome::Compared(_) | Outcome::Looked(_) => {
+            unreachable!()
+        }
     }
 }
 
@@ -58,7 +61,9 @@ where
     };
     match run_request(world, alloc, request, &mut io::sink()) {
         Outcome::Changed(answer) => answer,
-        Outcome::Moved(_) | Outcome::Dumped(_) | Outcome::Looked(_) => unreachable!(),
+        Outcome::Moved(_) | Outcome::Dumped(_) | Outcome::Compared(_) | Outcome::Looked(_) => {
+            unreachable!()
+        }
     }
 }
 
@@ -76,7 +81,9 @@ where
     let request: Request<'_, Empty> = Request::Dump { job, name };
     match run_request(world, alloc, request, out) {
         Outcome::Dumped(outcome) => outcome,
-        Outcome::Moved(_) | Outcome::Changed(_) | Outcome::Looked(_) => unreachable!(),
+        Outcome::Moved(_) | Outcome::Changed(_) | Outcome::Compared(_) | Outcome::Looked(_) => {
+            unreachable!()
+        }
     }
 }
 
@@ -96,7 +103,30 @@ where
         Outcome::Dumped(Ok(done)) => Ok(done),
         Outcome::Dumped(Err(Undumped::Stopped(fault))) => Err(fault),
         Outcome::Dumped(Err(Undumped::Unopened(_) | Undumped::Unplaced(_))) => unreachable!(),
-        Outcome::Moved(_) | Outcome::Changed(_) | Outcome::Looked(_) => unreachable!(),
+        Outcome::Moved(_) | Outcome::Changed(_) | Outcome::Compared(_) | Outcome::Looked(_) => {
+            unreachable!()
+        }
+    }
+}
+
+/// Writes the patch from one file to another.
+pub fn request_diff<R, O: Write>(
+    world: &mut SystemWorld<'_, '_, R>,
+    alloc: Global,
+    old: &str,
+    new: &str,
+    extent: Extent,
+    out: &mut O,
+) -> Result<(), Undiffed>
+where
+    R: Files<File = File> + Print + Eprint + Clock + AllocGlobal,
+{
+    let request: Request<'_, Empty> = Request::Diff { old, new, extent };
+    match run_request(world, alloc, request, out) {
+        Outcome::Compared(outcome) => outcome,
+        Outcome::Moved(_) | Outcome::Changed(_) | Outcome::Dumped(_) | Outcome::Looked(_) => {
+            unreachable!()
+        }
     }
 }
 
@@ -114,6 +144,8 @@ where
     let request: Request<'_, Empty> = Request::Look { names, report };
     match run_request(world, alloc, request, out) {
         Outcome::Looked(outcome) => outcome,
-        Outcome::Moved(_) | Outcome::Changed(_) | Outcome::Dumped(_) => unreachable!(),
+        Outcome::Moved(_) | Outcome::Changed(_) | Outcome::Dumped(_) | Outcome::Compared(_) => {
+            unreachable!()
+        }
     }
 }

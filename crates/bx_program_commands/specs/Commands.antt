@@ -1,6 +1,7 @@
 -- What a command on named files does, in the words of the calls that it is made of.
 use Rattle.std.specs.Prelude.{◌≡◌, ◌<◌, ℕ, true, false, List, Option, None, Result, Err, IfOk, IfErr, IfSome, OnOk}
 use Rattle.std.specs.Result.{MatchResult}
+use Rattle.bx_patch.specs.declared.diff.row.Extent.{Extent}
 use Rattle.bx_journal.specs.Images.{Images}
 use Rattle.bx_journal.specs.SessionFault.TheVariants.{Interrupted}
 use Rattle.bx_journal.specs.Way.{Way}
@@ -27,13 +28,15 @@ use Rattle.bx_program_sessions.specs.declared.named.Answer.{Answer}
 use Rattle.bx_program_sessions.specs.declared.task.Task.{Task}
 use Rattle.bx_program_dumps.specs.Dumps.{CountsUndumped, DumpsInput, DumpsNamed, IsStopped, StopsInput, StopsNamed}
 use Rattle.bx_program_dumps.specs.declared.undumped.Undumped.{Undumped}
+use Rattle.bx_program_commands.specs.Diffs.{StopsDiff, WritesDiff}
 use Rattle.bx_program_commands.specs.Outcome.{ended_by}
 use Rattle.bx_program_commands.specs.Reports.{Reports}
 use Rattle.bx_program_commands.specs.Scene.{Scene}
+use Rattle.bx_program_commands.specs.declared.diff.Undiffed.{Undiffed}
 use Rattle.bx_program_commands.specs.declared.outcome.Outcome.{Outcome}
 use Rattle.bx_program_commands.specs.declared.outcome.Outcome.TheVariants as of
 use Rattle.bx_program_commands.specs.declared.request.Request.{Request}
-use Rattle.bx_program_commands.specs.declared.request.Request.TheVariants.{Move, Change, Dump, DumpInput, Look}
+use Rattle.bx_program_commands.specs.declared.request.Request.TheVariants.{Move, Change, Dump, DumpInput, Diff, Look}
 
 -- Of files that hold images an undo or a redo leaves those with `count` changes moved and writes how many stand, or it stops and says why; of
 -- files in which opening finds images, as after a crash, it does so on what is recovered
@@ -69,12 +72,20 @@ pub record DoesDumpInput (job : DumpJob) (input : Option (List ℕ)) (outcome : 
   pub text : MatchResult outcome (λ done. DumpsInput job input done old.written new.written) (StopsInput job input old.written new.written)
   pub counted : new.refusals ≡ old.refusals
 
+-- A comparison writes the patch from the bytes of one file to those of another, or a front of it and says why; a file that isn't opened is missing,
+-- may not be read by the rule, or the system counted a call that it refused
+abbrev pub DoesDiff : Extent → List ℕ → List ℕ → Result (Unit {0}) Undiffed → Scene → Scene → Type 0
+DoesDiff extent old_name new_name outcome old new =
+    MatchResult outcome (λ _. WritesDiff extent old_name new_name old.sight old.written new.written)
+    (StopsDiff extent old_name new_name (old.refusals < new.refusals) old.sight old.written new.written)
+
 -- each command has an answer of its own; an input is open, and no seek places it
 abbrev pub Answers : {R : Type 0} → Request R → Outcome → Type 0
 Answers (Move names mounted way count) (of.Moved moved) = Unit {0}
 Answers (Change names mounted task) (of.Changed answer) = Unit {0}
 Answers (Dump job name) (of.Dumped outcome) = Unit {0}
 Answers (DumpInput job input) (of.Dumped outcome) = IfErr outcome IsStopped
+Answers (Diff old_name new_name extent) (of.Compared outcome) = Unit {0}
 Answers (Look names report) (of.Looked outcome) = Unit {0}
 Answers request outcome = ⊥
 
@@ -84,6 +95,7 @@ Fulfills remaining (Move names mounted way count) (of.Moved moved) old new = Doe
 Fulfills remaining (Change names mounted task) (of.Changed answer) old new = DoesChange remaining names.now task answer old.sight new.sight
 Fulfills remaining (Dump job name) (of.Dumped outcome) old new = DoesDump job.now name.now outcome old new
 Fulfills remaining (DumpInput job input) (of.Dumped outcome) old new = DoesDumpInput job.now (remaining input) outcome old new
+Fulfills remaining (Diff old_name new_name extent) (of.Compared outcome) old new = DoesDiff extent old_name.now new_name.now outcome old new
 Fulfills remaining (Look names report) (of.Looked outcome) old new = Reports names.now report outcome old new
 Fulfills remaining request outcome old new = ⊥
 
@@ -93,7 +105,7 @@ IsNearRequest (Change names mounted task) = IsNearTask task
 IsNearRequest request = Unit {0}
 
 -- whatever is found of the files after a loss of power: behind an undo, a redo and a change opening finds the images behind some of its steps, or
--- of an end of it; behind a dump and a report nothing is found that wasn't before
+-- of an end of it; behind a dump, a comparison and a report nothing is found that wasn't before
 abbrev pub SurvivesLoss : {R : Type 0} → (R → Option (List ℕ)) → Request R → Outcome → Sight → Sight
     → (ℕ → List ℕ → Type 0) → (ℕ → List ℕ → Type 0) → Type 0
 SurvivesLoss remaining (Move names mounted way count) (of.Moved moved) old new found left =
@@ -110,12 +122,13 @@ LeavesOthers (Move names mounted way count) old new = KeepsOthers names.now old 
 LeavesOthers (Change names mounted task) old new = KeepsOthers names.now old new
 LeavesOthers request old new = new ≡ old
 
--- what stands under the names may be opened, by the rule: to be changed, or to be read; a dump is of any file
+-- what stands under the names may be opened, by the rule: to be changed, or to be read; a dump is of any file, and a comparison says itself which it is of
 abbrev pub MayOpen : {R : Type 0} → Request R → Sight → Type 0
 MayOpen (Move names mounted way count) w = AreFit names.now mounted w
 MayOpen (Change names mounted task) w = AreFit names.now mounted w
 MayOpen (Dump job name) w = Unit {0}
 MayOpen (DumpInput job input) w = Unit {0}
+MayOpen (Diff old_name new_name extent) w = Unit {0}
 MayOpen (Look names report) w = AreReadable names.now w
 
 -- why a file of an image may not be opened
@@ -124,6 +137,7 @@ MayRefuseFile (Move names mounted way count) counted w file = MayRefuseOpening n
 MayRefuseFile (Change names mounted task) counted w file = MayRefuseOpening names.now mounted true counted w file
 MayRefuseFile (Dump job name) counted w file = ⊥
 MayRefuseFile (DumpInput job input) counted w file = ⊥
+MayRefuseFile (Diff old_name new_name extent) counted w file = ⊥
 MayRefuseFile (Look names report) counted w file = MayRefuseReading names.now counted w file
 
 -- A file of an image wasn't opened: the fault says so, all files are as they were, nothing is written, and there is a reason
@@ -132,8 +146,8 @@ pub record StopsUnopened {R : Type 0} (request : Request R) (outcome : Outcome) 
   pub files : LeavesFiles old.sight new.sight
   pub why : MayRefuseFile request (old.refusals < new.refusals) old.sight file
 
--- What is written: what was recovered on standard error; of an undo and a redo a number on standard output; of a dump and a report what stands in
--- the output that they are given
+-- What is written: what was recovered on standard error; of an undo and a redo a number on standard output; of a dump, a comparison and a report what
+-- stands in the output that they are given
 abbrev pub Writes : {R : Type 0} → Request R → Outcome → Scene → Scene → Type 0
 Writes (Move names mounted way count) (of.Moved moved) old new =
     TellsRecovered moved.how old.sight.errors new.sight.errors × (new.written ≡ old.written)

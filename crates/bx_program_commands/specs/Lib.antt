@@ -1,4 +1,5 @@
 pub mod Scene
 pub mod Outcome
+pub mod Diffs
 pub mod Reports
 pub mod Commands

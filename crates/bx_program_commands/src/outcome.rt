@@ -1,9 +1,11 @@
 //! How a command ended.
 ghost use Rattle.std.specs.Prelude.{◌≡◌};
-ghost use Rattle.bx_program_commands.specs.Outcome.{ended_by, look_fault, dump_fault};
+ghost use Rattle.bx_program_commands.specs.Outcome.{diff_fault, ended_by, look_fault, dump_fault};
 
+use crate::diff::Undiffed;
 use bx_cli_commands::{Done, Fault};
 use bx_journal::SessionFault;
+use bx_patch::DiffFault;
 use bx_program_dumps::Undumped;
 use bx_program_looks::Unseen;
 use bx_program_sessions::{Answer, Moved};
@@ -18,6 +20,8 @@ pub enum Outcome {
     Changed(Answer),
     /// Of a dump: what was dumped, or why it is not whole.
     Dumped(Result<Done, Undumped>),
+    /// Of a comparison: that the patch is whole, or why not.
+    Compared(Result<(), Undiffed>),
     /// Of a report: that it is whole, or why not.
     Looked(Result<(), Unseen>),
 }
@@ -30,6 +34,23 @@ fn fault_of_dump(undumped: Undumped) -> Fault
         Undumped::Unopened(_) => Fault::OpenFailed,
         Undumped::Unplaced(_) => Fault::Io(IoFault::ReadFailed),
         Undumped::Stopped(fault) => fault,
+    }
+}
+
+/// The fault of a patch that is not whole.
+fn fault_of_diff(undiffed: Undiffed) -> Fault
+    ensures { result ≡ diff_fault undiffed }
+{
+    match undiffed {
+        Undiffed::OldUnopened(_) | Undiffed::NewUnopened(_) => Fault::OpenFailed,
+        Undiffed::Stopped(DiffFault::NoMemory) => Fault::Io(IoFault::NoMemory),
+        Undiffed::Stopped(DiffFault::TooLarge) => Fault::Session(SessionFault::TooLarge),
+        Undiffed::Stopped(DiffFault::OldFailed | DiffFault::NewFailed) => {
+            Fault::Io(IoFault::ReadFailed)
+        }
+        Undiffed::Stopped(DiffFault::WriteFailed { written }) => {
+            Fault::Io(IoFault::WriteFailed { written })
+        }
     }
 }
 
@@ -55,8 +76,9 @@ impl Outcome {
                 Ok(_) => Ok(()),
                 Err(fault) => Err(fault),
             },
-            Outcome::Dumped(Ok(_)) | Outcome::Looked(Ok(())) => Ok(()),
+            Outcome::Dumped(Ok(_)) | Outcome::Compared(Ok(())) | Outcome::Looked(Ok(())) => Ok(()),
             Outcome::Dumped(Err(undumped)) => Err(fault_of_dump(*undumped)),
+            Outcome::Compared(Err(undiffed)) => Err(fault_of_diff(*undiffed)),
             Outcome::Looked(Err(unseen)) => Err(fault_of_look(*unseen)),
         }
     }

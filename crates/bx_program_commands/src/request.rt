@@ -1,6 +1,7 @@
 //! What is asked for: a command on named files.
 use bx_cli_commands::DumpJob;
 use bx_journal::{Steps, Way};
+use bx_patch::Extent;
 use bx_program_files::Names;
 use bx_program_sessions::Task;
 use std::io::Empty;
@@ -53,6 +54,15 @@ pub enum Request<'a, R = Empty> {
         job: &'a DumpJob,
         /// The input.
         input: R,
+    },
+    /// Writes the patch from one file to another: `diff`.
+    Diff {
+        /// The file that the patch is for.
+        old: &'a str,
+        /// What the patch makes of it.
+        new: &'a str,
+        /// What of a row has lines.
+        extent: Extent,
     },
     /// Writes a report of the changes of an image: `log`, `show`.
     Look {

@@ -4,6 +4,7 @@ ghost use Rattle.bx_program_commands.specs.Commands.{Answers, Fulfills, IsNearRe
 ghost use Rattle.bx_program_commands.specs.Outcome.{unopened_by};
 ghost use Rattle.bx_program_commands.specs.Scene.{scene};
 
+use crate::diff::write_diff;
 use crate::outcome::Outcome;
 use crate::report::write_report;
 use crate::request::Request;
@@ -62,6 +63,9 @@ pub fn run_request<W: World, R: Read + Drop, O: Write>(
         } => Outcome::Changed(change_files(world, alloc, names, mounted, task)),
         Request::Dump { job, name } => Outcome::Dumped(dump_file(world, alloc, job, name, out)),
         Request::DumpInput { job, input } => Outcome::Dumped(dump_input(alloc, job, input, out)),
+        Request::Diff { old, new, extent } => {
+            Outcome::Compared(write_diff(world, alloc, old, new, extent, out))
+        }
         Request::Look { names, report } => {
             Outcome::Looked(write_report(world, alloc, names, report, out))
         }

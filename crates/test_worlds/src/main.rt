@@ -1,4 +1,5 @@
-//! Plays commands, looks and dumps on named files in a world in memory, over cases of the kinds `commands`, `looks` and `words`.
+//! Plays commands, looks, dumps and comparisons on named files in a world in memory, over cases of the kinds `commands`, `looks`,
+//! `words` and `patches`.
 //!
 //! The lines of a case of commands are one undo or redo of as many changes; or the last one is a change, a revert, dd or a patch. A first
 //! `undo: 0` tells what opening recovers.
@@ -14,16 +15,18 @@
 //! three what it has or what is on its disk is left, in all combinations, and opening finds the image behind some of the changes: behind
 //! all where the command is done, behind none where it is refused.
 //!
-//! Looks and dumps only read. With each call of the world refused, each read of a file failing and each write of the output, what is
+//! Looks, dumps and comparisons only read. With each call of the world refused, each read of a file failing and each write of the output, what is
 //! written is the text of the case or a front of it, beside the fault of what failed; and the world is as it was, streams too. Looks are
-//! a log, one with ranges, and each look of a case; a dump is also one of a file without a length, and of one that is missing, and
-//! of an input.
+//! a log, one with ranges, and each look of a case; a dump is also one of a file without a length, of one that is missing, and of an
+//! input; a comparison is by bytes and by rows.
 //!
 //! A line of the output has a case, and how often it was played with each that fails; before them stand the files of `oddities.rt` that
-//! may not be opened: in the first case, in the first change, in the first one whose files are made, and in the first of looks.
+//! may not be opened: in the first case, in the first change, in the first one whose files are made, in the first of looks, and in the
+//! first of comparisons.
 #![tactic(auto)]
 
 mod changes;
+mod diffs;
 mod dumps;
 mod left;
 mod looks;
@@ -37,6 +40,7 @@ mod setting;
 mod sweeps;
 
 use crate::changes::Manner;
+use crate::diffs::play_diffs;
 use crate::dumps::play_dumps;
 use crate::looks::play_looks;
 use crate::odd::play_refused;
@@ -188,9 +192,11 @@ fn play_all(rt: &HostRuntime) -> Result<bool, Wrong> {
     let worlds = cases_of(rt, "worlds.cases")?;
     let looks = cases_of(rt, "looks.cases")?;
     let dumps = cases_of(rt, "dumps.cases")?;
+    let diffs = cases_of(rt, "diffs.cases")?;
     let mut right = play_each(rt, worlds.cases.as_slice())?;
     right = play_looks(rt, looks.cases.as_slice())? && right;
     right = play_dumps(rt, dumps.cases.as_slice())? && right;
+    right = play_diffs(rt, diffs.cases.as_slice())? && right;
     Ok(right)
 }
 

@@ -80,7 +80,7 @@ impl<'a> Asking<'a> {
             &mut world, self.alloc, self.names, plan, self.asked, &mut out,
         );
         is_untouched(&world, &kept, before)?;
-        let cause = failing.cause();
+        let cause = self.asked.cause(failing);
         let output = out.taken.as_slice();
         let is_told = judge(self.alloc, &world, self.told, cause, outcome, output)?;
         world.lose_power()?;

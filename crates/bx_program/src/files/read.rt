@@ -2,13 +2,13 @@
 use crate::files::look::refuse_without_journal;
 use crate::files::names::{names_of, world_of};
 use crate::files::unfit::unfit_image;
-use crate::files::unopened::{HELD, not_opened, number_of};
+use crate::files::unopened::{not_opened, number_of};
 use crate::stopped::Stopped;
 use bx_cli::{Fault, Target};
 use bx_program_files::{Looked, Unopened, open_to_forget, open_to_look};
-use bx_program_system::{OpenFile, Progress, SystemWorld, lock_shared, open_there, stat_of};
+use bx_program_system::{OpenFile, Progress, SystemWorld, open_there, stat_of};
 use bx_program_world::{Refusal, read_unfit};
-use std::fs::{self, File, TryLockError};
+use std::fs::{self, File};
 use std::rt::Files;
 use std::time::Clock;
 
@@ -113,21 +113,5 @@ where
     match open_there(rt, name, false) {
         Ok(file) => Ok(file),
         Err(error) => Err(Stopped::unopened(name, error)),
-    }
-}
-
-/// The same, locked beside others that read it.
-///
-/// # Errors
-/// `OpenFailed`, also where another program has it locked to change it.
-pub fn open_shared<'a, R>(rt: &R, name: &'a str) -> Result<File, Stopped<'a>>
-where
-    R: Files<File = File>,
-{
-    let file = open_alone(rt, name)?;
-    match lock_shared(&file) {
-        Ok(()) => Ok(file),
-        Err(TryLockError::WouldBlock) => Err(Stopped::refused(name, HELD)),
-        Err(TryLockError::Error(error)) => Err(Stopped::unopened(name, error)),
     }
 }

@@ -15,7 +15,7 @@ const NO_JOURNAL: &str =
     "no journal is here, so no change is known; -J names one that is elsewhere, and bx revert, bx patch and bx dd make one";
 
 /// What is said of a file that is locked.
-pub const HELD: &str = "another program has it locked, or it is one of the others by another name";
+const HELD: &str = "another program has it locked, or it is one of the others by another name";
 
 /// What is said of a file whose name leads to another one by now.
 const IS_MOVED: &str = "another file has its name now";
@@ -64,6 +64,18 @@ where
         Why::System(Refusal::Other(None)) => unmade(rt, name, unopened.which, world.misplaced),
         Why::System(refusal) => refused(rt, name, unopened.which, refusal),
         Why::Unfit(unfit) => unfit_file(rt, target.image.as_str(), name, unopened.which, unfit),
+        Why::Alias => Stopped::refused(name, IS_ALIAS),
+    }
+}
+
+/// What stopped a command whose file wasn't opened, which is only read and no file of a session.
+pub fn not_opened_alone<'a, R>(rt: &R, name: &'a str, why: Why) -> Stopped<'a>
+where
+    R: Files<File = File> + AllocGlobal,
+{
+    match why {
+        Why::System(refusal) => refused(rt, name, Which::Image, refusal),
+        Why::Unfit(unfit) => unfit_image(name, unfit),
         Why::Alias => Stopped::refused(name, IS_ALIAS),
     }
 }

@@ -1,40 +1,27 @@
 //! The patch from one file to another.
-ghost use Rattle.std.specs.Prelude.{◌≡◌, IfOk};
-
-use crate::files::read::open_shared;
+use crate::files::unopened::not_opened_alone;
+use crate::requests::request_diff;
 use crate::stopped::Stopped;
 use bx_cli::{DiffJob, Fault};
-use bx_image::{Device, FileImage, SystemFile};
+use bx_image::FailedCall;
 use bx_journal::SessionFault;
-use bx_patch::{DiffFault, Extent, write_patch};
-use bx_text::{IoFault, Name};
+use bx_patch::{DiffFault, Extent};
+use bx_program_commands::Undiffed;
+use bx_program_system::{Progress, SystemWorld};
+use bx_text::IoFault;
 use std::fs::File;
 use std::io::Write;
 use std::rt::Files;
+use std::time::Clock;
 
-/// A file or a block device that is only read, locked beside others that read it. No call of it has failed.
-fn opened<'a, R>(rt: &R, name: &'a Name) -> Result<FileImage, Stopped<'a>>
-where
-    R: Files<File = File> + AllocGlobal,
-    ensures { IfOk result (λ device. ⟦<FileImage as Device>⟧.failures device ≡ 0) }
-{
-    let file = open_shared(rt, name.as_str())?;
-    Ok(FileImage::new(SystemFile::new(file)))
-}
-
-/// What stopped the comparison of two devices.
-fn stopped<'a>(
-    fault: DiffFault,
-    job: &'a DiffJob,
-    old: &FileImage,
-    new: &FileImage,
-) -> Stopped<'a> {
+/// What stopped the comparison of two devices; the one that failed had this call.
+fn stopped<'a>(fault: DiffFault, job: &'a DiffJob, call: Option<FailedCall>) -> Stopped<'a> {
     let unread = Fault::Io(IoFault::ReadFailed);
     match fault {
         DiffFault::NoMemory => Stopped::from(Fault::Io(IoFault::NoMemory)),
         DiffFault::TooLarge => Stopped::from(Fault::Session(SessionFault::TooLarge)),
-        DiffFault::OldFailed => Stopped::failed(unread, job.old.as_str(), old.file().failed),
-        DiffFault::NewFailed => Stopped::failed(unread, job.new.as_str(), new.file().failed),
+        DiffFault::OldFailed => Stopped::failed(unread, job.old.as_str(), call),
+        DiffFault::NewFailed => Stopped::failed(unread, job.new.as_str(), call),
         DiffFault::WriteFailed { written } => {
             Stopped::from(Fault::Io(IoFault::WriteFailed { written }))
         }
@@ -44,17 +31,20 @@ fn stopped<'a>(
 /// Writes the patch from one file to another.
 pub fn diff<'a, R, W: Write>(rt: &R, job: &'a DiffJob, out: &mut W) -> Result<(), Stopped<'a>>
 where
-    R: Files<File = File> + AllocGlobal,
+    R: Files<File = File> + Print + Eprint + Clock + AllocGlobal,
 {
-    let mut old = opened(rt, &job.old)?;
-    let mut new = opened(rt, &job.new)?;
+    let silent = Progress::new(rt, false, None);
+    let mut world = SystemWorld::new(rt, &silent, false);
     let extent = if job.rows {
         Extent::Rows
     } else {
         Extent::Bytes
     };
-    match write_patch(&rt.alloc(), &mut old, &mut new, out, extent) {
+    let (old, new) = (job.old.as_str(), job.new.as_str());
+    match request_diff(&mut world, rt.alloc(), old, new, extent, out) {
         Ok(()) => Ok(()),
-        Err(fault) => Err(stopped(fault, job, &old, &new)),
+        Err(Undiffed::OldUnopened(why)) => Err(not_opened_alone(rt, old, why)),
+        Err(Undiffed::NewUnopened(why)) => Err(not_opened_alone(rt, new, why)),
+        Err(Undiffed::Stopped(fault)) => Err(stopped(fault, job, world.left.image.call)),
     }
 }

@@ -1,16 +1,19 @@
 //! What is asked of named files that are only read, and of an input.
 ghost use Rattle.std.specs.Prelude.{◌≡◌, None};
 
+use crate::left::Cause;
+use crate::sweeps::Failing;
 use bx_cli_commands::{Done, DumpJob, Fault};
 use bx_journal::Steps;
-use bx_program_commands::{Outcome as Answer, Request, run_request};
+use bx_patch::Extent;
+use bx_program_commands::{Outcome as Answer, Request, Undiffed, run_request};
 use bx_program_dumps::{Undumped, dump_file};
 use bx_program_files::{Names, Unopened, Which, Why};
 use bx_program_looks::{Unseen, log, log_with_ranges, show, show_unfinished};
 use bx_program_world::{LentInput, MemoryWorld, Plan, Refusal, World};
 use bx_text::{IoFault, emit};
 use std::alloc::Global;
-use std::io::Write;
+use std::io::{Empty, Write};
 
 /// What is asked.
 #[derive(Clone, Copy)]
@@ -27,6 +30,18 @@ pub enum Asked<'a> {
     Dump(&'a DumpJob),
     /// A dump of an input that has these bytes.
     Input(&'a DumpJob, &'a [u8]),
+    /// The patch from the image to the file of the journal's name.
+    Diff(Extent),
+}
+
+impl Asked<'_> {
+    /// Which faults may come of what fails. A comparison says of a device that it was not read.
+    pub fn cause(self, failing: Failing) -> Cause {
+        match (self, failing.cause()) {
+            (Asked::Diff(_), Cause::Device) => Cause::Input,
+            (_, cause) => cause,
+        }
+    }
 }
 
 /// How it ended: a dump with its counts.
@@ -83,8 +98,44 @@ fn put_input<O: Write>(
     match run_request(world, alloc, request, out) {
         Answer::Dumped(Ok(done)) => Ok(Some(done)),
         Answer::Dumped(Err(Undumped::Stopped(fault))) => Err(Unseen::Stopped(fault)),
-        Answer::Dumped(Err(_)) | Answer::Moved(_) | Answer::Changed(_) | Answer::Looked(_) =>
-            unreachable!(),
+        Answer::Dumped(Err(_))
+        | Answer::Moved(_)
+        | Answer::Changed(_)
+        | Answer::Compared(_)
+        | Answer::Looked(_) => unreachable!(),
+    }
+}
+
+/// A file that was not opened.
+fn unopened(which: Which, why: Why) -> Unseen {
+    Unseen::Unopened(Unopened { which, why })
+}
+
+/// Writes the patch from the image to the file of the journal's name.
+fn put_diff<O: Write>(
+    world: &mut MemoryWorld,
+    alloc: Global,
+    names: &Names,
+    extent: Extent,
+    out: &mut O,
+) -> Outcome
+    requires { (⟦<MemoryWorld as World>⟧.sight world.old).lent ≡ None }
+{
+    let request: Request<'_, Empty> = Request::Diff {
+        old: names.image.as_str(),
+        new: names.journal.as_str(),
+        extent,
+    };
+    let answer = run_request(world, alloc, request, out);
+    match (answer.ended(), answer) {
+        (Ok(()), _) => Ok(None),
+        (Err(_), Answer::Compared(Err(Undiffed::OldUnopened(why)))) => {
+            Err(unopened(Which::Image, why))
+        }
+        (Err(_), Answer::Compared(Err(Undiffed::NewUnopened(why)))) => {
+            Err(unopened(Which::Journal, why))
+        }
+        (Err(fault), _) => Err(Unseen::Stopped(fault)),
     }
 }
 
@@ -116,6 +167,7 @@ pub fn ask<O: Write>(
             let input = input_of(alloc, bytes, plan)?;
             return put_input(world, alloc, job, input, out);
         }
+        Asked::Diff(extent) => return put_diff(world, alloc, names, extent, out),
     };
     outcome.map(|()| None)
 }
