@@ -2,13 +2,13 @@
 use Rattle.std.proofs.Common.{◌≡◌, ◌⊎◌, ◌∙◌, ℕ, Bool, true, false, Option, Some, None, List, refl, sym, ap, subst, inl, inr}
 use Rattle.std.specs.Prelude.{IfSome}
 use Rattle.bx_program_world.specs.Rule.{text_unfit}
-use Rattle.bx_program_world.specs.World.{MayBeText, Sight, stat_named}
+use Rattle.bx_program_world.specs.World.{MayBeText, ReadFiles, Sight, stat_named}
 use Rattle.bx_program_world.specs.declared.rule.Unfit.{Unfit}
 use Rattle.bx_program_world.specs.declared.rule.Unfit.TheVariants.{Link}
 use Rattle.bx_program_world.specs.declared.stat.Stat.{Stat}
 use Rattle.bx_program_world.specs.declared.world.Refusal.{Refusal}
 use Rattle.bx_program_world.specs.declared.world.Refusal.TheVariants.{Locked, Missing, Moved, Other, Taken}
-use Rattle.bx_program_files.specs.Reading.{AreFitToRead, AreReadable, IsAnother, IsReadable, IsUnfitToRead, LeadToOneFile, LeadToRead, MayRefuseReading, MayRefuseToRead, ReadFiles, StaysSeen}
+use Rattle.bx_program_files.specs.Reading.{AreFitToRead, AreReadable, IsAnother, IsReadable, IsUnfitToRead, LeadToOneFile, LeadToRead, MayRefuseReading, MayRefuseToRead, StaysSeen}
 use Rattle.bx_program_files.specs.Reasons.{IsReason, IsRefusedFile, IsRefusedFor, IsUnfitBeside, NoneUnfit}
 use Rattle.bx_program_files.specs.declared.names.Names.{Names}
 use Rattle.bx_program_files.specs.declared.unopened.Unopened.{Unopened}

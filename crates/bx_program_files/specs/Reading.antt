@@ -1,7 +1,7 @@
 -- The files of an image that are only read.
 use Rattle.std.specs.Prelude.{◌≡◌, ◌⊎◌, ℕ, false, List, Option, None, Some, IfSome}
 use Rattle.bx_program_world.specs.Rule.{read_unfit, text_unfit}
-use Rattle.bx_program_world.specs.World.{MayBeRead, MayBeText, NothingNewFound, Sight, number_if, stat_named}
+use Rattle.bx_program_world.specs.World.{MayBeRead, MayBeText, NothingNewFound, ReadFiles, Sight, number_if, stat_named}
 use Rattle.bx_program_world.specs.declared.rule.Unfit.{Unfit}
 use Rattle.bx_program_world.specs.declared.stat.Stat.{Stat}
 use Rattle.bx_program_files.specs.Reasons.{IsReason, IsUnfitBeside}
@@ -11,12 +11,6 @@ use Rattle.bx_program_files.specs.declared.unopened.Unopened.{Unopened}
 use Rattle.bx_program_files.specs.declared.unopened.Which.{Which}
 use Rattle.bx_program_files.specs.declared.unopened.Which.TheVariants.{Image, Journal, Redo}
 use Rattle.bx_program_files.specs.declared.unopened.Why.{Why}
-
--- The files of an image, by their numbers; the redo text may be missing
-pub record ReadFiles : Type 0 where
-  pub image : ℕ
-  pub journal : ℕ
-  pub redo : Option ℕ
 
 -- the numbers of files that are open to be read
 abbrev pub numbers_read : {F : Type 0} → (F → ℕ) → Looked F → ReadFiles

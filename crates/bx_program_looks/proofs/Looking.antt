@@ -28,8 +28,8 @@ use Rattle.bx_journal.specs.Text.{Between, Entry, IsDamagedAt, Reading, Reads}
 use Rattle.bx_journal.specs.Undoing.{AgainFault, HasCount}
 use Rattle.bx_cli_commands.specs.Listing.{log_line}
 use Rattle.bx_cli_commands.specs.declared.fault.Fault.TheVariants.{Io, Read, Dd, Patch, Disagrees, Session, ChangedSince, Usage, OpenFailed}
-use Rattle.bx_program_world.specs.World.{Sight, held}
-use Rattle.bx_program_files.specs.Reading.{LeadToRead, ReadFiles}
+use Rattle.bx_program_world.specs.World.{ReadFiles, Sight, held}
+use Rattle.bx_program_files.specs.Reading.{LeadToRead}
 use Rattle.bx_program_files.specs.declared.names.Names.{Names}
 use Rattle.bx_program_looks.specs.Devices.{HoldBytes, HoldFiles, HoldNumbered, IsDeviceStop, IsOpenedWhole}
 use Rattle.bx_program_looks.specs.Looks.{HidesChanges, IsLogOf, MayNotLook, unseen_of}

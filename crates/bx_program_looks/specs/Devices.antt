@@ -10,8 +10,7 @@ use Rattle.bx_journal.specs.ShownSteps.{HasEntries}
 use Rattle.bx_journal.specs.ThreeDevices.{AreBelow}
 use Rattle.bx_journal.specs.Undoing.{HasCount}
 use Rattle.bx_cli_commands.specs.declared.fault.Fault.TheVariants.{Io, Session}
-use Rattle.bx_program_world.specs.World.{Sight, bytes_if, held}
-use Rattle.bx_program_files.specs.Reading.{ReadFiles}
+use Rattle.bx_program_world.specs.World.{ReadFiles, Sight, bytes_if, held}
 use Rattle.bx_program_files.specs.declared.names.Names.{Names}
 use Rattle.bx_program_looks.specs.declared.unseen.Unseen.{Unseen}
 use Rattle.bx_program_looks.specs.declared.unseen.Unseen.TheVariants.{Stopped}

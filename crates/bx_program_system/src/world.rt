@@ -1,5 +1,5 @@
 //! The system as a world.
-ghost use Rattle.std.specs.Prelude.{◌≡◌, ◌≤◌, IfErr, length};
+ghost use Rattle.std.specs.Prelude.{◌≡◌, ◌≤◌, IfErr, IfOk, None, length};
 ghost use Rattle.bx_program_system.specs.Unseen.{unseen};
 
 use crate::facts::alias::is_same;
@@ -19,7 +19,7 @@ use crate::progress::{Counted, Progress};
 use crate::refusal::{refused, unmade, unopened};
 use crate::tally::Tally;
 use bx_image::FileImage;
-use bx_journal_store::FileText;
+use bx_journal_store::{FileText, TextStore};
 use bx_program_world::{Look, Refusal, Stat, Unwritten, World};
 use bx_text::{IoFault, emit};
 use std::cell::Cell;
@@ -164,6 +164,20 @@ where
         Ok(())
     }
 
+    /// Lends a text to be read, and tells how many bytes those have that are.
+    fn lend_text(
+        &mut self,
+        text: OpenFile<'p, 'r, R>,
+    ) -> Result<FileText<CountedFile<'p, 'r, R>>, Refusal>
+        ensures { IfOk result (λ t. ⟦<FileText<CountedFile<'p, 'r, R>> as TextStore>⟧.failures t ≡ 0) }
+    {
+        if let Some(length) = size_of_texts(self.progress, text.system()?, None) {
+            self.to_read = self.to_read.saturating_add(length);
+            self.progress.begin(Some(self.to_read));
+        }
+        Ok(FileText::new(text.file.only_read(true)))
+    }
+
     /// How many bytes two texts have, where somebody looks and the system tells.
     fn size_of(&self, journal: &OpenFile<'p, 'r, R>, redo: &OpenFile<'p, 'r, R>) -> Option<u64> {
         let redo = redo.system().ok()?;
@@ -205,6 +219,8 @@ where
     ghost number = { λ _. 0 };
 
     ghost refusals = { λ _. 0 };
+
+    ghost beside = { λ _. None };
 
     ghost begun = { λ _ honest. absurd honest };
 
@@ -455,11 +471,7 @@ where
     }
 
     fn lend_text_to_read(&mut self, text: OpenFile<'p, 'r, R>) -> Result<Self::Text, Refusal> {
-        if let Some(length) = size_of_texts(self.progress, text.system()?, None) {
-            self.to_read = self.to_read.saturating_add(length);
-            self.progress.begin(Some(self.to_read));
-        }
-        Ok(FileText::new(text.file))
+        self.lend_text(text)
     }
 
     fn lend_no_text(&mut self) -> Self::Text {
@@ -469,5 +481,35 @@ where
     fn close_read(&mut self, image: Self::Image, journal: Self::Text, redo: Self::Text) {
         self.progress.end();
         self.left = Left::of(&image, &journal, &redo, 0);
+    }
+
+    fn lend_beside(
+        &mut self,
+        image: OpenFile<'p, 'r, R>,
+        journal: OpenFile<'p, 'r, R>,
+    ) -> Result<(Self::Image, Self::Text), Refusal> {
+        self.to_read = 0;
+        self.progress.begin(None);
+        let text = self.lend_text(journal)?;
+        let file = image.file.waiting(self.waits);
+        Ok((image_of(file, image.known.length), text))
+    }
+
+    fn lend_redo_beside(&mut self, redo: OpenFile<'p, 'r, R>) -> Result<Self::Text, Refusal> {
+        self.lend_text(redo)
+    }
+
+    fn let_change(&mut self, journal: Self::Text, redo: Self::Text) -> (Self::Text, Self::Text) {
+        let journal = journal.into_file().only_read(false);
+        let redo = redo.into_file().only_read(false);
+        (
+            FileText::new(journal),
+            FileText::counting_from(redo, FIRST_OF_REDO),
+        )
+    }
+
+    fn close_beside(&mut self, image: Self::Image, journal: Self::Text, redo: Self::Text) {
+        self.progress.end();
+        self.left = Left::of(&image, &journal, &redo, FIRST_OF_REDO);
     }
 }

@@ -1,10 +1,11 @@
 -- What a world in memory has.
-use Rattle.std.specs.Prelude.{◌≡◌, ◌⊎◌, ◌+◌, ℕ, Bool, true, false, cond, List, [], ◌∷◌, ◌++◌, length}
+use Rattle.std.specs.Prelude.{◌≡◌, ◌⊎◌, ◌+◌, ◌<◌, ℕ, Bool, true, false, cond, List, [], ◌∷◌, ◌++◌, length}
 use Rattle.std.specs.Option.{unwrap_or}
 use Rattle.bx_program_world.specs.World.{Sight}
 use Rattle.bx_program_world.specs.MemoryFiles.{bytes_at, file_named, is_gone_at, is_link_of, lent_trio, stat_of, synced_at}
 use Rattle.bx_program_world.specs.declared.memory.MemoryWorld.{MemoryWorld}
 use Rattle.bx_program_world.specs.declared.memory.Run.{Run}
+use Rattle.bx_program_world.specs.declared.memory.files.Contents.{Contents}
 use Rattle.bx_program_world.specs.declared.memory.files.Entry.{Entry}
 use Rattle.bx_program_world.specs.declared.memory.files.Leads.TheVariants.{File}
 use Rattle.bx_program_world.specs.declared.memory.files.Stored.{Stored}
@@ -74,6 +75,7 @@ pub record IsNoted (refused : Bool) (old new : MemoryWorld) : Type 0 where
   pub caller : new.run.caller ≡ old.run.caller
   pub before : new.run.before ≡ old.run.before
   pub lent : new.run.lent ≡ old.run.lent
+  pub beside : new.run.beside ≡ old.run.beside
   pub output : new.run.output ≡ old.run.output
   pub errors : new.run.errors ≡ old.run.errors
   pub stuck : new.run.stuck ≡ old.run.stuck
@@ -88,6 +90,18 @@ pub record HasOtherBytes (n : ℕ) (old new : MemoryWorld) : Type 0 where
   pub there : length new.files.items ≡ length old.files.items
   pub entries : new.entries.items ≡ old.entries.items
   pub run : new.run ≡ old.run
+
+-- the contents were taken out of a file
+pub record LendsContents (n : ℕ) (contents : Contents) (old new : MemoryWorld) : Type 0 where
+  pub bytes : n < length old.files.items → contents.bytes.items ≡ bytes_at old.files.items n
+  pub disk : n < length old.files.items → contents.synced.items ≡ synced_at old.files.items n
+  pub rest : HasOtherBytes n old new
+
+-- these contents were put into a file
+pub record TakesContents (n : ℕ) (contents : Contents) (old new : MemoryWorld) : Type 0 where
+  pub bytes : n < length old.files.items → bytes_at new.files.items n ≡ contents.bytes.items
+  pub disk : n < length old.files.items → synced_at new.files.items n ≡ contents.synced.items
+  pub rest : HasOtherBytes n old new
 
 -- a name was given to a file, and all else is as it was
 pub record NamesFile (old new : MemoryWorld) (name : List ℕ) (n : ℕ) : Type 0 where

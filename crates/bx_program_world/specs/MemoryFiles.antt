@@ -3,11 +3,12 @@ use Rattle.std.proofs.Common.{refl, arith}
 use Rattle.std.specs.Prelude.{◌≡◌, ◌<◌, ◌≤◌, ℕ, zero, suc, Bool, true, false, not, cond, List, [], ◌∷◌, Option, None, Some, slice_get, length}
 use Rattle.std.specs.Option.{option_map_or}
 use Rattle.std.specs.Str.{bytes_eq}
-use Rattle.bx_program_world.specs.World.{AreThreeFiles, Trio}
+use Rattle.bx_program_world.specs.World.{AreOwnFiles, AreThreeFiles, ReadFiles, Trio}
 use Rattle.bx_program_world.specs.declared.memory.files.Entry.{Entry}
 use Rattle.bx_program_world.specs.declared.memory.files.Leads.{Leads}
 use Rattle.bx_program_world.specs.declared.memory.files.Leads.TheVariants.{File, Link}
 use Rattle.bx_program_world.specs.declared.memory.files.Stored.{Stored}
+use Rattle.bx_program_world.specs.declared.memory.files.LentBeside.{LentBeside}
 use Rattle.bx_program_world.specs.declared.memory.files.LentFiles.{LentFiles}
 use Rattle.bx_program_world.specs.declared.stat.Stat.{Stat}
 
@@ -94,10 +95,20 @@ abbrev pub lent_trio : Option LentFiles → Option Trio
 lent_trio None = None
 lent_trio (Some l) = Some (trio_of l)
 
--- no fewer files are there than were when the run began, and the lent ones are there, and three
-pub record IsConsistent (before there : ℕ) (lent : Option LentFiles) : Type 0 where
+-- the numbers of files that are lent beside one another
+abbrev pub read_files : LentBeside → ReadFiles
+read_files l = record { image = l.image; journal = l.journal; redo = l.redo }
+
+-- the numbers of the files that are lent so
+abbrev pub lent_beside : Option LentBeside → Option ReadFiles
+lent_beside None = None
+lent_beside (Some l) = Some (read_files l)
+
+-- no fewer files are there than were when the run began, and the lent ones are there, each a file of its own
+pub record IsConsistent (before there : ℕ) (lent : Option LentFiles) (beside : Option LentBeside) : Type 0 where
   pub before_there : before ≤ there
   pub apart : (l : LentFiles) → lent ≡ Some l → AreThreeFiles there (trio_of l)
+  pub beside_apart : (l : LentBeside) → beside ≡ Some l → AreOwnFiles there (read_files l)
 
 -- a file that isn't gone is there
 pub there_unless_gone : (files : List Stored) (n : ℕ) → is_gone_at files n ≡ false → n < length files

@@ -200,3 +200,54 @@ pub record LeavesTrio (t : Trio) (image journal redo : List ℕ → Type 0) (new
   pub image_found : NoMore image (new t.image)
   pub journal_found : NoMore journal (new t.journal)
   pub redo_found : NoMore redo (new t.redo)
+
+-- The files of an image that is only read, by their numbers; the redo text may be missing
+pub record ReadFiles : Type 0 where
+  pub image : ℕ
+  pub journal : ℕ
+  pub redo : Option ℕ
+
+-- The image and its texts are files of their own, each of them there
+pub record AreOwnFiles (there : ℕ) (f : ReadFiles) : Type 0 where
+  pub image_there : f.image < there
+  pub journal_there : f.journal < there
+  pub redo_there : (n : ℕ) → f.redo ≡ Some n → n < there
+  pub journal_apart : f.journal ≡ f.image → ⊥
+  pub redo_apart : (n : ℕ) → f.redo ≡ Some n → (n ≡ f.image → ⊥) × (n ≡ f.journal → ⊥)
+
+-- the file is neither of the texts
+abbrev pub IsNoText : ReadFiles → ℕ → Type 0
+IsNoText f n = (n ≡ f.journal → ⊥) × (f.redo ≡ Some n → ⊥)
+
+-- the file is none of the image and its texts
+abbrev pub IsNoneRead : ReadFiles → ℕ → Type 0
+IsNoneRead f n = (n ≡ f.image → ⊥) × IsNoText f n
+
+-- Of all files only those that are not spared may hold other bytes; names, counts and streams are as they were
+pub record Spares (spared : ℕ → Type 0) (old new : Sight) : Type 0 where
+  pub named : (m : List ℕ) → new.named m ≡ old.named m
+  pub is_link : (m : List ℕ) → new.is_link m ≡ old.is_link m
+  pub bytes : (i : ℕ) → spared i → new.bytes i ≡ old.bytes i
+  pub stat : (i : ℕ) → new.stat i ≡ old.stat i
+  pub caller : new.caller ≡ old.caller
+  pub there : new.there ≡ old.there
+  pub before : new.before ≡ old.before
+  pub lent : new.lent ≡ old.lent
+  pub stuck : new.stuck ≡ old.stuck
+  pub output : new.output ≡ old.output
+  pub errors : new.errors ≡ old.errors
+
+-- The texts beside an image hold these bytes, and all else is as it was
+pub record ClosesTexts (f : ReadFiles) (journal redo : List ℕ) (old new : Sight) : Type 0 where
+  pub only : Spares (IsNoText f) old new
+  pub journal_bytes : new.bytes f.journal ≡ journal
+  pub redo_bytes : (n : ℕ) → f.redo ≡ Some n → new.bytes n ≡ redo
+
+-- whatever is found of a file that is spared was found before
+abbrev pub NothingNewSpared : (ℕ → Type 0) → (ℕ → List ℕ → Type 0) → (ℕ → List ℕ → Type 0) → Type 0
+NothingNewSpared spared old new = (n : ℕ) → spared n → NoMore (old n) (new n)
+
+-- Whatever is found of the texts is found of their devices
+pub record TextsLeft (f : ReadFiles) (journal redo : List ℕ → Type 0) (new : ℕ → List ℕ → Type 0) : Type 0 where
+  pub journal_found : NoMore journal (new f.journal)
+  pub redo_found : (n : ℕ) → f.redo ≡ Some n → NoMore redo (new n)

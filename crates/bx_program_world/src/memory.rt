@@ -1,6 +1,7 @@
 //! A world in memory.
-ghost use Rattle.std.specs.Prelude.{◌≡◌, ◌<◌, ◌≤◌, List, ℕ, length, true, false, None, OnOk, OnErr};
+ghost use Rattle.std.specs.Prelude.{◌≡◌, ◌<◌, ◌≤◌, List, [], ℕ, length, true, false, None, Some, OnOk, OnErr};
 ghost use Rattle.bx_program_world.specs.MemoryFiles.{IsConsistent, bytes_at, file_within, synced_at};
+ghost use Rattle.bx_program_world.specs.declared.memory.files.LentBeside.{LentBeside};
 
 pub(crate) mod files;
 pub(crate) mod image;
@@ -11,12 +12,12 @@ pub(crate) mod setup;
 pub(crate) mod text;
 
 use crate::memory::files::{
-    Contents, Entry, Leads, LentFiles, MOST_LINKS, Stored, bury, copy_of_bytes, exchange,
-    file_named, free_end, has_no_bytes, is_link, is_taken, length_of, stat_of,
+    Contents, Entry, Leads, LentBeside, LentFiles, MOST_LINKS, Stored, bury, copy_of_bytes,
+    exchange, file_named, free_end, has_no_bytes, is_link, is_taken, length_of, stat_of,
 };
 use crate::memory::image::LentImage;
 use crate::memory::input::LentInput;
-use crate::memory::reading::{copy_of, nothing};
+use crate::memory::reading::{copy_of, nothing, whole_copy_of};
 use crate::memory::refusals::Refusals;
 use crate::memory::text::LentText;
 use crate::stat::{Classes, Kind, Look, Stat};
@@ -97,6 +98,7 @@ pub struct Run {
     caller: u32,
     before: usize,
     lent: Option<LentFiles>,
+    beside: Option<LentBeside>,
     output: Vec<u8>,
     errors: Vec<u8>,
     stuck: u64,
@@ -112,7 +114,7 @@ pub struct MemoryWorld {
     files: Vec<Stored>,
     run: Run,
     plan: Plan,
-    ghost kept: { IsConsistent run.before (length files.items) run.lent },
+    ghost kept: { IsConsistent run.before (length files.items) run.lent run.beside },
 }
 
 /// An open file of a world in memory.
@@ -121,12 +123,27 @@ pub struct OpenFile {
     number: usize,
 }
 
+/// The same files, with this redo text.
+fn with_redo(lent: Option<LentBeside>, redo: usize) -> Option<LentBeside>
+    ensures some { (l : LentBeside) → lent ≡ Some l → result ≡ Some (record { image = l.image; journal = l.journal; redo = Some redo }) }
+    ensures none { lent ≡ None → result ≡ None }
+{
+    match lent {
+        Some(lent) => Some(LentBeside {
+            image: lent.image,
+            journal: lent.journal,
+            redo: Some(redo),
+        }),
+        None => None,
+    }
+}
+
 impl MemoryWorld {
     ghost use Rattle.std.specs.Prelude.{IfOk, IfSome, Err, Some, string_bytes};
     ghost use Rattle.bx_program_world.specs.declared.world.Refusal.TheVariants.{Missing};
     ghost use Rattle.bx_program_world.specs.World.{CountsRefusal, IsAlwaysFit, IsOwnText, Makes};
     ghost use Rattle.bx_program_world.specs.MemoryFiles.{file_named, free_end, is_taken};
-    ghost use Rattle.bx_program_world.specs.Memory.{AddsFile, BuriesEmpty, BuriesOrSticks, HasOtherBytes, NamesFile, NamesNothing, IsNoted, refusals_of, sight_of, stat_beside};
+    ghost use Rattle.bx_program_world.specs.Memory.{AddsFile, BuriesEmpty, BuriesOrSticks, HasOtherBytes, LendsContents, NamesFile, NamesNothing, TakesContents, IsNoted, refusals_of, sight_of, stat_beside};
 
     /// A world without files, which this user runs a program in.
     pub fn new(alloc: Global, caller: u32) -> Self
@@ -141,6 +158,7 @@ impl MemoryWorld {
                 caller,
                 before: 0,
                 lent: None,
+                beside: None,
                 output: Vec::new(alloc),
                 errors: Vec::new(alloc),
                 stuck: 0,
@@ -348,6 +366,55 @@ impl MemoryWorld {
         let _old = exchange(self.files.as_mut_slice(), number, contents);
     }
 
+    /// The files that are lent beside one another; where none are, the first ones.
+    fn lent_beside(&self) -> LentBeside
+        ensures { IfSome self.now.run.beside (λ lent. result ≡ lent) }
+    {
+        match self.run.beside {
+            Some(lent) => lent,
+            None => LentBeside {
+                image: 0,
+                journal: 0,
+                redo: None,
+            },
+        }
+    }
+
+    /// Takes the contents out of a file that may be missing: then they are nothing.
+    fn lend_if(&mut self, number: Option<usize>) -> Contents
+        ensures some { IfSome number (λ n. LendsContents n result self.old self.new) }
+        ensures none { number ≡ None → (self.new ≡ self.old) × (result.bytes.items ≡ []) }
+    {
+        match number {
+            Some(number) => self.lend_contents(number),
+            None => nothing(self.alloc),
+        }
+    }
+
+    /// Puts contents into a file that may be missing: then they are dropped.
+    fn take_if(&mut self, number: Option<usize>, contents: Contents)
+        ensures some { IfSome number (λ n. TakesContents n contents self.old self.new) }
+        ensures none { number ≡ None → self.new ≡ self.old }
+    {
+        if let Some(number) = number {
+            self.take_contents(number, contents);
+        }
+    }
+
+    /// Puts on the disk of a file what is on that of these contents; the file has what it had.
+    fn take_disk(&mut self, number: usize, contents: Contents)
+        ensures synced { number < length self.old.files.items → synced_at self.new.files.items number ≡ contents.synced.items }
+        ensures bytes { bytes_at self.new.files.items number ≡ bytes_at self.old.files.items number }
+        ensures rest { HasOtherBytes number self.old self.new }
+    {
+        let mine = self.lend_contents(number);
+        let both = Contents {
+            bytes: mine.bytes,
+            synced: contents.synced,
+        };
+        self.take_contents(number, both);
+    }
+
     /// The text of these contents, which fails as planned.
     fn text_of(&self, contents: Contents, fails: Fails) -> FuseText<LentText>
         ensures within { result.within ≡ record { contents = contents; alloc = self.now.alloc; failures = 0 } }
@@ -377,7 +444,7 @@ impl MemoryWorld {
 
 impl World for MemoryWorld {
     ghost use Rattle.bx_program_world.specs.Memory.{found_of, refusals_of, sight_of};
-    ghost use Rattle.bx_program_world.specs.MemoryFiles.{file_within};
+    ghost use Rattle.bx_program_world.specs.MemoryFiles.{file_within, lent_beside};
 
     type Image = FuseImage<LentImage>;
 
@@ -396,6 +463,8 @@ impl World for MemoryWorld {
     ghost number = { λ f. f.number };
 
     ghost refusals = { refusals_of };
+
+    ghost beside = { λ w. lent_beside w.run.beside };
 
     ghost begun = { λ w _. w.kept.before_there };
 
@@ -623,4 +692,69 @@ impl World for MemoryWorld {
     }
 
     fn close_read(&mut self, _: Self::Image, _: Self::Text, _: Self::Text) {}
+
+    fn lend_beside(
+        &mut self,
+        image: OpenFile,
+        journal: OpenFile,
+    ) -> Result<(Self::Image, Self::Text), Refusal> {
+        if self.refuses() {
+            return Err(Refusal::Other(None));
+        }
+        let files = self.files.as_slice();
+        match (
+            whole_copy_of(self.alloc, files, image.number),
+            copy_of(self.alloc, files, journal.number),
+        ) {
+            (Some(of_image), Some(of_journal)) => {
+                self.run.beside = Some(LentBeside {
+                    image: image.number,
+                    journal: journal.number,
+                    redo: None,
+                });
+                let of_journal = self.text_of(of_journal, self.plan.journal.of_reading());
+                Ok((
+                    self.image_of(of_image, self.plan.image),
+                    CountedText::new(of_journal, 0),
+                ))
+            }
+            (None, _) | (_, None) => Err(self.refuse()),
+        }
+    }
+
+    fn lend_redo_beside(&mut self, redo: OpenFile) -> Result<Self::Text, Refusal> {
+        if self.refuses() {
+            return Err(Refusal::Other(None));
+        }
+        match copy_of(self.alloc, self.files.as_slice(), redo.number) {
+            Some(copy) => {
+                self.run.beside = with_redo(self.run.beside, redo.number);
+                let fails = self.plan.redo.of_reading();
+                Ok(CountedText::new(self.text_of(copy, fails), 0))
+            }
+            None => Err(self.refuse()),
+        }
+    }
+
+    fn let_change(&mut self, _: Self::Text, _: Self::Text) -> (Self::Text, Self::Text) {
+        let lent = self.lent_beside();
+        let of_journal = self.lend_contents(lent.journal);
+        let of_redo = self.lend_if(lent.redo);
+        let plan = self.plan;
+        (
+            CountedText::new(self.text_of(of_journal, plan.journal), 0),
+            CountedText::new(self.text_of(of_redo, plan.redo), FIRST_OF_REDO),
+        )
+    }
+
+    fn close_beside(&mut self, image: Self::Image, journal: Self::Text, redo: Self::Text) {
+        let lent = self.lent_beside();
+        self.take_disk(lent.image, image.into_inner().into_contents());
+        self.take_contents(
+            lent.journal,
+            journal.into_inner().into_inner().into_contents(),
+        );
+        self.take_if(lent.redo, redo.into_inner().into_inner().into_contents());
+        self.run.beside = None;
+    }
 }

@@ -1,8 +1,8 @@
 //! The world that a program runs in.
-ghost use Rattle.std.specs.Prelude.{◌≡◌, ◌↔◌, ◌⊎◌, ◌+◌, ◌<◌, ◌≤◌, ◌^◌, ◌++◌, ℕ, List, [], true, false, Err, None, Some, IfOk, IfErr, IfSome, OnOk, OnErr, drop, length, take};
+ghost use Rattle.std.specs.Prelude.{◌≡◌, ◌↔◌, ◌⊎◌, ◌+◌, ◌<◌, ◌≤◌, ◌^◌, ◌++◌, ℕ, List, [], Option, true, false, Err, None, Some, IfOk, IfErr, IfSome, OnOk, OnErr, drop, length, take};
 ghost use Rattle.bx_program_world.specs.declared.world.Refusal.TheVariants.{Locked, Missing};
 ghost use Rattle.bx_program_world.specs.World.{AreThreeFiles, ChangesOnly, CountsRefusal, GivesBack, IsAlwaysFit, IsEmptyUnder, IsOwnText, IsStuck, KeepsFiles, LeavesTrio, Lends, Makes, MayBeImage, MayBeText, NothingNewFound, NothingNewBelow, NothingNewOf, Sight, TakesAtMost, TakesAway, Trio, AddsFront, stat_named};
-ghost use Rattle.bx_program_world.specs.World.{MayBeRead};
+ghost use Rattle.bx_program_world.specs.World.{AreOwnFiles, ClosesTexts, IsNoText, IsNoneRead, MayBeRead, NothingNewSpared, ReadFiles, Spares, TextsLeft, bytes_if};
 ghost use Rattle.bx_image.specs.Power.{NoMore};
 
 use crate::stat::{Look, Stat};
@@ -65,6 +65,9 @@ pub trait World {
     /// How many calls the system refused. That a file is missing is no refusal, nor is it one where a file stays that was to be
     /// taken away, or where a stream isn't written: of these the view tells.
     ghost refusals: { Self → ℕ };
+
+    /// The files of an image that is lent to be read beside its texts; none where none are.
+    ghost beside: { Self → Option ReadFiles };
 
     /// Looks at what stands under a name, before it is opened.
     fn look(&mut self, name: &str) -> Result<Look, Refusal>
@@ -325,6 +328,7 @@ pub trait World {
 
     /// Lends a redo text that is missing to be read: it has no bytes, and refuses each write.
     fn lend_no_text(&mut self) -> Self::Text
+        ensures beside { honest self.old → beside self.new ≡ beside self.old }
         ensures failures { Self.Text.failures result ≡ 0 }
         ensures faithful { honest self.old → Self.Text.honest result }
         ensures text { honest self.old → Self.Text.text result ≡ [] }
@@ -338,6 +342,79 @@ pub trait World {
         ensures same { honest self.old → sight self.new ≡ sight self.old }
         ensures counted { honest self.old → refusals self.new ≡ refusals self.old }
         ensures survives { honest self.old → NothingNewFound (survives self.old) (survives self.new) }
+        ensures honesty { honest self.new ↔ honest self.old };
+
+    /// Lends an image that is open to be read, and its journal, which is open to be changed. Both are lent to be read: the devices
+    /// refuse each write and cut, so the files stay whatever is done with them. A sync puts the image on the disk.
+    fn lend_beside(
+        &mut self,
+        image: Self::File,
+        journal: Self::File,
+    ) -> Result<(Self::Image, Self::Text), Refusal>
+        requires apart { honest self.old → AreOwnFiles (sight self.old).there (record { image = number image; journal = number journal; redo = None }) }
+        ensures failures { IfOk result (λ d. (Self.Image.failures d.0 ≡ 0) × (Self.Text.failures d.1 ≡ 0)) }
+        ensures image { honest self.old
+            → IfOk result (λ d. Self.Image.honest d.0 × (Self.Image.image d.0 ≡ (sight self.old).bytes (number image))) }
+        ensures journal { honest self.old
+            → IfOk result (λ d. Self.Text.honest d.1 × (Self.Text.text d.1 ≡ (sight self.old).bytes (number journal))) }
+        ensures beside { honest self.old
+            → OnOk result (beside self.new ≡ Some (record { image = number image; journal = number journal; redo = None })) }
+        ensures image_survives { honest self.old → IfOk result (λ d. NoMore (survives self.old (number image)) (Self.Image.survives d.0)) }
+        ensures missing { honest self.old → result ≡ Err Missing → ⊥ }
+        ensures same { honest self.old → sight self.new ≡ sight self.old }
+        ensures counted { honest self.old → CountsRefusal result (refusals self.old) (refusals self.new) }
+        ensures survives { honest self.old → NothingNewFound (survives self.old) (survives self.new) }
+        ensures honesty { honest self.new ↔ honest self.old };
+
+    /// Lends a redo text that is open to be changed, beside the image and the journal that are lent, to be read like the journal.
+    fn lend_redo_beside(&mut self, redo: Self::File) -> Result<Self::Text, Refusal>
+        requires apart { honest self.old → (f : ReadFiles) → beside self.old ≡ Some f
+            → AreOwnFiles (sight self.old).there (record { image = f.image; journal = f.journal; redo = Some (number redo) }) }
+        ensures failures { IfOk result (λ t. Self.Text.failures t ≡ 0) }
+        ensures redo { honest self.old
+            → IfOk result (λ t. Self.Text.honest t × (Self.Text.text t ≡ (sight self.old).bytes (number redo))) }
+        ensures beside { honest self.old → OnOk result ((f : ReadFiles) → beside self.old ≡ Some f
+            → beside self.new ≡ Some (record { image = f.image; journal = f.journal; redo = Some (number redo) })) }
+        ensures missing { honest self.old → result ≡ Err Missing → ⊥ }
+        ensures same { honest self.old → sight self.new ≡ sight self.old }
+        ensures counted { honest self.old → CountsRefusal result (refusals self.old) (refusals self.new) }
+        ensures survives { honest self.old → NothingNewFound (survives self.old) (survives self.new) }
+        ensures honesty { honest self.new ↔ honest self.old };
+
+    /// Lends the texts that are lent beside an image to be changed. Whatever was done with their devices before, they hold what the
+    /// files do; what is done with a redo text that is missing goes nowhere.
+    fn let_change(&mut self, journal: Self::Text, redo: Self::Text) -> (Self::Text, Self::Text)
+        ensures failures { (Self.Text.failures result.0 ≡ 0) × (Self.Text.failures result.1 ≡ 2 ^ 32) }
+        ensures journal { honest self.old → (f : ReadFiles) → beside self.old ≡ Some f
+            → Self.Text.honest result.0 × (Self.Text.text result.0 ≡ (sight self.old).bytes f.journal) }
+        ensures redo { honest self.old → (f : ReadFiles) → beside self.old ≡ Some f
+            → Self.Text.honest result.1 × (Self.Text.text result.1 ≡ bytes_if (sight self.old) f.redo) }
+        ensures only { honest self.old → (f : ReadFiles) → beside self.old ≡ Some f → Spares (IsNoText f) (sight self.old) (sight self.new) }
+        ensures beside { honest self.old → beside self.new ≡ beside self.old }
+        ensures survives { honest self.old → (f : ReadFiles) → beside self.old ≡ Some f
+            → NothingNewSpared (IsNoText f) (survives self.old) (survives self.new) }
+        ensures journal_survives { honest self.old → (f : ReadFiles) → beside self.old ≡ Some f
+            → NoMore (survives self.old f.journal) (Self.Text.survives result.0) }
+        ensures redo_survives { honest self.old → (f : ReadFiles) → beside self.old ≡ Some f
+            → (n : ℕ) → f.redo ≡ Some n → NoMore (survives self.old n) (Self.Text.survives result.1) }
+        ensures counted { honest self.old → refusals self.new ≡ refusals self.old }
+        ensures honesty { honest self.new ↔ honest self.old };
+
+    /// Takes an image and its texts back, which may have been changed; their files are closed. The texts have then what the devices
+    /// have, and the image has what it had.
+    fn close_beside(&mut self, image: Self::Image, journal: Self::Text, redo: Self::Text)
+        requires order { (Self.Text.failures journal < 2 ^ 32) × (2 ^ 32 ≤ Self.Text.failures redo) }
+        requires devices { honest self.old → Self.Image.honest image × Self.Text.honest journal × Self.Text.honest redo }
+        ensures closed { honest self.old → (f : ReadFiles) → beside self.old ≡ Some f
+            → ClosesTexts f (Self.Text.text journal) (Self.Text.text redo) (sight self.old) (sight self.new) }
+        ensures texts_survive { honest self.old → (f : ReadFiles) → beside self.old ≡ Some f
+            → TextsLeft f (Self.Text.survives journal) (Self.Text.survives redo) (survives self.new) }
+        ensures image_survives { honest self.old → (f : ReadFiles) → beside self.old ≡ Some f
+            → Self.Image.image image ≡ (sight self.old).bytes f.image → NoMore (Self.Image.survives image) (survives self.new f.image) }
+        ensures others { honest self.old → (f : ReadFiles) → beside self.old ≡ Some f
+            → NothingNewSpared (IsNoneRead f) (survives self.old) (survives self.new) }
+        ensures beside { honest self.old → beside self.new ≡ None }
+        ensures counted { honest self.old → refusals self.new ≡ refusals self.old }
         ensures honesty { honest self.new ↔ honest self.old };
 
     /// No fewer files are there than were when the run began.

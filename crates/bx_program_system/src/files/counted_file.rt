@@ -5,13 +5,15 @@ use crate::progress::Progress;
 use bx_image::{FailedCall, RandomAccess, Stop, SystemFile};
 use std::time::Clock;
 
-/// An image, a journal or a redo file. One that is missing is as an empty one, and can't be written. Progress counts all that is
-/// written to it, and of a text all that is read.
+/// An image, a journal or a redo file. One that is missing is as an empty one, and can't be written, nor can one that is only
+/// read. Progress counts all that is written to it, and of a text all that is read.
 #[derive(Drop)]
 pub struct CountedFile<'p, 'r, R> {
     file: Option<SystemFile>,
     progress: &'p Progress<'r, R>,
     counts_reads: bool,
+    // whether it refuses to be written and cut, whatever it was opened for
+    is_read: bool,
 }
 
 impl<'p, 'r, R: Clock + Eprint> CountedFile<'p, 'r, R> {
@@ -21,6 +23,7 @@ impl<'p, 'r, R: Clock + Eprint> CountedFile<'p, 'r, R> {
             file: Some(file),
             progress,
             counts_reads: false,
+            is_read: false,
         }
     }
 
@@ -30,7 +33,22 @@ impl<'p, 'r, R: Clock + Eprint> CountedFile<'p, 'r, R> {
             file,
             progress,
             counts_reads: true,
+            is_read: false,
         }
+    }
+
+    /// The same, which is only read from now on, or may be written again.
+    pub fn only_read(mut self, is_read: bool) -> CountedFile<'p, 'r, R> {
+        self.is_read = is_read;
+        self
+    }
+
+    /// The same, whose syncs wait until the disk has all, or do nothing.
+    pub fn waiting(mut self, waits: bool) -> CountedFile<'p, 'r, R> {
+        if let Some(file) = &mut self.file {
+            file.waits = waits;
+        }
+        self
     }
 
     /// The file; none where it is missing.
@@ -83,6 +101,9 @@ impl<R: Clock + Eprint> RandomAccess for CountedFile<'_, '_, R> {
     }
 
     fn write_some(&mut self, at: u64, bytes: &[u8]) -> Result<usize, Stop> {
+        if self.is_read {
+            return Err(Stop::Failed);
+        }
         let Some(file) = &mut self.file else {
             return Err(Stop::Failed);
         };
@@ -92,6 +113,9 @@ impl<R: Clock + Eprint> RandomAccess for CountedFile<'_, '_, R> {
     }
 
     fn resize(&mut self, n: u64) -> Result<(), Stop> {
+        if self.is_read {
+            return Err(Stop::Failed);
+        }
         match &mut self.file {
             Some(file) => file.resize(n),
             None if n == 0 => Ok(()),

@@ -49,6 +49,14 @@ pub struct LentFiles {
     pub redo: usize,
 }
 
+/// The numbers of an image and its texts that are lent beside one another; the redo text may be missing.
+#[derive(Clone, Copy)]
+pub struct LentBeside {
+    pub image: usize,
+    pub journal: usize,
+    pub redo: Option<usize>,
+}
+
 /// The place of the first entry of a name; where it has none, the number of entries.
 fn place_of(entries: &[Entry], name: &str) -> usize
     ensures { leads_at entries.now result ≡ entry_named entries.now name.now }
@@ -182,6 +190,16 @@ pub fn copy_of_bytes(alloc: Global, files: &[Stored], number: usize) -> Result<V
 {
     match files.get(number) {
         Some(file) => Vec::from_slice(alloc, file.contents.bytes.as_slice()),
+        None => Ok(Vec::new(alloc)),
+    }
+}
+
+/// A copy of what is on the disk of a file. One that isn't there has nothing there.
+pub fn copy_of_disk(alloc: Global, files: &[Stored], number: usize) -> Result<Vec<u8>, AllocError>
+    ensures { IfOk result (λ copy. copy.items ≡ synced_at files.now number) }
+{
+    match files.get(number) {
+        Some(file) => Vec::from_slice(alloc, file.contents.synced.as_slice()),
         None => Ok(Vec::new(alloc)),
     }
 }

@@ -3,7 +3,7 @@ ghost use Rattle.std.specs.Prelude.{◌≡◌, ◌==◌, ◌<◌, List, ℕ, len
 ghost use Rattle.bx_program_world.specs.Loss.{HasLost};
 ghost use Rattle.bx_program_world.specs.MemoryFiles.{bytes_at, synced_at};
 
-use crate::memory::files::{Contents, Entry, Leads, Stored, file_named};
+use crate::memory::files::{Contents, Entry, Leads, Stored, copy_of_disk, file_named};
 use crate::memory::refusals::Refusals;
 use crate::memory::{MemoryWorld, Plan};
 use crate::stat::Stat;
@@ -18,22 +18,12 @@ fn copy_of(alloc: Global, bytes: &[u8]) -> Result<Vec<u8>, NoMemory>
     Vec::from_slice(alloc, bytes).map_err(|_| NoMemory)
 }
 
-/// A copy of what is on the disk of a file.
-fn copy_of_disk(alloc: Global, files: &[Stored], number: usize) -> Result<Vec<u8>, NoMemory>
-    ensures { IfOk result (λ bytes. bytes.items ≡ synced_at files.now number) }
-{
-    match files.get(number) {
-        Some(file) => copy_of(alloc, file.contents.synced.as_slice()),
-        None => Ok(Vec::new(alloc)),
-    }
-}
-
 /// Gives a file what is on its disk.
 fn lose(alloc: Global, files: &mut [Stored], number: usize) -> Result<(), NoMemory>
     requires { number < length files.old }
     ensures lost { OnOk result (HasLost number files.old files.new) }
 {
-    let bytes = copy_of_disk(alloc, files, number)?;
+    let bytes = copy_of_disk(alloc, files, number).map_err(|_| NoMemory)?;
     files[number].contents.bytes = bytes;
     Ok(())
 }
@@ -97,6 +87,7 @@ impl MemoryWorld {
         ensures bytes { (i : ℕ) → (⟦<MemoryWorld as World>⟧.sight self.new).bytes i ≡ (⟦<MemoryWorld as World>⟧.sight self.old).bytes i }
     {
         self.run.lent = None;
+        self.run.beside = None;
         self.run.before = self.files.len();
         self.run.output = Vec::new(self.alloc);
         self.run.errors = Vec::new(self.alloc);
