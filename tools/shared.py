@@ -13,6 +13,16 @@ def read(name):
     return (ROOT / name).read_text(encoding="utf-8")
 
 
+def part(name, head):
+    """What stands below a head of a text, up to the next one."""
+    return re.search(rf"(?ms)^#+ {head}\n\n(.*?)(?=\n+#|\Z)", read(name))[1]
+
+
+def rows(text):
+    """The rows of the tables of a text, in cells between bars."""
+    return [[cell.strip() for cell in line.split("|")] for line in text.splitlines() if " |" in line]
+
+
 def asked(doc, **known):
     """The words that a script got, by the line `Usage: SCRIPT [--flag] [--option VALUE] [NAME ..]` at its head.
     `known` has what an option is that isn't given, of the same type as what is given; and `names` those that may be

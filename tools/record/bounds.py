@@ -16,27 +16,17 @@ import re
 import sys
 
 from record import form
-from record.real import Tools, told_records, versions
+from record.real import Tools, versions
 from record.words import Case, case_lines
-from shared import read
+from shared import part, rows
 
-TOOLS = Tools()
+TEXT, TOOLS = "tools/record/bounds.txt", Tools()
 ROW = b"".join(b"stuvwxyz"[:n] + bytes([0, 10, 127, 200][n % 4:][:1]) for n in range(9)) + b"a longer one"
 
 
 def bare(line):
     """A line without its parts of no bytes."""
     return re.sub(r"(?<=: )$", '""', re.sub(r"(?<= )0(?:@\d+|\*\w*)(?: |$)", "", line))
-
-
-def part(head):
-    """A part of bounds.txt."""
-    return re.split(rf"(?m)^#+ {head}\n\n", read("tools/record/bounds.txt"))[1].split("\n\n#")[0]
-
-
-def rows(head):
-    """The rows of a table of bounds.txt, in cells."""
-    return [[cell.strip() for cell in line.split("|")] for line in part(head).splitlines() if " | " in line]
 
 
 def sizes_of(cell):
@@ -55,8 +45,8 @@ def given_to(line, size):
 
 def dump_cases():
     """Words, and what they read."""
-    return [(line.format(size), given.format(size) or given_to(line, size)) for lines, given, sizes in rows("Dumps")
-            for line in lines.split("; ") for size in sizes_of(sizes)]
+    return [(line.format(size), given.format(size) or given_to(line, size))
+            for lines, given, sizes in rows(part(TEXT, "Dumps")) for line in lines.split("; ") for size in sizes_of(sizes)]
 
 
 def dump_lines(number, line, given, said):
@@ -78,9 +68,10 @@ def filled(lines):
         elif word == "dd":
             operands = rest.split()
         elif word == "input":
-            found, (_, said, status) = TOOLS.onto(image, ["dd", *operands], form.made_of(rest))
-            counts = told_records(said)
-            if status or found != form.made_of(lines[number + 2]):
+            done = Case("dd", operands, form.made_of(rest), "", image=image)
+            TOOLS.record(done)
+            counts = done.records
+            if done.made != form.made_of(lines[number + 2]):
                 sys.exit(f"dd {' '.join(operands)}, {rest}: the tool left something else")
         elif line.startswith("> "):
             check_dump(*line[2:].split(" ", 1))
@@ -97,7 +88,7 @@ def check_dump(at, parts):
 
 def case(name, **values):
     """The lines of a case of bounds.txt with its values."""
-    return [bare(line) for line in part(name).rstrip("\n").format(**values).split("\n")]
+    return [bare(line) for line in part(TEXT, name).rstrip("\n").format(**values).split("\n")]
 
 
 def length_cases(version):
@@ -108,7 +99,7 @@ def length_cases(version):
 
 
 def image_cases():
-    for name, *cells in rows("Images"):
+    for name, *cells in rows(part(TEXT, "Images")):
         values = dict(cell.split("=") for cell in cells)
         for size in sizes_of(values.pop("size")):
             numbers = {key: int(value) for key, value in values.items() if value.isdigit()}

@@ -6,6 +6,8 @@ import re
 
 DATA = pathlib.Path(__file__).resolve().parent.parent.parent / "crates" / "test_cases" / "data"
 WIDTH = 100
+# a byte twelve times or sixteen bytes twice, and text up to such a byte
+RUN, TEXT = (re.compile(form, re.S) for form in (rb"(.)\1{11,}|(.{16})\2+", rb"(?:(?!(.)\1{11})[ -~\n]){,64}"))
 
 
 def seeded(count, seed):
@@ -37,41 +39,18 @@ def quoted(data):
     return '"' + "".join(shown.get(b) or (chr(b) if 0x20 <= b < 0x7f else f"\\x{b:02x}") for b in data) + '"'
 
 
-def repeats(data, at, size):
-    """How often the bytes at the place stand there one behind the other."""
-    part, times = data[at:at + size], 1
-    while len(part) == size and data[at + times * size:at + (times + 1) * size] == part:
-        times += 1
-    return times
-
-
-def is_text(data):
-    return all(0x20 <= b < 0x7f or b == 0x0a for b in data)
-
-
-def text_length(data, at):
-    """How many bytes from here on are text or newlines, up to a run that is told by its count."""
-    end = at
-    while end < min(len(data), at + 64) and is_text(data[end:end + 1]) and repeats(data, end, 1) < 12:
-        end += 1
-    return end - at
-
-
 def parts_of(data):
     """The bytes as parts: runs by their count, texts of at least four bytes in quotes, else digits."""
     parts, plain, at = [], b"", 0
     while at < len(data):
-        size = next((size for size, least in ((1, 12), (16, 2)) if repeats(data, at, size) >= least), 0)
-        length = text_length(data, at)
-        if not size and length < 4 and not (plain == b"" and at + length == len(data) and length):
+        run, text = RUN.match(data, at), TEXT.match(data, at)
+        if not run and len(text[0]) < 4 and (plain or text.end() < len(data) or not text[0]):
             plain, at = plain + data[at:at + 1], at + 1
             continue
-        parts, plain = parts + digits_of(plain), b""
-        times = repeats(data, at, size) if size else 1
-        part = data[at:at + (size or length)]
-        text = quoted(part) if is_text(part) else part.hex()
-        parts.append(f"{times}*{text}" if times > 1 else text)
-        at += times * len(part)
+        found, part = run or text, run and (run[1] or run[2]) or text[0]
+        times = f"{len(found[0]) // len(part)}*" if len(found[0]) > len(part) else ""
+        parts += [*digits_of(plain), times + (quoted(part) if re.fullmatch(rb"[ -~\n]+", part) else part.hex())]
+        plain, at = b"", found.end()
     return parts + digits_of(plain)
 
 
@@ -98,12 +77,9 @@ def bytes_lines(word, data):
 def text_lines(word, data):
     """A text: each line that prints, and doesn't end in a space, behind a bar."""
     lines = []
-    for line in data.splitlines(keepends=True) if b"\r" not in data else re.findall(rb"[^\n]*\n|[^\n]+", data):
-        shown = line[:-1] if line.endswith(b"\n") else None
-        if shown is not None and all(0x20 <= b < 0x7f for b in shown) and not shown.endswith(b" "):
-            lines.append("| " + shown.decode() if shown else "|")
-        else:
-            lines += ["+ " + row for row in rows_of(line)]
+    for line in re.findall(rb"[^\n]*\n|[^\n]+", data):
+        shown = [f"| {line.decode()}".rstrip()] if re.fullmatch(rb"([ -~]*[!-~])?\n", line) else None
+        lines += shown or ["+ " + row for row in rows_of(line)]
     return [f"{word}:"] + lines if any(line[0] == "|" for line in lines) else bytes_lines(word, data)
 
 

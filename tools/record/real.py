@@ -16,10 +16,9 @@ class Tools:
     def __init__(self):
         self.kept = tempfile.TemporaryDirectory()
         self.folder = pathlib.Path(self.kept.name)
-        self.image = self.folder / "image"
         (self.folder / "folder").mkdir()
 
-    def run(self, command, data):
+    def run(self, command, data=b""):
         """Output, messages and status. Each name that the command has holds the input, and so does standard input,
         which is a file."""
         for name in [*(name for name in NAMES if name in " ".join(command)), "stdin"]:
@@ -29,56 +28,50 @@ class Tools:
                                   check=False)
         return done.stdout, done.stderr.decode(), done.returncode
 
+    def do(self, front, case):
+        """What a program does with the words of a case, onto the case's image if it has one, and what it leaves there."""
+        image = self.folder / "image"
+        if case.image is None:
+            return *self.run([*front, *case.words], case.data or b""), None
+        image.write_bytes(case.image)
+        return *self.run([*front, *case.words, "of=image"], case.data), image.read_bytes()
+
     def record(self, case):
         """Fills in what the tool does. A tool that doesn't do what its list or its options say stops the recording."""
-        if case.image is not None:
-            case.made, (output, said, status) = self.onto(case.image, [case.tool, *case.words], case.data)
-            case.records, well = told_records(said), status == 0 and not output
-        else:
-            output, said, status = self.run([case.tool, *case.words], case.data or b"")
-            if case.tool == "od" and "cannot skip past end" in said:
-                case.fault = "skip is past the end of the input"
-            well = status == 1 and not output if case.fault else status == 0
-            if not case.fault:
-                is_padded = case.tool == "strings" and any(word.startswith("-t") for word in case.words)
-                case.output = re.sub(rb"^ +", b"", output, flags=re.M) if is_padded else output
-                case.count, case.records = told_count(case), told_records(said) if case.tool == "dd" else None
-        if not well:
+        output, said, status, case.made = self.do([case.tool], case)
+        if case.tool == "od" and "cannot skip past end" in said:
+            case.fault = "skip is past the end of the input"
+        if status != (1 if case.fault else 0) or output and (case.fault or case.made is not None):
             sys.exit(f"{case.tool} {' '.join(case.words)}: the tool did something else: {said}")
-
-    def onto(self, image, words, data):
-        """What a command makes of an image, and what it says."""
-        self.image.write_bytes(image)
-        done = self.run([*words, "of=image"], data)
-        return self.image.read_bytes(), done
+        if not case.fault:
+            is_padded = case.tool == "strings" and any(word.startswith("-t") for word in case.words)
+            case.output = re.sub(rb"^ +", b"", output, flags=re.M) if is_padded else output
+            case.count, case.records = told_count(case), told_records(said) if case.tool == "dd" else None
 
     def undone(self, bx):
         """The image once bx has taken its change back, without its texts."""
-        self.run([bx, "undo", "image"], b"")
+        self.run([bx, "undo", "image"])
         for end in (".bxj", ".bxj.redo"):
-            os.remove(f"{self.image}{end}")
-        return self.image.read_bytes()
+            os.remove(self.folder / f"image{end}")
+        return (self.folder / "image").read_bytes()
 
 
-def number_of(words, option):
-    """The number behind an option of one letter, in the next word or in its own, as the tools read it: decimal,
-    hexadecimal or octal; 0 where it isn't given."""
-    text = next((word[2:] or after for word, after in zip(words, words[1:] + [""]) if word.startswith(option)), "0")
-    return int(text, 16 if text.lower().startswith("0x") else 8 if text.startswith("0") and text != "0" else 10)
+def value(words, option, default):
+    """What stands behind an option of one letter, in the next word or in its own."""
+    return next((word[2:] or after for word, after in zip(words, [*words[1:], ""]) if word.startswith(option)), default)
 
 
 def told_count(case):
-    """How many bytes were dumped, where the tool's text tells it: by its end address, or as the array's length."""
-    lines = case.output.decode("latin-1").splitlines()
-    if case.tool == "xxd" and lines and lines[-1].startswith("unsigned int"):
-        return int(lines[-1].split(" ")[-1].rstrip(";"))
-    if case.tool == "hexdump" and lines:
-        return int(lines[-1], 16) - number_of(case.words, "-s")
-    radix = next((word[2:] or after for word, after in zip(case.words, case.words[1:] + [""])
-                  if word.startswith("-A")), "o")
-    if case.tool == "od" and lines and radix != "n":
-        return int(lines[-1], {"d": 10, "o": 8, "x": 16}[radix]) - number_of(case.words, "-j")
-    return None
+    """How many bytes were dumped, where the tool's text tells it: as the array's length, or by its end address, from
+    which what is skipped is taken, which the tools read as decimal, hexadecimal or octal."""
+    last = case.output.decode("latin-1").splitlines()[-1:]
+    if case.tool == "xxd" and last and last[0].startswith("unsigned int"):
+        return int(last[0].split(" ")[-1].rstrip(";"))
+    radix = {"hexdump": "x", "od": value(case.words, "-A", "o")}.get(case.tool, "n")
+    if not last or radix == "n":
+        return None
+    skipped = value(case.words, "-j" if case.tool == "od" else "-s", "0")
+    return int(last[0], {"d": 10, "o": 8, "x": 16}[radix]) - int(re.sub(r"^0(?=\d)", "0o", skipped), 0)
 
 
 def told_records(said):

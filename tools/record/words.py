@@ -23,23 +23,24 @@ Words that a tool refuses, with status 1 and no output, stand in refused.txt, wi
 """
 import hashlib
 import itertools
-import pathlib
 import random
 
 from record import form
 from record.real import NAMES, Tools, told_records, versions
+from shared import read, rows
 
 EDGES = [0, 1, 2, 3, 4, 5, 7, 8, 9, 11, 12, 13, 15, 16, 17, 23, 24, 30, 31, 32, 33, 47, 48, 49, 60, 61, 63, 64, 65]
 TYPES = ["c"] + [form + size for form in "doux" for size in "1248"]
-BAD = "bad arguments"
+# the status of bx by its fault; it is 1 with any other
+STATUS = {None: 0, "bad arguments": 2}
 
 
 class Case:
     """Words behind the tool's name, what they read, and what came of it."""
 
-    def __init__(self, tool, words, data, about, fault=None):
-        self.tool, self.words, self.data, self.about, self.fault = tool, words, data, about, fault
-        self.output, self.count, self.records, self.image, self.made = b"", None, None, None, None
+    def __init__(self, tool, words, data, about, fault=None, image=None):
+        self.tool, self.words, self.data, self.about, self.fault, self.image = tool, words, data, about, fault, image
+        self.output, self.count, self.records, self.made = b"", None, None, None
 
 
 def some_bytes(rng, most):
@@ -73,18 +74,15 @@ def number(rng, n):
     return rng.choice([str(n), str(n), hex(n), "0" + oct(n)[2:] if n else "0"])
 
 
-# The letters of each tool's options without a value, and whether they come before the others; those of which one may
-# be given; and how often no option, one, two and three of them are drawn.
-FLAGS = {"xxd": ("bipu", True), "od": ("bcdosxv", False), "hexdump": ("v", True), "strings": ("a", True)}
-ALONE = {"xxd": [{"-b", "-i", "-p"}, {"-i", "-u"}], "od": [{"-t", "-b", "-c", "-d", "-o", "-s", "-x"}], "hexdump": [],
-         "strings": [],
+# Options of which one may be given, and how often no option, one, two and three of them are drawn.
+ALONE = {"xxd": [{"-b", "-i", "-p"}, {"-i", "-u"}], "od": [{"-t", "-b", "-c", "-d", "-o", "-s", "-x"}],
          "dd": [{"block", "unblock"}, {"lcase", "ucase"}]}
 DRAWS = {"xxd": [8, 5, 3, 3], "od": [6, 5, 3, 2], "hexdump": [14, 18, 18, 24], "strings": [16, 22, 22, 28],
          "dd": [8, 5, 3, 1]}
 
 
-def values_of(tool, rng, data):
-    """What gives the value of each option that has one."""
+def options_of(tool, rng, data):
+    """The options, and what gives the value of each that has one."""
     def pick(*values):
         return number(rng, rng.choice(values))
 
@@ -94,28 +92,25 @@ def values_of(tool, rng, data):
     def few():
         return rng.randrange(1, 70)
     if tool == "xxd":
-        return {"-c": lambda: pick(1, 2, 3, 4, 7, 8, 16, 17, 20, 255, 256),
-                "-g": lambda: pick(0, 1, 2, 3, 4, 5, 8, 16, 17, 300),
+        return {"-b": None, "-i": None, "-p": None, "-u": None,
+                "-c": lambda: pick(1, 2, 3, 4, 7, 8, 16, 17, 20, 255, 256), "-g": lambda: pick(0, 1, 2, 3, 4, 5, 8, 16, 17, 300),
                 "-l": lambda: pick(0, 1, few(), 1000), "-o": lambda: pick(0, 1, rng.randrange(2**16), 2**32 - 8, 2**62),
                 "-s": lambda: pick(at(), at(), len(data), 900)}
     if tool == "od":
         skips = [at(), at(), len(data), len(data) + 1]
         limits = [number(rng, n) for n in (0, 1, few())] + ["1b", "2k", "1m"]
         return {"-A": lambda: rng.choice("doxn"), "-t": lambda: rng.choice(TYPES), "-j": lambda: pick(*skips),
-                "-N": lambda: rng.choice(limits)}
+                "-N": lambda: rng.choice(limits), **dict.fromkeys(["-b", "-c", "-d", "-o", "-s", "-x", "-v"])}
     if tool == "hexdump":
         limits = [number(rng, n) for n in (0, 1, few(), few())] + ["2k", "1m"]
-        return {"-n": lambda: rng.choice(limits), "-s": lambda: number(rng, at())}
-    return {"-n": lambda: str(rng.choice([1, 2, 3, 4, 5, 6, 8, 9, 12, 30, 4096])), "-t": lambda: rng.choice("dox")}
+        return {"-v": None, "-n": lambda: rng.choice(limits), "-s": lambda: number(rng, at())}
+    return {"-a": None, "-n": lambda: str(rng.choice([1, 2, 3, 4, 5, 6, 8, 9, 12, 30, 4096])), "-t": lambda: rng.choice("dox")}
 
 
-def drawn_of(tool, rng, data, chosen=None):
-    """The words of each option that is chosen, a value in the next word or in its own; or else the names of all."""
-    (letters, is_first), values = FLAGS[tool], values_of(tool, rng, data)
-    flags = [f"-{letter}" for letter in letters]
-    if chosen is None:
-        return flags + list(values) if is_first else list(values) + flags
-    texts = ((name, values[name]() if name in values else None) for name in chosen)
+def drawn_of(tool, rng, data, chosen):
+    """The words of each option that is chosen, a value in the next word or in its own."""
+    values = options_of(tool, rng, data)
+    texts = ((name, values[name] and values[name]()) for name in chosen)
     return [[name] if text is None else [name + text] if rng.randrange(4) == 0 else [name, text]
             for name, text in texts]
 
@@ -123,7 +118,7 @@ def drawn_of(tool, rng, data, chosen=None):
 def choices(tool, names, most):
     """Each so many names at most of which one of a set that exclude one another is chosen."""
     return [c for n in range(most + 1) for c in itertools.combinations(names, n)
-            if all(len(group & set(c)) < 2 for group in ALONE[tool])]
+            if all(len(group & set(c)) < 2 for group in ALONE.get(tool, []))]
 
 
 def dump_case(tool, chosen, rng):
@@ -161,15 +156,14 @@ def length_cases(tool):
 
 
 def refused_cases(tool):
-    for line in pathlib.Path(__file__).with_name("refused.txt").read_text(encoding="utf-8").splitlines():
-        if line.startswith(f"{tool} "):
-            words, fault = line[len(tool) + 1:].split(" | ")
-            yield Case(tool, words.split(" "), None, "refused", fault)
+    for (name, *words), fault in ((words.split(" "), fault) for words, fault in rows(read("tools/record/refused.txt"))):
+        if name == tool:
+            yield Case(tool, words, None, "refused", fault)
 
 
 def word_cases(tool, rng):
     """All cases of words of a tool."""
-    one, names = (dd_case, DD_NAMES) if tool == "dd" else (dump_case, drawn_of(tool, random.Random(0), b""))
+    one, names = (dd_case, DD_NAMES) if tool == "dd" else (dump_case, options_of(tool, random.Random(0), b""))
     yield from (one(tool, chosen, rng) for chosen in choices(tool, names, 3)
                 for _ in range(DRAWS[tool][len(chosen)]))
     yield from length_cases(tool)
@@ -247,16 +241,14 @@ def case_lines(number_of, case, version, given=None):
         lines += form.text_lines("output", case.output) if case.output else []
     lines += [f"count: {case.count}"] if case.count is not None else []
     lines += [f"records: {case.records}"] if case.records else []
-    return lines + ([f"fault: {case.fault}", f"status: {2 if case.fault == BAD else 1}"] if case.fault else [])
+    return lines + ([f"fault: {case.fault}", f"status: {STATUS.get(case.fault, 1)}"] if case.fault else [])
 
 
 def differs(tools, bx, case):
     """What bx does else, or None. A transfer onto an image is undone, too."""
-    onto = tools.onto(case.image, [bx, case.tool, *case.words], case.data) if case.image is not None else None
-    output, said, status = onto[1] if onto else tools.run([bx, case.tool, *case.words], case.data or b"")
-    same = output == case.output and status == (0 if not case.fault else 2 if case.fault == BAD else 1)
-    if onto:
-        same = same and onto[0] == case.made and tools.undone(bx) == case.image
+    output, said, status, made = tools.do([bx, case.tool], case)
+    same = (output, status, made) == (case.output, STATUS.get(case.fault, 1), case.made)
+    same = same and (case.image is None or tools.undone(bx) == case.image)
     if case.fault or case.tool == "dd":
         same = same and (said == f"bx: {case.fault}\n" if case.fault else told_records(said) == case.records)
     line = f"{case.tool} {' '.join(case.words)} on {case.data!r}"
