@@ -28,17 +28,11 @@ from common import asked, finish, folder, left_out, say
 from replay.judge import LOG, REFUSED, Judge, dd, redo, revert, undo
 from replay.room import Room
 from replay.session import Session
-from shared import read
+from shared import read, rows
 
 IMAGE = b"ABCDEFGH"
 COMMANDS = {"change": revert((2, b"xy")), "other": revert((6, b"z")), "third": revert((0, b"q")), "undo": undo(1),
             "undo of two": undo(2), "redo": redo(1), "log": LOG}
-
-
-def rows():
-    """The rows of tests/power.txt."""
-    lines = (line.split("|") for line in read("tests/power.txt").splitlines() if " | " in line)
-    return [[cell.strip() for cell in cells] for cells in lines][1:]
 
 
 def some_bytes(rng, most):
@@ -67,7 +61,7 @@ def replayed(judge, rng, options):
     name of an image that it made, and an opening syncs no names."""
     with folder() as path:
         image = None if rng.randrange(5) == 0 else rng.randbytes(rng.randint(0, 40))
-        session = Session(judge, Room(judge.bx, path), rng, options.limit, image)
+        session = Session(judge, Room(judge.bx, path), image, rng, options.limit)
         session.run(some_change(rng, session.state.stack[0], 20, 3))
         for _ in range(rng.randint(5, 8)):
             command, how = some_command(rng, session.state, 20, 3), rng.randrange(8)
@@ -107,12 +101,11 @@ def sessions(judge, options, play, name="session"):
     return lost
 
 
-def is_lost(judge, options, row, without):
-    """Whether the commands of a row lose something, with a sync left out or with none."""
-    what, before, command, *_ = row
+def is_lost(judge, options, what, before, command, without):
+    """Whether the commands of a row of power.txt lose something, with a sync left out or with none."""
     with folder() as path:
         image = None if what == "the name of an image that is made" else IMAGE
-        session = Session(judge, Room(judge.bx, path), random.Random(options.seed), 4 * options.limit, image)
+        session = Session(judge, Room(judge.bx, path), image, random.Random(options.seed), 4 * options.limit)
         for name, is_unsynced, until in re.findall(r"(\w[\w ]*?)( -U)?(?: until (\S+))?(?:, |$)", before):
             session.run(COMMANDS[name], unsynced=is_unsynced != "", until=until or None)
         session.run(COMMANDS[command], left_out=without)
@@ -123,9 +116,9 @@ def replay(judge, options):
     """Sessions under strace, and each sync left out: whether something is lost with it alone, but for those known to
     be safe."""
     sessions(judge, options, replayed)
-    for row in rows():
-        lost_with, lost = is_lost(judge, options, row, None), is_lost(judge, options, row, row[3])
-        say(lost == (row[4] == "lost") and not lost_with, f"without the sync of {row[0]}",
+    for *row, sync, wanted in rows(read("tests/power.txt"))[1:]:
+        lost_with, lost = (is_lost(judge, options, *row, without) for without in (None, sync))
+        say(lost == (wanted == "lost") and not lost_with, f"without the sync of {row[0]}",
             f"{'' if lost else 'nothing '}lost{', and with it too' * lost_with}")
 
 

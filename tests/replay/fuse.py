@@ -1,11 +1,11 @@
 """A file system in memory, by pyfuse3 (Debian's python3-pyfuse3), whose writes wait in the kernel's page cache. It
 tells what reaches it: each name, write, length and sync, in order. Folders can't be listed, and there are no links. And
 sessions on it."""
+import ast
 import contextlib
 import errno
-import itertools
+import multiprocessing
 import os
-import pickle
 import stat
 import subprocess
 import time
@@ -14,18 +14,19 @@ import pyfuse3
 import trio
 
 from replay.losses import cut, sized
-from replay.room import PLACES, Room
+from replay.room import PLACES, Disk, Room
 from replay.session import Watched
 
+
 class Node:
-    """A file, or a folder with its names."""
+    """A file or a folder; without a path, one that was removed."""
 
     def __init__(self, path, mode):
-        self.path, self.mode, self.data, self.names = path, mode, b"", {}
+        self.path, self.mode, self.data = path, mode, b""
 
 
 class Files(pyfuse3.Operations):
-    """Answers the kernel's requests, and writes what changed to a file."""
+    """Answers the kernel's requests, and writes what changed to a file, a line each."""
 
     enable_writeback_cache = True
 
@@ -34,31 +35,38 @@ class Files(pyfuse3.Operations):
         self.told, self.nodes = told, {pyfuse3.ROOT_INODE: Node("", stat.S_IFDIR | 0o755)}
 
     def tell(self, *what):
-        pickle.dump(what, self.told)
-        self.told.flush()
+        print(what, file=self.told, flush=True)
 
     def entry(self, inode):
         entry = pyfuse3.EntryAttributes()
         entry.st_ino, entry.st_mode, entry.st_size = inode, self.nodes[inode].mode, len(self.nodes[inode].data)
         return entry
 
+    def path(self, folder, name):
+        return os.path.join(self.nodes[folder].path, os.fsdecode(name))
+
+    def named(self, folder, name):
+        """The node that has a name in a folder."""
+        for inode, node in self.nodes.items():
+            if node.path == self.path(folder, name):
+                return inode
+        raise pyfuse3.FUSEError(errno.ENOENT)
+
     def make(self, folder, name, mode):
-        inode, above = max(self.nodes) + 1, self.nodes[folder]
-        self.nodes[inode] = Node(os.path.join(above.path, os.fsdecode(name)), mode)
-        above.names[name] = inode
-        self.tell("name", self.nodes[inode].path, True)
+        inode, path = len(self.nodes) + pyfuse3.ROOT_INODE, self.path(folder, name)
+        self.nodes[inode] = Node(path, mode)
+        self.tell("name", path, True)
         return inode
 
     async def getattr(self, inode, ctx):
         return self.entry(inode)
 
     async def lookup(self, parent_inode, name, ctx):
-        if name not in self.nodes[parent_inode].names:
-            raise pyfuse3.FUSEError(errno.ENOENT)
-        return self.entry(self.nodes[parent_inode].names[name])
+        return self.entry(self.named(parent_inode, name))
 
     async def unlink(self, parent_inode, name, ctx):
-        self.tell("name", self.nodes[self.nodes[parent_inode].names.pop(name)].path, False)
+        self.nodes[self.named(parent_inode, name)].path = None
+        self.tell("name", self.path(parent_inode, name), False)
 
     async def mkdir(self, parent_inode, name, mode, ctx):
         return self.entry(self.make(parent_inode, name, stat.S_IFDIR | mode))
@@ -95,80 +103,60 @@ class Files(pyfuse3.Operations):
     fsyncdir = fsync
 
 
+def serve(told, path):
+    pyfuse3.init(Files(told), str(path), {"fsname=bx", "default_permissions", "allow_other"})
+    trio.run(pyfuse3.main)
+
+
 @contextlib.contextmanager
 def mounted(folder):
     """The file system, mounted on the folder `mounted` of another one up to the end of a `with`, by a process of its
     own. What it gives answers what reached it since the last time."""
-    path, place = folder / "mounted", folder / "told"
+    path = folder / "mounted"
     path.mkdir()
-    with open(place, "wb") as to, open(place, "rb") as told:
-        server = os.fork()
-        if not server:
-            try:
-                pyfuse3.init(Files(to), str(path), {"fsname=bx", "default_permissions", "allow_other"})
-                trio.run(pyfuse3.main)
-            finally:
-                os._exit(0)
-        while not os.path.ismount(path):
-            if os.waitpid(server, os.WNOHANG)[0]:
-                raise OSError(errno.EPERM, "none can be mounted")
+    with open(folder / "told", "w", encoding="ascii") as to, open(folder / "told", encoding="ascii") as told:
+        server = multiprocessing.Process(target=serve, args=(to, path))
+        server.start()
+        while server.is_alive() and not os.path.ismount(path):
             time.sleep(0.01)
-
-        def news():
-            found = []
-            with contextlib.suppress(EOFError):
-                while True:
-                    found.append(pickle.load(told))
-            return found
+        if not server.is_alive():
+            raise OSError(errno.EPERM, "none can be mounted")
         try:
-            yield news
+            yield lambda: [ast.literal_eval(line) for line in told]
         finally:
             subprocess.run(["umount", "-l", path], check=True)
-            os.waitpid(server, 0)
+            server.join()
 
 
 class CachedSession(Watched):
-    """The commands run on the file system, and the power is lost after each request that reaches it. `files` has
-    image, journal and redo file as the file system has them, and `loose` which of their names may be lost."""
+    """The commands run on the file system, and the power is lost after each request that reaches it: what it holds is
+    left, but for names that may be lost, as their folder wasn't synced."""
 
     def __init__(self, judge, path, news, image):
         super().__init__(judge, Room(judge.bx, path), image)
-        self.news, self.files, self.loose = news, dict.fromkeys("DJR"), set()
+        self.news = news
         self.room.put((image,))
         os.sync()
-        for what in news():
-            self.play(*what)
-        self.loose.clear()
+        news()
+        for file in self.disk.files.values():
+            file.is_text = False  # its pages are written over, too
 
-    def play(self, what, path, *words):
-        """Whether a request changed one of the three."""
-        letter = PLACES.get(path)
-        if what == "sync":
-            self.loose -= set({"F": "JR", "I": "D"}.get(letter, ""))
-        if letter not in self.files or what == "sync":
-            return False
-        data = self.files[letter] or b""
-        if what == "name":
-            self.files[letter] = b"" if words[0] else None
-            self.loose.add(letter)
-        else:
-            self.files[letter] = cut(data, *words) if what == "write" else sized(data, *words)
-        return True
-
-    def contents(self):
-        """What a loss of power may leave."""
-        return [tuple(None if letter in lost else data for letter, data in self.files.items())
-                for count in range(len(self.loose) + 1) for lost in itertools.combinations(sorted(self.loose), count)]
+    def play(self, words, steps):
+        """Plays what reached the file system, and looks at what each request leaves of the three files."""
+        for what, path, *more in self.news():
+            letter = PLACES.get(path)
+            if letter and (what == "sync" or letter in self.disk.files):
+                self.disk.play(what, letter, *more)
+            if letter in self.disk.files and what != "sync":
+                self.disk.files[letter].sync()
+                self.look(words, steps)
 
     def run(self, command, unsynced):
         steps = command.steps(self.state)
-        self.news()
         self.answered(command, self.room.run(command.words, command.input, unsynced=unsynced))
-        for what in self.news():
-            if self.play(*what):
-                self.look(command.words, self.contents(), steps)
+        self.play(command.words, steps)
         self.state = steps[-1]
         if not unsynced:
-            self.look(command.words, self.contents(), steps[-1:], True)
-            if self.room.get() != tuple(self.files.values()):
+            self.look(command.words, steps[-1:], True)
+            if self.room.get() != self.disk.now():
                 raise ValueError(f"{command.words}: something stayed in the page cache")

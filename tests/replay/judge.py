@@ -2,7 +2,7 @@
 by opening them, beside what was to be found."""
 import collections
 import concurrent.futures
-import queue
+import tempfile
 
 from replay.losses import cut, sized
 from replay.room import Room
@@ -58,10 +58,8 @@ class Judge:
     """Opens contents by bx, several at once and each but once."""
 
     def __init__(self, bx, jobs, path):
-        self.bx, self.seen, self.led, self.rooms = bx, {}, {}, queue.SimpleQueue()
+        self.bx, self.seen, self.led, self.path = bx, {}, {}, path
         self.pool = concurrent.futures.ThreadPoolExecutor(jobs)
-        for i in range(jobs):
-            self.rooms.put(Room(bx, f"{path}/{i}"))
 
     def found(self, several):
         """What is found of each content."""
@@ -75,8 +73,8 @@ class Judge:
         image, journal, redo_text = content
         if not journal and None in (image, journal):
             return Found(None, 0, image or b"", False, image or b"", undone_in(redo_text))
-        room = self.rooms.get()
-        try:
+        with tempfile.TemporaryDirectory(dir=self.path) as path:
+            room = Room(self.bx, path)
             room.put(content)
             log = room.run("log -U IMAGE")
             if log.returncode:
@@ -85,8 +83,6 @@ class Judge:
             if left not in self.led:
                 self.led[left] = lead(room, left, count)
             return self.led[left]._replace(recovered="recovered" in log.stderr)
-        finally:
-            self.rooms.put(room)
 
 
 def undone_in(redo_text):

@@ -10,10 +10,11 @@ BATCH = 32
 
 
 class Watched:
-    """A session: its room, the state that it is in, and the contents that are lost."""
+    """A session: its room, the state that it is in, the disk below it, and the contents that are lost."""
 
-    def __init__(self, judge, room, image):
+    def __init__(self, judge, room, image, rng=None, limit=20):
         self.judge, self.room, self.state = judge, room, State((image or b"",), ())
+        self.disk, self.rng, self.limit = Disk(image), rng, limit
         self.lost, self.commands, self.moments = [], 0, 0
 
     def answered(self, command, done):
@@ -22,10 +23,11 @@ class Watched:
         if done.returncode != command.status:
             raise ValueError(f"{command.words}: {done.stderr}")
 
-    def look(self, words, contents, states, answered=False):
+    def look(self, words, states, answered=False):
         """Looks at what may be found now, up to the first content that is lost: what was found that fits, with its
         state."""
         self.moments, fitting = self.moments + 1, []
+        contents = found_together(self.disk.files.values(), self.limit, self.rng)
         for batch in (contents[i:i + BATCH] for i in range(0, len(contents), BATCH)):
             for content, found in zip(batch, self.judge.found(batch)):
                 state = next((state for state in states if fits(found, state, answered)), None)
@@ -39,17 +41,15 @@ class Watched:
 class Session(Watched):
     """The commands run under strace, and their calls are replayed on a disk that loses what wasn't synced."""
 
-    def __init__(self, judge, room, rng, limit, image):
-        super().__init__(judge, room, image)
-        self.rng, self.limit, self.disk = rng, limit, Disk(image)
+    def __init__(self, judge, room, image, rng, limit):
+        super().__init__(judge, room, image, rng, limit)
         # What may be found before a command writes; nothing is said of that behind a command with -U.
         self.may, self.fitting = [self.state], []
         room.put(self.disk.now())
 
     def lose_here(self, words, states, answered=False):
         if states and not self.lost:
-            self.fitting += self.look(words, found_together(self.disk.files.values(), self.limit, self.rng), states,
-                                      answered)
+            self.fitting += self.look(words, states, answered)
 
     def run(self, command, unsynced=False, until=None, left_out=None):
         """A command, killed before the call `until`. The sync `left_out` is left out of what is replayed. A sync is
