@@ -5,13 +5,13 @@ Usage: bench/plot.py
 
 Of bench/out/run.tsv it makes docs/pictures/speed.svg, and the part of the page between its two marks. It needs
 matplotlib (Debian: python3-matplotlib)."""
+import csv
 import html
 import pathlib
 
 TOP = pathlib.Path(__file__).resolve().parent.parent
 RUN, PAGE, PICTURE = TOP / "bench/out/run.tsv", TOP / "docs/SPEED.md", TOP / "docs/pictures/speed.svg"
 BEGIN, END = "<!-- written by bench/plot.py -->", "<!-- up to here -->"
-FIELDS = ["group", "name", "beside", "goal", "ours", "there", "cat", "our_memory", "their_memory", "same"]
 COLUMNS = ["`bx`", "Beside", "`bx`, ms", "There, ms", "Times as fast", "`cat` of the text, ms", "`bx`, MiB",
            "There, MiB", "Same bytes"]
 SLOWER, FASTER = "#c2703d", "#3d6b99"
@@ -38,7 +38,7 @@ def table(rows):
         for row in (row for row in rows if row["group"] == group):
             ours, there, cat = (in_units(row[field], 1000) for field in ("ours", "there", "cat"))
             memory = [in_units(row[field], 1024) for field in ("our_memory", "their_memory")]
-            said = [cell(row["name"]), cell(row["beside"]), ours, there, times(row["ratio"]), cat, *memory,
+            said = [cell(row["name"]), cell(row["beside"]), ours, there, times(float(row["ratio"])), cat, *memory,
                     row["same"].strip("-")]
             yield f"| {' | '.join(said)} |"
 
@@ -50,7 +50,7 @@ def draw(rows):
     from matplotlib import pyplot
     matplotlib.rcParams.update({"svg.hashsalt": "bx", "svg.fonttype": "none", "font.size": 9,
                                 "font.family": "DejaVu Sans"})
-    shown, places, ratios = list(reversed(rows)), range(len(rows)), [row["ratio"] for row in reversed(rows)]
+    shown, places, ratios = list(reversed(rows)), range(len(rows)), [float(row["ratio"]) for row in reversed(rows)]
     figure, axes = pyplot.subplots(figsize=(9.5, 0.6 + 0.23 * len(shown)))
     axes.barh(places, [ratio - 1 for ratio in ratios], left=1, height=0.7,
               color=[FASTER if ratio >= 1 else SLOWER for ratio in ratios])
@@ -76,9 +76,8 @@ def draw(rows):
 def main():
     lines = RUN.read_text(encoding="utf-8").splitlines()
     notes = [line[2:] for line in lines if line.startswith("# ")]
-    rows = [dict(zip(FIELDS, line.split("\t"), strict=True)) for line in lines if not line.startswith("# ")]
-    for row in rows:
-        row["ratio"] = int(row["there"]) / max(int(row["ours"]), 1)
+    rows = list(csv.DictReader((line for line in lines if not line.startswith("# ")), delimiter="\t",
+                               quoting=csv.QUOTE_NONE))
     draw(rows)
     front, rest = PAGE.read_text(encoding="utf-8").split(BEGIN)
     page = ["", "![How many times as fast each row is](pictures/speed.svg)", "", *(f"- {cell(note)}" for note in notes),

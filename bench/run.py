@@ -1,10 +1,10 @@
 #!/usr/bin/env python3
 """Times bx beside the real tools, all in one run: the least of several times, and the memory that each took.
 
-Usage: bench/run.py [--bx PATH] [--before PATH] [--rounds N] [--mib N] [--quick] [--programs] [--word WORD]
+Usage: bench/run.py [--bx PATH] [--before PATH] [--rounds N] [--mib N] [--programs] [--word WORD]
 
-With --before it is timed beside a build of an earlier tree in place of the tools, in turn. --quick takes inputs of 32
-MiB, else they have 64 MiB, 32 MiB where the real tool is slow, and 1 GiB for dd to a stream. --programs leaves out the
+With --before it is timed beside a build of an earlier tree in place of the tools, in turn. The inputs have 64 MiB
+(--mib), half of it where the real tool is slow, and 16 times as much for dd to a stream. --programs leaves out the
 calls of the libraries, which are proved first, and --word all rows without this word. What isn't installed is left
 out, and so is memory without a program `time`. The rows of bench/rows.txt go to standard output, and to
 bench/out/run.tsv, from which bench/plot.py writes docs/SPEED.md. Run by hand, no part of the gate."""
@@ -22,31 +22,21 @@ import time
 sys.path.insert(0, str(pathlib.Path(__file__).resolve().parent.parent / "tools"))
 
 import sources  # pylint: disable=wrong-import-position
-from shared import ROOT, asked, read  # pylint: disable=wrong-import-position
+from shared import ROOT, asked, read, rows  # pylint: disable=wrong-import-position
 
-# the group, the goal, bx's words, those of what stands beside it, its name, what comes first, and the file that both
-# leave
+# the group and the cells of rows.txt
 Row = collections.namedtuple("Row", "group goal ours real name before made", defaults=("", "", ""))
 FILES = r"(if=)?\b(long|prose|random|less|few|zeros|text)\b"
 
 
 def table():
     """The rows of bench/rows.txt, those of calls, and the commands that make the inputs."""
-    set_to, found, calls, inputs, group = {}, [], [], [], ""
-    for line in read("bench/rows.txt").splitlines():
-        group = line[2:] if line.startswith("# ") else group
-        cells = [re.sub(r"^[A-Z]{3,}\b", lambda word: set_to.get(word[0], word[0]), cell.strip())
-                 for cell in re.split(r" = |\|", line)]
-        if group == "inputs" and line[:2] != "# ":
-            inputs.append(line)
-        elif " = " in line:
-            set_to[line.split()[0]] = cells[1]
-        elif " | " in line and group == "calls":
-            calls.append(cells)
-        elif " | " in line:
-            goal, ours, real, *rest = cells
-            found.append(Row(group, goal, ours, ours if real == "=" else real, *rest))
-    return found, calls, inputs
+    parts = re.split(r"(?m)^# (.*)\n", read("bench/rows.txt"))
+    groups = dict(zip(parts[1::2], parts[2::2]))
+    functions, inputs, calls = (groups.pop(name) for name in ("before", "inputs", "calls"))
+    found = [Row(group, *cells) for group, text in groups.items() for cells in rows(text)]
+    found = [row._replace(real=row.ours if row.real == "=" else row.real, before=functions + row.before) for row in found]
+    return found, rows(calls), inputs
 
 
 def shell(words, out=subprocess.DEVNULL):
@@ -55,34 +45,34 @@ def shell(words, out=subprocess.DEVNULL):
                           check=False, text=True).stdout
 
 
-def elapsed(words, before, bx):
+def elapsed(words, before):
     """The microseconds that a command takes."""
-    shell(before.replace("BX", bx))
+    shell(before)
     begun = time.perf_counter_ns()
     shell(f"exec {words}")
     return (time.perf_counter_ns() - begun) // 1000
 
 
-def best(rounds, commands, before, bx):
+def best(rounds, commands, before=""):
     """The least of some rounds of each command, in turn."""
-    return [min(column) for column in zip(*([elapsed(words, before, bx) for words in commands] for _ in range(rounds)))]
+    return [min(column) for column in zip(*([elapsed(words, before) for words in commands] for _ in range(rounds)))]
 
 
-def memory(words, before, bx):
+def memory(words, before):
     """The most KiB that a command had, where there is a program `time`."""
     if not shutil.which("time"):
         return "-"
-    shell(before.replace("BX", bx))
+    shell(before)
     shell(f"exec {shutil.which('time')} -q -f %M -o took {words}")
     return pathlib.Path("took").read_text(encoding="ascii").split()[-1]
 
 
-def same(row, commands, bx):
+def same(row, commands):
     """Whether both write the same."""
     if row.made == "-":
         return "-"
     for words, name in zip(commands, ("one", "other")):
-        shell(row.before.replace("BX", bx))
+        shell(row.before)
         shell(f"{words} > {name}" if not row.made else f"{words}; cp {row.made} {name}")
     return "no" if subprocess.run(["cmp", "-s", "one", "other"], check=False).returncode else "yes"
 
@@ -101,15 +91,15 @@ def is_there(words):
     return shutil.which(tool) and applet in applets
 
 
+# what a row has: microseconds of both and of cat, KiB of both, and whether they wrote the same
+FIELDS = ["group", "name", "beside", "goal", "ours", "there", "ratio", "cat", "our_memory", "their_memory", "same"]
+
+
 def tell(run, group, name, beside, goal, ours, there, *more):
-    """Writes a row: group, name, what stands beside it, goal, microseconds of both and of cat, KiB of both, and
-    whether they are the same."""
-    more = [*more, *["-"] * (4 - len(more))]
-    print(group, name, beside, goal, ours, there, *more, sep="\t", file=run, flush=True)
-    print(f"{name:34} {beside:26} bx {ours:9} us  there {there:9} us  ratio {there / max(ours, 1):7.2f}  goal {goal:<4}"
-          + (f"  times cat {ours / max(more[0], 1):.2f}" if more[0] != "-" else "")
-          + (f"  KiB {more[1]} and {more[2]}" if more[1] != "-" else "") + "  other text" * (more[3] == "no"),
-          flush=True)
+    """Writes a row."""
+    row = [group, name, beside, goal, ours, there, f"{there / max(ours, 1):.4f}", *more, *["-"] * (4 - len(more))]
+    print(*row, sep="\t", file=run, flush=True)
+    print(" | ".join(f"{field} {value}" for field, value in zip(FIELDS, row) if value != "-"), flush=True)
 
 
 def time_row(row, options, run):
@@ -119,9 +109,9 @@ def time_row(row, options, run):
     if not is_there(real) or options.word not in name:
         return
     commands = [f"{options.bx} {row.ours}", real]
-    is_same = same(row, commands, options.bx)
-    ours, there, *cat = best(options.rounds, commands + ["cat one"] * (row.group == "dumps"), row.before, options.bx)
-    used = [memory(words, row.before, options.bx) for words in commands]
+    is_same = same(row, commands)
+    ours, there, *cat = best(options.rounds, commands + ["cat one"] * (row.group == "dumps"), row.before)
+    used = [memory(words, row.before) for words in commands]
     tell(run, row.group, name, "before" if options.before else named(row.real), row.goal, ours, there, *(cat or ["-"]),
          *used, is_same)
 
@@ -149,19 +139,18 @@ def library_calls(options, run, table_of_calls):
     calls = ROOT / "bench" / "out" / "calls"
     build_calls(calls)
     shell("cp zeros changed; cp few applied; shuf -i 0-33554431 -n 1000000 > addresses")
-    for words, rows in itertools.groupby(table_of_calls, lambda row: row[0]):
+    for words, cells in itertools.groupby(table_of_calls, lambda row: row[0]):
         front = "GLIBC_TUNABLES=glibc.malloc.hugetlb=1 " if words.endswith(" huge") else ""
         line = f"{front}{calls} {words.removesuffix(' huge')}"
         told = [line.split() for _ in range(CALLS) for line in shell(line, subprocess.PIPE).splitlines()]
         fields = {name: min(int(of[1]) for of in told if of[0] == name) for name, *rest in told if len(rest) == 1}
-        for _, goal, field, name, beside in rows:
-            there = fields[beside] if beside in fields else best(options.rounds, [beside], "", options.bx)[0]
+        for _, goal, field, name, beside in cells:
+            there = fields[beside] if beside in fields else best(options.rounds, [beside])[0]
             tell(run, "calls", name, BESIDE.get(beside, beside), goal, fields[field], there)
-        used = {line[1]: int(line[2]) for line in told if len(line) == 4
-                and line[:2] in (["before", "VmRSS:"], ["after", "VmHWM:"])}
-        if used:
-            units, held = fields.get("writes", fields["units"]), 0 if "writes" in fields else os.path.getsize("less")
-            each = ((used["VmHWM:"] - used["VmRSS:"]) * 1024 - held) / units
+        if words.split()[0] in ("dump", "scatter"):
+            used = {" ".join(line[:2]): int(line[2]) for line in told if len(line) == 4}
+            held = os.path.getsize("less") if words == "dump dump" else 0
+            each = ((used["after VmHWM:"] - used["before VmRSS:"]) * 1024 - held) / fields["units"]
             print(f"{words.split()[0]}, memory: {each:.1f} bytes each beside the bytes")
 
 
@@ -179,16 +168,17 @@ def told_of(options, big, mid, stream):
 def main():
     options = asked(__doc__, rounds=3, mib=64, word="")
     options.before = options.before and os.path.abspath(options.before)
-    big, mid, stream = (32, 32, 32) if options.quick else (options.mib, max(options.mib // 2, 1), options.mib * 16)
-    os.environ["LC_ALL"] = "C"
+    big, mid, stream = options.mib, max(options.mib // 2, 1), options.mib * 16
+    os.environ.update(LC_ALL="C", BX=options.bx)
     to = ROOT / "bench" / "out" / ("before.tsv" if options.before else "run.tsv")
     to.parent.mkdir(exist_ok=True)
     with tempfile.TemporaryDirectory() as work, open(to, "w", encoding="utf-8") as run:
         os.chdir(work)
-        rows, calls, inputs = table()
-        shell("\n".join([f"stream={stream} big={big} mid={mid}", *inputs]))
+        timed, calls, inputs = table()
+        shell(f"stream={stream} big={big} mid={mid}\n{inputs}")
         run.writelines(f"# {line}\n" for line in told_of(options, big, mid, stream))
-        for row in rows:
+        print(*FIELDS, sep="\t", file=run)
+        for row in timed:
             time_row(row, options, run)
         if not options.programs and not options.before:
             library_calls(options, run, calls)
