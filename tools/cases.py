@@ -1,14 +1,12 @@
 #!/usr/bin/env python3
-"""Writes the case files of crates/test_cases/data that are recorded or drawn, or compares a program with the real
-tools.
+"""Writes the case files of crates/test_cases/data that are recorded or drawn, or compares a program with real tools.
 
 Usage: tools/cases.py [--compare] [--bx PATH] [--out FOLDER] [--seed N] [KIND ..]
 
-Each KIND is a file of tools/record, whose head says what it writes: words (the real tools), bounds (the real tools,
-around each boundary), lists (random lists of commands) and patches. Without one all are written. The same seed and
+Each KIND is a file of tools/record, whose head says what it writes. Without one all are written. The same seed and
 tools give the same files. With --compare nothing is written: the words, the transfers onto images and their undos, and
-the patches of pairs are run by a program bx that was built, beside xxd, od, hexdump, strings, dd and cmp -l, and each
-difference is printed. The status is 1 where there is one."""
+the patches of pairs are run by bx, beside xxd, od, hexdump, strings, dd and cmp -l, and each difference is printed. The
+status is 1 where there is one."""
 import importlib
 import sys
 

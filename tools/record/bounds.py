@@ -1,17 +1,15 @@
-"""Cases around the blocks, pages and windows of bx.
+"""Cases around the blocks, pages and windows of bx, by the lines of bounds.txt.
 
-Each length is one below a boundary, at it, one above it, or one above three of them; docs/CASES.md, "Boundaries",
-lists the boundaries. Inputs are bytes of a seed (for strings words that are repeated), so a case says a length and a
-seed. Three files are written:
+Each length is one below a boundary of docs/CASES.md, at it, one above it, or one above three of them. Inputs are bytes
+of a seed (for strings words that are repeated), so a case says a length and a seed. Three files are written:
 
 - dump_bounds.cases: what xxd, od, hexdump -C, strings and dd write, as length and MD5 of the real tool's output;
 - dd_lengths.cases: dd onto an image for each length from 0 to 600, with the real tool's counts and image;
 - image_bounds.cases: changes of large images, their undo and redo, and their journals' texts to the byte. What dd
-  leaves and counts is the real tool's; saved lines are default lines of the real xxd, as docs/FORMATS.md has them.
-
-The player makes the bytes of a seed and the lines of a dump by the definitions of docs/CASES.md. This script makes
-them too, and stops where the real xxd writes other lines. bounds.txt has the lines of the cases of images."""
+  leaves and counts is the real tool's; saved lines are default lines of xxd, as docs/FORMATS.md has them. The script
+  makes these as the player does, and stops where the real xxd writes other lines."""
 import functools
+import itertools
 import re
 import sys
 
@@ -43,18 +41,15 @@ def given_to(line, size):
     return f"{whole}*{ROW.hex()} {rest and 1}*{ROW[:rest].hex()}" if line.startswith("strings") else f"{size}@1"
 
 
-def dump_cases():
-    """Words, and what they read."""
-    return [(line.format(size), given.format(size) or given_to(line, size))
-            for lines, given, sizes in rows(part(TEXT, "Dumps")) for line in lines.split("; ") for size in sizes_of(sizes)]
-
-
-def dump_lines(number, line, given, said):
-    """A case of words."""
-    tool, *options = line.split()
-    case = Case(tool, options, form.made_of(given), line)
-    TOOLS.record(case)
-    return case_lines(number, case, said[tool], bare(f"input: {given}"))
+def dump_lines(said):
+    """The lines of the cases of words."""
+    cases = [(line.format(size), given.format(size) or given_to(line, size)) for lines, given, sizes in rows(part(TEXT, "Dumps"))
+             for line, size in itertools.product(lines.split("; "), sizes_of(sizes))]
+    for number, (line, given) in enumerate(cases, 1):
+        tool, *options = line.split()
+        case = Case(tool, options, form.made_of(given), line)
+        TOOLS.record(case)
+        yield from case_lines(number, case, said[tool], bare(f"input: {given}"))
 
 
 def filled(lines):
@@ -109,9 +104,8 @@ def image_cases():
 def run(options):
     said = {tool: versions(tool) for tool in ("xxd", "od", "hexdump", "strings", "dd")}
     names = {tool: name for tool, (name, *_) in said.items()}
-    dumps = [row for number, case in enumerate(dump_cases(), 1) for row in dump_lines(number, *case, names)]
     for name, kind, about, lines in (
-            ("dump_bounds", "words", "What is written of inputs around each block", dumps),
+            ("dump_bounds", "words", "What is written of inputs around each block", dump_lines(names)),
             ("dd_lengths", "commands", "dd onto an image, for each length from 0 to 600",
              [line for lines in length_cases(names["dd"]) for line in filled(lines)]),
             ("image_bounds", "commands", "Changes of images around each page and window",

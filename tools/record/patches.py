@@ -100,15 +100,6 @@ STEPS = [row.split("|") for row in (
     "redo -U image||*|new")]
 
 
-def fails(bx, tools, texts, steps):
-    """The first words that do something else, or none."""
-    for words, given, wanted, image in steps:
-        output, _, status = tools.run([bx, *words.split()], texts[given])
-        if status or wanted != "*" and output != texts[wanted] or (tools.folder / "image").read_bytes() != texts[image]:
-            return words
-    return None
-
-
 def differ(options, rng, tools):
     """Whether bx names other addresses of a pair than `cmp -l`, or doesn't apply its patch and take it back."""
     count = bad = 0
@@ -123,7 +114,10 @@ def differ(options, rng, tools):
             path.unlink()
         (tools.folder / "image").write_bytes(old)
         wrong = wrong if is_right(texts["fix"], texts["rows"], named) else "diff"
-        wrong = wrong or fails(options.bx, tools, texts, STEPS if count % 10 == 0 else STEPS[2:5])
+        for words, given, wanted, image in STEPS if count % 10 == 0 else STEPS[2:5]:
+            output, _, status = tools.run([options.bx, *words.split()], texts[given])
+            is_so = not status and (wanted == "*" or output == texts[wanted])
+            wrong = wrong if is_so and (tools.folder / "image").read_bytes() == texts[image] else wrong or words
         count, bad = count + 1, bad + bool(wrong)
         print(f"{wrong}: {title}\n" if wrong else "", end="")
     print(f"patches: {count} pairs, {bad} differ")

@@ -1,25 +1,21 @@
 """What xxd, od, hexdump, strings and dd write.
 
 Each option is drawn alone, in pairs and in threes, with values and inputs from a generator of random numbers that
-begins with the seed. Inputs of each length up to 66, and of some that are longer, are dumped with few options; the
-forms of od and hexdump whose lines have code of their own dump lines of each length. dd converts each front of a text,
-and is run onto images too, as cases of commands. The expected output, counts and success are the real tool's, whose
-version stands at the head of each file TOOL.cases.
+begins with the seed. Few options are given inputs of each length up to 66 and some longer ones, and so are the forms of
+od and hexdump whose lines have code of their own. dd converts each front of a text, and is run onto images too. The
+expected output, counts and success are the real tool's, whose version stands at the head of each file TOOL.cases. Words
+that it refuses, with status 1 and no output, stand in refused.txt, with the fault and by it the status of bx.
 
 What is drawn keeps to the options on which man/bx.1 says that bx and the tool agree:
 
-- all: each option once, one file at most, options in front of it; no negative number, and none with other bytes behind
-  it.
+- all: each option once, one file at most, options in front of it; no negative number, and none with bytes behind it.
 - xxd: one of -b, -i and -p; -u not with -i; 1 to 256 columns; -s on a file, since a pipe can't be sought.
 - od: one type, of c or d, o, u, x and a size in digits.
 - hexdump: -C always; a skip below the input's length, since at or behind it the tool shows an address; no suffix b.
-- strings: no tab in the input; -n in decimal. The tool pads an offset to seven places, and bx doesn't: that is taken
-  off.
+- strings: no tab in the input; -n in decimal. The tool pads an offset to seven places: that is taken off.
 - dd: each operand once; the input is a file, so that each read fills its block; swab only with an even ibs; block and
   unblock with cbs; seek and notrunc only onto an image. That an undo gives the first image back isn't recorded:
   docs/FORMATS.md has it.
-
-Words that a tool refuses, with status 1 and no output, stand in refused.txt, with the fault and by it the status of bx.
 """
 import hashlib
 import itertools
