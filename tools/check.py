@@ -3,9 +3,9 @@
 
 Usage: tools/check.py [--bx PATH] [--list] [NAME ..]
 
-Each NAME is a check of checks.txt; without one all run, one after another. A check is skipped where a tool that it
-needs isn't installed. What a check left out by itself, for want of root for example, stands below its line. Of one
-that failed, the lines that don't begin with `ok` stand there. The status is 1 where one failed."""
+Each NAME is a check of checks.txt; without one all run. A check is skipped where a tool that it needs isn't installed.
+What a check left out by itself stands below its line, and of one that failed each line that doesn't begin with `ok`.
+The status is 1 where one failed."""
 import collections
 import os
 import shutil
@@ -13,13 +13,12 @@ import subprocess
 import sys
 import time
 
-from shared import ROOT, asked, read
+from shared import ROOT, asked, read, rows
 
 SUBJECTS = sorted(path.stem for path in (ROOT / "tests" / "program").glob("*.t"))
-LINES = [line.replace("SUBJECT", subject) for line in read("tools/checks.txt").splitlines() if "|" in line
-         for subject in (SUBJECTS if "SUBJECT" in line else [""])]
 # the name of each check, its words and what it needs
-CHECKS = {name: (words, needs) for name, words, needs in ([cell.strip() for cell in line.split("|")] for line in LINES)}
+CHECKS = {name.replace("SUBJECT", subject): (words.replace("SUBJECT", subject), needs)
+          for name, words, needs in rows(read("tools/checks.txt")) for subject in (SUBJECTS if "SUBJECT" in name else [""])}
 
 
 def run(name, words, needs, bx):

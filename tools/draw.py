@@ -3,15 +3,9 @@
 
 Usage: tools/draw.py [--bx PATH] [NAME ..]
 
-Each is made of a transcript, session.t or states.t, whose commands have to write what stands there, else this fails.
-
-session: a terminal with the commands behind the first, a line each, and what they write.
-
-states: the states of a pair of image and journal, and what opening does in each; the words in the picture are those
-that bx wrote, in the places of docs/pictures/states.in.
-
-Without a name both are drawn. bench/plot.py draws the chart of speed with its tables.
-"""
+Each, or both without a name, is made of a transcript, whose commands have to write what stands there: of session.t a
+terminal with the commands behind the first; of states.t the states of a pair of image and journal, and what opening
+does in each, the words in the places of states.in. bench/plot.py draws the chart of speed with its tables."""
 import html
 import sys
 import tempfile
@@ -29,8 +23,7 @@ def played(name, bx):
     """The commands of a transcript, and what they write."""
     tour = steps(set_in(read(f"docs/pictures/{name}.t")))
     with tempfile.TemporaryDirectory() as folder:
-        given = outputs([command for command, _ in tour], bx, folder)
-    wrong = list(differences(tour, given))
+        wrong = list(differences(tour, outputs([command for command, _ in tour], bx, folder)))
     if wrong:
         sys.exit("\n".join(wrong))
     return tour

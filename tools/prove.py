@@ -3,12 +3,12 @@
 
 Usage: tools/prove.py [--most N]
 
-Crates that don't stand on one another are proved side by side, and the functions of one by the processes that no other
-crate wants: as many processes as there are processors, and 4 GiB of free memory for each, or N at most. `rt` locks a
-crate and those below it while it proves, so each crate is proved in a copy of its own, with the libraries below it as
-they were built, and what is built goes into `out/` here. It writes what `rt` says of each crate, and exits 1 where one
-is not proved."""
+Crates that don't stand on one another are proved side by side, by as many processes in all as there are processors, and
+4 GiB of free memory for each, or N at most. `rt` locks a crate and those below it while it proves, so each is proved in
+a copy of its own, with the libraries below it as they were built, and what is built goes into `out/` here. It writes
+what `rt` says of each crate, and exits 1 where one is not proved."""
 import concurrent.futures
+import graphlib
 import os
 import pathlib
 import shutil
@@ -40,17 +40,13 @@ def carry(folder, to):
 def prove(name, below, top, jobs):
     """Builds a library in a copy of it and of those below, and brings what is built here. Answers the status and what
     `rt` said."""
-    here = shared.ROOT / "crates"
-    for other in [*below, name]:
-        for part in ("src", "specs", "proofs", "out/rlib"):
-            carry(here / other / part, top / "crates" / other / part)
-    carry(here / name / "out" / "incremental", top / "crates" / name / "out" / "incremental")
-    lines = [line for line in shared.read("crates.txt").splitlines() if line.split(":")[0] in [*below, name]]
-    (top / "crates.txt").write_text("\n".join(lines) + "\n", encoding="utf-8")
-    done = subprocess.run(["rt", "lib", "--jobs", str(jobs)], cwd=top / "crates" / name, stdin=subprocess.DEVNULL,
+    here, there = (root / "crates" / name / "out" for root in (shared.ROOT, top))
+    sources.copy([*below, name], top)
+    carry(here / "incremental", there / "incremental")
+    done = subprocess.run(["rt", "lib", "--jobs", str(jobs)], cwd=there.parent, stdin=subprocess.DEVNULL,
                           stdout=subprocess.PIPE, stderr=subprocess.STDOUT, text=True, errors="replace", check=False)
     for part in ("rlib", "incremental"):
-        carry(top / "crates" / name / "out" / part, here / name / "out" / part)
+        carry(there / part, here / part)
     shutil.rmtree(top, ignore_errors=True)
     return done.returncode, done.stdout
 
@@ -67,24 +63,22 @@ def chains(listed, names):
 def prove_all(listed, names, most, place):
     """Proves the libraries, each once those below it are built, first those with the longest chain above them. Answers
     whether all are."""
-    left, running, built, ahead = list(names), {}, set(), chains(listed, names)
+    order, ready, running, ahead = graphlib.TopologicalSorter({it: listed[it] for it in names}), [], {}, chains(listed, names)
+    order.prepare()
     with concurrent.futures.ThreadPoolExecutor(most) as pool:
-        while left or running:
-            ready = sorted((it for it in left if set(listed[it]) <= built), key=lambda it: -ahead[it])
-            for at, name in enumerate(ready):
-                idle = most - sum(jobs for _, jobs in running.values())
-                if idle:
-                    jobs = max(1, idle // (len(ready) - at))
-                    left.remove(name)
-                    top = pathlib.Path(tempfile.mkdtemp(prefix=f"{name}-", dir=place))
-                    running[pool.submit(prove, name, sources.below(listed, name), top, jobs)] = name, jobs
+        while order.is_active():
+            ready = sorted([*ready, *order.get_ready()], key=lambda it: -ahead[it])
+            while ready and (idle := most - sum(jobs for _, jobs in running.values())):
+                jobs, name = max(1, idle // len(ready)), ready.pop(0)
+                top = pathlib.Path(tempfile.mkdtemp(prefix=f"{name}-", dir=place))
+                running[pool.submit(prove, name, sources.below(listed, name), top, jobs)] = name, jobs
             for done in concurrent.futures.wait(running, return_when=concurrent.futures.FIRST_COMPLETED).done:
                 name, _ = running.pop(done)
                 status, said = done.result()
                 print(f"== {name}\n{said}", end="", flush=True)
                 if status:
                     return False
-                built.add(name)
+                order.done(name)
     return True
 
 

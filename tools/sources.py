@@ -13,8 +13,8 @@ NAME = re.compile(r"[A-Za-z_][A-Za-z0-9_'-]*")
 
 def crates():
     """The crates in the order of crates.txt, each with the crates of this repository that its line names."""
-    lines = (line.split("#")[0].strip() for line in read("crates.txt").splitlines())
-    named = {line.split(":")[0].split()[0]: line.split(":")[1].split() for line in lines if line}
+    lines = re.findall(r"(?m)^(\w+)[^:#\n]*:([^#\n]*)", read("crates.txt"))
+    named = {name: others.split() for name, others in lines}
     return {name: [other for other in others if other in named] for name, others in named.items()}
 
 
@@ -43,9 +43,9 @@ def code(name):
 
 
 def copy(names, top, others=()):
-    """Makes a repository of some crates in a folder, with what was built of them and with more lines in crates.txt."""
+    """Makes a repository of some crates in a folder, with their libraries as built and with more lines in crates.txt."""
     for name in names:
-        shutil.copytree(ROOT / "crates" / name, top / "crates" / name)
+        shutil.copytree(ROOT / "crates" / name, top / "crates" / name, ignore=shutil.ignore_patterns("incremental"))
     shutil.copy(ROOT / "HANDLES", top)
     lines = [line for line in read("crates.txt").splitlines() if line.split(":")[0] in names]
     (top / "crates.txt").write_text("".join(f"{line}\n" for line in [*lines, *others]), encoding="utf-8")
@@ -140,10 +140,6 @@ class Item:
             self.arguments = [part.strip() for part in arguments if part.strip()]
             self.contract, self.opened, self.body = [*re.split(r"(?m)(\{\}?|;)$", text[end:], maxsplit=1), "", ""][:3]
 
-    def takes(self):
-        """How many arguments it has, `self` left out."""
-        return sum(not re.match(r"(&\s*('\w+ )?)?(mut )?self\b", part) for part in self.arguments)
-
     def is_public_by(self, exports, path):
         """Whether it is public where its crate exports these names; an impl where its head has one."""
         names = set(NAME.findall(self.text.split("{")[0])) if self.kind == "impl" else {self.name, f"mod {path}"}
@@ -171,11 +167,11 @@ def items_in(name):
             for path in code(name) for item in items(re.sub("//.*", "", read(path)))]
 
 
-def sentence(path, at):
-    """The first sentence of the public comment above a line of a file."""
+def sentence(path, at=None):
+    """The first sentence at the head of a file, or of the public comment above one of its lines."""
     above = itertools.takewhile(lambda line: re.match(r"\s*(///|#\[)", line), reversed(read(path).split("\n")[:at]))
-    found = [line.strip()[3:].strip() for line in above if "///" in line]
-    return re.split(r"(?<=\.) |  ", " ".join(reversed(found)))[0].rstrip(".")
+    text = " ".join(reversed([line.strip()[3:].strip() for line in above if "///" in line])) if at else head(path)
+    return re.split(r"(?<=\.) (?=[A-Z`#])|  ", text)[0].rstrip(".")
 
 
 def clauses(text):
@@ -196,10 +192,10 @@ def exports(name):
     return found
 
 
-def exported_above(part, names):
-    """What the roots of some crates, those that are no inner parts, export of an inner part."""
-    roots = [folder(name) / "lib.rt" for name in names if name not in inner() and (folder(name) / "lib.rt").exists()]
-    return {path[-1] for lib in roots for path in used(read(lib), "pub ") if path[0] == part}
+def public(name):
+    """What is public of a crate: what it exports, or of an inner part what the roots of others export of it."""
+    roots = [root_of(other) for other in product() if other not in inner()]
+    return {path[-1] for root in roots for path in used(read(root), "pub ") if path[0] == name} if name in inner() else exports(name)
 
 
 # Definitions

@@ -7,6 +7,7 @@ function that takes nothing and does nothing, so its clauses are proved of defin
 second reading of them, and stands in the page's part D. docs/believe.txt has the front, the parts and the order of
 files; --write makes the page of it, with the sentence that stands above each definition in specs/, and without it the
 page is compared."""
+import itertools
 import re
 
 import sources
@@ -51,10 +52,7 @@ def closure(definitions, imports, named):
 
 
 def by_place(some):
-    places = {}
-    for definition in some:
-        places.setdefault(definition.place, []).append(definition)
-    return places
+    return {place: list(here) for place, here in itertools.groupby(some, lambda definition: definition.place)}
 
 
 def size(some):
@@ -85,14 +83,9 @@ def filled(order, believed, told):
 def check(options):
     crates = named()
     definitions, imports = sources.definitions(crates)
-    called, said = set(), set()
-    for crate in crates:
-        of_calls, of_laws = public_names(crate, sources.exports(crate))
-        if crate in sources.inner():
-            of_calls, _ = public_names(crate, sources.exported_above(crate, crates))
-            of_laws = {key for key in of_laws if "." not in key[1] or key[1].split(".")[0] in SHARED}
-        called |= of_calls
-        said |= of_laws
+    called = set().union(*(public_names(crate, sources.public(crate))[0] for crate in crates))
+    said = {key for crate in crates for key in public_names(crate, sources.exports(crate))[1]
+            if crate not in sources.inner() or "." not in key[1] or key[1].split(".")[0] in SHARED}
     met, met_by_all = closure(definitions, imports, called), closure(definitions, imports, called | said)
     believed = [d for key, d in definitions.items() if key in met]
     told = [d for key, d in definitions.items() if key in met_by_all - met]

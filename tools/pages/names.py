@@ -1,10 +1,9 @@
-"""Looks whether the names and the files that documents cite stand in the sources, and whether their links lead to a
-file.
+"""Looks whether the names and the files that documents cite stand in the sources, and their links lead to a file.
 
 What counts is a whole span between ` and `, in the .md files but the changelog, outside of blocks of code. A name is a
-word, or words with `::`, `.` or `/` between them: each of its words has to stand in code, definitions, proofs, edits,
-cases, scripts or the man page, or be the name of a file or a folder. A file is a span that ends as one: a file of the
-repository ends with the same parts, where `crates`, `src`, `specs` and `proofs` may be left out."""
+word, or words with `::`, `.` or `/` between them: each has to stand in code, definitions, proofs, edits, cases, scripts
+or the man page, or be the name of a file or a folder. A file is a span that ends as one: a file of the repository ends
+with the same parts, where `crates`, `src`, `specs` and `proofs` may be left out."""
 import pathlib
 import re
 
@@ -39,13 +38,6 @@ def words(paths):
     return found
 
 
-def spans(text):
-    """The spans of a page, with their lines."""
-    text = re.sub(r"^```.*?^```", lambda block: "\n" * block.group().count("\n"), text, flags=re.M | re.S)
-    return [(number, span) for number, line in enumerate(text.split("\n"), 1)
-            for span in re.findall(r"`([^`\n]+)`", line)]
-
-
 def is_there(span, known, ends):
     """Whether what a span cites stands in the sources; what is no name or file passes."""
     if FILE.fullmatch(span) and "/" in span:
@@ -60,10 +52,9 @@ def check(_options):
     known, ends, bad, count = words(paths), [bare(path) for path in paths], [], 0
     for page in [path for path in paths if path.suffix == ".md"]:
         text = read(page)
-        cited = spans(text) if page.name != "CHANGELOG.md" else []
+        cited = re.findall(r"`([^`\n]+)`", re.sub(r"(?ms)^```.*?^```", "", text)) if page.name != "CHANGELOG.md" else []
         count += len(cited)
-        bad += [f"{page}:{number}: `{span}` stands nowhere"
-                for number, span in cited if not is_there(span, known, ends)]
+        bad += [f"{page}: `{span}` stands nowhere" for span in cited if not is_there(span, known, ends)]
         bad += [f"{page}: no file {link}" for link in re.findall(r"\]\(([^)#:]+)\)", text)
                 if not (ROOT / page.parent / link).exists()]
     return bad, f"{count} spans of documents: each name and file that they cite is there"

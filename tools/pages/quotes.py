@@ -8,10 +8,8 @@ The first line of a block of a document names what it quotes, and --write fills 
     ```rust examples/src/a.rt b   functions and structs of a file by their names, and an impl by impl:NAME of its type
                                   or trait
 
-In docs/HEADLINE.md each definition that a quoted line names is quoted too, or stands in the page's paragraphs between
-` and `. It has at most 302 lines. The block at the head of a public crate's lib.rt stands in that crate's file of
-examples.
-"""
+In docs/HEADLINE.md, which has at most 302 lines, each definition that a quoted line names is quoted too, or stands in
+its paragraphs between ` and `. The block at the head of a public crate's lib.rt stands in that crate's examples."""
 import itertools
 import re
 
@@ -68,17 +66,15 @@ class Sources:
         self.note(sources.imports(read(path)), ("", ""), lines)
         return [f"{call}: {lines[0].strip()}", *["    " + line.strip() for line in lines[1:]]]
 
-    def quoted(self, kind, words):
-        """What a block whose first line has these words is to hold."""
-        if kind == "rust" and "/" in words[0]:
-            items = [["", *item_of(words[0], word)] for word in words[1:]]
-            return list(itertools.chain(*items))[1:]
-        of_one = self.definition if kind == "antt" else self.clause
-        return [line for word in words for line in of_one(word)]
-
     def filled(self, block):
-        """A block with what it is to hold."""
-        return "\n".join([f"```{block[1]} {block[2]}", *self.quoted(block[1], block[2].split()), "```"])
+        """A block with what it is to hold by the words of its first line."""
+        first, *more = block[2].split()
+        if "/" in first and block[1] == "rust":
+            lines = [line for name in more for line in ["", *item_of(first, name)]][1:]
+        else:
+            of_one = self.definition if block[1] == "antt" else self.clause
+            lines = [line for name in (first, *more) for line in of_one(name)]
+        return "\n".join([f"```{block[1]} {block[2]}", *lines, "```"])
 
 
 def item_of(path, name):

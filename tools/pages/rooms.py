@@ -1,14 +1,13 @@
 """Looks whether the rooms of each crate, and the files in them, import one another in one direction, and as rooms.txt
-says.
+says, which people change on purpose, and no script.
 
 A room is a module right below `src/`, with its folder; what stands in `lib.rt` is none. A room imports another one
 where one of its files has `use crate::ROOM`, or `use crate::NAME` of a name that `lib.rt` exports from that room. It
-fails where rooms reach one another both ways, directly or through others, where files of a crate do, and where
-rooms.txt names other imports than the code has. People change rooms.txt, on purpose, and no script writes it. An inner
-part of a family is imported from above the family only where the crate's line `inner` names it.
+fails where rooms or files of a crate reach one another both ways, directly or through others, and where rooms.txt names
+other imports than the code has. An inner part of a family is imported from above the family only where the crate's line
+`inner` names it.
 
-docs/generated/ROOMS.md has the crates and their rooms with the sentence at the head of each file: --write writes it,
-and without it the page is compared."""
+docs/generated/ROOMS.md, which --write writes, has the crates and rooms with the sentence at the head of each file."""
 import re
 
 import sources
@@ -69,32 +68,21 @@ def tables():
     return found
 
 
-def sentence(path):
-    """The first sentence at the head of a file."""
-    return re.split(r"(?<=\.) (?=[A-Z`#])|  ", sources.head(path))[0].rstrip(".")
-
-
 def page(named):
     """The page of crates and rooms."""
     lines = [TOP]
     for name, below in sources.crates().items():
         others = ", ".join(below) or "no other crate"
-        lines += [f"## {name}\n\n{sentence(sources.root_of(name))}. It stands on {others}.\n"]
+        lines += [f"## {name}\n\n{sources.sentence(sources.root_of(name))}. It stands on {others}.\n"]
         rows = {room: others for room, others in named.get(name, {}).items() if room != "inner"}
         for room, others in rows.items():
             source = sources.folder(name) / room
             imported = f" ({', '.join(sorted(others))})" if others else ""
-            lines += [f"- `{room}`{imported}: {sentence(source.with_suffix('.rt'))}"]
-            lines += [f"  - `{path.relative_to(source).with_suffix('')}`: {sentence(path)}"
+            lines += [f"- `{room}`{imported}: {sources.sentence(source.with_suffix('.rt'))}"]
+            lines += [f"  - `{path.relative_to(source).with_suffix('')}`: {sources.sentence(path)}"
                       for path in sorted(source.rglob("*.rt"))]
         lines += [""] if rows else []
     return "\n".join(lines)
-
-
-def said(table):
-    """The rooms of a crate and what they import, a line each."""
-    imported = {f"{room} imports {other}" for room, others in table.items() for other in others}
-    return imported | {f"{room} is a room" for room in table}
 
 
 def check(options):
@@ -105,8 +93,8 @@ def check(options):
         found, table = rooms(name, files, below), named.get(name, {})
         wrong += [f"{name}: {room} reaches itself through what it imports" for room in found.keys() - {"inner"}
                   if room in sources.below(found | {"inner": ()}, room)]
-        wrong += [f"{name}: {row}, and rooms.txt doesn't say so" for row in sorted(said(found) - said(table))]
-        wrong += [f"{name}: {row} in rooms.txt alone" for row in sorted(said(table) - said(found))]
+        wrong += [f"{name}: {room} imports {found.get(room, 'nothing, as it is no room')}, and by rooms.txt {table.get(room)}"
+                  for room in sorted(found | table) if found.get(room) != table.get(room)]
         wrong += [f"{name}: the file {'/'.join(file)} reaches itself through what it imports" for file in files
                   if file in sources.below(files, file)]
     wrong += [f"{name} stands in rooms.txt, and is no crate" for name in named.keys() - sources.crates().keys()]

@@ -9,20 +9,20 @@ import re
 
 import sources
 
+SELF = r"(&\s*('\w+ )?)?(mut )?self\b"
 LIMITS = {"parameters": 8, "arguments": 6, "ensures": 12, "inner ensures": 16, "crates": 1}
 
 
 def functions():
     """What is counted of functions: its kind, its number, and the function's name with crate and file."""
     for name in [*sources.product(), "test_cache"]:
-        is_inner = name in sources.inner()
-        exports = sources.exported_above(name, sources.product()) if is_inner else sources.exports(name)
+        exports = sources.public(name)
         for _, place, item in sources.items_in(name):
             public = item.shown() if item.is_public_by(exports, place) else []
             for function in item.functions:
                 word = f"{item.name}::{function.name}" if function.owner else function.name
                 at = f"{name}: {word} (src/{place}.rt)"
-                yield "arguments", function.takes(), at
+                yield "arguments", sum(not re.match(SELF, argument) for argument in function.arguments), at
                 promised = len(re.findall(r"(?m)^ *ensures\b", function.contract))
                 yield "ensures" if function in public else "inner ensures", promised, at
 

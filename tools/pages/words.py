@@ -1,8 +1,6 @@
-"""Counts the phrases that are to go from documents and comments, and fails where one stands more often than it may.
-
-Documents are the .md files and the man page, without code. Comments are those of the crates: of code (module heads and
-public documents too), and of definitions and proofs. Each place of a phrase is printed where there are more than its
-ceiling, which may only fall ('..' is an ellipsis).
+"""Counts the phrases that are to go from documents (the .md files and the man page, without code) and comments of
+the crates, and fails, with each place of a phrase, where one stands more often than its ceiling, which may only fall
+('..' is an ellipsis).
 
 It counts the words that people write, too, fails above their ceiling, and --list prints them page by page. What is
 quoted or written by a script is left out (quoted blocks, what stands between `<!-- written by` and `<!-- up to here
