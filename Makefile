@@ -26,8 +26,8 @@ look:
 test:
 	rt ci$(if $(STATUS),; echo $$? > $(STATUS))
 
-install: all
-	install -D -m 755 bx $(DESTDIR)$(PREFIX)/bin/bx
+install: $(built)
+	install -D -m 755 $(program) $(DESTDIR)$(PREFIX)/bin/bx
 	install -D -m 644 man/bx.1 $(man)/bx.1
 	install -D -m 644 completions/bx.bash $(bash)/bx
 	install -D -m 644 completions/_bx $(zsh)/_bx

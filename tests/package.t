@@ -1,7 +1,7 @@
 The Debian package of a built bx: lintian finds no error, and it is installed, upgraded and removed without leaving anything. All of
 it in a root of its own, so that this system stays as it is.
 
-# The package is made, installed, upgraded and removed (wants root lintian dpkg-deb dpkg-shlibdeps strip)
+# The package is made, installed, upgraded and removed (wants root lintian make dpkg-deb dpkg-shlibdeps strip)
 
   $ "$FOLDER/../../tools/package.sh" "$(command -v bx)" new > made || cat made
   $ new=$(tail -n 1 made); version=$(dpkg-deb -f "$new" Version); root=$PWD/root

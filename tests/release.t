@@ -20,7 +20,7 @@ The man page is of the same day, or of a later one where something is in no vers
   $ { grep -qx '## Unreleased' CHANGELOG.md && [[ ! $page < $date ]]; } || same "$page" "$date"
   $ same "$(git log --format=%an%n%cn | sort -u)" "$(sed -n 's/^Copyright (c) [0-9, -]*//p' LICENSE)"
 
-# The package (wants git dpkg-deb dpkg-shlibdeps strip)
+# The package (wants git make dpkg-deb dpkg-shlibdeps strip)
 
   $ cd "$FOLDER/../.."; same() { [ "$1" = "$2" ] || echo "${1:-nothing}, and not $2"; }
   $ version=$(bx --version | cut -d ' ' -f 2); date=$(sed -n "s/^## $version - //p" CHANGELOG.md)

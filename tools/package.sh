@@ -1,7 +1,7 @@
 #!/usr/bin/env bash
 # Makes a Debian package of a built bx: program, man page, completions and documents.
 # Usage: tools/package.sh BX FOLDER      (the package is FOLDER/bx_VERSION_ARCHITECTURE.deb)
-# Needs dpkg-dev; where lintian is installed, it has to find no error.
+# Needs make and dpkg-dev; where lintian is installed, it has to find no error.
 set -euo pipefail
 bx=$(realpath "$1"); folder=$(realpath -m "$2"); cd "$(dirname "$0")/.."
 version=$("$bx" --version | awk '{print $2}')
@@ -9,12 +9,8 @@ architecture=$(dpkg --print-architecture)
 work=$(mktemp -d); trap 'rm -rf "$work"' EXIT
 tree=$work/bx; chmod 755 "$work"
 
-install -D -m 755 "$bx" "$tree/usr/bin/bx"
+make --silent install BX="$bx" DESTDIR="$tree" PREFIX=/usr
 strip --remove-section=.comment --remove-section=.note "$tree/usr/bin/bx"
-install -D -m 644 completions/bx.bash "$tree/usr/share/bash-completion/completions/bx"
-install -D -m 644 completions/_bx "$tree/usr/share/zsh/vendor-completions/_bx"
-install -D -m 644 completions/bx.fish "$tree/usr/share/fish/vendor_completions.d/bx.fish"
-install -D -m 644 man/bx.1 "$tree/usr/share/man/man1/bx.1"
 install -D -m 644 -t "$tree/usr/share/doc/bx" README.md docs/FORMATS.md docs/RECIPES.md
 day=$(awk -v version="$version" '$1 == "##" && $2 == version { print $4 }' CHANGELOG.md)
 date=$(date -u -R -d "${day:-@$(git log -1 --format=%ct)}"); maintainer=$(git log -1 --format='%an <%ae>')
