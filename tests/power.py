@@ -3,20 +3,18 @@
 
 Usage: tests/power.py [--bx PATH] [--sessions N] [--seed N] [--jobs N] [--limit N] [NAME ..]
 
-replay: random sessions of reverts, dd, undos and redos run under strace, on small images. Their calls are replayed.
-Before each sync and after each answer what a loss of power may leave (replay/losses.py), or a sample of it, is written
-into files. `bx log` opens them: it has to find the images before the command, after it, or after some of its steps,
-and `bx undo` of all changes has to lead back to the first image. Some commands are killed or run with -U; and now and
-then the power is lost, and the session goes on with what was found. Then each sync is left out in turn: some content
-has to be lost, but for two syncs with no known loss.
+replay: random sessions of reverts, dd, undos and redos on small images run under strace, and their calls are replayed.
+Before each sync and after each answer what a loss of power may leave (replay/losses.py), or some N of it (--limit), is
+written into files. `bx log` opens them: it has to find the images before the command, after it, or after some of its
+steps, and `bx undo` of all changes has to lead back to the first image. Some commands are killed or run with -U; and
+now and then the power is lost, and the session goes on with what was found. Then each sync is left out in turn: some
+content has to be lost, but for two syncs with no known loss.
 
-cache: the same on a file system in memory, mounted by pyfuse3 with a cache that writes back. What bx writes stays in
-the kernel's page cache, and reaches the file system at a sync, or when the kernel chooses. After each request that
-changes the file system, what it holds is what a loss of power leaves, also without a name whose folder wasn't synced
-since. With -U something has to be lost. As root, where the kernel has FUSE.
+cache: the same on a file system in memory, mounted by pyfuse3, as root, with a cache that writes back: what bx writes
+reaches the file system at a sync, or when the kernel chooses. After each request that changes it, what it holds is what
+a loss of power leaves, also without a name whose folder wasn't synced since. With -U something has to be lost.
 
-Outside the gate. Without a name all run, with about N contents at a moment (--limit), and a line says what is left
-out. It exits 1 where something is lost, or nothing where it should be."""
+Without a name both run. The status is 1 where something is lost, or nothing where it should be."""
 import importlib
 import os
 import random
@@ -24,26 +22,23 @@ import re
 import shutil
 import tempfile
 
-from common import asked, finish, folder, left_out, say
+from common import finish, folder, left_out, say
 from replay.judge import LOG, REFUSED, Judge, dd, redo, revert, undo
 from replay.room import Room
 from replay.session import Session
-from shared import read, rows
+from shared import asked, read, rows
 
 IMAGE = b"ABCDEFGH"
 COMMANDS = {"change": revert((2, b"xy")), "other": revert((6, b"z")), "third": revert((0, b"q")), "undo": undo(1),
             "undo of two": undo(2), "redo": redo(1), "log": LOG}
 
 
-def some_bytes(rng, most):
-    return rng.randbytes(rng.randint(1, most))
-
-
 def some_change(rng, image, most, count):
     """A dump of some pieces, or a dd of as many bytes."""
     if rng.randrange(3):
-        return revert(*[(rng.randint(0, len(image) + 4), some_bytes(rng, most)) for _ in range(rng.randint(1, count))])
-    return dd(rng.randint(0, len(image) + 4), some_bytes(rng, most * count), rng.randrange(2) == 0)
+        return revert(*[(rng.randint(0, len(image) + 4), rng.randbytes(rng.randint(1, most)))
+                        for _ in range(rng.randint(1, count))])
+    return dd(rng.randint(0, len(image) + 4), rng.randbytes(rng.randint(1, most * count)), rng.randrange(2) == 0)
 
 
 def some_command(rng, state, most, count):

@@ -1,6 +1,6 @@
 """A file system in memory, by pyfuse3 (Debian's python3-pyfuse3), whose writes wait in the kernel's page cache. It
-tells what reaches it: each name, write, length and sync, in order. Folders can't be listed, and there are no links. And
-sessions on it."""
+tells what reaches it: each name, write, length and sync, in order. It has the folders of a room, which can't be listed,
+and there are no links. And sessions on it."""
 import ast
 import contextlib
 import errno
@@ -9,30 +9,27 @@ import os
 import stat
 import subprocess
 import time
+import types
 
 import pyfuse3
 import trio
 
 from replay.losses import cut, sized
-from replay.room import PLACES, Disk, Room
+from replay.room import PLACES, Room
 from replay.session import Watched
 
 
-class Node:
-    """A file or a folder; without a path, one that was removed."""
-
-    def __init__(self, path, mode):
-        self.path, self.mode, self.data = path, mode, b""
-
-
 class Files(pyfuse3.Operations):
-    """Answers the kernel's requests, and writes what changed to a file, a line each."""
+    """Answers the kernel's requests, and writes what changed to a file, a line each. A file that was removed has no
+    path."""
 
     enable_writeback_cache = True
 
     def __init__(self, told):
         super().__init__()
-        self.told, self.nodes = told, {pyfuse3.ROOT_INODE: Node("", stat.S_IFDIR | 0o755)}
+        self.told, self.nodes = told, {}
+        for inode, path in enumerate(["", "images", "texts"], pyfuse3.ROOT_INODE):
+            self.nodes[inode] = types.SimpleNamespace(path=path, mode=stat.S_IFDIR | 0o755, data=b"")
 
     def tell(self, *what):
         print(what, file=self.told, flush=True)
@@ -52,12 +49,6 @@ class Files(pyfuse3.Operations):
                 return inode
         raise pyfuse3.FUSEError(errno.ENOENT)
 
-    def make(self, folder, name, mode):
-        inode, path = len(self.nodes) + pyfuse3.ROOT_INODE, self.path(folder, name)
-        self.nodes[inode] = Node(path, mode)
-        self.tell("name", path, True)
-        return inode
-
     async def getattr(self, inode, ctx):
         return self.entry(inode)
 
@@ -68,11 +59,10 @@ class Files(pyfuse3.Operations):
         self.nodes[self.named(parent_inode, name)].path = None
         self.tell("name", self.path(parent_inode, name), False)
 
-    async def mkdir(self, parent_inode, name, mode, ctx):
-        return self.entry(self.make(parent_inode, name, stat.S_IFDIR | mode))
-
     async def create(self, parent_inode, name, mode, flags, ctx):
-        inode = self.make(parent_inode, name, stat.S_IFREG | mode)
+        inode, path = len(self.nodes) + pyfuse3.ROOT_INODE, self.path(parent_inode, name)
+        self.nodes[inode] = types.SimpleNamespace(path=path, mode=stat.S_IFREG | mode, data=b"")
+        self.tell("name", path, True)
         return pyfuse3.FileInfo(fh=inode), self.entry(inode)
 
     async def open(self, inode, flags, ctx):

@@ -39,9 +39,6 @@ class File:
         self.contents, self.touched = self.contents[-1:], []
         self.kept = len(self.contents[0])
 
-    def sync_name(self):
-        self.names = self.names[-1:]
-
     def is_settled(self):
         return not self.touched and len(self.names) == 1
 
@@ -99,47 +96,41 @@ class File:
                                      for end in (place - 1, place, place + 1) if low <= end <= high})
 
     def found(self, limit, rng):
-        """What may be found, each once: all, where that is no more than `limit`, or else some. None is no file."""
-        found = dict.fromkeys([self.contents[0], self.contents[-1], *self.contents] if True in self.names else [])
-        if False in self.names:
-            found[None] = None
-        if self.touched:
-            pieces = self.pieces(rng)
-            ends, front = self.ends(pieces), self.contents[0][:pieces[0][0] if pieces else None]
-            if math.prod(len(held) for *_, held in pieces) * len(ends) <= limit:
-                for *parts, end in itertools.product(*(held for *_, held in pieces), ends):
-                    found[(front + b"".join(parts))[:end]] = None
-            else:
-                draw_up_to(limit, found, lambda: self.draw(rng, front, pieces, ends))
-        return list(found)
+        """What may be found, each once. None is no file."""
+        first = [self.contents[0], self.contents[-1], *self.contents] if True in self.names else []
+        first += [None] if False in self.names else []
+        if not self.touched:
+            return list(dict.fromkeys(first))
+        pieces = self.pieces(rng)
+        ends, front = self.ends(pieces), self.contents[0][:pieces[0][0] if pieces else None]
+        return up_to(limit, first, [*(held for *_, held in pieces), ends], lambda: self.draw(rng, pieces, ends),
+                     lambda chosen: (front + b"".join(chosen[:-1]))[:chosen[-1]])
 
-    def draw(self, rng, front, pieces, ends):
-        """One that may be found: what was there at some moment up to a random end, or with a random piece, or all
-        random."""
+    def draw(self, rng, pieces, ends):
+        """The pieces and the end of one that may be found: what was there at some moment up to a random end, or with a
+        random piece, or all random."""
         base = rng.choice(self.contents)
         parts = [base[at:end].ljust(end - at, b"\0") for at, end, _ in pieces]
         how = rng.randrange(3)
         for i in ([], [rng.randrange(len(pieces))], range(len(pieces)))[how]:
             parts[i] = rng.choice(pieces[i][2])
-        end = rng.randint(*self.lengths()) if how == 0 else rng.choice([*ends, ends[-1], len(base)])
-        return (front + b"".join(parts))[:end]
+        return *parts, rng.randint(*self.lengths()) if how == 0 else rng.choice([*ends, ends[-1], len(base)])
 
 
-def draw_up_to(limit, found, draw):
-    """Draws up to `limit` different ones."""
+def up_to(limit, first, choices, draw, made=tuple):
+    """Those that are first, and what is made of one of each of the choices: all, where that is no more than `limit`, or
+    else so many in all that are drawn."""
+    found = dict.fromkeys(first)
+    if math.prod(map(len, choices)) <= limit:
+        return list(found | dict.fromkeys(map(made, itertools.product(*choices))))
     for _ in range(4 * limit):
-        if len(found) >= limit:
-            break
-        found[draw()] = None
+        if len(found) < limit:
+            found[made(draw())] = None
+    return list(found)
 
 
 def found_together(files, limit, rng):
-    """What the files may be found with together: all, where that is no more than `limit`, or else what stands on the
-    disk and what is read of each, and some."""
+    """What the files may be found with together: what stands on the disk and what is read of each among them."""
     found = [file.found(limit, rng) for file in files]
-    if math.prod(map(len, found)) <= limit:
-        return list(itertools.product(*found))
     corners = [[file.contents[0], file.contents[-1]] if True in file.names else [None] for file in files]
-    together = dict.fromkeys(itertools.product(*corners))
-    draw_up_to(limit, together, lambda: tuple(rng.choice(of_one) for of_one in found))
-    return list(together)
+    return up_to(limit, itertools.product(*corners), found, lambda: tuple(map(rng.choice, found)))

@@ -23,7 +23,7 @@ class Room:
     def __init__(self, bx, path):
         self.bx, self.path = bx, pathlib.Path(path)
         for name in ("images", "texts"):
-            (self.path / name).mkdir(parents=True)
+            (self.path / name).mkdir(exist_ok=True)
 
     def put(self, content):
         """Writes a content into the files; None is no file."""
@@ -102,6 +102,6 @@ class Disk:
         """A call on a file; of a folder the names of its files are synced."""
         if letter in "FI":
             for name in "JR" if letter == "F" else "D":
-                self.files[name].sync_name()
+                del self.files[name].names[:-1]
         else:
             getattr(self.files[letter], call)(*words)
