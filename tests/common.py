@@ -3,14 +3,10 @@ import collections
 import contextlib
 import os
 import pathlib
-import signal
 import sys
 import tempfile
 
-ROOT = pathlib.Path(__file__).resolve().parent.parent
-sys.path.insert(0, str(ROOT / "tools"))
-
-import shared  # pylint: disable=wrong-import-position
+sys.path.insert(0, str(pathlib.Path(__file__).resolve().parent.parent / "tools"))
 
 counts = collections.Counter()
 
@@ -33,13 +29,7 @@ def folder():
         yield pathlib.Path(made)
 
 
-def asked(doc, **known):
-    """The words of a test, which puts folders, loop devices and mounts away where it is stopped."""
-    signal.signal(signal.SIGTERM, lambda *_: sys.exit(1))
-    return shared.asked(doc, **known)
-
-
 def finish():
     """The last line, and the end."""
-    print(f"{counts[True]} cases passed, {counts[False]} failed")
+    print(f"{counts[True]} passed, {counts[False]} failed")
     sys.exit(1 if counts[False] else 0)

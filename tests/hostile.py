@@ -5,17 +5,17 @@ release, and the commands of README.md (`tour`) and docs/RECIPES.md (`recipes`).
 Usage: tests/hostile.py [--bx PATH] [SUBJECT ..]
 
 A subject is a file of tests or tests/program that ends in .t, or one of the two documents, of which all blocks of
-commands are one section. It is played section by section, each in a folder of its own and behind what stands in front
-of the first, as tools/transcript.py says.
-`(wants root)` behind the head of a section is what it needs, root or a tool, and `(by hint)` a function that runs the
-lines with bx, once for each where there are several. A line for each section says `ok` or `WRONG`, one for what can't
-run here `left out:` and why. The status is 1 where one fails. It runs outside the gate."""
+commands are one section. Each section is played in a folder of its own, behind what stands in front of the first.
+`(wants root)` behind its head is what it needs, root or a tool, and `(by hint)` a function that runs the lines with bx,
+once for each where there are several. A line for each section says `ok` or `WRONG`, one for what can't run here
+`left out:` and why. The status is 1 where one fails."""
 import os
 import re
 import shlex
 import shutil
 
-from common import ROOT, asked, counts, finish, folder, left_out, say
+from common import finish, folder, left_out, say
+from shared import ROOT, asked
 from transcript import differences, outputs, set_in, steps
 
 FOLDER = ROOT / "tests" / "program"
@@ -34,36 +34,24 @@ def sections(path):
     return [(part.split("\n")[0], steps(set_in(front + part))) for part in parts]
 
 
-def lacks(title):
-    """What a section needs and this machine hasn't."""
-    needs = "".join(re.findall(r" \(wants (.*?)\)", title)).split()
-    there = {need for need in needs if os.path.ismount(need) or shutil.which(need)}
-    there |= {"root"} if os.getuid() == 0 else set()
-    return [need for need in needs if need not in there]
-
-
 def play(bx, subject, title, tour, by):
     """Plays a section of a transcript, with a function that runs its lines with bx, if there is one."""
-    missing = lacks(title)
-    if missing:
+    needs = "".join(re.findall(r" \(wants (.*?)\)", title)).split()
+    there = {"root": os.getuid() == 0}
+    if missing := [need for need in needs if not there.get(need, os.path.ismount(need) or shutil.which(need))]:
         left_out(f"{subject}: {title} (there is no {', '.join(missing)})")
         return
     commands = [f"{by} {shlex.quote(command)}" if by and re.search(r"\bbx ", command) else command
                 for command, _ in tour]
     with folder() as path:
-        tally = path / "tally"
-        tally.touch()
-        tally.chmod(0o666)
         given = outputs(commands, bx, path, (FOLDER / "head.sh").read_text(encoding="utf-8"),
-                        SUBJECTS[subject].suffix == ".t", TALLY=str(tally), FOLDER=str(FOLDER))
-        checks = len(tour) + tally.stat().st_size
+                        SUBJECTS[subject].suffix == ".t", FOLDER=str(FOLDER))
     last = (given[-1:] or [[]])[0][-1:]
     if last and last[0].startswith("left out: "):
         left_out(f"{subject}: {title} ({last[0][10:]})")
         return
     wrong = list(differences(tour, given))
-    say(not wrong, f"{subject}: {title}{by and ', ' + by}", "\n".join(["", *wrong]) if wrong else f"{checks} steps")
-    counts.update({True: checks - max(len(wrong), 1), False: max(len(wrong) - 1, 0)})
+    say(not wrong, f"{subject}: {title}{by and ', ' + by}", "\n".join(["", *wrong]) if wrong else f"{len(tour)} steps")
 
 
 def main():

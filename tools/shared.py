@@ -4,6 +4,8 @@ import argparse
 import os
 import pathlib
 import re
+import signal
+import sys
 
 ROOT = pathlib.Path(__file__).resolve().parent.parent
 
@@ -26,7 +28,8 @@ def rows(text):
 def asked(doc, **known):
     """The words that a script got, by the line `Usage: SCRIPT [--flag] [--option VALUE] [NAME ..]` at its head.
     `known` has what an option is that isn't given, of the same type as what is given; and `names` those that may be
-    given, all where none are."""
+    given, all where none are. A script that is stopped puts folders, loop devices and mounts away."""
+    signal.signal(signal.SIGTERM, lambda *_: sys.exit(1))
     usage = re.search(r"^Usage: \S+ *(.*)", doc, re.M)[1]
     parser = argparse.ArgumentParser(description=doc.split("\n", maxsplit=1)[0])
     for option, value in re.findall(r"\[(--[\w-]+)( [A-Z]+)?\]", usage):

@@ -52,14 +52,11 @@ def outputs(commands, bx, folder, head="", with_status=False, **env):
     return given + [rest.splitlines()] * bool(rest)
 
 
-def is_so(got, wanted):
-    """Whether a line is as wanted."""
-    return got == wanted or wanted.endswith(" (re)") and re.fullmatch(wanted.removesuffix(" (re)"), got)
-
-
 def differences(tour, given):
     """Each command that wrote something else, as text."""
     for number, (command, wanted) in enumerate(tour):
         got = given[number] if number < len(given) else ["(not run)"]
-        if len(got) != len(wanted) or not all(map(is_so, got, wanted)):
+        is_so = [line == it or it.endswith(" (re)") and re.fullmatch(it.removesuffix(" (re)"), line)
+                 for line, it in zip(got, wanted)]
+        if len(got) != len(wanted) or not all(is_so):
             yield "\n".join([f"$ {command}", "wanted:", *wanted, "got:", *got])

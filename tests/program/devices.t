@@ -5,7 +5,6 @@ Each line of standard input is words of bx that do the same on the device $dev a
   $ alike() {
   >   local words one other
   >   while IFS= read -r words <&9; do
-  >     echo >> "$TALLY"
   >     one=${words//DEV/$dev} other=${words//DEV/plain}
   >     bx ${one/JOURNAL/device.bxj} > one 2>&1 && bx ${other/JOURNAL/plain.bxj} > other 2>&1 && cmp one other &&
   >       cmp "$dev" plain && cmp device.bxj plain.bxj && cmp device.bxj.redo plain.bxj.redo || echo "$words: $(cat one)"

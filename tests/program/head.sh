@@ -68,7 +68,6 @@ refused() { # FAULT [FRONT ..]
   shift
   before=$(state)
   while IFS= read -r words <&9; do
-    echo >> "$TALLY"
     out=$(eval "${*:-bx} $words" 2>&1 < /dev/null 9<&-)
     status=$?
     [[ $status$fault = 2bad* || $status = 1 && $fault != bad* ]] && [[ $out == "bx: "$fault ]] ||

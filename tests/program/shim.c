@@ -14,22 +14,19 @@
 extern void *__libc_malloc(size_t), *__libc_calloc(size_t, size_t), *__libc_realloc(void *, size_t);
 extern void *__libc_memalign(size_t, size_t);
 static long at, count;
-static int what, armed;
+static int what;
 __attribute__((constructor)) static void begin(void) {
     const char *mode = getenv("SHIM_MODE"), *n = getenv("SHIM_AT");
-    if (!mode) return;
-    what = mode[0];
     at = n ? atol(n) : 0;
-    armed = 1;
+    what = mode ? mode[0] : 0;
 }
 __attribute__((destructor)) static void end(void) {
     const char *to = getenv("SHIM_COUNT");
-    armed = 0;
-    if (!to) return;
-    FILE *f = fopen(to, "w");
+    what = 0;
+    FILE *f = to ? fopen(to, "w") : NULL;
     if (f) { fprintf(f, "%ld\n", count); fclose(f); }
 }
-static int strikes(int kind) { return armed && what == kind && ++count == at; }
+static int strikes(int kind) { return what == kind && ++count == at; }
 #define FAIL(kind, error, answer) do { if (strikes(kind)) { errno = error; return answer; } } while (0)
 #define REAL(f) static __typeof__(f) *real; if (!real) real = dlsym(RTLD_NEXT, #f)
 #define SOME(n) do { FAIL('f', EIO, -1); if ((n) > 1 && strikes('s')) n = 1; } while (0)
@@ -61,12 +58,12 @@ int fsync(int d) {
     REAL(fsync);
     FAIL('f', EIO, -1);
     FAIL('d', ENOSPC, -1);
-    if (armed && what == 'o' && is_folder(d)) { errno = (int)at; return -1; }
+    if (what == 'o' && is_folder(d)) { errno = (int)at; return -1; }
     return real(d);
 }
 int flock(int d, int how) {
     REAL(flock);
-    if (armed && what == 'n') { errno = EOPNOTSUPP; return -1; }
+    if (what == 'n') { errno = EOPNOTSUPP; return -1; }
     FAIL('f', EIO, -1);
     return real(d, how);
 }

@@ -24,7 +24,7 @@ class Tools:
         for name in [*(name for name in NAMES if name in " ".join(command)), "stdin"]:
             (self.folder / name).write_bytes(data)
         with open(self.folder / "stdin", "rb") as given:
-            done = subprocess.run(command, stdin=given, capture_output=True, env=ENV, cwd=self.folder, timeout=60,
+            done = subprocess.run(command, stdin=given, capture_output=True, env=ENV, cwd=self.folder, timeout=600,
                                   check=False)
         return done.stdout, done.stderr.decode(), done.returncode
 
