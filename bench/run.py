@@ -45,17 +45,15 @@ def shell(words, out=subprocess.DEVNULL):
                           check=False, text=True).stdout
 
 
-def elapsed(words, before):
-    """The microseconds that a command takes."""
-    shell(before)
-    begun = time.perf_counter_ns()
-    shell(f"exec {words}")
-    return (time.perf_counter_ns() - begun) // 1000
-
-
 def best(rounds, commands, before=""):
-    """The least of some rounds of each command, in turn."""
-    return [min(column) for column in zip(*([elapsed(words, before) for words in commands] for _ in range(rounds)))]
+    """The least microseconds of some rounds of each command, in turn."""
+    taken = [[] for _ in commands]
+    for number in [*range(len(commands))] * rounds:
+        shell(before)
+        begun = time.perf_counter_ns()
+        shell(f"exec {commands[number]}")
+        taken[number].append((time.perf_counter_ns() - begun) // 1000)
+    return list(map(min, taken))
 
 
 def memory(words, before):
