@@ -28,16 +28,6 @@ def bare(path):
     return [part for part in pathlib.PurePath(path).parts if part not in ("crates", "src", "specs", "proofs")]
 
 
-def words(paths):
-    """The words that stand in sources, and those of the names of files and folders."""
-    found = set(OTHERS)
-    for path in paths:
-        is_source = path.suffix in SOURCES or path.name in ("Makefile", "crates.txt")
-        text = f"{path.name} {read(path) if is_source else ''}"
-        found |= {path.name, path.stem, *re.findall(r"\w+", text)}
-    return found
-
-
 def is_there(span, known, ends):
     """Whether what a span cites stands in the sources; what is no name or file passes."""
     if FILE.fullmatch(span) and "/" in span:
@@ -48,8 +38,11 @@ def is_there(span, known, ends):
 
 
 def check(_options):
-    paths = files()
-    known, ends, bad, count = words(paths), [bare(path) for path in paths], [], 0
+    paths, known, bad, count = files(), set(OTHERS), [], 0
+    for path in paths:
+        is_source = path.suffix in SOURCES or path.name in ("Makefile", "crates.txt")
+        known |= {path.name, path.stem, *re.findall(r"\w+", f"{path.name} {read(path) if is_source else ''}")}
+    ends = [bare(path) for path in paths]
     for page in [path for path in paths if path.suffix == ".md"]:
         text = read(page)
         cited = re.findall(r"`([^`\n]+)`", re.sub(r"(?ms)^```.*?^```", "", text)) if page.name != "CHANGELOG.md" else []
