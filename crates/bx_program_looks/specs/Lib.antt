@@ -1,2 +1,3 @@
 pub mod Looks
 pub mod Devices
+pub mod Forgetting

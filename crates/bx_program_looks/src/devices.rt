@@ -25,7 +25,7 @@ pub struct Seen<D: Device, T: TextStore, V> {
 }
 
 /// The devices of a session.
-fn closed<D: Device, T: TextStore>(session: Session<D, T>) -> Devices<D, T>
+pub fn closed<D: Device, T: TextStore>(session: Session<D, T>) -> Devices<D, T>
     ensures { result ≡ devices_of session }
 {
     let (image, journal, redo) = session.close();
@@ -37,7 +37,7 @@ fn closed<D: Device, T: TextStore>(session: Session<D, T>) -> Devices<D, T>
 }
 
 /// Whether opening found finished entries alone.
-fn is_whole(how: How) -> bool
+pub fn is_whole(how: How) -> bool
     ensures { (result ≡ true) ↔ (how ≡ How.Clean) }
 {
     match how {

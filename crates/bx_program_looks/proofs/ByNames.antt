@@ -1,0 +1,123 @@
+-- What dropping a history leaves of files, by their names.
+use Rattle.std.proofs.Common.{◌≡◌, ◌∙◌, ℕ, List, Some, Ok, Err, refl, sym, ap, subst}
+use Rattle.std.specs.Prelude.{Result, IfErr, OnOk}
+use Rattle.bx_image.specs.Power.{NoMore}
+use Rattle.bx_journal.specs.SessionFault.{SessionFault}
+use Rattle.bx_journal.specs.SessionFault.TheVariants.{NoMemory, TooLarge, DeviceFailed, Damaged, TooFew, JournalFull, Interrupted, Broken, LengthDiffers, NothingToRedo, RedoDamaged}
+use Rattle.bx_cli_commands.specs.declared.fault.Fault.TheVariants.{Session}
+use Rattle.bx_program_world.specs.World.{IsNoText, NothingNewFound, ReadFiles, Sight, Spares, held}
+use Rattle.bx_program_files.specs.Reading.{LeadToRead}
+use Rattle.bx_program_files.specs.declared.names.Names.{Names}
+use Rattle.bx_program_looks.specs.Forgetting.{Empties, ForgetsPart, HasForgotten, Held, IsNoTextNamed, LosesAll, LosesPart, MayForgetNamed, StopsForgetting, SurvivesEmptying, SurvivesForgetting, found_if, held_by_names, held_by_numbers}
+use Rattle.bx_program_looks.specs.Looks.{HidesChanges}
+use Rattle.bx_program_looks.specs.declared.unseen.Unseen.{Unseen}
+use Rattle.bx_program_looks.specs.declared.unseen.Unseen.TheVariants.{Unopened, Unfinished, Stopped}
+use Rattle.bx_program_looks.proofs.Apart.{same_files}
+use Rattle.bx_program_looks.proofs.Emptied.{by_number, spares_bytes}
+
+-- what is said of a result that is done, or that failed
+pub done : {V E : Type 0} (P : Type 0) (r : Result V E) (v : V) → r ≡ Ok v → OnOk r P → P
+done P (Ok v) w is p = p
+done P (Err e) w is p = absurd (let wrong : Err e ≡ Ok w = is in cc)
+
+pub failed : {V E : Type 0} (P : E → Type 0) (r : Result V E) (e : E) → r ≡ Err e → IfErr r P → P e
+failed P r e is p = rw is at p
+
+-- the name of the image leads to its bytes
+pub image_held : (names : Names) (f : ReadFiles) (w : Sight) → LeadToRead names f w → held w names.image ≡ w.bytes f.image
+image_held names f w leads = rw leads.image refl
+
+-- all is as it was
+pub untouched : (P : ℕ → Type 0) (old new : Sight) → new ≡ old → Spares P old new
+untouched P old new same = rw same (record {
+  named = λ m. refl;
+  is_link = λ m. refl;
+  bytes = λ i p. refl;
+  stat = λ i. refl;
+  caller = refl;
+  there = refl;
+  before = refl;
+  lent = refl;
+  stuck = refl;
+  output = refl;
+  errors = refl;
+})
+
+-- what hides the changes stops the dropping, and all is as it was
+pub hidden_stops : (names : Names) (counted : Type 0) (old new : Sight) (u : Unseen) → new ≡ old
+    → HidesChanges (held_by_names names old).image (held_by_names names old).journal (held_by_names names old).redo u → StopsForgetting names counted old new u
+hidden_stops names counted old new (Unopened file) same is = absurd is
+hidden_stops names counted old new Unfinished same is = (is, untouched _ old new same)
+hidden_stops names counted old new (Stopped (Session Interrupted)) same is = absurd is
+hidden_stops names counted old new (Stopped fault) same is = (is, untouched _ old new same)
+
+-- nothing is found that wasn't before
+pub hidden_survives : (names : Names) (old : Sight) (found left : ℕ → List ℕ → Type 0) (u : Unseen) (image journal redo : List ℕ)
+    → HidesChanges image journal redo u → NothingNewFound found left → SurvivesForgetting names (Err u) old found left
+hidden_survives names old found left (Unopened file) image journal redo is none = none
+hidden_survives names old found left Unfinished image journal redo is none = none
+hidden_survives names old found left (Stopped (Session Interrupted)) image journal redo is none = absurd is
+hidden_survives names old found left (Stopped fault) image journal redo is none = none
+
+-- Of files that these names lead to.
+module _ (names : Names) (f : ReadFiles) (old new : Sight) (leads : LeadToRead names f old) (only : Spares (IsNoText f) old new) where
+  pub others_named : Spares (IsNoTextNamed names old) old new
+  others_named = spares_bytes (IsNoText f) (IsNoTextNamed names old) old new only
+      (λ i (no_journal, no_redo). only.bytes i ((λ is. no_journal (leads.journal ∙ ap Some (sym is))), (λ is. no_redo (leads.redo ∙ is))))
+
+  leads_behind : LeadToRead names f new
+  leads_behind = record {
+    image = only.named names.image ∙ leads.image;
+    journal = only.named names.journal ∙ leads.journal;
+    redo = only.named names.redo ∙ leads.redo;
+  }
+
+  held_same : (w : Sight) → LeadToRead names f w → held_by_numbers f w ≡ held_by_names names w
+  held_same w there = rw (there.image, there.journal, there.redo) refl
+
+  as_names : (P : Held → Held → Type 0) → P (held_by_numbers f old) (held_by_numbers f new) → P (held_by_names names old) (held_by_names names new)
+  as_names P p = subst (λ h. P h (held_by_names names new)) (held_same old leads) (subst (P (held_by_numbers f old)) (held_same new leads_behind) p)
+
+  pub forgotten_named : HasForgotten (held_by_numbers f old) (held_by_numbers f new) → HasForgotten (held_by_names names old) (held_by_names names new)
+  forgotten_named p = as_names HasForgotten p
+
+  pub stopped_named : (counted : Type 0) (e : SessionFault) → MayForgetNamed names old → Empties f (Err e) old new
+      → StopsForgetting names counted old new (Stopped (Session e))
+  stopped_named counted NoMemory may p = absurd p
+  stopped_named counted TooLarge may p = absurd p
+  stopped_named counted DeviceFailed may p = (tt, p)
+  stopped_named counted (Damaged line) may p = absurd p
+  stopped_named counted (TooFew have) may p = absurd p
+  stopped_named counted JournalFull may p = absurd p
+  stopped_named counted Interrupted may p = (may, as_names ForgetsPart p)
+  stopped_named counted Broken may p = absurd p
+  stopped_named counted (LengthDiffers expected) may p = absurd p
+  stopped_named counted (NothingToRedo have) may p = absurd p
+  stopped_named counted (RedoDamaged line) may p = absurd p
+
+  -- what is found after a loss of power
+  module _ (image : List ℕ → Type 0) (first found left : ℕ → List ℕ → Type 0) (image_first : NoMore (first f.image) image)
+      (nothing_new : NothingNewFound first found) where
+    pub survived_all : LosesAll (held_by_numbers f old) (left f.image) (left f.journal) (found_if left f.redo)
+        → SurvivesForgetting names (Ok tt) old first left
+    survived_all p g there =
+        subst (λ (h : ReadFiles). LosesAll (held_by_names names old) (left h.image) (left h.journal) (found_if left h.redo))
+        (same_files names old f g leads there)
+        (subst (λ h. LosesAll h (left f.image) (left f.journal) (found_if left f.redo)) (held_same old leads) p)
+
+    survived_part : LosesPart (held_by_numbers f old) (left f.image) (left f.journal) (found_if left f.redo)
+        → SurvivesForgetting names (Err (Stopped (Session Interrupted))) old first left
+    survived_part p g there =
+        subst (λ (h : ReadFiles). LosesPart (held_by_names names old) (left h.image) (left h.journal) (found_if left h.redo))
+        (same_files names old f g leads there)
+        (subst (λ h. LosesPart h (left f.image) (left f.journal) (found_if left f.redo)) (held_same old leads) p)
+
+    nothing : NoMore image (left f.image) × ((n : ℕ) → (n ≡ f.image → ⊥) → NoMore (found n) (left n)) → NothingNewFound first left
+    nothing p n c there = by_number n f.image
+        (λ is. subst (λ k. first k c) (sym is) (image_first c (p.0 c (subst (λ k. left k c) is there))))
+        (λ other. nothing_new n c (p.1 n other c there))
+
+    pub survived_named : (e : SessionFault) → SurvivesEmptying f (Err e) old image found left
+        → SurvivesForgetting names (Err (Stopped (Session e))) old first left
+    survived_named Interrupted p = survived_part p
+    survived_named e p = nothing p

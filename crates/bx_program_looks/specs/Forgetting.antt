@@ -1,0 +1,136 @@
+-- Forgetting the changes of an image, by the names of its files.
+use Rattle.std.specs.Prelude.{◌≡◌, ◌⊎◌, ◌<◌, ℕ, List, [], ◌∷◌, Option, None, Some, Result, Ok, Err}
+use Rattle.bx_image.specs.Power.{NoMore, Only}
+use Rattle.bx_journal.specs.Forgotten.{FadesInOrder, IsWhole, LeavesTexts, OfSome, only}
+use Rattle.bx_journal.specs.Images.{Images}
+use Rattle.bx_journal.specs.Phase.{IsAtRest}
+use Rattle.bx_journal.specs.Power.{Found}
+use Rattle.bx_journal.specs.Redo.{IsClean, IsRedoOf}
+use Rattle.bx_journal.specs.SessionFault.{SessionFault}
+use Rattle.bx_journal.specs.SessionFault.TheVariants.{Damaged, DeviceFailed, Interrupted, LengthDiffers, RedoDamaged}
+use Rattle.bx_cli_commands.specs.declared.fault.Fault.TheVariants.{Session}
+use Rattle.bx_program_world.specs.World.{IsNoText, NothingNewFound, ReadFiles, Sight, Spares, bytes_if, held}
+use Rattle.bx_program_files.specs.Reading.{AreReadable, LeadToRead, MayRefuseReading}
+use Rattle.bx_program_files.specs.declared.names.Names.{Names}
+use Rattle.bx_program_looks.specs.Looks.{StopsLook, StopsOpening}
+use Rattle.bx_program_looks.specs.declared.unseen.Unseen.{Unseen}
+use Rattle.bx_program_looks.specs.declared.unseen.Unseen.TheVariants.{Unopened, Unfinished, Stopped}
+
+-- the texts are an image's, but not those of what it has now, or damaged further on; one whose first line is none of a journal may be any file
+abbrev pub IsOfTexts : SessionFault → Type 0
+IsOfTexts (LengthDiffers expected) = Unit {0}
+IsOfTexts (Damaged line) = 1 < line
+IsOfTexts (RedoDamaged line) = 1 < line
+IsOfTexts fault = ⊥
+
+-- a history may be dropped: nothing is unfinished, or opening is refused for texts that are an image's
+abbrev pub MayForget : List ℕ → List ℕ → List ℕ → Type 0
+MayForget image journal redo = IsClean journal ⊎ ((fault : SessionFault) × IsOfTexts fault × StopsOpening image journal redo fault)
+
+-- the same of files of these names
+abbrev pub MayForgetNamed : Names → Sight → Type 0
+MayForgetNamed names w = MayForget (held w names.image) (held w names.journal) (held w names.redo)
+
+-- the file is none that the names of the texts lead to
+abbrev pub IsNoTextNamed : Names → Sight → ℕ → Type 0
+IsNoTextNamed names w n = (w.named names.journal ≡ Some n → ⊥) × (w.named names.redo ≡ Some n → ⊥)
+
+-- What an image, its journal and its redo text hold
+pub record Held : Type 0 where
+  pub image : List ℕ
+  pub journal : List ℕ
+  pub redo : List ℕ
+
+-- what the files of these names hold; one that is missing holds nothing
+abbrev pub held_by_names : Names → Sight → Held
+held_by_names names w = record { image = held w names.image; journal = held w names.journal; redo = held w names.redo }
+
+-- what the files of these numbers hold
+abbrev pub held_by_numbers : ReadFiles → Sight → Held
+held_by_numbers f w = record { image = w.bytes f.image; journal = w.bytes f.journal; redo = bytes_if w f.redo }
+
+-- Both texts are empty, and the image is as it was, and stands alone, with nothing undone
+pub record HasForgotten (old new : Held) : Type 0 where
+  pub image : new.image ≡ old.image
+  pub journal : new.journal ≡ []
+  pub redo : new.redo ≡ []
+  pub rest : IsAtRest new.journal new.image (old.image ∷ [])
+  pub undone : IsRedoOf new.redo new.image 0 []
+
+-- where neither text is cut in part, opening finds the images that were to be found before, the same with nothing undone, or the image alone
+abbrev pub FindsDropped : Held → Held → Type 0
+FindsDropped old new = (s : Images) → Found old.journal old.image old.redo s → IsWhole old.journal new.journal → IsWhole old.redo new.redo
+    → OfSome s (only old.image) (Found new.journal new.image new.redo)
+
+-- The dropping was stopped in the middle: the image is as it was, and the texts are fronts of what they were, the journal all of it unless the
+-- redo text is empty
+pub record ForgetsPart (old new : Held) : Type 0 where
+  pub image : new.image ≡ old.image
+  pub texts : LeavesTexts old.journal old.redo new.journal new.redo
+  pub finds : FindsDropped old new
+
+-- all is as it was
+abbrev pub IsUntouched : Sight → Sight → Type 0
+IsUntouched old new = Spares (λ n. Unit {0}) old new
+
+-- Why a history is not dropped: a file may not be opened, something is unfinished, a text is damaged, or memory or a device fails, and all is as
+-- it was; or the dropping was stopped in the middle
+abbrev pub StopsForgetting : Names → Type 0 → Sight → Sight → Unseen → Type 0
+StopsForgetting names counted old new (Unopened file) = MayRefuseReading names counted old file × IsUntouched old new
+StopsForgetting names counted old new Unfinished = (IsClean (held old names.journal) → ⊥) × IsUntouched old new
+StopsForgetting names counted old new (Stopped (Session Interrupted)) = MayForgetNamed names old × ForgetsPart (held_by_names names old) (held_by_names names new)
+StopsForgetting names counted old new (Stopped fault) =
+    StopsLook (held old names.image) (held old names.journal) (held old names.redo) fault × IsUntouched old new
+
+-- what may be found of a file that may be missing; of one that is, nothing
+abbrev pub found_if : (ℕ → List ℕ → Type 0) → Option ℕ → List ℕ → Type 0
+found_if found None bytes = bytes ≡ []
+found_if found (Some n) bytes = found n bytes
+
+-- After a loss of power behind a dropping the image is as it was, and the texts are empty
+pub record LosesAll (old : Held) (image journal redo : List ℕ → Type 0) : Type 0 where
+  pub image_found : Only old.image image
+  pub journal_found : Only [] journal
+  pub redo_found : Only [] redo
+
+-- After one in the middle of it the image is as it was, and opening finds what it does where the dropping was stopped
+pub record LosesPart (old : Held) (image journal redo : List ℕ → Type 0) : Type 0 where
+  pub image_found : Only old.image image
+  pub texts : FadesInOrder old.journal old.redo journal redo
+  pub finds : (x text redo_text : List ℕ) → image x → journal text → redo redo_text
+      → FindsDropped old (record { image = x; journal = text; redo = redo_text })
+
+-- what is found of the three files after a loss of power, by the answer; where all is as it was, nothing that wasn't to be found before
+abbrev pub SurvivesForgetting : Names → Result (Unit {0}) Unseen → Sight → (ℕ → List ℕ → Type 0) → (ℕ → List ℕ → Type 0) → Type 0
+SurvivesForgetting names (Ok done) old found left =
+    (f : ReadFiles) → LeadToRead names f old → LosesAll (held_by_names names old) (left f.image) (left f.journal) (found_if left f.redo)
+SurvivesForgetting names (Err (Stopped (Session Interrupted))) old found left =
+    (f : ReadFiles) → LeadToRead names f old → LosesPart (held_by_names names old) (left f.image) (left f.journal) (found_if left f.redo)
+SurvivesForgetting names (Err unseen) old found left = NothingNewFound found left
+
+-- the image is neither of its texts
+abbrev pub IsAlone : ReadFiles → Type 0
+IsAlone f = IsNoText f f.image
+
+-- the names lead to files that may be read, and the image is neither of its texts
+pub record AreLent (names : Names) (w : Sight) : Type 0 where
+  pub files : ReadFiles
+  pub named : LeadToRead names files w
+  pub alone : IsAlone files
+  pub fit : AreReadable names w
+
+-- What emptying the texts of files that are lent leaves: empty texts; fronts of them, where it was stopped in the middle; or all as it was
+abbrev pub Empties : ReadFiles → Result (Unit {0}) SessionFault → Sight → Sight → Type 0
+Empties f (Ok done) old new = HasForgotten (held_by_numbers f old) (held_by_numbers f new)
+Empties f (Err Interrupted) old new = ForgetsPart (held_by_numbers f old) (held_by_numbers f new)
+Empties f (Err DeviceFailed) old new = IsUntouched old new
+Empties f (Err fault) old new = ⊥
+
+-- and what is found of them after a loss of power, where `image` is what may be found of the image's device
+abbrev pub SurvivesEmptying : ReadFiles → Result (Unit {0}) SessionFault → Sight → (List ℕ → Type 0) → (ℕ → List ℕ → Type 0)
+    → (ℕ → List ℕ → Type 0) → Type 0
+SurvivesEmptying f (Ok done) old image found left = LosesAll (held_by_numbers f old) (left f.image) (left f.journal) (found_if left f.redo)
+SurvivesEmptying f (Err Interrupted) old image found left =
+    LosesPart (held_by_numbers f old) (left f.image) (left f.journal) (found_if left f.redo)
+SurvivesEmptying f (Err fault) old image found left =
+    NoMore image (left f.image) × ((n : ℕ) → (n ≡ f.image → ⊥) → NoMore (found n) (left n))
