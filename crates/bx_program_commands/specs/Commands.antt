@@ -11,7 +11,7 @@ use Rattle.bx_cli_commands.specs.declared.command.Reply.TheVariants.{Refused}
 use Rattle.bx_cli_commands.specs.declared.fault.Fault.TheVariants.{OpenFailed, Session}
 use Rattle.bx_cli_commands.specs.declared.jobs.dump.Done.{Done}
 use Rattle.bx_cli_commands.specs.declared.jobs.dumps.DumpJob.{DumpJob}
-use Rattle.bx_program_world.specs.World.{NothingNewFound, Sight, Trio}
+use Rattle.bx_program_world.specs.World.{NothingNewFound, Sight, Spares, Trio}
 use Rattle.bx_program_files.specs.Files.{LeavesFiles}
 use Rattle.bx_program_files.specs.Fit.{AreFit}
 use Rattle.bx_program_files.specs.Reading.{AreReadable, MayRefuseReading}
@@ -28,6 +28,8 @@ use Rattle.bx_program_sessions.specs.declared.named.Answer.{Answer}
 use Rattle.bx_program_sessions.specs.declared.task.Task.{Task}
 use Rattle.bx_program_dumps.specs.Dumps.{CountsUndumped, DumpsInput, DumpsNamed, IsStopped, StopsInput, StopsNamed}
 use Rattle.bx_program_dumps.specs.declared.undumped.Undumped.{Undumped}
+use Rattle.bx_program_looks.specs.Forgetting.{HasForgotten, IsNoTextNamed, MayForgetNamed, StopsForgetting, SurvivesForgetting, held_by_names}
+use Rattle.bx_program_looks.specs.declared.unseen.Unseen.{Unseen}
 use Rattle.bx_program_commands.specs.Diffs.{StopsDiff, WritesDiff}
 use Rattle.bx_program_commands.specs.Outcome.{ended_by}
 use Rattle.bx_program_commands.specs.Reports.{Reports}
@@ -36,7 +38,7 @@ use Rattle.bx_program_commands.specs.declared.diff.Undiffed.{Undiffed}
 use Rattle.bx_program_commands.specs.declared.outcome.Outcome.{Outcome}
 use Rattle.bx_program_commands.specs.declared.outcome.Outcome.TheVariants as of
 use Rattle.bx_program_commands.specs.declared.request.Request.{Request}
-use Rattle.bx_program_commands.specs.declared.request.Request.TheVariants.{Move, Change, Dump, DumpInput, Diff, Look}
+use Rattle.bx_program_commands.specs.declared.request.Request.TheVariants.{Move, Change, Dump, DumpInput, Diff, Look, Forget}
 
 -- Of files that hold images an undo or a redo leaves those with `count` changes moved and writes how many stand, or it stops and says why; of
 -- files in which opening finds images, as after a crash, it does so on what is recovered
@@ -79,6 +81,13 @@ DoesDiff extent old_name new_name outcome old new =
     MatchResult outcome (λ _. WritesDiff extent old_name new_name old.sight old.written new.written)
     (StopsDiff extent old_name new_name (old.refusals < new.refusals) old.sight old.written new.written)
 
+-- Dropping a history leaves empty texts and the image as it was, where nothing was unfinished or the texts don't fit the image; else all is as it
+-- was, and there is a reason, or it was stopped in the middle: of files in which opening finds images it then finds these, or fewer
+pub record DoesForget (names : Names) (outcome : Result (Unit {0}) Unseen) (old new : Scene) : Type 0 where
+  pub may : OnOk outcome (MayForgetNamed names old.sight)
+  pub done : OnOk outcome (HasForgotten (held_by_names names old.sight) (held_by_names names new.sight))
+  pub stopped : IfErr outcome (StopsForgetting names (old.refusals < new.refusals) old.sight new.sight)
+
 -- each command has an answer of its own; an input is open, and no seek places it
 abbrev pub Answers : {R : Type 0} → Request R → Outcome → Type 0
 Answers (Move names mounted way count) (of.Moved moved) = Unit {0}
@@ -87,6 +96,7 @@ Answers (Dump job name) (of.Dumped outcome) = Unit {0}
 Answers (DumpInput job input) (of.Dumped outcome) = IfErr outcome IsStopped
 Answers (Diff old_name new_name extent) (of.Compared outcome) = Unit {0}
 Answers (Look names report) (of.Looked outcome) = Unit {0}
+Answers (Forget names) (of.Forgotten outcome) = Unit {0}
 Answers request outcome = ⊥
 
 -- what each command does
@@ -97,6 +107,7 @@ Fulfills remaining (Dump job name) (of.Dumped outcome) old new = DoesDump job.no
 Fulfills remaining (DumpInput job input) (of.Dumped outcome) old new = DoesDumpInput job.now (remaining input) outcome old new
 Fulfills remaining (Diff old_name new_name extent) (of.Compared outcome) old new = DoesDiff extent old_name.now new_name.now outcome old new
 Fulfills remaining (Look names report) (of.Looked outcome) old new = Reports names.now report outcome old new
+Fulfills remaining (Forget names) (of.Forgotten outcome) old new = DoesForget names.now outcome old new
 Fulfills remaining request outcome old new = ⊥
 
 -- a change's offset or place is at most 2 ^ 62
@@ -105,7 +116,8 @@ IsNearRequest (Change names mounted task) = IsNearTask task
 IsNearRequest request = Unit {0}
 
 -- whatever is found of the files after a loss of power: behind an undo, a redo and a change opening finds the images behind some of its steps, or
--- of an end of it; behind a dump, a comparison and a report nothing is found that wasn't before
+-- of an end of it, and behind a history that was dropped the image, with all changes or fewer; behind a dump, a comparison and a report nothing is
+-- found that wasn't before
 abbrev pub SurvivesLoss : {R : Type 0} → (R → Option (List ℕ)) → Request R → Outcome → Sight → Sight
     → (ℕ → List ℕ → Type 0) → (ℕ → List ℕ → Type 0) → Type 0
 SurvivesLoss remaining (Move names mounted way count) (of.Moved moved) old new found left =
@@ -114,12 +126,14 @@ SurvivesLoss remaining (Move names mounted way count) (of.Moved moved) old new f
 SurvivesLoss remaining (Change names mounted task) (of.Changed answer) old new found left =
     (s : Images) → Holds (contents_of names.now old) s → (IsWholeRefusal answer.reply → ⊥) → (t : Trio) → LeadTo names.now t new
     → Survives remaining s task answer.reply (left t.image) (left t.journal) (left t.redo)
+SurvivesLoss remaining (Forget names) (of.Forgotten outcome) old new found left = SurvivesForgetting names.now outcome old found left
 SurvivesLoss remaining request outcome old new found left = NothingNewFound found left
 
--- no file is changed but the three of an undo, a redo or a change, and each name leads where it led
+-- no file is changed but the three of an undo, a redo or a change, and the texts of a history that is dropped; each name leads where it led
 abbrev pub LeavesOthers : {R : Type 0} → Request R → Sight → Sight → Type 0
 LeavesOthers (Move names mounted way count) old new = KeepsOthers names.now old new
 LeavesOthers (Change names mounted task) old new = KeepsOthers names.now old new
+LeavesOthers (Forget names) old new = Spares (IsNoTextNamed names.now old) old new
 LeavesOthers request old new = new ≡ old
 
 -- what stands under the names may be opened, by the rule: to be changed, or to be read; a dump is of any file, and a comparison says itself which it is of
@@ -130,6 +144,7 @@ MayOpen (Dump job name) w = Unit {0}
 MayOpen (DumpInput job input) w = Unit {0}
 MayOpen (Diff old_name new_name extent) w = Unit {0}
 MayOpen (Look names report) w = AreReadable names.now w
+MayOpen (Forget names) w = AreReadable names.now w
 
 -- why a file of an image may not be opened
 abbrev pub MayRefuseFile : {R : Type 0} → Request R → Type 0 → Sight → Unopened → Type 0
@@ -139,6 +154,7 @@ MayRefuseFile (Dump job name) counted w file = ⊥
 MayRefuseFile (DumpInput job input) counted w file = ⊥
 MayRefuseFile (Diff old_name new_name extent) counted w file = ⊥
 MayRefuseFile (Look names report) counted w file = MayRefuseReading names.now counted w file
+MayRefuseFile (Forget names) counted w file = MayRefuseReading names.now counted w file
 
 -- A file of an image wasn't opened: the fault says so, all files are as they were, nothing is written, and there is a reason
 pub record StopsUnopened {R : Type 0} (request : Request R) (outcome : Outcome) (old new : Scene) (file : Unopened) : Type 0 where

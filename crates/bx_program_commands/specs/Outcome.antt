@@ -15,7 +15,7 @@ use Rattle.bx_program_looks.specs.declared.unseen.Unseen.TheVariants as look
 use Rattle.bx_program_commands.specs.declared.diff.Undiffed.{Undiffed}
 use Rattle.bx_program_commands.specs.declared.diff.Undiffed.TheVariants as diff
 use Rattle.bx_program_commands.specs.declared.outcome.Outcome.{Outcome}
-use Rattle.bx_program_commands.specs.declared.outcome.Outcome.TheVariants.{Moved, Changed, Dumped, Compared, Looked}
+use Rattle.bx_program_commands.specs.declared.outcome.Outcome.TheVariants.{Moved, Changed, Dumped, Compared, Looked, Forgotten}
 
 -- the fault of a dump that is not whole
 abbrev pub dump_fault : Undumped → Fault
@@ -51,6 +51,7 @@ ended_by (Changed answer) = ended_with (λ fault. fault) (stands_by answer.reply
 ended_by (Dumped outcome) = ended_with dump_fault outcome
 ended_by (Compared outcome) = ended_with diff_fault outcome
 ended_by (Looked outcome) = ended_with look_fault outcome
+ended_by (Forgotten outcome) = ended_with look_fault outcome
 
 -- the file of an image that wasn't opened, and why; none where all were, or a dump or a comparison was asked for
 abbrev pub unopened_by : Outcome → Option Unopened
@@ -59,3 +60,4 @@ unopened_by (Changed answer) = answer.unopened
 unopened_by (Dumped outcome) = None
 unopened_by (Compared outcome) = None
 unopened_by (Looked outcome) = unopened_in outcome
+unopened_by (Forgotten outcome) = unopened_in outcome

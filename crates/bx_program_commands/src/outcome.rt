@@ -24,6 +24,8 @@ pub enum Outcome {
     Compared(Result<(), Undiffed>),
     /// Of a report: that it is whole, or why not.
     Looked(Result<(), Unseen>),
+    /// Of a history: that it is dropped, or why not.
+    Forgotten(Result<(), Unseen>),
 }
 
 /// The fault of a dump that is not whole.
@@ -76,10 +78,15 @@ impl Outcome {
                 Ok(_) => Ok(()),
                 Err(fault) => Err(fault),
             },
-            Outcome::Dumped(Ok(_)) | Outcome::Compared(Ok(())) | Outcome::Looked(Ok(())) => Ok(()),
+            Outcome::Dumped(Ok(_))
+            | Outcome::Compared(Ok(()))
+            | Outcome::Looked(Ok(()))
+            | Outcome::Forgotten(Ok(())) => Ok(()),
             Outcome::Dumped(Err(undumped)) => Err(fault_of_dump(*undumped)),
             Outcome::Compared(Err(undiffed)) => Err(fault_of_diff(*undiffed)),
-            Outcome::Looked(Err(unseen)) => Err(fault_of_look(*unseen)),
+            Outcome::Looked(Err(unseen)) | Outcome::Forgotten(Err(unseen)) => {
+                Err(fault_of_look(*unseen))
+            }
         }
     }
 }

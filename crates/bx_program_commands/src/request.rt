@@ -71,4 +71,9 @@ pub enum Request<'a, R = Empty> {
         /// What is reported.
         report: Report,
     },
+    /// Drops the history of an image, which is only read: `forget`, `--fresh`.
+    Forget {
+        /// The files of the image.
+        names: &'a Names,
+    },
 }

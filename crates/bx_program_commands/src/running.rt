@@ -9,6 +9,7 @@ use crate::outcome::Outcome;
 use crate::report::write_report;
 use crate::request::Request;
 use bx_program_dumps::{dump_file, dump_input};
+use bx_program_looks::forget_files;
 use bx_program_sessions::{change_files, move_changes};
 use bx_program_world::World;
 use std::alloc::Global;
@@ -35,7 +36,7 @@ pub fn run_request<W: World, R: Read + Drop, O: Write>(
     ensures survives { W.honest world.old → SurvivesLoss R.remaining request.entry result
         (W.sight world.old) (W.sight world.new) (W.survives world.old) (W.survives world.new) }
 
-    // Whatever becomes of it, no file is changed but the three of an undo, a redo or a change.
+    // Whatever becomes of it, no file is changed but the three of an undo, a redo or a change, and the texts of a history that is dropped.
     ensures others { W.honest world.old → LeavesOthers request.entry (W.sight world.old) (W.sight world.new) }
 
     // No file is opened to be changed, and no text to be read, that the rule refuses; where one isn't opened, all are as they were.
@@ -69,5 +70,6 @@ pub fn run_request<W: World, R: Read + Drop, O: Write>(
         Request::Look { names, report } => {
             Outcome::Looked(write_report(world, alloc, names, report, out))
         }
+        Request::Forget { names } => Outcome::Forgotten(forget_files(world, alloc, names)),
     }
 }
