@@ -6,6 +6,7 @@ mod text;
 
 use crate::advice::finding::find;
 use crate::advice::text::{empty, line_in, put};
+use crate::files::read::open_to_read;
 use bx_cli::Target;
 use bx_journal::Way;
 use bx_journal_image::{
@@ -130,12 +131,18 @@ where
     let _ = put(rt, target, &found.image, &line);
 }
 
-/// Empties the line's text, where there is one.
+/// Empties the line's text, where there is one and the journal is empty. The files are locked meanwhile, so that no line of a later
+/// command is emptied.
 pub fn forget_line<R>(rt: &R, target: &Target)
 where
-    R: Files<File = File> + AllocGlobal,
+    R: Files<File = File> + Print + Eprint + Clock + AllocGlobal,
 {
-    let _ = empty(rt, target);
+    let Ok(files) = open_to_read(rt, target) else {
+        return;
+    };
+    if files.journal.metadata().is_ok_and(|found| found.len() == 0) {
+        let _ = empty(rt, target);
+    }
 }
 
 /// Says that the image isn't the one that the last command left, where it isn't.

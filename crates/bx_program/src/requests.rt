@@ -36,9 +36,7 @@ where
     };
     match run_request(world, alloc, request, &mut io::sink()) {
         Outcome::Moved(moved) => moved,
-        Outcome::Changed(_) | Outcome::Dumped(_) | Outcome::Compared(_) | Outcome::Looked(_) => {
-            unreachable!()
-        }
+        _ => unreachable!(),
     }
 }
 
@@ -61,9 +59,7 @@ where
     };
     match run_request(world, alloc, request, &mut io::sink()) {
         Outcome::Changed(answer) => answer,
-        Outcome::Moved(_) | Outcome::Dumped(_) | Outcome::Compared(_) | Outcome::Looked(_) => {
-            unreachable!()
-        }
+        _ => unreachable!(),
     }
 }
 
@@ -81,9 +77,7 @@ where
     let request: Request<'_, Empty> = Request::Dump { job, name };
     match run_request(world, alloc, request, out) {
         Outcome::Dumped(outcome) => outcome,
-        Outcome::Moved(_) | Outcome::Changed(_) | Outcome::Compared(_) | Outcome::Looked(_) => {
-            unreachable!()
-        }
+        _ => unreachable!(),
     }
 }
 
@@ -102,10 +96,7 @@ where
     match run_request(world, alloc, request, out) {
         Outcome::Dumped(Ok(done)) => Ok(done),
         Outcome::Dumped(Err(Undumped::Stopped(fault))) => Err(fault),
-        Outcome::Dumped(Err(Undumped::Unopened(_) | Undumped::Unplaced(_))) => unreachable!(),
-        Outcome::Moved(_) | Outcome::Changed(_) | Outcome::Compared(_) | Outcome::Looked(_) => {
-            unreachable!()
-        }
+        _ => unreachable!(),
     }
 }
 
@@ -124,9 +115,7 @@ where
     let request: Request<'_, Empty> = Request::Diff { old, new, extent };
     match run_request(world, alloc, request, out) {
         Outcome::Compared(outcome) => outcome,
-        Outcome::Moved(_) | Outcome::Changed(_) | Outcome::Dumped(_) | Outcome::Looked(_) => {
-            unreachable!()
-        }
+        _ => unreachable!(),
     }
 }
 
@@ -144,8 +133,22 @@ where
     let request: Request<'_, Empty> = Request::Look { names, report };
     match run_request(world, alloc, request, out) {
         Outcome::Looked(outcome) => outcome,
-        Outcome::Moved(_) | Outcome::Changed(_) | Outcome::Dumped(_) | Outcome::Compared(_) => {
-            unreachable!()
-        }
+        _ => unreachable!(),
+    }
+}
+
+/// Drops the history of an image.
+pub fn request_forget<R>(
+    world: &mut SystemWorld<'_, '_, R>,
+    alloc: Global,
+    names: &Names,
+) -> Result<(), Unseen>
+where
+    R: Files<File = File> + Print + Eprint + Clock + AllocGlobal,
+{
+    let request: Request<'_, Empty> = Request::Forget { names };
+    match run_request(world, alloc, request, &mut io::sink()) {
+        Outcome::Forgotten(outcome) => outcome,
+        _ => unreachable!(),
     }
 }

@@ -5,7 +5,7 @@ use crate::files::unfit::unfit_image;
 use crate::files::unopened::{not_opened, number_of};
 use crate::stopped::Stopped;
 use bx_cli::{Fault, Target};
-use bx_program_files::{Looked, Unopened, open_to_forget, open_to_look};
+use bx_program_files::{Looked, Unopened, open_to_look};
 use bx_program_system::{OpenFile, Progress, SystemWorld, open_there, stat_of};
 use bx_program_world::{Refusal, read_unfit};
 use std::fs::{self, File};
@@ -76,21 +76,6 @@ where
     let silent = Progress::new(rt, false, None);
     let mut world = world_of(rt, target, &silent);
     let outcome = open_to_look(&mut world, &names);
-    opened(rt, target, &world, outcome)
-}
-
-/// Opens an image to read it, and its texts to change them. None is made.
-///
-/// # Errors
-/// As of `open_to_read`.
-pub fn open_texts<'a, R>(rt: &R, target: &'a Target) -> Result<ImageFiles, Stopped<'a>>
-where
-    R: Files<File = File> + Print + Eprint + Clock + AllocGlobal,
-{
-    let names = names_of(rt.alloc(), target)?;
-    let silent = Progress::new(rt, false, None);
-    let mut world = world_of(rt, target, &silent);
-    let outcome = open_to_forget(&mut world, &names);
     opened(rt, target, &world, outcome)
 }
 

@@ -6,12 +6,13 @@ use crate::files::look::{is_missing, refuse_without_journal};
 use crate::files::names::{names_of, world_of};
 use crate::files::unopened::not_opened;
 use crate::hints::remarks::Remarks;
-use crate::history::forget::{empty_texts, is_kept};
+use crate::history::forget::empty_texts;
 use crate::history::open_to_change;
 use crate::requests::request_change;
 use crate::stopped::Stopped;
 use bx_cli::{Reply, Target};
 use bx_program_files::Which;
+use bx_program_looks::is_droppable;
 use bx_program_sessions::Task;
 use bx_program_system::{Progress, take_away};
 use bx_program_world::World;
@@ -81,7 +82,7 @@ where
 {
     refuse_without_journal(rt, target)?;
     match open_to_change(rt, target, progress) {
-        Err(stopped) if !is_kept(stopped.fault) => Err(stopped),
+        Err(stopped) if !is_droppable(stopped.fault) => Err(stopped),
         Ok(()) | Err(_) => empty_texts(rt, target, progress),
     }
 }
