@@ -102,7 +102,8 @@ fn put_input<O: Write>(
         | Answer::Moved(_)
         | Answer::Changed(_)
         | Answer::Compared(_)
-        | Answer::Looked(_) => unreachable!(),
+        | Answer::Looked(_)
+        | Answer::Forgotten(_) => unreachable!(),
     }
 }
 
