@@ -1,15 +1,14 @@
 #!/usr/bin/env python3
 """Times bx beside the real tools, all in one run: the least of several times, and the memory that each took.
 
-Usage: bench/run.py [--bx PATH] [--before PATH] [--rounds N] [--mib N] [--programs] [--word WORD]
+Usage: bench/run.py [--bx PATH] [--before PATH] [--rounds N] [--mib N] [--word WORD]
 
 With --before it is timed beside a build of an earlier tree in place of the tools, in turn. The inputs have 64 MiB
-(--mib), half of it where the real tool is slow, and 16 times as much for dd to a stream. --programs leaves out the
-calls of the libraries, which are proved first, and --word all rows without this word. What isn't installed is left
-out, and so is memory without a program `time`. The rows of bench/rows.txt go to standard output, and to
-bench/out/run.tsv, from which bench/plot.py writes docs/SPEED.md. Run by hand, no part of the gate."""
+(--mib), half of it where the real tool is slow, and 16 times as much for dd to a stream. --word leaves out all rows
+without this word. What isn't installed is left out, and so is memory without a program `time`. The rows of
+bench/rows.txt go to standard output, and to bench/out/run.tsv, from which bench/plot.py writes docs/SPEED.md. Run by
+hand, no part of the gate."""
 import collections
-import itertools
 import os
 import pathlib
 import re
@@ -21,7 +20,6 @@ import time
 
 sys.path.insert(0, str(pathlib.Path(__file__).resolve().parent.parent / "tools"))
 
-import sources  # pylint: disable=wrong-import-position
 from shared import ROOT, asked, read, rows  # pylint: disable=wrong-import-position
 
 # the group and the cells of rows.txt
@@ -30,13 +28,13 @@ FILES = r"(if=)?\b(long|prose|random|less|few|zeros|text)\b"
 
 
 def table():
-    """The rows of bench/rows.txt, those of calls, and the commands that make the inputs."""
+    """The rows of bench/rows.txt, and the commands that make the inputs."""
     parts = re.split(r"(?m)^# (.*)\n", read("bench/rows.txt"))
     groups = dict(zip(parts[1::2], parts[2::2]))
-    functions, inputs, calls = (groups.pop(name) for name in ("before", "inputs", "calls"))
+    functions, inputs = (groups.pop(name) for name in ("before", "inputs"))
     found = [Row(group, *cells) for group, text in groups.items() for cells in rows(text)]
     found = [row._replace(real=row.ours if row.real == "=" else row.real, before=functions + row.before) for row in found]
-    return found, rows(calls), inputs
+    return found, inputs
 
 
 def shell(words, out=subprocess.DEVNULL):
@@ -114,44 +112,6 @@ def time_row(row, options, run):
          *used, is_same)
 
 
-def build_calls(calls):
-    """Single calls of the libraries, which bx makes only together with others: bench/calls.rt.in is proved and built
-    in a folder of its own over copies of the crates, since the gate proves every crate that stands in the repository.
-    It stays in bench/out."""
-    crates = [*sources.below(sources.crates(), "bx_journal"), "bx_journal"]
-    sources.copy(crates, pathlib.Path("room"), ["calls: bx_text bx_read bx_image bx_journal_store bx_journal anyhow"])
-    os.makedirs("room/crates/calls/src")
-    shutil.copy(ROOT / "bench" / "calls.rt.in", "room/crates/calls/src/main.rt")
-    subprocess.run(["rt", "run", "--", "none"], cwd="room/crates/calls", check=True, stdout=subprocess.DEVNULL)
-    shutil.copy("room/crates/calls/out/calls", calls)
-
-
-# how often each call is made; the least time counts
-CALLS = 7
-BESIDE = {"plain": "the same plainly", "call": "perform", "undo": "undo", "beside": "open, a journal"}
-
-
-def library_calls(options, run, table_of_calls):
-    """Times the calls; the bytes that reading a dump and scattered saves took, of each line and each write; and huge
-    pages, where the system gives them to who asks: most of an undo is memory touched for the first time."""
-    calls = ROOT / "bench" / "out" / "calls"
-    build_calls(calls)
-    shell("cp zeros changed; cp few applied; shuf -i 0-33554431 -n 1000000 > addresses")
-    for words, cells in itertools.groupby(table_of_calls, lambda row: row[0]):
-        front = "GLIBC_TUNABLES=glibc.malloc.hugetlb=1 " if words.endswith(" huge") else ""
-        line = f"{front}{calls} {words.removesuffix(' huge')}"
-        told = [line.split() for _ in range(CALLS) for line in shell(line, subprocess.PIPE).splitlines()]
-        fields = {name: min(int(of[1]) for of in told if of[0] == name) for name, *rest in told if len(rest) == 1}
-        for _, goal, field, name, beside in cells:
-            there = fields[beside] if beside in fields else best(options.rounds, [beside])[0]
-            tell(run, "calls", name, BESIDE.get(beside, beside), goal, fields[field], there)
-        if words.split()[0] in ("dump", "scatter"):
-            used = {" ".join(line[:2]): int(line[2]) for line in told if len(line) == 4}
-            held = os.path.getsize("less") if words == "dump dump" else 0
-            each = ((used["after VmHWM:"] - used["before VmRSS:"]) * 1024 - held) / fields["units"]
-            print(f"{words.split()[0]}, memory: {each:.1f} bytes each beside the bytes")
-
-
 def told_of(options, big, mid, stream):
     """The lines at the head: the machine, the inputs, and the versions of all tools."""
     model = re.search(r"^model name[^:]*: (.*)$", pathlib.Path("/proc/cpuinfo").read_text(encoding="utf-8"), re.M)
@@ -172,14 +132,12 @@ def main():
     to.parent.mkdir(exist_ok=True)
     with tempfile.TemporaryDirectory() as work, open(to, "w", encoding="utf-8") as run:
         os.chdir(work)
-        timed, calls, inputs = table()
+        timed, inputs = table()
         shell(f"stream={stream} big={big} mid={mid}\n{inputs}")
         run.writelines(f"# {line}\n" for line in told_of(options, big, mid, stream))
         print(*FIELDS, sep="\t", file=run)
         for row in timed:
             time_row(row, options, run)
-        if not options.programs and not options.before:
-            library_calls(options, run, calls)
         os.chdir("/")
 
 

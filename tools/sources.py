@@ -42,13 +42,13 @@ def code(name):
     return sorted(folder(name).rglob("*.rt"))
 
 
-def copy(names, top, others=()):
-    """Makes a repository of some crates in a folder, with their libraries as built and with more lines in crates.txt."""
+def copy(names, top):
+    """Makes a repository of some crates in a folder, with their libraries as built."""
     for name in names:
         shutil.copytree(ROOT / "crates" / name, top / "crates" / name, ignore=shutil.ignore_patterns("incremental"))
     shutil.copy(ROOT / "HANDLES", top)
     lines = [line for line in read("crates.txt").splitlines() if line.split(":")[0] in names]
-    (top / "crates.txt").write_text("".join(f"{line}\n" for line in [*lines, *others]), encoding="utf-8")
+    (top / "crates.txt").write_text("".join(f"{line}\n" for line in lines), encoding="utf-8")
 
 
 def head(path):
