@@ -21,6 +21,8 @@ pub enum Cause {
     Input,
     /// Writes of an output.
     Output,
+    /// Calls of a text that is emptied.
+    Emptying,
 }
 
 /// How many of the changes may be found moved or made.

@@ -1,4 +1,4 @@
-//! Plays commands, looks, dumps and comparisons on named files in a world in memory, over cases of the kinds `commands`, `looks`,
+//! Plays commands, looks, forgettings, dumps and comparisons on named files in a world in memory, over cases of the kinds `commands`, `looks`,
 //! `words` and `patches`.
 //!
 //! The lines of a case of commands are one undo or redo of as many changes; or the last one is a change, a revert, dd or a patch. A first
@@ -20,14 +20,18 @@
 //! a log, one with ranges, and each look of a case; a dump is also one of a file without a length, of one that is missing, and of an
 //! input; a comparison is by bytes and by rows.
 //!
+//! A forgetting is played over the cases of looks, and leaves the image as it is: beside empty texts, or where it is refused beside
+//! texts as they were, or where it is interrupted beside fronts of them, and so once the power is lost.
+//!
 //! A line of the output has a case, and how often it was played with each that fails; before them stand the files of `oddities.rt` that
-//! may not be opened: in the first case, in the first change, in the first one whose files are made, in the first of looks, and in the
-//! first of comparisons.
+//! may not be opened: in the first case, in the first change, in the first one whose files are made, in the first of looks and of
+//! forgettings, and in the first of comparisons.
 #![tactic(auto)]
 
 mod changes;
 mod diffs;
 mod dumps;
+mod forgets;
 mod left;
 mod looks;
 mod moves;
@@ -42,6 +46,7 @@ mod sweeps;
 use crate::changes::Manner;
 use crate::diffs::play_diffs;
 use crate::dumps::play_dumps;
+use crate::forgets::play_forgets;
 use crate::looks::play_looks;
 use crate::odd::play_refused;
 use crate::oddities::{ODDS, ODDS_OF_MADE, Odd, Oddity, names_of_odd};
@@ -195,6 +200,7 @@ fn play_all(rt: &HostRuntime) -> Result<bool, Wrong> {
     let diffs = cases_of(rt, "diffs.cases")?;
     let mut right = play_each(rt, worlds.cases.as_slice())?;
     right = play_looks(rt, looks.cases.as_slice())? && right;
+    right = play_forgets(rt, looks.cases.as_slice())? && right;
     right = play_dumps(rt, dumps.cases.as_slice())? && right;
     right = play_diffs(rt, diffs.cases.as_slice())? && right;
     Ok(right)

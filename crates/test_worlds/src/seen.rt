@@ -1,12 +1,13 @@
-//! Named files that are only read, and an input, in a world in memory: each call fails in turn, and all is as before.
+//! Named files that are only read or whose history is dropped, and an input, in a world in memory: each call fails in turn.
 pub mod asked;
+mod leaves;
 mod output;
 pub mod told;
 
-use crate::odd::is_untouched;
 use crate::oddities::{Odd, world_of_odd};
 use crate::report::{Failure, Wrong};
 use crate::seen::asked::{Asked, ask};
+use crate::seen::leaves::Leaves;
 use crate::seen::output::Output;
 use crate::seen::told::{Told, judge};
 use crate::setting::{Held, Kept, held_by, there_in, there_of, world_of};
@@ -69,7 +70,7 @@ impl<'a> Asking<'a> {
         plan
     }
 
-    /// Asks where a call fails. Tells whether none did. All is as before, and also once the power is lost.
+    /// Asks where a call fails. Tells whether none did. What is left is what may be, and also once the power is lost.
     fn play_once(&self, failing: Failing, way: u32, call: u64) -> Result<bool, Wrong> {
         let mut world = self.world()?;
         let kept = Kept::of(self.alloc, held_by(&world))?;
@@ -79,12 +80,12 @@ impl<'a> Asking<'a> {
         let outcome = ask(
             &mut world, self.alloc, self.names, plan, self.asked, &mut out,
         );
-        is_untouched(&world, &kept, before)?;
+        let leaves = Leaves::of(self.asked, outcome);
+        leaves.are_left(&world, &kept, before)?;
         let cause = self.asked.cause(failing);
         let output = out.taken.as_slice();
         let is_told = judge(self.alloc, &world, self.told, cause, outcome, output)?;
-        world.lose_power()?;
-        is_untouched(&world, &kept, before)?;
+        leaves.are_found(self.alloc, &mut world, &kept, before)?;
         Ok(is_told)
     }
 

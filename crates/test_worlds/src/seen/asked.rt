@@ -1,4 +1,4 @@
-//! What is asked of named files that are only read, and of an input.
+//! What is asked of named files, and of an input.
 ghost use Rattle.std.specs.Prelude.{◌≡◌, None};
 
 use crate::left::Cause;
@@ -32,14 +32,18 @@ pub enum Asked<'a> {
     Input(&'a DumpJob, &'a [u8]),
     /// The patch from the image to the file of the journal's name.
     Diff(Extent),
+    /// The history is dropped.
+    Forget,
 }
 
 impl Asked<'_> {
-    /// Which faults may come of what fails. A comparison says of a device that it was not read.
+    /// Which faults may come of what fails. A comparison says of a device that it was not read; a text that is emptied may be left in
+    /// the middle of it.
     pub fn cause(self, failing: Failing) -> Cause {
-        match (self, failing.cause()) {
-            (Asked::Diff(_), Cause::Device) => Cause::Input,
-            (_, cause) => cause,
+        match (self, failing, failing.cause()) {
+            (Asked::Diff(_), _, Cause::Device) => Cause::Input,
+            (Asked::Forget, Failing::Journal | Failing::Redo, _) => Cause::Emptying,
+            (_, _, cause) => cause,
         }
     }
 }
@@ -140,6 +144,22 @@ fn put_diff<O: Write>(
     }
 }
 
+/// Drops the history.
+fn forget<O: Write>(world: &mut MemoryWorld, alloc: Global, names: &Names, out: &mut O) -> Outcome
+    requires { (⟦<MemoryWorld as World>⟧.sight world.old).lent ≡ None }
+{
+    let request: Request<'_, Empty> = Request::Forget { names };
+    match run_request(world, alloc, request, out) {
+        Answer::Forgotten(Ok(())) => Ok(None),
+        Answer::Forgotten(Err(unseen)) => Err(unseen),
+        Answer::Moved(_)
+        | Answer::Changed(_)
+        | Answer::Dumped(_)
+        | Answer::Compared(_)
+        | Answer::Looked(_) => unreachable!(),
+    }
+}
+
 /// What an input has, whose reads fail as the plan says.
 fn input_of(alloc: Global, bytes: &[u8], plan: Plan) -> Result<LentInput, Unseen> {
     match bytes.to_vec(alloc) {
@@ -148,7 +168,7 @@ fn input_of(alloc: Global, bytes: &[u8], plan: Plan) -> Result<LentInput, Unseen
     }
 }
 
-/// Writes what is asked of files of these names, or of an input, in a world that does what its plan says.
+/// Does what is asked of files of these names, or of an input, in a world that does what its plan says.
 pub fn ask<O: Write>(
     world: &mut MemoryWorld,
     alloc: Global,
@@ -169,6 +189,7 @@ pub fn ask<O: Write>(
             return put_input(world, alloc, job, input, out);
         }
         Asked::Diff(extent) => return put_diff(world, alloc, names, extent, out),
+        Asked::Forget => return forget(world, alloc, names, out),
     };
     outcome.map(|()| None)
 }

@@ -2,7 +2,8 @@
 use crate::left::Cause;
 use crate::report::Wrong;
 use crate::seen::asked::Outcome;
-use bx_cli_commands::Done;
+use bx_cli_commands::{Done, Fault};
+use bx_journal::SessionFault;
 use bx_program_files::{Unopened, Why};
 use bx_program_looks::Unseen;
 use bx_program_world::{MemoryWorld, Refusal};
@@ -49,7 +50,7 @@ fn is_told(alloc: Global, told: Told<'_>, outcome: Outcome) -> Result<bool, Wron
 fn fault_of(alloc: Global, cause: Cause, written: usize) -> Result<String, Wrong> {
     match cause {
         Cause::World => Ok(String::new(alloc)),
-        Cause::Device => Ok(String::from_str(alloc, "device failed")?),
+        Cause::Device | Cause::Emptying => Ok(String::from_str(alloc, "device failed")?),
         Cause::Input => Ok(String::from_str(alloc, "read failed")?),
         Cause::Output => Ok(format!(in alloc; "write failed after {written} bytes")?),
     }
@@ -68,6 +69,9 @@ fn is_due(
         Err(Unseen::Unopened(unopened)) => {
             let is_refused = unopened.why == Why::System(Refusal::Other(None));
             Ok(is_refused && world.was_refused() && output.is_empty())
+        }
+        Err(Unseen::Stopped(Fault::Session(SessionFault::Interrupted))) => {
+            Ok(cause == Cause::Emptying)
         }
         Err(Unseen::Stopped(fault)) => {
             let text = format!(in alloc; "{fault}")?;
