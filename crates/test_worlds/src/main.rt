@@ -29,11 +29,7 @@
 #![tactic(auto)]
 
 mod changes;
-mod diffs;
-mod dumps;
-mod forgets;
 mod left;
-mod looks;
 mod moves;
 mod odd;
 mod oddities;
@@ -44,14 +40,14 @@ mod setting;
 mod sweeps;
 
 use crate::changes::Manner;
-use crate::diffs::play_diffs;
-use crate::dumps::play_dumps;
-use crate::forgets::play_forgets;
-use crate::looks::play_looks;
 use crate::odd::play_refused;
 use crate::oddities::{ODDS, ODDS_OF_MADE, Odd, Oddity, names_of_odd};
 use crate::plays::{Play, Setting};
 use crate::report::Wrong;
+use crate::seen::diffs::play_diffs;
+use crate::seen::dumps::play_dumps;
+use crate::seen::forgets::play_forgets;
+use crate::seen::looks::play_looks;
 use crate::sweeps::{Failing, play_sweep};
 use std::fs;
 use std::process::ExitCode;

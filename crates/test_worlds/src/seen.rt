@@ -1,6 +1,10 @@
 //! Named files that are only read or whose history is dropped, and an input, in a world in memory: each call fails in turn.
 pub mod asked;
+pub mod diffs;
+pub mod dumps;
+pub mod forgets;
 mod leaves;
+pub mod looks;
 mod output;
 pub mod told;
 

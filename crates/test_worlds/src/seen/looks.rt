@@ -1,9 +1,9 @@
 //! Plays looks at the changes of an image, and the same where one of its files is odd.
 mod views;
 
-use crate::looks::views::{View, log_of, views_of};
 use crate::oddities::{ODDS, Odd, Oddity};
 use crate::report::Wrong;
+use crate::seen::looks::views::{View, log_of, views_of};
 use crate::seen::told::Told;
 use crate::seen::{Asking, play_each, tell};
 use crate::setting::{Held, names};
