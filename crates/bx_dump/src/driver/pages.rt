@@ -34,7 +34,7 @@ pub trait Pages {
     /// The bytes of a block.
     ghost block: { Self → ℕ };
 
-    /// How long a page has to be for this many bytes.
+    /// How long a page has to be for a block of this length.
     ghost room: { Self → ℕ → ℕ };
 
     /// How many bytes are put at once.
