@@ -3,6 +3,7 @@ ghost use Rattle.std.specs.Prelude.{◌≡◌, [], OnOk, IfSome, string_bytes};
 ghost use Rattle.bx_patch.specs.declared.read.fault.PatchFault.TheVariants as patch;
 ghost use Rattle.bx_cli.specs.Hint.{advice_of, completed, hint_of, with_between, hint_rest};
 
+use crate::given::Given;
 use crate::instead::{
     has_negative, instead, is_negative, is_unexpected, negative, no_negative, similar,
 };
@@ -451,7 +452,7 @@ fn is_value(m: &ArgMatches<'_>, id: &str, style: SizeStyle) -> bool {
     match id {
         "radix" => radix(text, Address::Octal, true).is_ok(),
         "offsets" => radix(text, Address::Without, false).is_ok(),
-        "kind" => kind(m).is_ok(),
+        "kind" => kind(&Given::Read(m)).is_ok(),
         "least" => count_or(text, 1, MOST_LEAST).is_ok_and(|n| n > 0),
         "count" => count_or(text, 1, MOST_STEPS).is_ok(),
         "cols" => columns(text, 16).is_ok(),

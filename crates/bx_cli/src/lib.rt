@@ -11,6 +11,7 @@
 #![tactic(auto)]
 
 mod beside;
+mod given;
 mod hint;
 mod instead;
 pub mod laws;

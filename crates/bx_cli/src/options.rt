@@ -684,6 +684,21 @@ impl Verb {
         }
     }
 
+    /// The identifier of its operand, where it takes one and no more.
+    pub fn operand(self) -> Option<&'static str> {
+        match self {
+            Verb::Od | Verb::Xxd | Verb::Hexdump | Verb::Strings => Some("file"),
+            Verb::Revert
+            | Verb::Undo
+            | Verb::Redo
+            | Verb::Log
+            | Verb::Show
+            | Verb::Patch
+            | Verb::Forget => Some("image"),
+            Verb::Dd | Verb::Diff => None,
+        }
+    }
+
     /// What it takes.
     fn command<'a>(self, alloc: Global) -> Result<Command<'a>, AllocError> {
         match self {

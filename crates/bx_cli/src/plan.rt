@@ -1,6 +1,7 @@
 //! From words to a job.
 ghost use Rattle.std.specs.Prelude.{◌≡◌, IfOk};
 
+use crate::given::Given;
 use crate::options::{Verb, program_behind};
 use bx_cli_commands::{
     Access, ChangeJob, DdImageJob, DdJob, DiffJob, DumpJob, Durability, Fault, ForgetJob,
@@ -15,8 +16,8 @@ use bx_dump::strings::StringsOptions;
 use bx_dump::xxd::XxdOptions;
 use bx_journal::Way;
 use bx_text::{IoFault, Name, SizeStyle, Words};
+use clap::Error;
 use clap::error::ErrorKind;
-use clap::{ArgMatches, Error};
 use std::alloc::Global;
 
 /// The words as clap takes them, behind the program's name.
@@ -33,6 +34,9 @@ pub(crate) fn words_of(alloc: Global, words: &Words) -> Result<Vec<&str>, Fault>
 
 /// The job that the words ask for; the words are those behind the program's name.
 pub fn plan_words(alloc: Global, words: &Words) -> Result<Job, Fault> {
+    if let Some((verb, given)) = Given::alone(words) {
+        return job_of(alloc, verb, &given);
+    }
     let texts = words_of(alloc, words)?;
     let command = program_behind(alloc, words.get(0).unwrap_or(""))?;
     let matches = match command.try_get_matches_from(texts.as_slice()) {
@@ -43,7 +47,7 @@ pub fn plan_words(alloc: Global, words: &Words) -> Result<Job, Fault> {
         return Err(Fault::Usage);
     };
     match Verb::of(name) {
-        Some(verb) => job_of(alloc, verb, inner),
+        Some(verb) => job_of(alloc, verb, &Given::Read(inner)),
         None => Err(Fault::Usage),
     }
 }
@@ -75,7 +79,7 @@ fn refused(alloc: Global, error: Error) -> Result<Job, Fault> {
     }
 }
 
-fn job_of(alloc: Global, verb: Verb, inner: &ArgMatches<'_>) -> Result<Job, Fault> {
+fn job_of(alloc: Global, verb: Verb, inner: &Given<'_, '_>) -> Result<Job, Fault> {
     match verb {
         Verb::Od => Ok(Job::Dump(DumpJob::Od(od(alloc, inner)?))),
         Verb::Xxd => Ok(Job::Dump(DumpJob::Xxd(xxd(alloc, inner)?))),
@@ -93,7 +97,7 @@ fn job_of(alloc: Global, verb: Verb, inner: &ArgMatches<'_>) -> Result<Job, Faul
     }
 }
 
-fn name(alloc: Global, m: &ArgMatches<'_>, id: &str) -> Result<Option<Name>, Fault> {
+fn name(alloc: Global, m: &Given<'_, '_>, id: &str) -> Result<Option<Name>, Fault> {
     match m.get_str(id) {
         None => Ok(None),
         Some(text) => Ok(Some(name_of(alloc, text)?)),
@@ -101,19 +105,14 @@ fn name(alloc: Global, m: &ArgMatches<'_>, id: &str) -> Result<Option<Name>, Fau
 }
 
 // The image that is named, the texts beside it, and how they are used.
-fn target(alloc: Global, m: &ArgMatches<'_>, access: Access) -> Result<Target, Fault> {
+fn target(alloc: Global, m: &Given<'_, '_>, access: Access) -> Result<Target, Fault> {
     let Some(image) = m.get_str("image") else {
         return Err(Fault::Usage);
     };
     target_of(alloc, m, image, access)
 }
 
-fn target_of(
-    alloc: Global,
-    m: &ArgMatches<'_>,
-    image: &str,
-    access: Access,
-) -> Result<Target, Fault>
+fn target_of(alloc: Global, m: &Given<'_, '_>, image: &str, access: Access) -> Result<Target, Fault>
     ensures { IfOk result (λ t. t.image ≡ image.now) }
 {
     let texts = texts_of(alloc, m.get_str("journal"), image)?;
@@ -124,7 +123,7 @@ fn target_of(
     })
 }
 
-fn access(m: &ArgMatches<'_>) -> Access {
+fn access(m: &Given<'_, '_>) -> Access {
     let durability = if m.get_flag("unsynced") {
         Durability::Unsynced
     } else {
@@ -136,7 +135,7 @@ fn access(m: &ArgMatches<'_>) -> Access {
     }
 }
 
-pub(crate) fn kind(m: &ArgMatches<'_>) -> Result<Kind, Fault> {
+pub(crate) fn kind(m: &Given<'_, '_>) -> Result<Kind, Fault> {
     if let Some(text) = m.get_str("kind") {
         return kind_word(text);
     }
@@ -151,7 +150,7 @@ pub(crate) fn kind(m: &ArgMatches<'_>) -> Result<Kind, Fault> {
     kind_word("o2")
 }
 
-fn od(alloc: Global, m: &ArgMatches<'_>) -> Result<OdJob, Fault> {
+fn od(alloc: Global, m: &Given<'_, '_>) -> Result<OdJob, Fault> {
     Ok(OdJob {
         options: OdOptions {
             address: radix(m.get_str("radix"), Address::Octal, true)?,
@@ -165,7 +164,7 @@ fn od(alloc: Global, m: &ArgMatches<'_>) -> Result<OdJob, Fault> {
     })
 }
 
-fn xxd(alloc: Global, m: &ArgMatches<'_>) -> Result<XxdJob, Fault> {
+fn xxd(alloc: Global, m: &Given<'_, '_>) -> Result<XxdJob, Fault> {
     let (look, cols, group) = if m.get_flag("plain") {
         (XxdLook::Plain, 30, 2)
     } else if m.get_flag("bits") {
@@ -192,7 +191,7 @@ fn xxd(alloc: Global, m: &ArgMatches<'_>) -> Result<XxdJob, Fault> {
 }
 
 // The canonical form has to be asked for: there is no other.
-fn hexdump(alloc: Global, m: &ArgMatches<'_>) -> Result<HexdumpJob, Fault> {
+fn hexdump(alloc: Global, m: &Given<'_, '_>) -> Result<HexdumpJob, Fault> {
     if !m.get_flag("canonical") {
         return Err(Fault::Usage);
     }
@@ -207,7 +206,7 @@ fn hexdump(alloc: Global, m: &ArgMatches<'_>) -> Result<HexdumpJob, Fault> {
     })
 }
 
-fn strings(alloc: Global, m: &ArgMatches<'_>) -> Result<StringsJob, Fault> {
+fn strings(alloc: Global, m: &Given<'_, '_>) -> Result<StringsJob, Fault> {
     let least = count_or(m.get_str("least"), 4, MOST_LEAST)? as u16;
     if least == 0 {
         return Err(Fault::Usage);
@@ -221,18 +220,20 @@ fn strings(alloc: Global, m: &ArgMatches<'_>) -> Result<StringsJob, Fault> {
     })
 }
 
-fn operands_of(alloc: Global, m: &ArgMatches<'_>) -> Result<Words, Fault> {
+fn operands_of(alloc: Global, m: &Given<'_, '_>) -> Result<Words, Fault> {
     let mut operands = Words::new(alloc);
-    if let Some(words) = m.get_strs("operand") {
-        for word in words {
-            operands.push(word)?;
+    if let Given::Read(matches) = m {
+        if let Some(words) = matches.get_strs("operand") {
+            for word in words {
+                operands.push(word)?;
+            }
         }
     }
     Ok(operands)
 }
 
 // To a stream, or onto the image that `of=` names. The operands' faults come before that of the texts' names.
-fn dd(alloc: Global, m: &ArgMatches<'_>) -> Result<Job, Fault> {
+fn dd(alloc: Global, m: &Given<'_, '_>) -> Result<Job, Fault> {
     let operands = operands_of(alloc, m)?;
     let plan = parse(alloc, &operands)?;
     let target = match &plan.output {
@@ -248,7 +249,7 @@ fn dd(alloc: Global, m: &ArgMatches<'_>) -> Result<Job, Fault> {
     })))
 }
 
-fn revert(alloc: Global, m: &ArgMatches<'_>) -> Result<RevertJob, Fault> {
+fn revert(alloc: Global, m: &Given<'_, '_>) -> Result<RevertJob, Fault> {
     let at = number_or(m.get_str("offset"), SizeStyle::Bare, 0)?;
     let target = target(alloc, m, access(m))?;
     Ok(RevertJob {
@@ -261,7 +262,7 @@ fn revert(alloc: Global, m: &ArgMatches<'_>) -> Result<RevertJob, Fault> {
     })
 }
 
-fn patch(alloc: Global, m: &ArgMatches<'_>) -> Result<PatchJob, Fault> {
+fn patch(alloc: Global, m: &Given<'_, '_>) -> Result<PatchJob, Fault> {
     let target = target(alloc, m, access(m))?;
     Ok(PatchJob {
         patch: name(alloc, m, "patch")?,
@@ -272,12 +273,12 @@ fn patch(alloc: Global, m: &ArgMatches<'_>) -> Result<PatchJob, Fault> {
     })
 }
 
-fn forget(alloc: Global, m: &ArgMatches<'_>) -> Result<ForgetJob, Fault> {
+fn forget(alloc: Global, m: &Given<'_, '_>) -> Result<ForgetJob, Fault> {
     let target = target(alloc, m, access(m))?;
     Ok(ForgetJob { target })
 }
 
-fn steps(alloc: Global, m: &ArgMatches<'_>) -> Result<StepsJob, Fault> {
+fn steps(alloc: Global, m: &Given<'_, '_>) -> Result<StepsJob, Fault> {
     let count = count_or(m.get_str("count"), 1, MOST_STEPS)? as u32;
     let target = target(alloc, m, access(m))?;
     Ok(StepsJob {
@@ -287,7 +288,7 @@ fn steps(alloc: Global, m: &ArgMatches<'_>) -> Result<StepsJob, Fault> {
     })
 }
 
-fn log(alloc: Global, m: &ArgMatches<'_>) -> Result<LogJob, Fault> {
+fn log(alloc: Global, m: &Given<'_, '_>) -> Result<LogJob, Fault> {
     let target = target(alloc, m, access(m))?;
     Ok(LogJob {
         verbose: m.get_flag("verbose"),
@@ -296,7 +297,7 @@ fn log(alloc: Global, m: &ArgMatches<'_>) -> Result<LogJob, Fault> {
 }
 
 // Nothing of the image is written, so nothing is waited for.
-fn show(alloc: Global, m: &ArgMatches<'_>) -> Result<ShowJob, Fault> {
+fn show(alloc: Global, m: &Given<'_, '_>) -> Result<ShowJob, Fault> {
     let count = count_or(m.get_str("count"), 1, MOST_STEPS)? as u32;
     let access = Access {
         durability: Durability::Unsynced,
@@ -317,7 +318,7 @@ fn show(alloc: Global, m: &ArgMatches<'_>) -> Result<ShowJob, Fault> {
     })
 }
 
-fn diff(alloc: Global, m: &ArgMatches<'_>) -> Result<DiffJob, Fault> {
+fn diff(alloc: Global, m: &Given<'_, '_>) -> Result<DiffJob, Fault> {
     let (Some(old), Some(new)) = (m.get_str("old"), m.get_str("new")) else {
         return Err(Fault::Usage);
     };
