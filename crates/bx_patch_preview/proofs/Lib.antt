@@ -1,1 +1,2 @@
+pub mod ChangesLemmas
 pub mod WindowLemmas

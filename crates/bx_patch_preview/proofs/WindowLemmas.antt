@@ -1,15 +1,9 @@
--- Windows of an image behind a change.
-use Rattle.std.proofs.Common.{◌≡◌, ◌⊎◌, ℕ, ◌+◌, ◌-◌, ◌<◌, ◌≤◌, inl, inr, min, Option, None, Some, List, [], ◌∷◌, length, take, drop, slice_index, sym, ap, ◌∙◌, arith}
+-- Windows of an image behind changes.
+use Rattle.std.proofs.Common.{◌≡◌, ℕ, ◌+◌, ◌-◌, ◌<◌, ◌≤◌, inl, inr, min, List, length, take, drop, slice_index, sym, ap, ◌∙◌, arith}
 use Rattle.std.proofs.lemmas.Bool.{cases_lt}
 use Rattle.std.proofs.lemmas.List.{places, length-take, length-drop}
-use Rattle.bx_text.specs.declared.owned.pieces.Piece.{Piece}
-use Rattle.bx_image.specs.declared.change.Change.{Change}
-use Rattle.bx_image.specs.Change.{effect, placed}
 use Rattle.bx_image.specs.Image.{cut, place}
-use Rattle.bx_image.specs.private.Change.{cut_to}
-use Rattle.bx_image.proofs.Changes.{placed_effect}
 use Rattle.bx_image.proofs.Images.{same_image, length-cut, slice_index-cut, length-place, end_of_le, slice_index-place_within, slice_index-place_below, slice_index-place_above, slice_index_past}
-use Rattle.bx_patch_preview.specs.Changed.{kept_length}
 use Rattle.bx_patch_preview.specs.private.Window.{IsWindow}
 
 -- a piece behind a window
@@ -49,53 +43,24 @@ front_same bytes n k inside = grind (arith, places)
 pub mid_same : (bytes : List ℕ) (skip n k : ℕ) → k < length (take n (drop skip bytes)) → slice_index (take n (drop skip bytes)) k ≡ slice_index bytes (skip + k)
 mid_same bytes skip n k inside = grind (arith, places)
 
-place_same : (y z bytes : List ℕ) (at : ℕ) → ((i : ℕ) → slice_index y i ≡ slice_index z i) → (i : ℕ) → slice_index (place y at bytes) i ≡ slice_index (place z at bytes) i
-place_same y z bytes at same i = elim (cases_lt i at) [
-  | inl below ↦ slice_index-place_below y at bytes i below ∙ same i ∙ sym (slice_index-place_below z at bytes i below)
-  | inr above ↦ elim (cases_lt i (at + length bytes)) [
-    | inl within ↦ slice_index-place_within y at bytes i above within ∙ sym (slice_index-place_within z at bytes i above within)
-    | inr behind ↦ slice_index-place_above y at bytes i behind ∙ same i ∙ sym (slice_index-place_above z at bytes i behind)
-  ]
+-- a window that is cut within, or before it
+pub cut_within : (old new y : List ℕ) (at n start : ℕ) → ((j : ℕ) → j < start → at + j < n) → n ≤ at + start → length new ≡ length old
+    → ((j : ℕ) → j < start → slice_index new j ≡ slice_index old j) → ((j : ℕ) → start ≤ j → slice_index new j ≡ 0)
+    → IsWindow old at y → IsWindow new at (cut y n)
+cut_within old new y at n start below above long front zeros win j inside = elim (cases_lt j start) [
+  | inl before ↦ front j before ∙ win j (omega (arith, inside, long)) ∙ sym (slice_index-cut y n (at + j) (below j before))
+  | inr behind ↦ zeros j behind ∙ sym (slice_index_past (cut y n) (at + j) (omega (arith, length-cut y n)))
 ]
 
--- pieces that are placed over the same bytes
-placed_same : {A : Type 0} (ws : List (Piece A)) (y z : List ℕ) → ((i : ℕ) → slice_index y i ≡ slice_index z i) → (i : ℕ)
-    → slice_index (placed ws y) i ≡ slice_index (placed ws z) i
-unfolding placed
-placed_same [] y z same i = same i
-placed_same (w ∷ ws) y z same i = placed_same ws (place y w.at w.bytes) (place z w.at w.bytes) (place_same y z w.bytes w.at same) i
-
--- what is kept of an image has the bytes that it has where it is brought to a base
-kept_same : (base : Option ℕ) (x : List ℕ) (i : ℕ) → slice_index (take (kept_length base (length x)) x) i ≡ slice_index (cut_to base x) i
-kept_same None x i = elim (cases_lt i (length x)) [
-  | inl inside ↦ grind (arith, places)
-  | inr past ↦ slice_index_past (take (length x) x) i (omega (arith, length-take {A = ℕ} (length x) x)) ∙ sym (slice_index_past x i past)
-]
-kept_same (Some n) x i = elim (cases_lt i (min n (length x))) [
-  | inl inside ↦
-      let front : slice_index (take (min n (length x)) x) i ≡ slice_index x i = grind (arith, places) in
-      front ∙ sym (slice_index-cut x n i (omega arith))
-  | inr past ↦ slice_index_past (take (min n (length x)) x) i (omega (arith, length-take {A = ℕ} (min n (length x)) x)) ∙ sym (cut_past past (cases_lt i n))
-]
-  where
-    cut_past : min n (length x) ≤ i → (i < n) ⊎ (n ≤ i) → slice_index (cut x n) i ≡ 0
-    cut_past past (inl inside) = slice_index-cut x n i inside ∙ slice_index_past x i (omega arith)
-    cut_past past (inr behind) = slice_index_past (cut x n) i (omega (arith, length-cut x n))
+-- and one that is cut behind it
+pub cut_behind : (window y : List ℕ) (at n : ℕ) → at + length window ≤ n → IsWindow window at y → IsWindow window at (cut y n)
+cut_behind window y at n above win j inside = win j inside ∙ sym (slice_index-cut y n (at + j) (omega arith))
 
 -- a window within an image
-window_is : (window z : List ℕ) (at : ℕ) → at + length window ≤ length z → IsWindow window at z → window ≡ take (length window) (drop at z)
+pub window_is : (window z : List ℕ) (at : ℕ) → at + length window ≤ length z → IsWindow window at z → window ≡ take (length window) (drop at z)
 window_is window z at fits win =
     let long : length (take (length window) (drop at z)) ≡ length window = omega (arith, length-take {A = ℕ} (length window) (drop at z), length-drop {A = ℕ} at z) in
     same_image window (take (length window) (drop at z)) (sym long) (λ i inside. win i inside ∙ sym (there i inside))
   where
     there : (i : ℕ) → i < length window → slice_index (take (length window) (drop at z)) i ≡ slice_index z (at + i)
     there i inside = grind (arith, places)
-
--- the window that pieces make of what is kept is one of the image behind the change
-pub changed_window : {A : Type 0} (c : Change A) (x window : List ℕ) (kept at n : ℕ) → kept ≡ kept_length c.base (length x) → length window ≡ n → at + n ≤ length (effect c x)
-    → IsWindow window at (placed c.writes (take kept x)) → window ≡ take n (drop at (effect c x))
-changed_window c x window kept at n kept_is long fits win =
-    let same : (i : ℕ) → slice_index (placed c.writes (take kept x)) i ≡ slice_index (effect c x) i =
-    λ i. rw (kept_is, ← placed_effect c x) (placed_same c.writes (take (kept_length c.base (length x)) x) (cut_to c.base x) (kept_same c.base x) i) in
-    let is = window_is window (effect c x) at (omega (arith, long, fits)) (λ j inside. win j inside ∙ same (at + j)) in
-    rw (← long) is

@@ -1,24 +1,28 @@
--- What callers see of an image behind a change.
-use Rattle.std.specs.Prelude.{◌≡◌, ◌≤◌, ℕ, min, Option, List, length}
-use Rattle.std.specs.Option.{option_map_or}
+-- What callers see of an image behind changes that are made one after another.
+use Rattle.std.specs.Prelude.{◌≡◌, ◌≤◌, ℕ, List, [], ◌∷◌, length}
 use Rattle.bx_image.specs.declared.change.Change.{Change}
-use Rattle.bx_image.specs.Change.{effect}
+use Rattle.bx_image.specs.Change.{effect, Fits}
 
--- the device that has the image, the change, how many of the image's first bytes stay before the change writes, the length behind it, and
--- how many calls have failed
+-- the image that changes make of x, one after another
+unfoldable pub effects : {A : Type 0} → List (Change A) → List ℕ → List ℕ
+effects [] x = x
+effects (c ∷ cs) x = effects cs (effect c x)
+
+-- each change fits what those before it make of x
+unfoldable pub FitInTurn : {A : Type 0} → List (Change A) → List ℕ → ℕ → Type 0
+FitInTurn [] x limit = Unit {0}
+FitInTurn (c ∷ cs) x limit = Fits c (length x) limit × FitInTurn cs (effect c x) limit
+
+-- the device that has the image, the changes, the image's length before and behind them, and how many calls have failed
 pub record Changed (D A : Type 0) : Type 0 where
   pub device : D
-  pub change : Change A
-  pub kept : ℕ
+  pub changes : List (Change A)
+  pub before : ℕ
   pub len : ℕ
   pub failures : ℕ
 
--- how many of an image's first bytes stay where it is brought to a base
-abbrev pub kept_length : Option ℕ → ℕ → ℕ
-kept_length base len = option_map_or (λ n. min n len) base len
-
--- the lengths are those of an image behind a change
-pub record AreLengthsOf {A : Type 0} (c : Change A) (x : List ℕ) (kept len : ℕ) : Type 0 where
-  pub kept_is : kept ≡ kept_length c.base (length x)
-  pub len_is : len ≡ length (effect c x)
-  pub within : length (effect c x) ≤ len
+-- the lengths are those of an image before and behind changes
+pub record AreLengthsOf {A : Type 0} (cs : List (Change A)) (x : List ℕ) (before len : ℕ) : Type 0 where
+  pub before_is : before ≡ length x
+  pub len_is : len ≡ length (effects cs x)
+  pub within : length (effects cs x) ≤ len

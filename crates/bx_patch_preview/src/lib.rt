@@ -1,8 +1,6 @@
-//! The patch that a change would be. Nothing is changed: the image behind the change is read by a device of its own.
+//! An image behind changes that aren't made. Nothing is changed: a device of its own reads it.
 #![tactic(auto)]
 
 mod image;
-mod patches;
 
 pub use image::ChangedImage;
-pub use patches::{preview, preview_back};

@@ -15,27 +15,12 @@ use std::io::Empty;
 use std::rt::Files;
 use std::time::Clock;
 
-/// Recovers what is unfinished of an image, and says on standard error what it was.
+/// Recovers what is unfinished of an image, by an undo of no change, and says on standard error what it was. A redo text that is
+/// missing stays so.
 ///
 /// # Errors
 /// As of an undo.
 pub fn recover_image<'a, R>(
-    rt: &R,
-    target: &'a Target,
-    progress: &Progress<'_, R>,
-) -> Result<(), Stopped<'a>>
-where
-    R: Files<File = File> + Print + Eprint + Clock + AllocGlobal,
-{
-    open_to_change(rt, target, progress).map_err(Stopped::unrecovered)
-}
-
-/// Opens an image and its texts to change them, by an undo of no change, and closes them. So what is unfinished is recovered. A redo
-/// text that is missing stays so.
-///
-/// # Errors
-/// As of an undo.
-pub fn open_to_change<'a, R>(
     rt: &R,
     target: &'a Target,
     progress: &Progress<'_, R>,
@@ -54,12 +39,12 @@ where
     }
     match answer.reply.standing() {
         Ok(_) => Ok(()),
-        Err(fault) => Err(stopped(rt, target, &world, answer.unopened, fault)),
+        Err(fault) => Err(stopped(rt, target, &world, answer.unopened, fault).unrecovered()),
     }
 }
 
 /// Takes a text away that this run made, if it is still empty and no other program holds it.
-fn take_empty<R: Files<File = File> + AllocGlobal>(rt: &R, name: &str) {
+pub fn take_empty<R: Files<File = File> + AllocGlobal>(rt: &R, name: &str) {
     if let Ok(file) = open_there(rt, name, false) {
         if lock(&file).is_ok() {
             take_away(rt, name, &file);

@@ -3,7 +3,6 @@ mod copies;
 mod diff;
 mod looks;
 mod patch;
-mod patches;
 mod previews;
 mod steps;
 
@@ -221,10 +220,7 @@ where
     R: Files<File = File> + Input + Print + Eprint + Clock + AllocGlobal,
 {
     if job.dry_run {
-        return match preview_copy(rt, job, remarks, out) {
-            Ok(counts) => Ok(Some(counts)),
-            Err(stopped) => Err(stopped),
-        };
+        return preview_copy(rt, job, remarks, out);
     }
     uncounted(copy_onto(rt, job, remarks))
 }

@@ -2,9 +2,12 @@
 ghost use Rattle.bx_program_sessions.specs.Task.{IsNearTask};
 
 use bx_cli::{Done, DumpJob, Fault};
+use bx_dd::Counts;
 use bx_journal::Way;
 use bx_patch::Extent;
-use bx_program_commands::{Outcome, Report, Request, Undiffed, run_request};
+use bx_program_commands::{
+    Outcome, Proposal, Renewed, Report, Request, Undiffed, Unpreviewed, run_request,
+};
 use bx_program_dumps::Undumped;
 use bx_program_files::Names;
 use bx_program_looks::Unseen;
@@ -59,6 +62,47 @@ where
     };
     match run_request(world, alloc, request, &mut io::sink()) {
         Outcome::Changed(answer) => answer,
+        _ => unreachable!(),
+    }
+}
+
+/// Drops the history of an image, and then does a task on it.
+pub fn request_renewal<R, I: Read + Drop>(
+    world: &mut SystemWorld<'_, '_, R>,
+    alloc: Global,
+    names: &Names,
+    mounted: bool,
+    task: Task<I>,
+) -> Renewed
+where
+    R: Files<File = File> + Print + Eprint + Clock + AllocGlobal,
+    requires near { IsNearTask task }
+{
+    let request = Request::Renew {
+        names,
+        mounted,
+        task,
+    };
+    match run_request(world, alloc, request, &mut io::sink()) {
+        Outcome::Renewed(renewed) => renewed,
+        _ => unreachable!(),
+    }
+}
+
+/// Writes the patch of what is asked of an image.
+pub fn request_preview<R, I: Read + Drop, O: Write>(
+    world: &mut SystemWorld<'_, '_, R>,
+    alloc: Global,
+    name: &str,
+    proposal: Proposal<I>,
+    out: &mut O,
+) -> Result<Option<Counts>, Unpreviewed>
+where
+    R: Files<File = File> + Print + Eprint + Clock + AllocGlobal,
+{
+    let request = Request::Preview { name, proposal };
+    match run_request(world, alloc, request, out) {
+        Outcome::Previewed(outcome) => outcome,
         _ => unreachable!(),
     }
 }

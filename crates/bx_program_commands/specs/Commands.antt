@@ -1,14 +1,12 @@
 -- What a command on named files does, in the words of the calls that it is made of.
-use Rattle.std.specs.Prelude.{◌≡◌, ◌<◌, ℕ, true, false, List, Option, None, Result, Err, IfOk, IfErr, IfSome, OnOk}
+use Rattle.std.specs.Prelude.{◌≡◌, ◌<◌, ℕ, true, false, List, Option, None, Result, Err, IfErr, IfSome, OnOk}
 use Rattle.std.specs.Result.{MatchResult}
+use Rattle.bx_dd.specs.declared.counts.Counts.{Counts}
 use Rattle.bx_patch.specs.declared.diff.row.Extent.{Extent}
 use Rattle.bx_journal.specs.Images.{Images}
-use Rattle.bx_journal.specs.SessionFault.TheVariants.{Interrupted}
 use Rattle.bx_journal.specs.Way.{Way}
 use Rattle.bx_cli_commands.specs.Refusal.{IsWholeRefusal}
-use Rattle.bx_cli_commands.specs.Replies.{stands_by}
-use Rattle.bx_cli_commands.specs.declared.command.Reply.TheVariants.{Refused}
-use Rattle.bx_cli_commands.specs.declared.fault.Fault.TheVariants.{OpenFailed, Session}
+use Rattle.bx_cli_commands.specs.declared.fault.Fault.TheVariants.{OpenFailed}
 use Rattle.bx_cli_commands.specs.declared.jobs.dump.Done.{Done}
 use Rattle.bx_cli_commands.specs.declared.jobs.dumps.DumpJob.{DumpJob}
 use Rattle.bx_program_world.specs.World.{NothingNewFound, Sight, Spares, Trio}
@@ -18,27 +16,29 @@ use Rattle.bx_program_files.specs.Reading.{AreReadable, MayRefuseReading}
 use Rattle.bx_program_files.specs.Reasons.{MayRefuseOpening}
 use Rattle.bx_program_files.specs.declared.names.Names.{Names}
 use Rattle.bx_program_files.specs.declared.unopened.Unopened.{Unopened}
-use Rattle.bx_program_sessions.specs.Changes.{Changes, InterruptsChange, RefusesChange, SaysRecovered}
-use Rattle.bx_program_sessions.specs.Contents.{DoesFound, FoundIn, Holds, Survives, recovered_as}
+use Rattle.bx_program_sessions.specs.Changes.{SaysRecovered}
+use Rattle.bx_program_sessions.specs.Contents.{FoundIn, Holds, Survives, recovered_as}
 use Rattle.bx_program_sessions.specs.Moves.{HasMoved, Moves, StopsMove, SurvivesMove, TellsRecovered, stepped}
 use Rattle.bx_program_sessions.specs.Named.{IsUnrecovered, KeepsOthers, LeadTo, contents_of}
 use Rattle.bx_program_sessions.specs.Task.{IsNearTask}
 use Rattle.bx_program_sessions.specs.declared.moves.Moved.{Moved}
-use Rattle.bx_program_sessions.specs.declared.named.Answer.{Answer}
-use Rattle.bx_program_sessions.specs.declared.task.Task.{Task}
 use Rattle.bx_program_dumps.specs.Dumps.{CountsUndumped, DumpsInput, DumpsNamed, IsStopped, StopsInput, StopsNamed}
 use Rattle.bx_program_dumps.specs.declared.undumped.Undumped.{Undumped}
-use Rattle.bx_program_looks.specs.Forgetting.{HasForgotten, IsNoTextNamed, MayForgetNamed, StopsForgetting, SurvivesForgetting, held_by_names}
-use Rattle.bx_program_looks.specs.declared.unseen.Unseen.{Unseen}
+use Rattle.bx_program_looks.specs.Forgetting.{IsNoTextNamed, SurvivesForgetting}
+use Rattle.bx_program_commands.specs.Changing.{DoesChange, DoesForget}
 use Rattle.bx_program_commands.specs.Diffs.{StopsDiff, WritesDiff}
 use Rattle.bx_program_commands.specs.Outcome.{ended_by}
+use Rattle.bx_program_commands.specs.Previews.{StopsPreview, WritesPreview}
+use Rattle.bx_program_commands.specs.Renewal.{DoesRenew, KeepsNamed, SurvivesRenewal, TellsOpening}
 use Rattle.bx_program_commands.specs.Reports.{Reports}
 use Rattle.bx_program_commands.specs.Scene.{Scene}
 use Rattle.bx_program_commands.specs.declared.diff.Undiffed.{Undiffed}
 use Rattle.bx_program_commands.specs.declared.outcome.Outcome.{Outcome}
 use Rattle.bx_program_commands.specs.declared.outcome.Outcome.TheVariants as of
+use Rattle.bx_program_commands.specs.declared.proposal.Proposal.{Proposal}
+use Rattle.bx_program_commands.specs.declared.proposal.Unpreviewed.{Unpreviewed}
 use Rattle.bx_program_commands.specs.declared.request.Request.{Request}
-use Rattle.bx_program_commands.specs.declared.request.Request.TheVariants.{Move, Change, Dump, DumpInput, Diff, Look, Forget}
+use Rattle.bx_program_commands.specs.declared.request.Request.TheVariants.{Move, Change, Dump, DumpInput, Diff, Preview, Look, Forget, Renew}
 
 -- Of files that hold images an undo or a redo leaves those with `count` changes moved and writes how many stand, or it stops and says why; of
 -- files in which opening finds images, as after a crash, it does so on what is recovered
@@ -48,19 +48,6 @@ pub record DoesMove (names : Names) (way : Way) (count : ℕ) (moved : Moved (Un
   pub whole : (s : Images) → Holds (contents_of names old) s → IsUnrecovered moved.how
   pub recovered : (s : Images) → FoundIn (contents_of names old) s → moved.unopened ≡ None
       → IfSome moved.how (λ how. OnOk moved.outcome (Moves names count (stepped way (recovered_as how s)) old new))
-
--- Of files that hold images a change leaves those of the machine's next step, or all files as they were, or, where it was interrupted, files in
--- which opening finds the images before or behind it; after a crash it is done on what is recovered
-pub record DoesChange {R : Type 0} (remaining : R → Option (List ℕ)) (names : Names) (task : Task R) (answer : Answer) (old new : Sight) : Type 0 where
-  pub done : (s : Images) → Holds (contents_of names old) s
-      → IfOk (stands_by answer.reply) (Changes remaining s task answer.reply (contents_of names new))
-  pub refused : (s : Images) → Holds (contents_of names old) s → IsWholeRefusal answer.reply
-      → RefusesChange remaining s task answer.reply answer.unopened old new
-  pub interrupted : (s : Images) → Holds (contents_of names old) s → answer.reply ≡ Refused (Session Interrupted)
-      → InterruptsChange remaining s task (contents_of names new)
-  pub whole : (s : Images) → Holds (contents_of names old) s → IsUnrecovered answer.how
-  pub recovered : (s : Images) → FoundIn (contents_of names old) s → answer.unopened ≡ None
-      → DoesFound remaining s task answer.how answer.reply (contents_of names new)
 
 -- A dump writes the job's text of all bytes of the file, or a front of it and says why; a file that isn't opened is missing, or the system counted
 -- a call that it refused
@@ -81,12 +68,12 @@ DoesDiff extent old_name new_name outcome old new =
     MatchResult outcome (λ _. WritesDiff extent old_name new_name old.sight old.written new.written)
     (StopsDiff extent old_name new_name (old.refusals < new.refusals) old.sight old.written new.written)
 
--- Dropping a history leaves empty texts and the image as it was, where nothing was unfinished or the texts don't fit the image; else all is as it
--- was, and there is a reason, or it was stopped in the middle: of files in which opening finds images it then finds these, or fewer
-pub record DoesForget (names : Names) (outcome : Result (Unit {0}) Unseen) (old new : Scene) : Type 0 where
-  pub may : OnOk outcome (MayForgetNamed names old.sight)
-  pub done : OnOk outcome (HasForgotten (held_by_names names old.sight) (held_by_names names new.sight))
-  pub stopped : IfErr outcome (StopsForgetting names (old.refusals < new.refusals) old.sight new.sight)
+-- A preview writes the patch from what the image has, nothing where it is missing, to what the machine's step would make of it, or a front of it and
+-- says why; an image that isn't opened may not be read by the rule, or the system counted a call that it refused
+abbrev pub DoesPreview : {R : Type 0} → (R → Option (List ℕ)) → List ℕ → Proposal R → Result (Option Counts) Unpreviewed → Scene → Scene → Type 0
+DoesPreview remaining name proposal outcome old new =
+    MatchResult outcome (λ counts. WritesPreview remaining name proposal old.sight counts old.written new.written)
+    (StopsPreview remaining name proposal (old.refusals < new.refusals) old.sight old.written new.written)
 
 -- each command has an answer of its own; an input is open, and no seek places it
 abbrev pub Answers : {R : Type 0} → Request R → Outcome → Type 0
@@ -95,8 +82,10 @@ Answers (Change names mounted task) (of.Changed answer) = Unit {0}
 Answers (Dump job name) (of.Dumped outcome) = Unit {0}
 Answers (DumpInput job input) (of.Dumped outcome) = IfErr outcome IsStopped
 Answers (Diff old_name new_name extent) (of.Compared outcome) = Unit {0}
+Answers (Preview name proposal) (of.Previewed outcome) = Unit {0}
 Answers (Look names report) (of.Looked outcome) = Unit {0}
 Answers (Forget names) (of.Forgotten outcome) = Unit {0}
+Answers (Renew names mounted task) (of.Renewed renewed) = Unit {0}
 Answers request outcome = ⊥
 
 -- what each command does
@@ -106,18 +95,21 @@ Fulfills remaining (Change names mounted task) (of.Changed answer) old new = Doe
 Fulfills remaining (Dump job name) (of.Dumped outcome) old new = DoesDump job.now name.now outcome old new
 Fulfills remaining (DumpInput job input) (of.Dumped outcome) old new = DoesDumpInput job.now (remaining input) outcome old new
 Fulfills remaining (Diff old_name new_name extent) (of.Compared outcome) old new = DoesDiff extent old_name.now new_name.now outcome old new
+Fulfills remaining (Preview name proposal) (of.Previewed outcome) old new = DoesPreview remaining name.now proposal outcome old new
 Fulfills remaining (Look names report) (of.Looked outcome) old new = Reports names.now report outcome old new
 Fulfills remaining (Forget names) (of.Forgotten outcome) old new = DoesForget names.now outcome old new
+Fulfills remaining (Renew names mounted task) (of.Renewed renewed) old new = DoesRenew remaining names.now mounted task renewed old new
 Fulfills remaining request outcome old new = ⊥
 
 -- a change's offset or place is at most 2 ^ 62
 abbrev pub IsNearRequest : {R : Type 0} → Request R → Type 0
 IsNearRequest (Change names mounted task) = IsNearTask task
+IsNearRequest (Renew names mounted task) = IsNearTask task
 IsNearRequest request = Unit {0}
 
 -- whatever is found of the files after a loss of power: behind an undo, a redo and a change opening finds the images behind some of its steps, or
--- of an end of it, and behind a history that was dropped the image, with all changes or fewer; behind a dump, a comparison and a report nothing is
--- found that wasn't before
+-- of an end of it, and behind a history that was dropped the image, with all changes or fewer; behind a dump, a comparison, a preview and a report nothing
+-- is found that wasn't before
 abbrev pub SurvivesLoss : {R : Type 0} → (R → Option (List ℕ)) → Request R → Outcome → Sight → Sight
     → (ℕ → List ℕ → Type 0) → (ℕ → List ℕ → Type 0) → Type 0
 SurvivesLoss remaining (Move names mounted way count) (of.Moved moved) old new found left =
@@ -127,24 +119,31 @@ SurvivesLoss remaining (Change names mounted task) (of.Changed answer) old new f
     (s : Images) → Holds (contents_of names.now old) s → (IsWholeRefusal answer.reply → ⊥) → (t : Trio) → LeadTo names.now t new
     → Survives remaining s task answer.reply (left t.image) (left t.journal) (left t.redo)
 SurvivesLoss remaining (Forget names) (of.Forgotten outcome) old new found left = SurvivesForgetting names.now outcome old found left
+SurvivesLoss remaining (Renew names mounted task) (of.Renewed renewed) old new found left =
+    SurvivesRenewal remaining names.now task renewed old new left
 SurvivesLoss remaining request outcome old new found left = NothingNewFound found left
 
 -- no file is changed but the three of an undo, a redo or a change, and the texts of a history that is dropped; each name leads where it led
+-- (behind a change with which the history begins anew this is said of files that a name led to)
 abbrev pub LeavesOthers : {R : Type 0} → Request R → Sight → Sight → Type 0
 LeavesOthers (Move names mounted way count) old new = KeepsOthers names.now old new
 LeavesOthers (Change names mounted task) old new = KeepsOthers names.now old new
 LeavesOthers (Forget names) old new = Spares (IsNoTextNamed names.now old) old new
+LeavesOthers (Renew names mounted task) old new = KeepsNamed names.now old new
 LeavesOthers request old new = new ≡ old
 
--- what stands under the names may be opened, by the rule: to be changed, or to be read; a dump is of any file, and a comparison says itself which it is of
+-- what stands under the names may be opened, by the rule: to be changed, or to be read; a dump is of any file, and a comparison and a preview say themselves which
+-- they are of
 abbrev pub MayOpen : {R : Type 0} → Request R → Sight → Type 0
 MayOpen (Move names mounted way count) w = AreFit names.now mounted w
 MayOpen (Change names mounted task) w = AreFit names.now mounted w
 MayOpen (Dump job name) w = Unit {0}
 MayOpen (DumpInput job input) w = Unit {0}
 MayOpen (Diff old_name new_name extent) w = Unit {0}
+MayOpen (Preview name proposal) w = Unit {0}
 MayOpen (Look names report) w = AreReadable names.now w
 MayOpen (Forget names) w = AreReadable names.now w
+MayOpen (Renew names mounted task) w = AreFit names.now mounted w
 
 -- why a file of an image may not be opened
 abbrev pub MayRefuseFile : {R : Type 0} → Request R → Type 0 → Sight → Unopened → Type 0
@@ -153,8 +152,10 @@ MayRefuseFile (Change names mounted task) counted w file = MayRefuseOpening name
 MayRefuseFile (Dump job name) counted w file = ⊥
 MayRefuseFile (DumpInput job input) counted w file = ⊥
 MayRefuseFile (Diff old_name new_name extent) counted w file = ⊥
+MayRefuseFile (Preview name proposal) counted w file = ⊥
 MayRefuseFile (Look names report) counted w file = MayRefuseReading names.now counted w file
 MayRefuseFile (Forget names) counted w file = MayRefuseReading names.now counted w file
+MayRefuseFile (Renew names mounted task) counted w file = MayRefuseOpening names.now mounted true counted w file
 
 -- A file of an image wasn't opened: the fault says so, all files are as they were, nothing is written, and there is a reason
 pub record StopsUnopened {R : Type 0} (request : Request R) (outcome : Outcome) (old new : Scene) (file : Unopened) : Type 0 where
@@ -162,10 +163,11 @@ pub record StopsUnopened {R : Type 0} (request : Request R) (outcome : Outcome) 
   pub files : LeavesFiles old.sight new.sight
   pub why : MayRefuseFile request (old.refusals < new.refusals) old.sight file
 
--- What is written: what was recovered on standard error; of an undo and a redo a number on standard output; of a dump, a comparison and a report what
--- stands in the output that they are given
+-- What is written: what was recovered on standard error; of an undo and a redo a number on standard output; of a dump, a comparison, a preview and a report
+-- what stands in the output that they are given
 abbrev pub Writes : {R : Type 0} → Request R → Outcome → Scene → Scene → Type 0
 Writes (Move names mounted way count) (of.Moved moved) old new =
     TellsRecovered moved.how old.sight.errors new.sight.errors × (new.written ≡ old.written)
 Writes (Change names mounted task) (of.Changed answer) old new = SaysRecovered answer.how old.sight new.sight × (new.written ≡ old.written)
+Writes (Renew names mounted task) (of.Renewed renewed) old new = TellsOpening renewed old.sight new.sight × (new.written ≡ old.written)
 Writes request outcome old new = (new.sight.output ≡ old.sight.output) × (new.sight.errors ≡ old.sight.errors)

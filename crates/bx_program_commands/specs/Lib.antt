@@ -1,5 +1,9 @@
 pub mod Scene
 pub mod Outcome
 pub mod Diffs
+pub mod Previews
+pub mod Proposed
 pub mod Reports
+pub mod Changing
+pub mod Renewal
 pub mod Commands

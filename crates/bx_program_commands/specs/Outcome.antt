@@ -1,6 +1,7 @@
 -- How a command ended.
 use Rattle.std.specs.Prelude.{Option, None, Result, Ok, Err}
 use Rattle.bx_text.specs.declared.fault.IoFault.TheVariants as stream
+use Rattle.bx_patch.specs.declared.diff.fault.DiffFault.{DiffFault}
 use Rattle.bx_patch.specs.declared.diff.fault.DiffFault.TheVariants.{NoMemory, TooLarge, OldFailed, NewFailed, WriteFailed}
 use Rattle.bx_journal.specs.SessionFault.TheVariants as session
 use Rattle.bx_cli_commands.specs.Replies.{stands_by}
@@ -15,7 +16,11 @@ use Rattle.bx_program_looks.specs.declared.unseen.Unseen.TheVariants as look
 use Rattle.bx_program_commands.specs.declared.diff.Undiffed.{Undiffed}
 use Rattle.bx_program_commands.specs.declared.diff.Undiffed.TheVariants as diff
 use Rattle.bx_program_commands.specs.declared.outcome.Outcome.{Outcome}
-use Rattle.bx_program_commands.specs.declared.outcome.Outcome.TheVariants.{Moved, Changed, Dumped, Compared, Looked, Forgotten}
+use Rattle.bx_program_commands.specs.declared.outcome.Outcome.TheVariants.{Moved, Changed, Dumped, Compared, Previewed, Looked, Forgotten, Renewed}
+use Rattle.bx_program_commands.specs.declared.proposal.Unpreviewed.{Unpreviewed}
+use Rattle.bx_program_commands.specs.declared.proposal.Unpreviewed.TheVariants as preview
+use Rattle.bx_program_commands.specs.declared.renewed.Renewed.{Renewed as Renewal}
+use Rattle.bx_program_commands.specs.declared.renewed.Renewed.TheVariants as renewal
 
 -- the fault of a dump that is not whole
 abbrev pub dump_fault : Undumped → Fault
@@ -39,10 +44,31 @@ diff_fault (diff.Stopped OldFailed) = Io stream.ReadFailed
 diff_fault (diff.Stopped NewFailed) = Io stream.ReadFailed
 diff_fault (diff.Stopped (WriteFailed written)) = Io (stream.WriteFailed written)
 
+-- the fault that stopped the comparison of an image with what would be made of it
+abbrev pub stop_fault : DiffFault → Fault
+stop_fault NoMemory = Io stream.NoMemory
+stop_fault TooLarge = Session session.TooLarge
+stop_fault OldFailed = Session session.DeviceFailed
+stop_fault NewFailed = Session session.DeviceFailed
+stop_fault (WriteFailed written) = Io (stream.WriteFailed written)
+
+-- the fault of the patch of a change that isn't made
+abbrev pub preview_fault : Unpreviewed → Fault
+preview_fault (preview.Unopened why) = OpenFailed
+preview_fault (preview.Refused fault) = fault
+preview_fault (preview.Unfitting has wanted) = Session session.TooLarge
+preview_fault (preview.Stopped fault) = stop_fault fault
+
 -- the same without the value
 abbrev pub ended_with : {V E : Type 0} → (E → Fault) → Result V E → Result (Unit {0}) Fault
 ended_with fault (Ok value) = Ok tt
 ended_with fault (Err e) = Err (fault e)
+
+-- that a change with which the history begins anew is done, or the fault of the step that it ended in
+abbrev pub renewed_end : Renewal → Result (Unit {0}) Fault
+renewed_end (renewal.Kept answer) = ended_with (λ fault. fault) (stands_by answer.reply)
+renewed_end (renewal.Undropped unseen) = Err (look_fault unseen)
+renewed_end (renewal.Changed answer) = ended_with (λ fault. fault) (stands_by answer.reply)
 
 -- that the command is done, or the fault that it ended in
 abbrev pub ended_by : Outcome → Result (Unit {0}) Fault
@@ -50,14 +76,23 @@ ended_by (Moved moved) = moved.outcome
 ended_by (Changed answer) = ended_with (λ fault. fault) (stands_by answer.reply)
 ended_by (Dumped outcome) = ended_with dump_fault outcome
 ended_by (Compared outcome) = ended_with diff_fault outcome
+ended_by (Previewed outcome) = ended_with preview_fault outcome
 ended_by (Looked outcome) = ended_with look_fault outcome
 ended_by (Forgotten outcome) = ended_with look_fault outcome
+ended_by (Renewed renewed) = renewed_end renewed
 
--- the file of an image that wasn't opened, and why; none where all were, or a dump or a comparison was asked for
+-- the file that wasn't opened to be changed, so that nothing was done; a later step says itself which it didn't open
+abbrev pub first_unopened : Renewal → Option Unopened
+first_unopened (renewal.Kept answer) = answer.unopened
+first_unopened renewed = None
+
+-- the file of an image that wasn't opened, and why, before anything was done; none where all were, or a dump, a comparison or a preview was asked for
 abbrev pub unopened_by : Outcome → Option Unopened
 unopened_by (Moved moved) = moved.unopened
 unopened_by (Changed answer) = answer.unopened
 unopened_by (Dumped outcome) = None
 unopened_by (Compared outcome) = None
+unopened_by (Previewed outcome) = None
 unopened_by (Looked outcome) = unopened_in outcome
 unopened_by (Forgotten outcome) = unopened_in outcome
+unopened_by (Renewed renewed) = first_unopened renewed

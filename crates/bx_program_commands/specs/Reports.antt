@@ -9,11 +9,12 @@ use Rattle.bx_cli_commands.specs.declared.fault.Fault.TheVariants.{Io}
 use Rattle.bx_program_world.specs.World.{Sight, held}
 use Rattle.bx_program_files.specs.declared.names.Names.{Names}
 use Rattle.bx_program_looks.specs.Looks.{IsLogOf, IsNextShown, IsUnseenOr, MayNotLook, StopsNextSteps, StopsRangesOf, StopsUndos, undos}
+use Rattle.bx_program_looks.specs.Stepped.{OfNamed, StopsPatch, WritesSteps}
 use Rattle.bx_program_looks.specs.declared.unseen.Unseen.{Unseen}
 use Rattle.bx_program_looks.specs.declared.unseen.Unseen.TheVariants.{Stopped}
 use Rattle.bx_program_commands.specs.Scene.{Scene}
 use Rattle.bx_program_commands.specs.declared.request.Report.{Report}
-use Rattle.bx_program_commands.specs.declared.request.Report.TheVariants.{Log, LogWithRanges, Show, ShowUnfinished}
+use Rattle.bx_program_commands.specs.declared.request.Report.TheVariants.{Log, LogWithRanges, Patch, Show, ShowUnfinished}
 
 -- the log of a journal that is finished entries alone was written
 abbrev pub WritesLog : List ℕ → Option (List ℕ) → Option (List ℕ) → Type 0
@@ -34,6 +35,7 @@ WritesReport names Log w old new = WritesLog (held w names.journal) old new
 WritesReport names LogWithRanges w old new = RangesOf (held w names.journal) old new
 WritesReport names (Show steps) w old new = IsNextShown (held w names.image) (held w names.journal) (held w names.redo) steps old new
 WritesReport names (ShowUnfinished steps) w old new = ShowsSteps (held w names.journal) (held w names.image) (undos steps) old new
+WritesReport names (Patch way count) w old new = OfNamed names w (λ s. WritesSteps way count s old new)
 
 -- why a report is not whole: nothing is seen, and nothing is written; or a front of it is
 abbrev pub StopsReport : Names → Report → Type 0 → Sight → Option (List ℕ) → Option (List ℕ) → Unseen → Type 0
@@ -41,6 +43,7 @@ StopsReport names Log counted w old new unseen = StopsLogOf names counted w old 
 StopsReport names LogWithRanges counted w old new unseen = StopsRangesOf names counted w old new unseen
 StopsReport names (Show steps) counted w old new unseen = StopsNextSteps names counted w steps old new unseen
 StopsReport names (ShowUnfinished steps) counted w old new unseen = StopsUndos names counted w steps old new unseen
+StopsReport names (Patch way count) counted w old new unseen = StopsPatch names counted w way count old new unseen
 
 -- a report was written, or why not
 abbrev pub Reports : Names → Report → Result (Unit {0}) Unseen → Scene → Scene → Type 0

@@ -11,3 +11,7 @@ pub record Scene : Type 0 where
 -- the same of a world and an output
 abbrev pub scene : {W O : Type 0} → (W → Sight) → (W → ℕ) → (O → Option (List ℕ)) → W → O → Scene
 scene sight refusals contents world out = record { sight = sight world; refusals = refusals world; written = contents out }
+
+-- the same of a world beside an output that holds this
+abbrev pub scene_beside : {W : Type 0} → (W → Sight) → (W → ℕ) → Option (List ℕ) → W → Scene
+scene_beside sight refusals written world = record { sight = sight world; refusals = refusals world; written = written }

@@ -1,9 +1,12 @@
 //! How a command ended.
 ghost use Rattle.std.specs.Prelude.{◌≡◌};
-ghost use Rattle.bx_program_commands.specs.Outcome.{diff_fault, ended_by, look_fault, dump_fault};
+ghost use Rattle.bx_program_commands.specs.Outcome.{diff_fault, ended_by, look_fault, dump_fault, preview_fault, renewed_end, stop_fault};
 
 use crate::diff::Undiffed;
+use crate::proposal::Unpreviewed;
+use crate::renewed::Renewed;
 use bx_cli_commands::{Done, Fault};
+use bx_dd::Counts;
 use bx_journal::SessionFault;
 use bx_patch::DiffFault;
 use bx_program_dumps::Undumped;
@@ -22,10 +25,14 @@ pub enum Outcome {
     Dumped(Result<Done, Undumped>),
     /// Of a comparison: that the patch is whole, or why not.
     Compared(Result<(), Undiffed>),
+    /// Of a change that isn't made: dd's counts, where it is dd's, or why its patch is not whole.
+    Previewed(Result<Option<Counts>, Unpreviewed>),
     /// Of a report: that it is whole, or why not.
     Looked(Result<(), Unseen>),
     /// Of a history: that it is dropped, or why not.
     Forgotten(Result<(), Unseen>),
+    /// Of a change with which a history begins anew.
+    Renewed(Renewed),
 }
 
 /// The fault of a dump that is not whole.
@@ -56,6 +63,30 @@ fn fault_of_diff(undiffed: Undiffed) -> Fault
     }
 }
 
+/// The fault of a comparison that a preview makes.
+fn fault_of_stop(fault: DiffFault) -> Fault
+    ensures { result ≡ stop_fault fault }
+{
+    match fault {
+        DiffFault::NoMemory => Fault::Io(IoFault::NoMemory),
+        DiffFault::TooLarge => Fault::Session(SessionFault::TooLarge),
+        DiffFault::OldFailed | DiffFault::NewFailed => Fault::Session(SessionFault::DeviceFailed),
+        DiffFault::WriteFailed { written } => Fault::Io(IoFault::WriteFailed { written }),
+    }
+}
+
+/// The fault of the patch of a change that isn't made.
+fn fault_of_preview(unpreviewed: Unpreviewed) -> Fault
+    ensures { result ≡ preview_fault unpreviewed }
+{
+    match unpreviewed {
+        Unpreviewed::Unopened(_) => Fault::OpenFailed,
+        Unpreviewed::Refused(fault) => fault,
+        Unpreviewed::Unfitting { .. } => Fault::Session(SessionFault::TooLarge),
+        Unpreviewed::Stopped(fault) => fault_of_stop(fault),
+    }
+}
+
 /// The fault of a report that is not whole.
 fn fault_of_look(unseen: Unseen) -> Fault
     ensures { result ≡ look_fault unseen }
@@ -64,6 +95,19 @@ fn fault_of_look(unseen: Unseen) -> Fault
         Unseen::Unopened(_) => Fault::OpenFailed,
         Unseen::Unfinished => Fault::Session(SessionFault::Interrupted),
         Unseen::Stopped(fault) => fault,
+    }
+}
+
+/// How a change ended with which a history begins anew.
+fn end_of_renewal(renewed: Renewed) -> Result<(), Fault>
+    ensures { result ≡ renewed_end renewed }
+{
+    match renewed {
+        Renewed::Kept(answer) | Renewed::Changed(answer) => match answer.reply.standing() {
+            Ok(_) => Ok(()),
+            Err(fault) => Err(fault),
+        },
+        Renewed::Undropped(unseen) => Err(fault_of_look(unseen)),
     }
 }
 
@@ -78,12 +122,15 @@ impl Outcome {
                 Ok(_) => Ok(()),
                 Err(fault) => Err(fault),
             },
+            Outcome::Renewed(renewed) => end_of_renewal(*renewed),
             Outcome::Dumped(Ok(_))
             | Outcome::Compared(Ok(()))
+            | Outcome::Previewed(Ok(_))
             | Outcome::Looked(Ok(()))
             | Outcome::Forgotten(Ok(())) => Ok(()),
             Outcome::Dumped(Err(undumped)) => Err(fault_of_dump(*undumped)),
             Outcome::Compared(Err(undiffed)) => Err(fault_of_diff(*undiffed)),
+            Outcome::Previewed(Err(unpreviewed)) => Err(fault_of_preview(*unpreviewed)),
             Outcome::Looked(Err(unseen)) | Outcome::Forgotten(Err(unseen)) => {
                 Err(fault_of_look(*unseen))
             }

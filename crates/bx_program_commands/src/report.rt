@@ -9,7 +9,7 @@ ghost use Rattle.bx_program_commands.specs.Scene.{scene};
 use crate::request::Report;
 use bx_cli_commands::Fault;
 use bx_program_files::Names;
-use bx_program_looks::{Unseen, log, log_with_ranges, show, show_unfinished};
+use bx_program_looks::{Unseen, log, log_with_ranges, show, show_patch, show_unfinished};
 use bx_program_world::World;
 use bx_text::emit;
 use std::alloc::Global;
@@ -63,5 +63,6 @@ pub fn write_report<W: World, O: Write>(
         Report::LogWithRanges => log_with_ranges(world, alloc, names, out),
         Report::Show(steps) => show(world, alloc, names, steps, out),
         Report::ShowUnfinished(steps) => show_unfinished(world, alloc, names, steps, out),
+        Report::Patch { way, count } => show_patch(world, alloc, names, way, count, out),
     }
 }

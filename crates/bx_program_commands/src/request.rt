@@ -1,4 +1,5 @@
 //! What is asked for: a command on named files.
+use crate::proposal::Proposal;
 use bx_cli_commands::DumpJob;
 use bx_journal::{Steps, Way};
 use bx_patch::Extent;
@@ -17,6 +18,13 @@ pub enum Report {
     Show(Steps),
     /// What is unfinished, and what the next undos would do once it is recovered.
     ShowUnfinished(Steps),
+    /// What the next undos or redos would do, as one patch.
+    Patch {
+        /// Back or again.
+        way: Way,
+        /// How many changes are stepped over.
+        count: u32,
+    },
 }
 
 /// A command on named files. `R` is what dd reads, and a dump of no named file.
@@ -64,6 +72,13 @@ pub enum Request<'a, R = Empty> {
         /// What of a row has lines.
         extent: Extent,
     },
+    /// Writes the patch that a change would be, and makes none: `-n` of `revert`, `patch` and `dd of=`.
+    Preview {
+        /// The image.
+        name: &'a str,
+        /// The change.
+        proposal: Proposal<R>,
+    },
     /// Writes a report of the changes of an image: `log`, `show`.
     Look {
         /// The files of the image.
@@ -71,9 +86,19 @@ pub enum Request<'a, R = Empty> {
         /// What is reported.
         report: Report,
     },
-    /// Drops the history of an image, which is only read: `forget`, `--fresh`.
+    /// Drops the history of an image, which is only read: `forget`.
     Forget {
         /// The files of the image.
         names: &'a Names,
+    },
+    /// Changes an image with whose change the history begins anew: what is unfinished is recovered, the history is dropped, and the
+    /// change is made on the image alone: `--fresh`.
+    Renew {
+        /// The files of the image.
+        names: &'a Names,
+        /// Whether the image may be a device that is mounted.
+        mounted: bool,
+        /// The change.
+        task: Task<R>,
     },
 }

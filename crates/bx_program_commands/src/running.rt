@@ -6,6 +6,8 @@ ghost use Rattle.bx_program_commands.specs.Scene.{scene};
 
 use crate::diff::write_diff;
 use crate::outcome::Outcome;
+use crate::preview::write_preview;
+use crate::renewed::renew_files;
 use crate::report::write_report;
 use crate::request::Request;
 use bx_program_dumps::{dump_file, dump_input};
@@ -67,9 +69,17 @@ pub fn run_request<W: World, R: Read + Drop, O: Write>(
         Request::Diff { old, new, extent } => {
             Outcome::Compared(write_diff(world, alloc, old, new, extent, out))
         }
+        Request::Preview { name, proposal } => {
+            Outcome::Previewed(write_preview(world, alloc, name, proposal, out))
+        }
         Request::Look { names, report } => {
             Outcome::Looked(write_report(world, alloc, names, report, out))
         }
         Request::Forget { names } => Outcome::Forgotten(forget_files(world, alloc, names)),
+        Request::Renew {
+            names,
+            mounted,
+            task,
+        } => Outcome::Renewed(renew_files(world, alloc, names, mounted, task)),
     }
 }

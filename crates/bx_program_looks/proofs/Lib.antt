@@ -5,3 +5,8 @@ pub mod Emptied
 pub mod Apart
 pub mod ByNames
 pub mod Judged
+pub mod StepLemmas
+pub mod Counted
+pub mod StepsRead
+pub mod StepsCut
+pub mod Refused

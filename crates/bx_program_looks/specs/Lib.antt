@@ -1,3 +1,4 @@
 pub mod Looks
 pub mod Devices
 pub mod Forgetting
+pub mod Stepped

@@ -7,6 +7,7 @@ ghost use Rattle.bx_journal.specs.ThreeDevices.{AreBelow};
 ghost use Rattle.bx_journal.specs.Undoing.{HasCount};
 ghost use Rattle.bx_program_looks.specs.Devices.{HoldBytes, IsDeviceStop, IsOpenedWhole, IsUnbroken};
 ghost use Rattle.bx_program_looks.specs.Looks.{AreStepsCut, HidesChanges, IsListCut, IsLogOf, IsNextCut, IsNextShown, IsUnseenOr, stepped_text, undos};
+ghost use Rattle.bx_program_looks.specs.Stepped.{CountsHeld};
 
 use crate::unseen::{Unseen, reason_of};
 use bx_cli_commands::{Fault, list_ranges, list_steps, log_text};
@@ -48,7 +49,7 @@ pub fn is_whole(how: How) -> bool
 
 /// Opens a session on devices that are only read. Where something is unfinished it is refused, also if the devices took what
 /// recovery writes: the files have nothing of it.
-fn open_whole<D: Device, T: TextStore>(
+pub fn open_whole<D: Device, T: TextStore>(
     alloc: Global,
     devices: Devices<D, T>,
 ) -> Result<Session<D, T>, (Devices<D, T>, Unseen)>
@@ -56,6 +57,8 @@ fn open_whole<D: Device, T: TextStore>(
     ensures unbroken { IfOk result (IsUnbroken D.Device T.TextStore u64.MAX) }
     ensures opened { (x text redo : List ℕ) → HoldBytes D.Device T.TextStore x text redo devices
         → IfOk result (IsOpenedWhole D.Device T.TextStore x text redo) }
+    ensures images { (x text redo : List ℕ) → HoldBytes D.Device T.TextStore x text redo devices
+        → IfOk result (CountsHeld x text redo) }
     ensures hides { (x text redo : List ℕ) → HoldBytes D.Device T.TextStore x text redo devices
         → IfErr result (λ e. HidesChanges x text redo e.1) }
 {

@@ -39,21 +39,6 @@ fn is_of_texts(fault: SessionFault) -> bool
     }
 }
 
-/// Whether it is the fault of texts whose history can be dropped all the same.
-pub fn is_droppable(fault: Fault) -> bool {
-    match fault {
-        Fault::Session(fault) => is_of_texts(fault),
-        Fault::Io(_)
-        | Fault::Read(_)
-        | Fault::Dd(_)
-        | Fault::Patch(_)
-        | Fault::Disagrees(_)
-        | Fault::ChangedSince
-        | Fault::Usage
-        | Fault::OpenFailed => false,
-    }
-}
-
 /// Looks whether the history of three devices may be dropped. They are only read: where something is unfinished it is refused, also
 /// if the devices took what recovery writes, since the files have nothing of it.
 fn judge<D: Device, T: TextStore>(alloc: Global, devices: Devices<D, T>) -> Seen<D, T, ()>

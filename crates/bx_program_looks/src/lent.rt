@@ -1,10 +1,12 @@
 //! Files that are lent as devices to be read.
-ghost use Rattle.std.specs.Prelude.{◌≡◌, ◌↔◌, ◌<◌, IfErr, IfOk, OnOk};
+ghost use Rattle.std.specs.Prelude.{◌≡◌, ◌↔◌, ◌<◌, None, Some, IfErr, IfOk, OnOk};
 ghost use Rattle.bx_journal.specs.ThreeDevices.{AreBelow};
-ghost use Rattle.bx_program_world.specs.World.{NothingNewFound, bytes_if, number_if};
+ghost use Rattle.bx_program_world.specs.World.{MayBeRead, NothingNewFound, bytes_if, held, number_if};
 ghost use Rattle.bx_program_files.specs.Reading.{AreReadable, MayRefuseReading, StaysSeen, numbers_read};
-ghost use Rattle.bx_program_files.specs.Reasons.{IsReason, NoneUnfit};
+ghost use Rattle.bx_program_files.specs.Reasons.{IsReason, IsRefusedFile, NoneUnfit};
+ghost use Rattle.bx_program_files.specs.declared.unopened.Which.TheVariants.{Image};
 ghost use Rattle.bx_program_looks.specs.Devices.{HoldFiles, HoldNumbered};
+ghost use Rattle.bx_program_looks.specs.Stepped.{HoldsImage};
 
 use crate::devices::Seen;
 use crate::unseen::Unseen;
@@ -18,6 +20,7 @@ fn lend_redo<W: World>(world: &mut W, redo: Option<W::File>) -> Result<W::Text, 
     ensures faithful { W.honest world.old → IfOk result (λ t. W.Text.honest t) }
     ensures text { W.honest world.old → IfOk result (λ t. W.Text.text t ≡ bytes_if (W.sight world.old) (number_if W.number redo)) }
     ensures why { W.honest world.old → IfErr result (λ u. IsReason ⊥ NoneUnfit ⊥ (W.refusals world.old < W.refusals world.new) u.why) }
+    ensures calm { W.honest world.old → OnOk result (W.refusals world.new ≡ W.refusals world.old) }
     ensures seen { W.honest world.old → StaysSeen W.sight W.survives world.old world.new }
     ensures honesty { W.honest world.new ↔ W.honest world.old }
 {
@@ -39,6 +42,7 @@ fn lend_files<W: World>(
     ensures held { W.honest world.old
         → IfOk result (HoldNumbered W.Image.Device W.Text.TextStore (numbers_read W.number looked) (W.sight world.old)) }
     ensures why { W.honest world.old → IfErr result (λ u. IsReason ⊥ NoneUnfit ⊥ (W.refusals world.old < W.refusals world.new) u.why) }
+    ensures calm { W.honest world.old → OnOk result (W.refusals world.new ≡ W.refusals world.old) }
     ensures seen { W.honest world.old → StaysSeen W.sight W.survives world.old world.new }
     ensures honesty { W.honest world.new ↔ W.honest world.old }
 {
@@ -72,6 +76,7 @@ pub fn lend<W: World>(world: &mut W, names: &Names) -> Result<Devices<W::Image, 
     ensures fit { W.honest world.old → OnOk result (AreReadable names.now (W.sight world.old)) }
     ensures why { W.honest world.old
         → IfErr result (MayRefuseReading names.now (W.refusals world.old < W.refusals world.new) (W.sight world.old)) }
+    ensures calm { W.honest world.old → OnOk result (W.refusals world.new ≡ W.refusals world.old) }
     ensures same { W.honest world.old → W.sight world.new ≡ W.sight world.old }
     ensures survives { W.honest world.old → NothingNewFound (W.survives world.old) (W.survives world.new) }
     ensures honesty { W.honest world.new ↔ W.honest world.old }
@@ -83,9 +88,60 @@ pub fn lend<W: World>(world: &mut W, names: &Names) -> Result<Devices<W::Image, 
     lend_files(world, looked)
 }
 
+/// Opens an image once more to read it, and locks it.
+fn open_again<W: World>(world: &mut W, name: &str) -> Result<W::File, Unopened>
+    requires may { W.honest world.old → MayBeRead (W.sight world.old) name.now }
+    ensures named { W.honest world.old → IfOk result (λ f. (W.sight world.old).named name.now ≡ Some (W.number f)) }
+    ensures why { W.honest world.old → IfErr result (IsRefusedFile Image ((W.sight world.old).named name.now ≡ None) NoneUnfit ⊥
+        (W.refusals world.old < W.refusals world.new)) }
+    ensures calm { W.honest world.old → OnOk result (W.refusals world.new ≡ W.refusals world.old) }
+    ensures seen { W.honest world.old → StaysSeen W.sight W.survives world.old world.new }
+    ensures honesty { W.honest world.new ↔ W.honest world.old }
+{
+    let file = match world.open_image_to_read(name) {
+        Ok(file) => file,
+        Err(refusal) => return Err(Which::Image.refused(refusal)),
+    };
+    match world.lock_shared(name, &file) {
+        Ok(()) => Ok(file),
+        Err(refusal) => Err(Which::Image.refused(refusal)),
+    }
+}
+
+/// Opens an image once more that is lent already, and lends it a second time.
+pub fn lend_again<W: World>(world: &mut W, name: &str) -> Result<W::Image, Unopened>
+    requires may { W.honest world.old → MayBeRead (W.sight world.old) name.now }
+    ensures failures { IfOk result (λ d. W.Image.failures d ≡ 0) }
+    ensures held { W.honest world.old → IfOk result (HoldsImage W.Image.Device (held (W.sight world.old) name.now)) }
+    ensures why { W.honest world.old → IfErr result (IsRefusedFile Image ((W.sight world.old).named name.now ≡ None) NoneUnfit ⊥
+        (W.refusals world.old < W.refusals world.new)) }
+    ensures seen { W.honest world.old → StaysSeen W.sight W.survives world.old world.new }
+    ensures honesty { W.honest world.new ↔ W.honest world.old }
+{
+    let file = match open_again(world, name) {
+        Ok(file) => file,
+        Err(unopened) => return Err(unopened),
+    };
+    match world.lend_image_to_read(file) {
+        Ok(device) => Ok(device),
+        Err(refusal) => Err(Which::Image.refused(refusal)),
+    }
+}
+
+/// Closes an image that was lent a second time.
+pub fn close_again<W: World>(world: &mut W, image: W::Image)
+    ensures seen { W.honest world.old → StaysSeen W.sight W.survives world.old world.new }
+    ensures honesty { W.honest world.new ↔ W.honest world.old }
+{
+    let journal = world.lend_no_text();
+    let redo = world.lend_no_text();
+    world.close_read(image, journal, redo);
+}
+
 /// Closes the files that were lent, and answers what was seen.
 pub fn close<W: World, V>(world: &mut W, seen: Seen<W::Image, W::Text, V>) -> Result<V, Unseen>
     ensures outcome { result ≡ seen.outcome }
+    ensures calm { W.honest world.old → W.refusals world.new ≡ W.refusals world.old }
     ensures same { W.honest world.old → W.sight world.new ≡ W.sight world.old }
     ensures survives { W.honest world.old → NothingNewFound (W.survives world.old) (W.survives world.new) }
     ensures honesty { W.honest world.new ↔ W.honest world.old }

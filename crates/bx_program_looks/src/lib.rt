@@ -7,9 +7,11 @@ mod forgotten;
 mod lent;
 mod listed;
 mod shown;
+mod stepped;
 mod unseen;
 
-pub use forgotten::{forget_files, is_droppable};
+pub use forgotten::forget_files;
 pub use listed::{log, log_with_ranges};
 pub use shown::{show, show_unfinished};
+pub use stepped::show_patch;
 pub use unseen::Unseen;

@@ -1,11 +1,13 @@
-//! A window of an image behind a change.
-ghost use Rattle.std.specs.Prelude.{◌≡◌, ◌+◌, ◌<◌, ◌≤◌, ℕ, List, [], length, take, OnOk, is_err};
-ghost use Rattle.bx_image.specs.Change.{placed};
-ghost use Rattle.bx_image.specs.Image.{place};
+//! A window of an image behind changes.
+ghost use Rattle.std.specs.Prelude.{◌≡◌, ◌+◌, ◌<◌, ◌≤◌, ℕ, List, [], length, slice_index, OnOk, is_err};
+ghost use Rattle.std.specs.Option.{option_map_or};
+ghost use Rattle.bx_image.specs.Change.{effect, placed};
+ghost use Rattle.bx_image.specs.Image.{cut, place};
 ghost use Rattle.bx_patch.specs.Diff.{OnlyReads};
+ghost use Rattle.bx_patch_preview.specs.Changed.{effects};
 ghost use Rattle.bx_patch_preview.specs.private.Window.{IsWindow};
 
-use bx_image::{Device, DeviceFailed};
+use bx_image::{Change, Device, DeviceFailed};
 use bx_text::Piece;
 use std::alloc::Allocator;
 
@@ -17,29 +19,54 @@ fn clear(bytes: &mut [u8])
     bytes.fill(0);
 }
 
-/// Fills a buffer with those of a device's first `kept` bytes that stand from an address on, and with zeros behind them.
-pub fn read_kept<D: Device>(
+/// Fills a buffer with the bytes of a device's image from an address on, and with zeros behind its end. `len` is its length.
+pub fn read_window<D: Device>(
     device: &mut D,
-    kept: u64,
+    len: u64,
     at: u64,
     buf: &mut [u8],
 ) -> Result<(), DeviceFailed>
     requires countable { D.failures device.old < u64.MAX }
-    requires kept { D.honest device.old → kept ≤ length (D.image device.old) }
+    requires len { D.honest device.old → len ≡ length (D.image device.old) }
     ensures length { length buf.new ≡ length buf.old }
-    ensures bytes { D.honest device.old → OnOk result (IsWindow buf.new at (take kept (D.image device.old))) }
+    ensures bytes { D.honest device.old → OnOk result (IsWindow buf.new at (D.image device.old)) }
     ensures reads { OnlyReads D.honest D.image D.room D.failures D.survives (is_err result) device.old device.new }
 {
-    if kept <= at {
+    if len <= at {
         clear(buf);
         return Ok(());
     }
-    let count = (buf.len() as u64).min(kept - at) as usize;
+    let count = (buf.len() as u64).min(len - at) as usize;
     let (front, rest) = buf.split_at_mut(count);
     clear(rest);
     match device.read_at(at, front) {
         Ok(()) => Ok(()),
         Err(fault) => Err(fault),
+    }
+}
+
+/// Overwrites the end of a buffer from a place on with zeros.
+fn clear_from(buf: &mut [u8], start: usize)
+    requires { start ≤ length buf.old }
+    ensures length { length buf.new ≡ length buf.old }
+    ensures front { (j : ℕ) → j < start → slice_index buf.new j ≡ slice_index buf.old j }
+    ensures zeros { (j : ℕ) → start ≤ j → slice_index buf.new j ≡ 0 }
+{
+    clear(&mut buf[start..]);
+}
+
+/// Cuts a window to a length, where there is one: what lies behind it is zeros.
+fn cut_window(base: Option<u64>, at: u64, buf: &mut [u8])
+    ensures length { length buf.new ≡ length buf.old }
+    ensures put { (y : List ℕ) → IsWindow buf.old at y → IsWindow buf.new at (option_map_or (cut y) base y) }
+{
+    let Some(base) = base else {
+        return;
+    };
+    if base <= at {
+        clear_from(buf, 0);
+    } else if base - at < buf.len() as u64 {
+        clear_from(buf, (base - at) as usize);
     }
 }
 
@@ -75,11 +102,30 @@ fn put_piece<A: Allocator>(piece: &Piece<A>, at: u64, buf: &mut [u8])
 }
 
 /// Puts pieces into a window, in their order.
-pub fn put_pieces<A: Allocator>(pieces: &[Piece<A>], at: u64, buf: &mut [u8])
+fn put_pieces<A: Allocator>(pieces: &[Piece<A>], at: u64, buf: &mut [u8])
     ensures length { length buf.new ≡ length buf.old }
     ensures put { (y : List ℕ) → IsWindow buf.old at y → IsWindow buf.new at (placed pieces.now y) }
 {
     for piece in pieces {
         put_piece(piece, at, buf);
+    }
+}
+
+/// Makes a change in a window.
+fn put_change<A: Allocator>(change: &Change<A>, at: u64, buf: &mut [u8])
+    ensures length { length buf.new ≡ length buf.old }
+    ensures put { (y : List ℕ) → IsWindow buf.old at y → IsWindow buf.new at (effect change.now y) }
+{
+    cut_window(change.base, at, buf);
+    put_pieces(change.writes.as_slice(), at, buf);
+}
+
+/// Makes changes in a window, in their order.
+pub fn put_changes<A: Allocator>(changes: &[Change<A>], at: u64, buf: &mut [u8])
+    ensures length { length buf.new ≡ length buf.old }
+    ensures put { (y : List ℕ) → IsWindow buf.old at y → IsWindow buf.new at (effects changes.now y) }
+{
+    for change in changes {
+        put_change(change, at, buf);
     }
 }

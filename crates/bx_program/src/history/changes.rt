@@ -1,18 +1,18 @@
 //! Changes of an image by the names of its files.
 ghost use Rattle.bx_program_sessions.specs.Task.{IsNearTask};
 
-use crate::devices::left::stopped;
+use crate::advice::forget_line;
+use crate::devices::left::{not_seen, stopped};
 use crate::files::look::{is_missing, refuse_without_journal};
 use crate::files::names::{names_of, world_of};
 use crate::files::unopened::not_opened;
 use crate::hints::remarks::Remarks;
-use crate::history::forget::empty_texts;
-use crate::history::open_to_change;
-use crate::requests::request_change;
+use crate::history::take_empty;
+use crate::requests::{request_change, request_renewal};
 use crate::stopped::Stopped;
 use bx_cli::{Reply, Target};
+use bx_program_commands::Renewed;
 use bx_program_files::Which;
-use bx_program_looks::is_droppable;
 use bx_program_sessions::Task;
 use bx_program_system::{Progress, take_away};
 use bx_program_world::World;
@@ -61,29 +61,49 @@ where
         return change_image(rt, target, task, progress, remarks);
     }
     let made = made_image(rt, target, progress)?;
-    let outcome = match drop_history(rt, target, progress) {
-        Ok(()) => change_image(rt, target, task, progress, remarks),
-        Err(stopped) => Err(stopped),
-    };
+    let outcome = renew_image(rt, target, task, progress, remarks);
     if let (Some(file), Err(_)) = (made, &outcome) {
         take_away(rt, target.image.as_str(), &file);
     }
     outcome
 }
 
-/// Drops the history of an image whose files may be changed.
-fn drop_history<'a, R>(
+/// Drops the history of an image that is there, and then changes it. A redo text that is missing is made by the change alone.
+fn renew_image<'a, R>(
     rt: &R,
     target: &'a Target,
+    task: Task<Empty>,
     progress: &Progress<'_, R>,
-) -> Result<(), Stopped<'a>>
+    remarks: &mut Remarks,
+) -> Result<Reply, Stopped<'a>>
 where
     R: Files<File = File> + Print + Eprint + Clock + AllocGlobal,
+    requires near { IsNearTask task }
 {
     refuse_without_journal(rt, target)?;
-    match open_to_change(rt, target, progress) {
-        Err(stopped) if !is_droppable(stopped.fault) => Err(stopped),
-        Ok(()) | Err(_) => empty_texts(rt, target, progress),
+    let redo = target.texts.redo.as_str();
+    let is_made = is_missing(rt, redo);
+    let names = names_of(rt.alloc(), target)?;
+    let mut world = world_of(rt, target, progress);
+    let mounted = target.access.mounted;
+    let renewed = request_renewal(&mut world, rt.alloc(), &names, mounted, task);
+    drop(names);
+    let answer = match renewed {
+        Renewed::Kept(answer) | Renewed::Changed(answer) => answer,
+        Renewed::Undropped(unseen) => {
+            if is_made {
+                take_empty(rt, redo);
+            }
+            return Err(not_seen(rt, target, &world, unseen, None));
+        }
+    };
+    remarks.look_at_recovered(answer.how);
+    match answer.reply.standing() {
+        Ok(_) => Ok(answer.reply),
+        Err(fault) => {
+            forget_line(rt, target);
+            Err(stopped(rt, target, &world, answer.unopened, fault))
+        }
     }
 }
 

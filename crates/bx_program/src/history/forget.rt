@@ -46,7 +46,7 @@ where
 }
 
 /// Drops the history of an image in which nothing is unfinished.
-pub fn empty_texts<'a, R>(
+fn empty_texts<'a, R>(
     rt: &R,
     target: &'a Target,
     progress: &Progress<'_, R>,

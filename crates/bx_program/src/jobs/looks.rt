@@ -5,7 +5,6 @@ use crate::files::look::refuse_without_journal;
 use crate::files::names::{names_of, world_of};
 use crate::hints::remarks::Remarks;
 use crate::history::recover_image;
-use crate::jobs::patches::put_patch;
 use crate::requests::request_report;
 use crate::stopped::Stopped;
 use crate::streams::paged::Paged;
@@ -83,19 +82,29 @@ where
     let target = &job.target;
     refuse_without_journal(rt, target)?;
     let is_other = Advice::of(rt, target).is_shown(job.way, job.count);
-    if job.as_patch {
-        return put_patch(rt, target, steps_of(job), is_other, progress, out);
-    }
     let mut page = Paged::new(rt.alloc(), out);
     put_other(is_other, &mut page).map_err(Fault::Io)?;
     let names = names_of(rt.alloc(), target)?;
     let mut world = world_of(rt, target, progress);
-    let asked = Report::Show(steps_of(job));
+    let asked = asked_of(job);
     match request_report(&mut world, rt.alloc(), &names, asked, &mut page) {
         Ok(()) => Ok(page.put()?),
-        Err(Unseen::Unfinished) => show_begun(rt, job, &names, &mut world, page),
+        Err(Unseen::Unfinished) if !job.as_patch => {
+            show_begun(rt, job, &names, &mut world, page)
+        }
         Err(unseen) => Err(not_seen(rt, target, &world, unseen, page.stopped)),
     }
+}
+
+/// The report that a job asks for. No patch leads from an image whose change is unfinished.
+fn asked_of(job: &ShowJob) -> Report {
+    if job.as_patch {
+        return Report::Patch {
+            way: job.way,
+            count: job.count,
+        };
+    }
+    Report::Show(steps_of(job))
 }
 
 /// The steps that a job asks for, whatever changes stand.

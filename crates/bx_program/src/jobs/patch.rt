@@ -2,7 +2,7 @@
 ghost use Rattle.bx_cli_commands.specs.Command.{IsNear};
 
 use crate::advice::Advice;
-use crate::devices::pairs::open_pair;
+use crate::devices::agreement::agree;
 use crate::files::look::is_device;
 use crate::hints::remarks::Remarks;
 use crate::history::changes::{change_anew, change_image};
@@ -45,7 +45,7 @@ where
     let target = &job.target;
     if job.fresh {
         // Nothing is dropped for a patch with which the image doesn't agree.
-        open_pair(rt, image, &progress)?.agree(image, &patch)?;
+        agree(rt, image, &patch, &progress)?;
         change_anew(rt, target, Task::Run(asking(patch)), &progress, remarks)?;
     } else {
         change_image(rt, target, Task::Run(asking(patch)), &progress, remarks)?;

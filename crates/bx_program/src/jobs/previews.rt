@@ -1,24 +1,96 @@
 //! What a change would be: the image is only read, and the patch of the change is written.
 ghost use Rattle.bx_cli_commands.specs.jobs.Passing.{CanPass, plan_skip};
 
-use crate::devices::pairs::open_pair;
-use crate::files::look::is_device;
+use crate::devices::agreement::missing;
+use crate::devices::left::stopped;
+use crate::files::look::{device_length, is_device, is_missing};
+use crate::files::names::world_of;
+use crate::files::unopened::not_opened_alone;
 use crate::hints::remarks::Remarks;
 use crate::jobs::copies::{most_of_dd, plan_for};
-use crate::stopped::{Noted, Stopped};
+use crate::requests::request_preview;
+use crate::stopped::{Noted, Reason, Stopped};
 use crate::streams::fitting::Fitting;
 use crate::streams::input::{Placed, file, standard};
 use crate::streams::part::Part;
-use bx_cli::{DdImageJob, Fault, Target, change_of_plan};
+use bx_cli::{DdImageJob, Fault, Target};
 use bx_dd::Counts;
 use bx_image::Change;
-use bx_patch::Patch;
-use bx_program_system::Progress;
+use bx_journal::SessionFault;
+use bx_patch::{DiffFault, Patch};
+use bx_program_commands::{Proposal, Unpreviewed};
+use bx_program_system::{Progress, SystemWorld};
 use bx_read::ReadFault;
+use bx_text::IoFault;
 use std::fs::File;
-use std::io::{Read, Write};
+use std::io::{Empty, Read, Write};
 use std::rt::Files;
 use std::time::Clock;
+
+/// What stopped the patch of an image, which was opened to be read.
+fn cut_off<'a, R>(
+    target: &'a Target,
+    world: &SystemWorld<'_, '_, R>,
+    fault: DiffFault,
+) -> Stopped<'a>
+where
+    R: Files<File = File> + Print + Eprint + Clock + AllocGlobal,
+{
+    match fault {
+        DiffFault::NoMemory => Stopped::from(Fault::Io(IoFault::NoMemory)),
+        DiffFault::TooLarge => Stopped::from(Fault::from(SessionFault::TooLarge)),
+        DiffFault::OldFailed | DiffFault::NewFailed => {
+            let failed = Fault::from(SessionFault::DeviceFailed);
+            Stopped::failed(failed, target.image.as_str(), world.left.image.call)
+        }
+        DiffFault::WriteFailed { written } => {
+            Stopped::from(Fault::Io(IoFault::WriteFailed { written }))
+        }
+    }
+}
+
+/// Why what is asked of an image is refused. One that is missing has no byte.
+fn refused<'a, R>(
+    rt: &R,
+    target: &'a Target,
+    world: &SystemWorld<'_, '_, R>,
+    fault: Fault,
+) -> Stopped<'a>
+where
+    R: Files<File = File> + Print + Eprint + Clock + AllocGlobal,
+{
+    let name = target.image.as_str();
+    match fault {
+        Fault::Disagrees(other) if is_missing(rt, name) => missing(name, other),
+        fault => stopped(rt, target, world, None, fault),
+    }
+}
+
+/// Writes the patch of what is asked of an image, and answers what dd counted.
+fn preview<'a, R, I: Read + Drop, W: Write>(
+    rt: &R,
+    target: &'a Target,
+    proposal: Proposal<I>,
+    progress: &Progress<'_, R>,
+    out: &mut W,
+) -> Result<Option<Counts>, Stopped<'a>>
+where
+    R: Files<File = File> + Print + Eprint + Clock + AllocGlobal,
+{
+    let name = target.image.as_str();
+    let mut world = world_of(rt, target, progress);
+    match request_preview(&mut world, rt.alloc(), name, proposal, out) {
+        Ok(counts) => Ok(counts),
+        Err(Unpreviewed::Unopened(why)) => Err(not_opened_alone(rt, name, why)),
+        Err(Unpreviewed::Refused(fault)) => Err(refused(rt, target, &world, fault)),
+        Err(Unpreviewed::Unfitting { has, wanted }) => Err(Stopped {
+            fault: Fault::from(SessionFault::TooLarge),
+            file: Some(name),
+            reason: Reason::Fixed { has, wanted },
+        }),
+        Err(Unpreviewed::Stopped(fault)) => Err(cut_off(target, &world, fault)),
+    }
+}
 
 /// Writes the patch that the change of a dump would be, which was read, or refuses it for the dump's fault.
 pub fn preview_read<'a, R, W: Write>(
@@ -29,15 +101,12 @@ pub fn preview_read<'a, R, W: Write>(
     out: &mut W,
 ) -> Result<(), Stopped<'a>>
 where
-    R: Files<File = File> + Eprint + Clock + AllocGlobal,
+    R: Files<File = File> + Print + Eprint + Clock + AllocGlobal,
 {
-    let name = target.image.as_str();
     let progress = remarks.progress_of_input(rt, None);
-    let pair = open_pair(rt, name, &progress)?;
-    match read {
-        Ok(change) => pair.put(rt.alloc(), name, change, out),
-        Err(fault) => Err(Stopped::from(Fault::Read(fault))),
-    }
+    let proposal: Proposal<Empty> = Proposal::Read(read);
+    preview(rt, target, proposal, &progress, out)?;
+    Ok(())
 }
 
 /// Writes the patch that applying a patch would be, with which the image has to agree.
@@ -49,12 +118,11 @@ pub fn preview_patch<'a, R, W: Write>(
     out: &mut W,
 ) -> Result<(), Stopped<'a>>
 where
-    R: Files<File = File> + Eprint + Clock + AllocGlobal,
+    R: Files<File = File> + Print + Eprint + Clock + AllocGlobal,
 {
-    let name = target.image.as_str();
-    let mut pair = open_pair(rt, name, progress)?;
-    pair.agree(name, &patch)?;
-    pair.put(rt.alloc(), name, patch.into_change(), out)
+    let proposal: Proposal<Empty> = Proposal::Patch(patch);
+    preview(rt, target, proposal, progress, out)?;
+    Ok(())
 }
 
 /// Writes the patch that dd's copy onto an image would be, and answers the counts.
@@ -63,50 +131,43 @@ pub fn preview_copy<'a, R, W: Write>(
     job: &'a DdImageJob,
     remarks: &Remarks,
     out: &mut W,
-) -> Result<Counts, Stopped<'a>>
+) -> Result<Option<Counts>, Stopped<'a>>
 where
-    R: Files<File = File> + Input + Eprint + Clock + AllocGlobal,
+    R: Files<File = File> + Input + Print + Eprint + Clock + AllocGlobal,
 {
     let progress = remarks.progress_of_copy(rt, &job.plan);
     let skip = job.skip();
     match &job.plan.input {
-        Some(name) => copy_from(rt, job, file(rt, skip, name)?, &progress, out),
-        None => copy_from(rt, job, standard(rt, skip), &progress, out),
+        Some(name) => preview_from(rt, job, file(rt, skip, name)?, &progress, out),
+        None => preview_from(rt, job, standard(rt, skip), &progress, out),
     }
 }
 
 /// The same of an input that is open.
-fn copy_from<'a, R, I: Read + Drop, W: Write>(
+fn preview_from<'a, R, I: Read + Drop, W: Write>(
     rt: &R,
     job: &'a DdImageJob,
     input: Placed<'a, I>,
     progress: &Progress<'_, R>,
     out: &mut W,
-) -> Result<Counts, Stopped<'a>>
+) -> Result<Option<Counts>, Stopped<'a>>
 where
-    R: Files<File = File> + Eprint + Clock + AllocGlobal,
+    R: Files<File = File> + Print + Eprint + Clock + AllocGlobal,
     requires { CanPass input.passed (plan_skip job.now.plan) }
 {
-    let name = job.target.image.as_str();
-    let keeps_length = is_device(rt, name);
-    let pair = open_pair(rt, name, progress)?;
+    let image = job.target.image.as_str();
     let (from, passed) = (input.name, input.passed);
-    let plan = plan_for(&job.plan, passed, keeps_length);
+    let plan = plan_for(&job.plan, passed, is_device(rt, image));
     let total = input.most(most_of_dd(&job.plan));
     let input = Noted::new(Part::new(input.reader, total, progress));
-    let mut fitting = Fitting::new(input, &job.plan, passed, pair.length);
-    let read = change_of_plan(&rt.alloc(), &plan, &mut fitting);
-    progress.end();
-    let made = match read {
-        Ok(made) => made,
-        Err(fault) => {
-            return Err(Stopped::from(Fault::from(fault)).on_input(from, fitting.input.error));
-        }
+    let mut fitting = Fitting::new(input, &job.plan, passed, device_length(rt, image));
+    let proposal = Proposal::Copy {
+        plan,
+        input: &mut fitting,
     };
-    let counts = made.counts;
-    match pair.put(rt.alloc(), name, made.change, out) {
-        Ok(()) => Ok(counts),
+    match preview(rt, &job.target, proposal, progress, out) {
+        Ok(counts) => Ok(counts),
         Err(stopped) if fitting.is_full() => Err(stopped.on_more_input()),
-        Err(stopped) => Err(stopped),
+        Err(stopped) => Err(stopped.on_input(from, fitting.input.error)),
     }
 }

@@ -5,3 +5,9 @@ returns-in-Move-clause-survives g c old = rw c.in-Move.is (c.move_changes.ensure
 
 pub returns-in-Change-clause-survives : goal.returns-in-Change-clause-survives
 returns-in-Change-clause-survives g c old = rw c.in-Change.is (c.change_files.ensures.survives old)
+
+pub returns-in-Renew-clause-does : goal.returns-in-Renew-clause-does
+returns-in-Renew-clause-does g c old = rw c.in-Renew.is (c.renew_files.ensures.does old (g.O.Write.contents c.args.out.now))
+
+pub returns-in-Renew-clause-survives : goal.returns-in-Renew-clause-survives
+returns-in-Renew-clause-survives g c old = rw c.in-Renew.is (c.renew_files.ensures.survives old)

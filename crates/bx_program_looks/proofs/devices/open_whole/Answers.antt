@@ -1,5 +1,6 @@
 use Rattle.std.proofs.Common.{◌∙◌, sym}
 use Rattle.std.proofs.lemmas.Bool.{false≢true}
+use Rattle.bx_program_looks.proofs.Counted.{opened_images}
 use Rattle.bx_program_looks.proofs.Looking.{opened_refused, opened_unclean}
 use Rattle.bx_program_looks.proofs.devices.open_whole.Goals as goal
 
@@ -11,3 +12,7 @@ returns-else-is_whole-clause-hides g c x text redo holds =
 pub returns-in-Err-clause-hides : goal.returns-in-Err-clause-hides
 returns-in-Err-clause-hides g c x text redo holds =
     rw c.reason_of.ensures (opened_refused g.D.Device g.T.TextStore c.args.devices x text redo holds _ _ c.in-Err.ensures)
+
+pub returns-then-is_whole-clause-images : goal.returns-then-is_whole-clause-images
+returns-then-is_whole-clause-images g c x text redo holds =
+    opened_images g.D.Device g.T.TextStore c.args.devices x text redo holds _ _ c.in-Ok.ensures (c.is_whole.ensures.0 c.if-is_whole.true)

@@ -1,0 +1,27 @@
+use Rattle.std.proofs.Common.{◌≡◌, ◌<◌, length, get_or, refl, sym, subst, ◌∙◌, arith}
+use Rattle.std.specs.Prelude.{List, ℕ}
+use Rattle.std.proofs.lemmas.Grind.{common_steps}
+use Rattle.bx_image.specs.Change.{effect}
+use Rattle.bx_patch_preview.specs.private.Window.{IsWindow}
+use Rattle.bx_patch_preview.proofs.ChangesLemmas.{effects_more, effects_all}
+use Rattle.bx_patch_preview.proofs.image.window.put_changes.Goals as goal
+
+pub loop-change-init : goal.loop-change-init
+loop-change-init g c = record { long = refl; put = λ y win. (y, win, refl) }
+
+pub loop-change-preserved : goal.loop-change-preserved
+loop-change-preserved g c =
+    let read : c.change-item.result ≡ get_or c.args.changes.now c.loop-change.change-index c.change-item.result = c.change-item.is in
+    let within : c.loop-change.change-index < length c.args.changes.now = grind (arith, common_steps) in
+    record {
+      long = c.put_change.ensures.length ∙ c.loop-change.invariant.long;
+      put = λ y win.
+          let (z, now, leads) = c.loop-change.invariant.put y win in
+          (effect c.change-item.result z, c.put_change.ensures.put z now, sym (effects_more _ _ _ _ within read) ∙ leads);
+    }
+
+pub returns-clause-put : goal.returns-clause-put
+returns-clause-put g c y win =
+    let (z, now, leads) = c.loop-change.invariant.put y win in
+    let P : List ℕ → Type 0 = λ w. IsWindow c.loop-change.buf c.args.at w in
+    subst P (sym (effects_all c.args.changes.now c.loop-change.change-index z (grind (arith, common_steps))) ∙ leads) now

@@ -1,0 +1,11 @@
+use Rattle.std.proofs.Common.{◌≡◌, ℕ, List, length, drop}
+use Rattle.bx_patch_preview.specs.Changed.{effects}
+use Rattle.bx_patch_preview.specs.private.Window.{IsWindow}
+use Rattle.bx_patch_preview.proofs.image.window.put_changes.Given as goal
+
+-- what is left of the changes leads to the window of all
+abbrev pub invariant-loop-change : goal.invariant-loop-change
+invariant-loop-change g l = record {
+  long : length l.buf ≡ length l.fn.buf;
+  put : (y : List ℕ) → IsWindow l.fn.buf l.at y → (z : List ℕ) × IsWindow l.buf l.at z × (effects (drop l.change-index l.changes) z ≡ effects l.changes y);
+}

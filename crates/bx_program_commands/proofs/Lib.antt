@@ -1,0 +1,4 @@
+pub mod Proposing
+pub mod Previewing
+pub mod Renewing
+pub mod ThreeSteps

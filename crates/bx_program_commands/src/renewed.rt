@@ -1,0 +1,130 @@
+//! A change with which a history begins anew: the files are opened, their history is dropped, and the change is made on the image alone.
+ghost use Rattle.std.specs.Prelude.{◌≡◌, ◌↔◌, ◌<◌, List, ℕ, Option, None, IfSome, true};
+ghost use Rattle.bx_journal.specs.Images.{Images};
+ghost use Rattle.bx_cli_commands.specs.Refusal.{IsWholeRefusal};
+ghost use Rattle.bx_program_world.specs.World.{Trio};
+ghost use Rattle.bx_program_files.specs.Fit.{AreFit};
+ghost use Rattle.bx_program_files.specs.Reasons.{MayRefuseOpening};
+ghost use Rattle.bx_program_sessions.specs.Changes.{SaysRecovered};
+ghost use Rattle.bx_program_sessions.specs.Contents.{Holds, Survives};
+ghost use Rattle.bx_program_sessions.specs.Named.{KeepsOthers, LeadTo, NothingDone, contents_of};
+ghost use Rattle.bx_program_sessions.specs.Task.{IsNearTask};
+ghost use Rattle.bx_program_commands.specs.Changing.{DoesChange};
+ghost use Rattle.bx_program_commands.specs.Outcome.{first_unopened};
+ghost use Rattle.bx_program_commands.specs.Renewal.{DoesRenew, KeepsNamed, MayDrop, NothingRenewed, OpensToDrop, SurvivesRenewal, TellsOpening, no_change};
+ghost use Rattle.bx_program_commands.specs.Scene.{scene_beside};
+
+use bx_cli_commands::{Command, Fault, Reply};
+use bx_journal::SessionFault;
+use bx_program_files::Names;
+use bx_program_looks::{Unseen, forget_files};
+use bx_program_sessions::{Answer, Task, change_files};
+use bx_program_world::World;
+use std::alloc::Global;
+use std::io::Read;
+
+/// What became of a change with which a history begins anew, by the step that it ended in.
+#[derive(Clone, Copy, Debug, PartialEq, Eq)]
+pub enum Renewed {
+    /// The files were not opened to be changed, or what is unfinished was not recovered: the history is kept.
+    Kept(Answer),
+    /// The history was not dropped, and the change was not asked for.
+    Undropped(Unseen),
+    /// The history was dropped, and this is the answer to the change.
+    Changed(Answer),
+}
+
+/// Whether the history may be dropped behind an opening with this reply.
+fn may_drop(reply: &Reply) -> bool
+    ensures { (result ≡ true) ↔ MayDrop reply.now }
+{
+    match reply {
+        Reply::Refused(Fault::Session(SessionFault::LengthDiffers { .. })) => true,
+        Reply::Refused(
+            Fault::Session(SessionFault::Damaged { line } | SessionFault::RedoDamaged { line }),
+        ) => *line > 1,
+        Reply::Refused(_) => false,
+        Reply::Changed { .. }
+        | Reply::Copied { .. }
+        | Reply::Undone { .. }
+        | Reply::Redone { .. } => true,
+    }
+}
+
+/// Opens the files to change them, by an undo of no change: what is unfinished is recovered.
+fn open_to_drop<W: World, R: Read + Drop>(
+    world: &mut W,
+    alloc: Global,
+    names: &Names,
+    mounted: bool,
+) -> Answer
+    requires free { W.honest world.old → (W.sight world.old).lent ≡ None }
+    ensures does { W.honest world.old → DoesChange R.remaining names.now no_change result (W.sight world.old) (W.sight world.new) }
+    ensures opens { W.honest world.old → MayDrop result.reply
+        → OpensToDrop R.remaining names.now result (W.sight world.old) (W.sight world.new) }
+    ensures made { W.honest world.old → MayDrop result.reply
+        → (s : Images) → Holds (contents_of names.now (W.sight world.old)) s → IsWholeRefusal result.reply → ⊥ }
+    ensures survives { W.honest world.old → (s : Images) → Holds (contents_of names.now (W.sight world.old)) s → (IsWholeRefusal result.reply → ⊥)
+        → (t : Trio) → LeadTo names.now t (W.sight world.new)
+        → Survives R.remaining s no_change result.reply
+        (W.survives world.new t.image) (W.survives world.new t.journal) (W.survives world.new t.redo) }
+    ensures unopened { W.honest world.old
+        → IfSome result.unopened (λ _. NothingDone result.reply result.how (W.sight world.old) (W.sight world.new)) }
+    ensures why_unopened { W.honest world.old
+        → IfSome result.unopened (MayRefuseOpening names.now mounted true (W.refusals world.old < W.refusals world.new) (W.sight world.old)) }
+    ensures fit { W.honest world.old → result.unopened ≡ None → AreFit names.now mounted (W.sight world.old) }
+    ensures opened { W.honest world.old → MayDrop result.reply → result.unopened ≡ None }
+    ensures others { W.honest world.old → KeepsOthers names.now (W.sight world.old) (W.sight world.new) }
+    ensures streams { W.honest world.old → SaysRecovered result.how (W.sight world.old) (W.sight world.new) }
+    ensures honesty { W.honest world.new ↔ W.honest world.old }
+{
+    change_files(
+        world,
+        alloc,
+        names,
+        mounted,
+        Task::<R>::Run(Command::Undo { k: 0 }),
+    )
+}
+
+/// Changes an image with whose change the history begins anew: opens the files, which recovers what is unfinished and makes those that
+/// are missing, drops the history, and does the task on the image alone. The history is kept where a file may not be changed.
+pub fn renew_files<W: World, R: Read + Drop>(
+    world: &mut W,
+    alloc: Global,
+    names: &Names,
+    mounted: bool,
+    task: Task<R>,
+) -> Renewed
+    requires near { IsNearTask task }
+    requires free { W.honest world.old → (W.sight world.old).lent ≡ None }
+
+    // The change is done on the image alone, so that the history is this change; or the step that was refused leaves all as it was.
+    ensures does { W.honest world.old → (written : Option (List ℕ)) → DoesRenew R.remaining names.now mounted task result
+        (scene_beside W.sight W.refusals written world.old) (scene_beside W.sight W.refusals written world.new) }
+
+    // So it is behind a loss of power.
+    ensures survives { W.honest world.old
+        → SurvivesRenewal R.remaining names.now task result (W.sight world.old) (W.sight world.new) (W.survives world.new) }
+
+    // Files that are not opened are as they were, and why they are not; others may be changed.
+    ensures unopened { W.honest world.old → IfSome (first_unopened result) (λ _. NothingRenewed result (W.sight world.old) (W.sight world.new)) }
+    ensures why_unopened { W.honest world.old → IfSome (first_unopened result)
+        (MayRefuseOpening names.now mounted true (W.refusals world.old < W.refusals world.new) (W.sight world.old)) }
+    ensures fit { W.honest world.old → first_unopened result ≡ None → AreFit names.now mounted (W.sight world.old) }
+
+    // No other file is changed, and nothing is written but what was recovered.
+    ensures others { W.honest world.old → KeepsNamed names.now (W.sight world.old) (W.sight world.new) }
+    ensures streams { W.honest world.old → TellsOpening result (W.sight world.old) (W.sight world.new) }
+    ensures free { W.honest world.old → (W.sight world.new).lent ≡ None }
+    ensures honesty { W.honest world.new ↔ W.honest world.old }
+{
+    let opened = open_to_drop::<W, R>(world, alloc, names, mounted);
+    if !may_drop(&opened.reply) {
+        return Renewed::Kept(opened);
+    }
+    match forget_files(world, alloc, names) {
+        Ok(()) => Renewed::Changed(change_files(world, alloc, names, mounted, task)),
+        Err(unseen) => Renewed::Undropped(unseen),
+    }
+}
