@@ -18,7 +18,8 @@
 //! Looks, dumps and comparisons only read. With each call of the world refused, each read of a file failing and each write of the output, what is
 //! written is the text of the case or a front of it, beside the fault of what failed; and the world is as it was, streams too. Looks are
 //! a log, one with ranges, and each look of a case; a dump is also one of a file without a length, of one that is missing, and of an
-//! input; a comparison is by bytes and by rows.
+//! input; a comparison is by bytes and by rows. So it is of the patch that a change would be, of a text, a patch or a copy that makes the
+//! second file of a comparison, and of the patch that is shown of the change once it is made, and once it is taken back.
 //!
 //! A forgetting is played over the cases of looks, and leaves the image as it is: beside empty texts, or where it is refused beside
 //! texts as they were, or where it is interrupted beside fronts of them, and so once the power is lost.
@@ -48,6 +49,7 @@ use crate::seen::diffs::play_diffs;
 use crate::seen::dumps::play_dumps;
 use crate::seen::forgets::play_forgets;
 use crate::seen::looks::play_looks;
+use crate::seen::previews::play_previews;
 use crate::sweeps::{Failing, play_sweep};
 use std::fs;
 use std::process::ExitCode;
@@ -199,6 +201,7 @@ fn play_all(rt: &HostRuntime) -> Result<bool, Wrong> {
     right = play_forgets(rt, looks.cases.as_slice())? && right;
     right = play_dumps(rt, dumps.cases.as_slice())? && right;
     right = play_diffs(rt, diffs.cases.as_slice())? && right;
+    right = play_previews(rt, diffs.cases.as_slice())? && right;
     Ok(right)
 }
 

@@ -6,6 +6,7 @@ pub mod forgets;
 mod leaves;
 pub mod looks;
 mod output;
+pub mod previews;
 pub mod told;
 
 use crate::oddities::{Odd, world_of_odd};

@@ -2,18 +2,48 @@
 ghost use Rattle.std.specs.Prelude.{◌≡◌, None};
 
 use crate::left::Cause;
+use crate::report::Wrong;
 use crate::sweeps::Failing;
 use bx_cli_commands::{Done, DumpJob, Fault};
-use bx_journal::Steps;
-use bx_patch::Extent;
-use bx_program_commands::{Outcome as Answer, Request, Undiffed, run_request};
+use bx_dd::{Counts, Plan as DdPlan, parse};
+use bx_image::Change;
+use bx_journal::{Steps, Way};
+use bx_patch::{Extent, read_patch};
+use bx_program_commands::{
+    Outcome as Answer, Proposal, Report, Request, Undiffed, Unpreviewed, run_request,
+};
 use bx_program_dumps::{Undumped, dump_file};
 use bx_program_files::{Names, Unopened, Which, Why};
 use bx_program_looks::{Unseen, log, log_with_ranges, show, show_unfinished};
 use bx_program_world::{LentInput, MemoryWorld, Plan, Refusal, World};
-use bx_text::{IoFault, emit};
+use bx_text::{Bytes, IoFault, Piece, Pieces, Words, emit};
 use std::alloc::Global;
 use std::io::{Empty, Write};
+use test_case_files::PatchWritten;
+
+/// What makes the one file of a case of the other.
+#[derive(Clone, Copy, Debug, PartialEq, Eq)]
+pub enum Proposed {
+    /// A change that was read before.
+    Read,
+    /// The patch.
+    Patch,
+    /// A copy of all bytes.
+    Copy,
+}
+
+impl Proposed {
+    pub const EACH: [Proposed; 3] = [Proposed::Read, Proposed::Patch, Proposed::Copy];
+
+    /// The command that has it.
+    pub fn name(self) -> &'static str {
+        match self {
+            Proposed::Read => "revert -n",
+            Proposed::Patch => "patch -n",
+            Proposed::Copy => "dd -n",
+        }
+    }
+}
 
 /// What is asked.
 #[derive(Clone, Copy)]
@@ -34,6 +64,10 @@ pub enum Asked<'a> {
     Diff(Extent),
     /// The history is dropped.
     Forget,
+    /// The patch that a change would be, which makes the second file of a case of the image.
+    Preview(Proposed, &'a PatchWritten),
+    /// The patch of the last change that stands, or of the one that was undone last.
+    Patch(Way),
 }
 
 impl Asked<'_> {
@@ -106,8 +140,10 @@ fn put_input<O: Write>(
         | Answer::Moved(_)
         | Answer::Changed(_)
         | Answer::Compared(_)
+        | Answer::Previewed(_)
         | Answer::Looked(_)
-        | Answer::Forgotten(_) => unreachable!(),
+        | Answer::Forgotten(_)
+        | Answer::Renewed(_) => unreachable!(),
     }
 }
 
@@ -156,7 +192,121 @@ fn forget<O: Write>(world: &mut MemoryWorld, alloc: Global, names: &Names, out: 
         | Answer::Changed(_)
         | Answer::Dumped(_)
         | Answer::Compared(_)
-        | Answer::Looked(_) => unreachable!(),
+        | Answer::Previewed(_)
+        | Answer::Looked(_)
+        | Answer::Renewed(_) => unreachable!(),
+    }
+}
+
+/// A change that makes these bytes of any image.
+pub fn whole_change(alloc: Global, bytes: &[u8]) -> Result<Change, Wrong> {
+    let mut pieces = Vec::new(alloc);
+    if !bytes.is_empty() {
+        let bytes = Bytes::from_vec(bytes.to_vec(alloc)?);
+        pieces
+            .push(Piece { at: 0, bytes })
+            .map_err(|_| Wrong::NoMemory)?;
+    }
+    Ok(Change {
+        base: Some(0),
+        writes: Pieces::from_vec(pieces),
+    })
+}
+
+/// The plan of a copy onto an image.
+fn copying(alloc: Global) -> Result<DdPlan, Wrong> {
+    let mut words = Words::new(alloc);
+    words.push("of=disk")?;
+    parse(alloc, &words).map_err(|_| Wrong::Unknown)
+}
+
+/// What is proposed, whose input fails as the plan says.
+fn proposal_of(
+    alloc: Global,
+    proposed: Proposed,
+    case: &PatchWritten,
+    plan: Plan,
+) -> Result<Proposal<LentInput>, Wrong> {
+    let new = case.new.as_slice();
+    match proposed {
+        Proposed::Read => Ok(Proposal::Read(Ok(whole_change(alloc, new)?))),
+        Proposed::Patch => match read_patch(alloc, case.output.as_slice()) {
+            Ok(patch) => Ok(Proposal::Patch(patch)),
+            Err(_) => Err(Wrong::Unknown),
+        },
+        Proposed::Copy => Ok(Proposal::Copy {
+            plan: copying(alloc)?,
+            input: LentInput::new(new.to_vec(alloc)?, 0, plan.input),
+        }),
+    }
+}
+
+/// What came of a preview that ended so.
+fn seen_of(ended: Result<(), Fault>, outcome: Result<Option<Counts>, Unpreviewed>) -> Outcome {
+    match outcome {
+        Ok(Some(counts)) => Ok(Some(Done::Copied(counts))),
+        Ok(None) => Ok(None),
+        Err(Unpreviewed::Unopened(why)) => Err(unopened(Which::Image, why)),
+        Err(Unpreviewed::Refused(_) | Unpreviewed::Unfitting { .. } | Unpreviewed::Stopped(_)) =>
+            match ended {
+                Ok(()) => Ok(None),
+                Err(fault) => Err(Unseen::Stopped(fault)),
+            },
+    }
+}
+
+/// Writes the patch that a change would be.
+fn preview<O: Write>(
+    world: &mut MemoryWorld,
+    alloc: Global,
+    names: &Names,
+    proposal: Proposal<LentInput>,
+    out: &mut O,
+) -> Outcome
+    requires { (⟦<MemoryWorld as World>⟧.sight world.old).lent ≡ None }
+{
+    let request = Request::Preview {
+        name: names.image.as_str(),
+        proposal,
+    };
+    let answer = run_request(world, alloc, request, out);
+    let ended = answer.ended();
+    match answer {
+        Answer::Previewed(outcome) => seen_of(ended, outcome),
+        Answer::Moved(_)
+        | Answer::Changed(_)
+        | Answer::Dumped(_)
+        | Answer::Compared(_)
+        | Answer::Looked(_)
+        | Answer::Forgotten(_)
+        | Answer::Renewed(_) => unreachable!(),
+    }
+}
+
+/// Writes the patch of a change that stands, or of one that is undone.
+fn put_patch<O: Write>(
+    world: &mut MemoryWorld,
+    alloc: Global,
+    names: &Names,
+    way: Way,
+    out: &mut O,
+) -> Outcome
+    requires { (⟦<MemoryWorld as World>⟧.sight world.old).lent ≡ None }
+{
+    let request: Request<'_, Empty> = Request::Look {
+        names,
+        report: Report::Patch { way, count: 1 },
+    };
+    match run_request(world, alloc, request, out) {
+        Answer::Looked(Ok(())) => Ok(None),
+        Answer::Looked(Err(unseen)) => Err(unseen),
+        Answer::Moved(_)
+        | Answer::Changed(_)
+        | Answer::Dumped(_)
+        | Answer::Compared(_)
+        | Answer::Previewed(_)
+        | Answer::Forgotten(_)
+        | Answer::Renewed(_) => unreachable!(),
     }
 }
 
@@ -190,6 +340,13 @@ pub fn ask<O: Write>(
         }
         Asked::Diff(extent) => return put_diff(world, alloc, names, extent, out),
         Asked::Forget => return forget(world, alloc, names, out),
+        Asked::Preview(proposed, case) => {
+            return match proposal_of(alloc, proposed, case, plan) {
+                Ok(proposal) => preview(world, alloc, names, proposal, out),
+                Err(_) => Err(Unseen::Stopped(Fault::Usage)),
+            };
+        }
+        Asked::Patch(way) => return put_patch(world, alloc, names, way, out),
     };
     outcome.map(|()| None)
 }

@@ -1,0 +1,61 @@
+//! What files hold once the change of a case is made, and once it is taken back.
+ghost use Rattle.bx_program_commands.specs.Commands.{IsNearRequest};
+
+use crate::report::Wrong;
+use crate::seen::asked::whole_change;
+use crate::setting::{Held, Kept, held_by, world_of};
+use bx_journal::Way;
+use bx_program_commands::{Outcome, Request, run_request};
+use bx_program_files::Names;
+use bx_program_sessions::Task;
+use bx_program_world::{MemoryWorld, Plan};
+use std::alloc::Global;
+use std::io::{Empty, sink};
+use test_case_files::PatchWritten;
+
+/// Makes what a request asks for in a world, and answers what its files then hold.
+fn held_behind(
+    alloc: Global,
+    mut world: MemoryWorld,
+    request: Request<'_, Empty>,
+) -> Result<Kept, Wrong>
+    requires near { IsNearRequest request }
+{
+    world.begin(Plan::NOTHING);
+    let outcome = run_request(&mut world, alloc, request, &mut sink());
+    match outcome.ended() {
+        Ok(()) => Ok(Kept::of(alloc, held_by(&world))?),
+        Err(_) => Err(Wrong::Outcome),
+    }
+}
+
+/// What files hold behind the change that makes the one file of a case of the other.
+pub fn changed(alloc: Global, names: &Names, case: &PatchWritten) -> Result<Kept, Wrong> {
+    let world = world_of(
+        alloc,
+        Held {
+            image: case.old.as_slice(),
+            journal: b"",
+            redo: b"",
+        },
+    )?;
+    let change = whole_change(alloc, case.new.as_slice())?;
+    let request = Request::Change {
+        names,
+        mounted: false,
+        task: Task::Put(Ok(change)),
+    };
+    held_behind(alloc, world, request)
+}
+
+/// What files hold behind an undo of one change.
+pub fn taken_back(alloc: Global, names: &Names, held: Held<'_>) -> Result<Kept, Wrong> {
+    let world = world_of(alloc, held)?;
+    let request = Request::Move {
+        names,
+        mounted: false,
+        way: Way::Undo,
+        count: 1,
+    };
+    held_behind(alloc, world, request)
+}
