@@ -108,6 +108,18 @@ A missing image that should have bytes, a folder, and one that may only be read,
   $ fresh ABCDEFGH; bx revert -n img <<< '2: 78' > /dev/full; holds ABCDEFGH
   bx: write failed after 0 bytes
 
+One that another program changes, and one that others read:
+
+  $ fresh ABCDEFGH; refused 'cannot open file' flock img bx << .
+  > revert -n img <<< '00000002: 7879'
+  > dd -n bs=2 seek=1 of=img <<< xyz
+  > patch -n img <<< '+00000002: 78'
+  > .
+  $ flock -s img bx revert -n img <<< '00000002: 78'
+  length 8 to 8
+  -00000002: 43                                       C
+  +00000002: 78                                       x
+
 # What -n writes can be applied
 
   $ fresh ABCDEFGH; printf '00000002: 7879\n00000003: 7a\n0000000c: 41\n' > dump; kept bx revert -n -f dump img > ../patch; cat ../patch
