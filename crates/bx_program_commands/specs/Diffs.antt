@@ -1,27 +1,13 @@
 -- The patch from one named file to another.
-use Rattle.std.specs.Prelude.{◌≡◌, ℕ, List, Option, None, Some}
+use Rattle.std.specs.Prelude.{◌≡◌, ℕ, List, Option}
 use Rattle.std.specs.Io.KnownBytes.{Appends}
 use Rattle.bx_patch.specs.Diff.{IsFaultFor, WritesPrefix}
 use Rattle.bx_patch.specs.Text.{patch_text}
 use Rattle.bx_patch.specs.declared.diff.row.Extent.{Extent}
-use Rattle.bx_program_world.specs.Rule.{read_unfit}
 use Rattle.bx_program_world.specs.World.{Sight}
-use Rattle.bx_program_files.specs.Reading.{IsUnfitToRead}
-use Rattle.bx_program_files.specs.Reasons.{IsReason}
-use Rattle.bx_program_files.specs.declared.unopened.Why.{Why}
+use Rattle.bx_program_files.specs.Reading.{AreBytesOf, MayNotRead}
 use Rattle.bx_program_commands.specs.declared.diff.Undiffed.{Undiffed}
 use Rattle.bx_program_commands.specs.declared.diff.Undiffed.TheVariants.{OldUnopened, NewUnopened, Stopped}
-
--- The name leads to a file that may be read, and these are its bytes
-pub record AreBytesOf (name : List ℕ) (w : Sight) (bytes : List ℕ) : Type 0 where
-  pub number : ℕ
-  pub named : w.named name ≡ Some number
-  pub fit : read_unfit (w.stat number) ≡ None
-  pub bytes_are : bytes ≡ w.bytes number
-
--- why a file is not opened to be read: it is missing, it may not be read by the rule, or the system counted a call that it refused
-abbrev pub MayNotRead : List ℕ → Type 0 → Sight → Why → Type 0
-MayNotRead name counted w why = IsReason (w.named name ≡ None) (IsUnfitToRead w name) ⊥ counted why
 
 -- the names lead to files with these bytes
 abbrev pub AreBytesOfBoth : List ℕ → List ℕ → Sight → List ℕ → List ℕ → Type 0

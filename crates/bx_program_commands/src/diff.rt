@@ -6,9 +6,9 @@ ghost use Rattle.bx_patch.specs.Text.{patch_text};
 ghost use Rattle.bx_program_files.specs.Reading.{StaysSeen};
 ghost use Rattle.bx_program_commands.specs.Diffs.{StopsDiff, WritesDiff};
 
-use crate::named::{close, in_order, lend_named};
+use crate::named::{in_order, lend_named};
 use bx_patch::{DiffFault, Extent, write_patch};
-use bx_program_files::Why;
+use bx_program_files::{Why, close_alone};
 use bx_program_world::World;
 use std::alloc::Global;
 use std::io::Write;
@@ -46,8 +46,8 @@ fn compare<W: World, O: Write>(
     let (mut old, mut new) = (old, new);
     let outcome = write_patch(&alloc, &mut old, &mut new, out, extent);
     let (first, last) = in_order(old, new, &outcome);
-    close(world, first);
-    close(world, last);
+    close_alone(world, first);
+    close_alone(world, last);
     outcome
 }
 

@@ -1,38 +1,14 @@
 //! Named files that are only read, lent as devices and taken back.
-ghost use Rattle.std.specs.Prelude.{◌≡◌, ◌↔◌, ◌<◌, Err, IfErr, IfOk, None, OnOk, Some};
+ghost use Rattle.std.specs.Prelude.{◌≡◌, ◌↔◌, ◌<◌, Err, IfErr, IfOk, OnOk};
 ghost use Rattle.bx_program_world.specs.World.{MayBeRead, stat_named};
-ghost use Rattle.bx_program_files.specs.Reading.{IsReadable, StaysSeen};
-ghost use Rattle.bx_program_files.specs.Reasons.{IsReason, NoneUnfit};
-ghost use Rattle.bx_program_commands.specs.Diffs.{AreBytesOf, MayNotRead};
+ghost use Rattle.bx_program_files.specs.Reading.{AreBytesOf, MayNotRead, StaysSeen};
 ghost use Rattle.bx_program_commands.specs.Previews.{MayNotOpen};
 
 use bx_patch::DiffFault;
-use bx_program_files::Why;
-use bx_program_world::{Refusal, Stat, World, read_unfit};
+use bx_program_files::{Why, lend_alone, look_alone};
+use bx_program_world::{Stat, World, read_unfit};
 
-/// What the system tells of a file, which may be one that is read.
-pub fn look_to_read<W: World>(world: &mut W, name: &str) -> Result<Stat, Why>
-    ensures fit { W.honest world.old → IfOk result (λ found. IsReadable name.now found (W.sight world.old)) }
-    ensures why { W.honest world.old
-        → IfErr result (MayNotRead name.now (W.refusals world.old < W.refusals world.new) (W.sight world.old)) }
-    ensures calm { W.honest world.old → OnOk result (W.refusals world.new ≡ W.refusals world.old) }
-    ensures seen { W.honest world.old → StaysSeen W.sight W.survives world.old world.new }
-    ensures honesty { W.honest world.new ↔ W.honest world.old }
-{
-    let look = match world.look(name) {
-        Ok(look) => look,
-        Err(refusal) => return Err(Why::System(refusal)),
-    };
-    let Some(found) = look.found else {
-        return Err(Why::System(Refusal::Missing));
-    };
-    match read_unfit(&found) {
-        None => Ok(found),
-        Some(unfit) => Err(Why::Unfit(unfit)),
-    }
-}
-
-/// The same; none where the name leads to no file.
+/// What the system tells of a file, which may be one that is read; none where the name leads to no file.
 pub fn look_if_there<W: World>(world: &mut W, name: &str) -> Result<Option<Stat>, Why>
     ensures found { W.honest world.old → IfOk result (λ found. stat_named (W.sight world.old) name.now ≡ found) }
     ensures may { W.honest world.old → OnOk result (MayBeRead (W.sight world.old) name.now) }
@@ -55,48 +31,6 @@ pub fn look_if_there<W: World>(world: &mut W, name: &str) -> Result<Option<Stat>
     }
 }
 
-/// Opens a file that was looked at to read it, and locks it beside others that read it.
-pub fn open_shared<W: World>(world: &mut W, name: &str) -> Result<W::File, Why>
-    requires may { W.honest world.old → MayBeRead (W.sight world.old) name.now }
-    ensures named { W.honest world.old → IfOk result (λ f. (W.sight world.old).named name.now ≡ Some (W.number f)) }
-    ensures why { W.honest world.old → IfErr result (IsReason ((W.sight world.old).named name.now ≡ None) NoneUnfit ⊥
-        (W.refusals world.old < W.refusals world.new)) }
-    ensures calm { W.honest world.old → OnOk result (W.refusals world.new ≡ W.refusals world.old) }
-    ensures seen { W.honest world.old → StaysSeen W.sight W.survives world.old world.new }
-    ensures honesty { W.honest world.new ↔ W.honest world.old }
-{
-    let file = match world.open_image_to_read(name) {
-        Ok(file) => file,
-        Err(refusal) => return Err(Why::System(refusal)),
-    };
-    match world.lock_shared(name, &file) {
-        Ok(()) => Ok(file),
-        Err(refusal) => Err(Why::System(refusal)),
-    }
-}
-
-/// Opens a file that was looked at, and lends it to be read.
-pub fn lend_shared<W: World>(world: &mut W, name: &str) -> Result<W::Image, Why>
-    requires may { W.honest world.old → MayBeRead (W.sight world.old) name.now }
-    ensures failures { IfOk result (λ d. W.Image.failures d ≡ 0) }
-    ensures faithful { W.honest world.old → IfOk result (λ d. W.Image.honest d) }
-    ensures bytes { W.honest world.old → IfOk result (λ d. AreBytesOf name.now (W.sight world.old) (W.Image.image d)) }
-    ensures why { W.honest world.old → IfErr result (IsReason ((W.sight world.old).named name.now ≡ None) NoneUnfit ⊥
-        (W.refusals world.old < W.refusals world.new)) }
-    ensures calm { W.honest world.old → OnOk result (W.refusals world.new ≡ W.refusals world.old) }
-    ensures seen { W.honest world.old → StaysSeen W.sight W.survives world.old world.new }
-    ensures honesty { W.honest world.new ↔ W.honest world.old }
-{
-    let file = match open_shared(world, name) {
-        Ok(file) => file,
-        Err(why) => return Err(why),
-    };
-    match world.lend_image_to_read(file) {
-        Ok(device) => Ok(device),
-        Err(refusal) => Err(Why::System(refusal)),
-    }
-}
-
 /// Opens a file to read it, a regular one or a block device, locks it beside others that read it, and lends it.
 pub fn lend_named<W: World>(world: &mut W, name: &str) -> Result<W::Image, Why>
     ensures failures { IfOk result (λ d. W.Image.failures d ≡ 0) }
@@ -108,10 +42,10 @@ pub fn lend_named<W: World>(world: &mut W, name: &str) -> Result<W::Image, Why>
     ensures seen { W.honest world.old → StaysSeen W.sight W.survives world.old world.new }
     ensures honesty { W.honest world.new ↔ W.honest world.old }
 {
-    if let Err(why) = look_to_read(world, name) {
+    if let Err(why) = look_alone(world, name) {
         return Err(why);
     }
-    lend_shared(world, name)
+    lend_alone(world, name)
 }
 
 /// Both devices, last the one that failed.
@@ -122,14 +56,4 @@ pub fn in_order<D: Drop>(old: D, new: D, outcome: &Result<(), DiffFault>) -> (D,
         Err(DiffFault::NewFailed) => (old, new),
         Ok(()) | Err(_) => (new, old),
     }
-}
-
-/// Takes a device back, which has no texts.
-pub fn close<W: World>(world: &mut W, device: W::Image)
-    ensures seen { W.honest world.old → StaysSeen W.sight W.survives world.old world.new }
-    ensures honesty { W.honest world.new ↔ W.honest world.old }
-{
-    let journal = world.lend_no_text();
-    let redo = world.lend_no_text();
-    world.close_read(device, journal, redo);
 }

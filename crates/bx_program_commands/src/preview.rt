@@ -7,13 +7,13 @@ ghost use Rattle.bx_program_commands.specs.Previews.{StopsChange, StopsPreview, 
 ghost use Rattle.bx_program_commands.specs.Proposed.{IsCompared, unchanged_for};
 
 use crate::made::make_fitting;
-use crate::named::{close, in_order, lend_shared, look_if_there};
+use crate::named::{in_order, look_if_there};
 use crate::proposal::{Proposal, Unpreviewed};
 use bx_dd::Counts;
 use bx_image::{Change, Device, ImageFault, MemImage};
 use bx_patch::{DiffFault, Extent, write_patch};
 use bx_patch_preview::ChangedImage;
-use bx_program_files::Why;
+use bx_program_files::{Why, close_alone, lend_alone};
 use bx_program_world::{Kind, Stat, World};
 use std::alloc::Global;
 use std::io::{Read, Write};
@@ -114,11 +114,11 @@ fn lend_pair<W: World>(world: &mut W, name: &str) -> Result<Pair<W::Image>, Why>
     ensures seen { W.honest world.old → StaysSeen W.sight W.survives world.old world.new }
     ensures honesty { W.honest world.new ↔ W.honest world.old }
 {
-    let image = match lend_shared(world, name) {
+    let image = match lend_alone(world, name) {
         Ok(image) => image,
         Err(why) => return Err(why),
     };
-    match lend_shared(world, name) {
+    match lend_alone(world, name) {
         Ok(again) => Ok(Pair { image, again }),
         Err(why) => Err(why),
     }
@@ -144,8 +144,8 @@ fn close_pair<W: World>(
     ensures honesty { W.honest world.new ↔ W.honest world.old }
 {
     let (first, last) = in_order(pair.image, pair.again, &comparison_of(outcome));
-    close(world, first);
-    close(world, last);
+    close_alone(world, first);
+    close_alone(world, last);
 }
 
 /// Whether a file keeps its length: a block device.

@@ -1,5 +1,5 @@
 -- Files that are opened to be read, and why they are not.
-use Rattle.std.proofs.Common.{◌≡◌, ◌⊎◌, ◌∙◌, ℕ, Bool, true, false, Option, Some, None, List, refl, sym, ap, subst, inl, inr}
+use Rattle.std.proofs.Common.{◌≡◌, ◌⊎◌, ◌∙◌, ℕ, Bool, true, false, Option, Some, None, List, sym, subst, inl, inr}
 use Rattle.std.specs.Prelude.{IfSome}
 use Rattle.bx_program_world.specs.Rule.{text_unfit}
 use Rattle.bx_program_world.specs.World.{MayBeText, ReadFiles, Sight, stat_named}

@@ -1,5 +1,5 @@
 -- The files of an image that are only read.
-use Rattle.std.specs.Prelude.{◌≡◌, ◌⊎◌, ℕ, false, List, Option, None, Some, IfSome}
+use Rattle.std.specs.Prelude.{◌≡◌, ◌⊎◌, ℕ, false, List, None, Some, IfSome}
 use Rattle.bx_program_world.specs.Rule.{read_unfit, text_unfit}
 use Rattle.bx_program_world.specs.World.{MayBeRead, MayBeText, NothingNewFound, ReadFiles, Sight, number_if, stat_named}
 use Rattle.bx_program_world.specs.declared.rule.Unfit.{Unfit}
@@ -25,6 +25,13 @@ pub record StaysSeen {W : Type 0} (sight : W → Sight) (survives : W → ℕ �
 pub record IsReadable (name : List ℕ) (image : Stat) (w : Sight) : Type 0 where
   pub found : stat_named w name ≡ Some image
   pub fit : read_unfit image ≡ None
+
+-- The name leads to a file that may be read, and these are its bytes
+pub record AreBytesOf (name : List ℕ) (w : Sight) (bytes : List ℕ) : Type 0 where
+  pub number : ℕ
+  pub named : w.named name ≡ Some number
+  pub fit : read_unfit (w.stat number) ≡ None
+  pub bytes_are : bytes ≡ w.bytes number
 
 -- what stands under the three names may be an image that is read, and its texts
 pub record AreReadable (names : Names) (w : Sight) : Type 0 where
@@ -52,6 +59,10 @@ pub record AreOpenToRead (names : Names) (f : ReadFiles) (w : Sight) : Type 0 wh
 -- the file of a name can't be an image that is read
 abbrev pub IsUnfitToRead : Sight → List ℕ → Unfit → Type 0
 IsUnfitToRead w name unfit = (image : Stat) × (stat_named w name ≡ Some image) × (read_unfit image ≡ Some unfit)
+
+-- why a file is not opened to be read: it is missing, it may not be read by the rule, or the system counted a call that it refused
+abbrev pub MayNotRead : List ℕ → Type 0 → Sight → Why → Type 0
+MayNotRead name counted w why = IsReason (w.named name ≡ None) (IsUnfitToRead w name) ⊥ counted why
 
 -- what stands under a name can't be a text of the image of another
 abbrev pub IsUnfitTextOf : List ℕ → Sight → List ℕ → Unfit → Type 0

@@ -1,6 +1,7 @@
 //! The files of a session: looked at, opened, locked, three, and taken away again where they were made for nothing.
 #![tactic(auto)]
 
+mod alone;
 mod look;
 mod made;
 mod names;
@@ -10,6 +11,7 @@ mod ready;
 mod trio;
 mod unopened;
 
+pub use alone::{close_alone, lend_alone, look_alone};
 pub use made::{Files, Made, unmake_all};
 pub use names::Names;
 pub use reading::{Looked, open_to_forget, open_to_look};

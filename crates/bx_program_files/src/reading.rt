@@ -8,6 +8,7 @@ ghost use Rattle.bx_program_files.specs.Reasons.{IsReason, IsRefusedFile, IsRefu
 ghost use Rattle.bx_program_files.specs.declared.unopened.Which.TheVariants.{Image, Journal, Redo};
 
 use crate::Names;
+use crate::alone::{look_alone, open_alone};
 use crate::unopened::{Unopened, Which};
 use bx_program_world::{Look, Refusal, Stat, Unfit, World, read_unfit, text_unfit};
 
@@ -31,16 +32,9 @@ fn look_at_image<W: World>(world: &mut W, name: &str) -> Result<Stat, Unopened>
     ensures seen { W.honest world.old → StaysSeen W.sight W.survives world.old world.new }
     ensures honesty { W.honest world.new ↔ W.honest world.old }
 {
-    let look = match world.look(name) {
-        Ok(look) => look,
-        Err(refusal) => return Err(Which::Image.refused(refusal)),
-    };
-    let Some(image) = look.found else {
-        return Err(Which::Image.refused(Refusal::Missing));
-    };
-    match read_unfit(&image) {
-        None => Ok(image),
-        Some(unfit) => Err(Which::Image.unfit(unfit)),
+    match look_alone(world, name) {
+        Ok(image) => Ok(image),
+        Err(why) => Err(Which::Image.unopened(why)),
     }
 }
 
@@ -131,13 +125,9 @@ fn open_image<W: World>(world: &mut W, name: &str) -> Result<W::File, Unopened>
     ensures seen { W.honest world.old → StaysSeen W.sight W.survives world.old world.new }
     ensures honesty { W.honest world.new ↔ W.honest world.old }
 {
-    let file = match world.open_image_to_read(name) {
-        Ok(file) => file,
-        Err(refusal) => return Err(Which::Image.refused(refusal)),
-    };
-    match world.lock_shared(name, &file) {
-        Ok(()) => Ok(file),
-        Err(refusal) => Err(Which::Image.refused(refusal)),
+    match open_alone(world, name) {
+        Ok(file) => Ok(file),
+        Err(why) => Err(Which::Image.unopened(why)),
     }
 }
 

@@ -35,6 +35,13 @@ pub struct Unopened {
 }
 
 impl Which {
+    /// The file, which is not opened for this reason.
+    pub fn unopened(self, why: Why) -> Unopened
+        ensures { result ≡ record { which = self; why = why } }
+    {
+        Unopened { which: self, why }
+    }
+
     /// The file, which the system refused to open.
     pub fn refused(self, refusal: Refusal) -> Unopened
         ensures { result ≡ record { which = self; why = Why.System refusal } }

@@ -1,5 +1,6 @@
 -- What is seen in devices that hold the bytes of files.
-use Rattle.std.proofs.Common.{◌≡◌, ℕ, List, Option, Result, inl, inr, sym, subst}
+use Rattle.std.proofs.Common.{◌≡◌, ◌∙◌, ℕ, List, [], Option, Result, refl, inl, inr, sym, subst}
+use Rattle.std.specs.Option.{option_map_or}
 use Rattle.std.specs.Result.{IfErr, IfOk, OnOk}
 use Rattle.std.proofs.lemmas.Result.{IfErr-weaker, on_ok_weaker}
 use Rattle.bx_image.specs.declared.device.Device.{Ghosts as DeviceViews}
@@ -11,6 +12,7 @@ use Rattle.bx_journal.specs.ShownSteps.{HasEntries, ShowsSteps}
 use Rattle.bx_journal.specs.Steps.{Steps}
 use Rattle.bx_journal.specs.Undoing.{HasCount}
 use Rattle.bx_program_world.specs.World.{Sight, held}
+use Rattle.bx_program_files.specs.Reading.{AreBytesOf}
 use Rattle.bx_program_files.specs.declared.names.Names.{Names}
 use Rattle.bx_program_looks.specs.Devices.{HoldBytes, IsDeviceStop, IsOpenedWhole}
 use Rattle.bx_program_looks.specs.Looks.{AreStepsCut, HidesChanges, IsListCut, IsLogOf, IsNextCut, IsNextShown, IsUnseenOr, MayNotLook, stepped_text, steps_from}
@@ -76,3 +78,7 @@ pub hidden_named : {S : Type 0} (names : Names) (counted : Type 0) (w : Sight) (
     (r : Result S Unseen) → IfErr r (λ u. IsUnseenOr (HidesChanges (held w names.image) (held w names.journal) (held w names.redo) u) old new (cut u))
     → IfErr r (λ u. IsUnseenOr (MayNotLook names counted w u) old new (cut u))
 hidden_named names counted w old new cut r stops = IfErr-weaker r _ _ (named_or names counted w old new cut) stops
+
+-- what a file that is read by itself has, its name holds
+pub held_by : (name : List ℕ) (w : Sight) (bytes : List ℕ) → AreBytesOf name w bytes → bytes ≡ held w name
+held_by name w bytes is = let named : option_map_or w.bytes (w.named name) [] ≡ w.bytes is.number = rw is.named refl in is.bytes_are ∙ sym named

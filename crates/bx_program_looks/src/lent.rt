@@ -1,12 +1,10 @@
 //! Files that are lent as devices to be read.
-ghost use Rattle.std.specs.Prelude.{◌≡◌, ◌↔◌, ◌<◌, None, Some, IfErr, IfOk, OnOk};
+ghost use Rattle.std.specs.Prelude.{◌≡◌, ◌↔◌, ◌<◌, IfErr, IfOk, OnOk};
 ghost use Rattle.bx_journal.specs.ThreeDevices.{AreBelow};
-ghost use Rattle.bx_program_world.specs.World.{MayBeRead, NothingNewFound, bytes_if, held, number_if};
+ghost use Rattle.bx_program_world.specs.World.{NothingNewFound, bytes_if, number_if};
 ghost use Rattle.bx_program_files.specs.Reading.{AreReadable, MayRefuseReading, StaysSeen, numbers_read};
-ghost use Rattle.bx_program_files.specs.Reasons.{IsReason, IsRefusedFile, NoneUnfit};
-ghost use Rattle.bx_program_files.specs.declared.unopened.Which.TheVariants.{Image};
+ghost use Rattle.bx_program_files.specs.Reasons.{IsReason, NoneUnfit};
 ghost use Rattle.bx_program_looks.specs.Devices.{HoldFiles, HoldNumbered};
-ghost use Rattle.bx_program_looks.specs.Stepped.{HoldsImage};
 
 use crate::devices::Seen;
 use crate::unseen::Unseen;
@@ -86,56 +84,6 @@ pub fn lend<W: World>(world: &mut W, names: &Names) -> Result<Devices<W::Image, 
         Err(unopened) => return Err(unopened),
     };
     lend_files(world, looked)
-}
-
-/// Opens an image once more to read it, and locks it.
-fn open_again<W: World>(world: &mut W, name: &str) -> Result<W::File, Unopened>
-    requires may { W.honest world.old → MayBeRead (W.sight world.old) name.now }
-    ensures named { W.honest world.old → IfOk result (λ f. (W.sight world.old).named name.now ≡ Some (W.number f)) }
-    ensures why { W.honest world.old → IfErr result (IsRefusedFile Image ((W.sight world.old).named name.now ≡ None) NoneUnfit ⊥
-        (W.refusals world.old < W.refusals world.new)) }
-    ensures calm { W.honest world.old → OnOk result (W.refusals world.new ≡ W.refusals world.old) }
-    ensures seen { W.honest world.old → StaysSeen W.sight W.survives world.old world.new }
-    ensures honesty { W.honest world.new ↔ W.honest world.old }
-{
-    let file = match world.open_image_to_read(name) {
-        Ok(file) => file,
-        Err(refusal) => return Err(Which::Image.refused(refusal)),
-    };
-    match world.lock_shared(name, &file) {
-        Ok(()) => Ok(file),
-        Err(refusal) => Err(Which::Image.refused(refusal)),
-    }
-}
-
-/// Opens an image once more that is lent already, and lends it a second time.
-pub fn lend_again<W: World>(world: &mut W, name: &str) -> Result<W::Image, Unopened>
-    requires may { W.honest world.old → MayBeRead (W.sight world.old) name.now }
-    ensures failures { IfOk result (λ d. W.Image.failures d ≡ 0) }
-    ensures held { W.honest world.old → IfOk result (HoldsImage W.Image.Device (held (W.sight world.old) name.now)) }
-    ensures why { W.honest world.old → IfErr result (IsRefusedFile Image ((W.sight world.old).named name.now ≡ None) NoneUnfit ⊥
-        (W.refusals world.old < W.refusals world.new)) }
-    ensures seen { W.honest world.old → StaysSeen W.sight W.survives world.old world.new }
-    ensures honesty { W.honest world.new ↔ W.honest world.old }
-{
-    let file = match open_again(world, name) {
-        Ok(file) => file,
-        Err(unopened) => return Err(unopened),
-    };
-    match world.lend_image_to_read(file) {
-        Ok(device) => Ok(device),
-        Err(refusal) => Err(Which::Image.refused(refusal)),
-    }
-}
-
-/// Closes an image that was lent a second time.
-pub fn close_again<W: World>(world: &mut W, image: W::Image)
-    ensures seen { W.honest world.old → StaysSeen W.sight W.survives world.old world.new }
-    ensures honesty { W.honest world.new ↔ W.honest world.old }
-{
-    let journal = world.lend_no_text();
-    let redo = world.lend_no_text();
-    world.close_read(image, journal, redo);
 }
 
 /// Closes the files that were lent, and answers what was seen.

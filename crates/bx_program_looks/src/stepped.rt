@@ -10,10 +10,10 @@ mod changes;
 mod patched;
 
 use crate::devices::Seen;
-use crate::lent::{close, close_again, lend, lend_again};
+use crate::lent::{close, lend};
 use crate::unseen::Unseen;
 use bx_journal::Way;
-use bx_program_files::Names;
+use bx_program_files::{Names, Which, close_alone, lend_alone};
 use bx_program_world::World;
 use patched::patch_on;
 use std::alloc::Global;
@@ -47,14 +47,14 @@ pub fn show_patch<W: World, O: Write>(
         Ok(devices) => devices,
         Err(unopened) => return Err(Unseen::Unopened(unopened)),
     };
-    let again = match lend_again(world, names.image.as_str()) {
+    let again = match lend_alone(world, names.image.as_str()) {
         Ok(again) => again,
-        Err(unopened) => {
-            let outcome = Err(Unseen::Unopened(unopened));
+        Err(why) => {
+            let outcome = Err(Unseen::Unopened(Which::Image.unopened(why)));
             return close(world, Seen { devices, outcome });
         }
     };
     let (seen, again) = patch_on(alloc, devices, again, way, count, out);
-    close_again(world, again);
+    close_alone(world, again);
     close(world, seen)
 }
