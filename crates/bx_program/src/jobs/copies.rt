@@ -2,15 +2,13 @@
 ghost use Rattle.bx_cli_commands.specs.jobs.Passing.{CanPass, plan_skip};
 
 use crate::advice::Advice;
-use crate::files::look::{device_length, is_device};
 use crate::hints::remarks::Remarks;
 use crate::history::changes::{change_anew, change_image};
-use crate::stopped::{Noted, Stopped};
-use crate::streams::fitting::Fitting;
+use crate::jobs::ready::{Ready, plan_behind};
+use crate::stopped::Stopped;
 use crate::streams::input::{Placed, file, standard};
-use crate::streams::part::Part;
-use bx_cli::{Command, DdImageJob, Fault, change_of_plan, plan_rest};
-use bx_dd::{Counts, Plan, report};
+use bx_cli::{Command, DdImageJob, Fault, change_of_plan};
+use bx_dd::{Counts, report};
 use bx_program_sessions::Task;
 use bx_program_system::Progress;
 use bx_text::IoFault;
@@ -59,18 +57,7 @@ where
     }
 }
 
-/// The plan for what stands behind passed bytes. On a block device, whose length stays, it has `conv=notrunc`, as the real dd
-/// takes it.
-pub fn plan_for(plan: &Plan, passed: u64, keeps_length: bool) -> Plan
-    requires { CanPass passed (plan_skip plan.now) }
-{
-    let mut rest = plan_rest(plan, passed);
-    rest.notrunc = rest.notrunc || keeps_length;
-    rest
-}
-
-/// Puts what the plan makes of an input onto the image, and answers the counts. No more is read for a block device than
-/// shows that it doesn't fit.
+/// Puts what the plan makes of an input onto the image, and answers the counts.
 fn copy_from<'a, R, I: Read + Drop>(
     rt: &R,
     job: &'a DdImageJob,
@@ -85,20 +72,15 @@ where
     if job.fresh {
         return copy_anew(rt, job, input, progress, remarks);
     }
-    let image = job.target.image.as_str();
-    let (from, passed) = (input.name, input.passed);
-    let plan = plan_for(&job.plan, passed, is_device(rt, image));
-    let total = input.most(most_of_dd(&job.plan));
-    let input = Noted::new(Part::new(input.reader, total, progress));
-    let mut fitting = Fitting::new(input, &job.plan, passed, device_length(rt, image));
+    let plan = plan_behind(rt, job, input.passed);
+    let mut ready = Ready::new(rt, job, input, progress);
     let asked = Command::Copy {
         plan,
-        input: &mut fitting,
+        input: &mut ready.reader,
     };
     match change_image(rt, &job.target, Task::Run(asked), progress, remarks) {
         Ok(reply) => Ok(reply.counts()),
-        Err(stopped) if fitting.is_full() => Err(stopped.on_more_input()),
-        Err(stopped) => Err(stopped.on_input(from, fitting.input.error)),
+        Err(stopped) => Err(ready.stopped(stopped)),
     }
 }
 
@@ -114,29 +96,17 @@ where
     R: Files<File = File> + Print + Eprint + Clock + AllocGlobal,
     requires { CanPass input.passed (plan_skip job.now.plan) }
 {
-    let image = job.target.image.as_str();
-    let (from, passed) = (input.name, input.passed);
-    let plan = plan_for(&job.plan, passed, is_device(rt, image));
-    let total = input.most(most_of_dd(&job.plan));
-    let input = Noted::new(Part::new(input.reader, total, progress));
-    let mut fitting = Fitting::new(input, &job.plan, passed, device_length(rt, image));
-    let made = match change_of_plan(&rt.alloc(), &plan, &mut fitting) {
+    let plan = plan_behind(rt, job, input.passed);
+    let mut ready = Ready::new(rt, job, input, progress);
+    let made = match change_of_plan(&rt.alloc(), &plan, &mut ready.reader) {
         Ok(made) => made,
-        Err(fault) => {
-            return Err(Stopped::from(Fault::from(fault)).on_input(from, fitting.input.error));
-        }
+        Err(fault) => return Err(ready.stopped(Stopped::from(Fault::from(fault)))),
     };
     let task: Task<Empty> = Task::Put(Ok(made.change));
     match change_anew(rt, &job.target, task, progress, remarks) {
         Ok(_) => Ok(Some(made.counts)),
-        Err(stopped) if fitting.is_full() => Err(stopped.on_more_input()),
-        Err(stopped) => Err(stopped),
+        Err(stopped) => Err(ready.stopped(stopped)),
     }
-}
-
-/// How many bytes dd reads at most behind those that it skips; none where its operands don't tell.
-pub fn most_of_dd(plan: &Plan) -> Option<u64> {
-    plan.count.map(|count| count.saturating_mul(plan.ibs))
 }
 
 /// dd's report, on standard error. `written` bytes went to standard output before, and a write fault tells them: how much of

@@ -3,16 +3,14 @@ ghost use Rattle.bx_cli_commands.specs.jobs.Passing.{CanPass, plan_skip};
 
 use crate::devices::agreement::missing;
 use crate::devices::left::stopped;
-use crate::files::look::{device_length, is_device, is_missing};
+use crate::files::look::is_missing;
 use crate::files::names::world_of;
 use crate::files::unopened::not_opened_alone;
 use crate::hints::remarks::Remarks;
-use crate::jobs::copies::{most_of_dd, plan_for};
+use crate::jobs::ready::{Ready, plan_behind};
 use crate::requests::request_preview;
-use crate::stopped::{Noted, Reason, Stopped};
-use crate::streams::fitting::Fitting;
+use crate::stopped::{Reason, Stopped};
 use crate::streams::input::{Placed, file, standard};
-use crate::streams::part::Part;
 use bx_cli::{DdImageJob, Fault, Target};
 use bx_dd::Counts;
 use bx_image::Change;
@@ -155,19 +153,14 @@ where
     R: Files<File = File> + Print + Eprint + Clock + AllocGlobal,
     requires { CanPass input.passed (plan_skip job.now.plan) }
 {
-    let image = job.target.image.as_str();
-    let (from, passed) = (input.name, input.passed);
-    let plan = plan_for(&job.plan, passed, is_device(rt, image));
-    let total = input.most(most_of_dd(&job.plan));
-    let input = Noted::new(Part::new(input.reader, total, progress));
-    let mut fitting = Fitting::new(input, &job.plan, passed, device_length(rt, image));
+    let plan = plan_behind(rt, job, input.passed);
+    let mut ready = Ready::new(rt, job, input, progress);
     let proposal = Proposal::Copy {
         plan,
-        input: &mut fitting,
+        input: &mut ready.reader,
     };
     match preview(rt, &job.target, proposal, progress, out) {
         Ok(counts) => Ok(counts),
-        Err(stopped) if fitting.is_full() => Err(stopped.on_more_input()),
-        Err(stopped) => Err(stopped.on_input(from, fitting.input.error)),
+        Err(stopped) => Err(ready.stopped(stopped)),
     }
 }
