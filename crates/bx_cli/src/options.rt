@@ -575,7 +575,7 @@ fn show<'a>(alloc: Global) -> Result<Command<'a>, AllocError> {
     let command = Command::new(alloc, "show")
         .about("Show what an undo or a redo would do; nothing is written")
         .after_help(
-            "COUNT: decimal. Each change has a heading that begins with #, and the lines that\nwould be written onto the image; without the headings they are a dump that\nrevert takes. A change that was stopped is told first, whatever COUNT is.\n\nEXAMPLES:\n  bx show disk.img            what an undo of the last change would do\n  bx show -d disk.img         the same, beside what the image has there now\n  bx show -r -k 2 disk.img    what a redo of two changes would do\n  bx show -p -k 2 disk.img    the last two changes, as one patch",
+            "COUNT: decimal. Each change has a heading that begins with #, and the lines that\nwould be written onto the image; without the headings they are a dump that\nrevert takes. A stopped change comes first, whatever COUNT is.\n\nEXAMPLES:\n  bx show disk.img            what an undo of the last change would do\n  bx show -d disk.img         the same, beside what the image has there now\n  bx show -r -k 2 disk.img    what a redo of two changes would do\n  bx show -p -k 2 disk.img    the last two changes, as one patch",
         );
     let formed = one_form(alloc, command)?;
     with_rows(alloc, formed, &SHOW)?.arg(image(alloc))

@@ -17,8 +17,8 @@ use bx_program_world::World;
 use std::alloc::Global;
 use std::io::{Read, Write};
 
-/// Runs a command on named files. An undo or a redo writes its number on standard output, and dumps and reports are written to
-/// `out`; what was recovered is said on standard error.
+/// Runs a command on named files. An undo or a redo writes its number on standard output; dumps, patches and reports are written
+/// to `out`; what was recovered is said on standard error.
 pub fn run_request<W: World, R: Read + Drop, O: Write>(
     world: &mut W,
     alloc: Global,
