@@ -9,8 +9,8 @@ use crate::requests::request_change;
 use crate::stopped::Stopped;
 use bx_cli::{Command, Target};
 use bx_program_sessions::Task;
-use bx_program_system::{Progress, lock, open_there, take_away};
-use std::fs::File;
+use bx_program_system::{Progress, is_untouched, lock, open_there};
+use std::fs::{self, File};
 use std::io::Empty;
 use std::rt::Files;
 use std::time::Clock;
@@ -43,11 +43,20 @@ where
     }
 }
 
-/// Takes a text away that this run made, if it is still empty and no other program holds it.
-pub fn take_empty<R: Files<File = File> + AllocGlobal>(rt: &R, name: &str) {
-    if let Ok(file) = open_there(rt, name, false) {
-        if lock(&file).is_ok() {
-            take_away(rt, name, &file);
+/// Takes a text away that this run made, if it is still empty and no other program holds it. A link under its name stays, and so
+/// does what it leads to: somebody else may have put it there by now.
+pub fn take_empty<R: Files<File = File>>(rt: &R, name: &str) {
+    if !is_text(rt, name) {
+        return;
+    }
+    if let Ok(file) = open_there(rt, name, true) {
+        if lock(&file).is_ok() && is_untouched(rt, name, &file).is_ok_and(|is| is) {
+            let _ = fs::remove_file(rt, name);
         }
     }
+}
+
+/// Whether a regular file has this name, and no link: to open anything else may do something to it.
+fn is_text<R: Files<File = File>>(rt: &R, name: &str) -> bool {
+    fs::symlink_metadata(rt, name).is_ok_and(|found| found.is_file())
 }

@@ -10,7 +10,7 @@ mod refusal;
 mod tally;
 mod world;
 
-pub use facts::alias::is_same;
+pub use facts::alias::{is_same, is_untouched};
 pub use facts::dev::is_among_devices;
 pub use facts::mounts::{Unknown, is_mounted};
 pub use facts::stat::{caller_of, is_group_given, stat_of};
