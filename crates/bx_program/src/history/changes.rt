@@ -10,9 +10,11 @@ use crate::hints::remarks::Remarks;
 use crate::history::take_empty;
 use crate::requests::{request_change, request_renewal};
 use crate::stopped::Stopped;
-use bx_cli::{Reply, Target};
+use bx_cli::{Fault, Reply, Target};
+use bx_journal::SessionFault;
 use bx_program_commands::Renewed;
 use bx_program_files::Which;
+use bx_program_looks::Unseen;
 use bx_program_sessions::Task;
 use bx_program_system::{Progress, take_away};
 use bx_program_world::World;
@@ -88,14 +90,12 @@ where
     let mounted = target.access.mounted;
     let renewed = request_renewal(&mut world, rt.alloc(), &names, mounted, task);
     drop(names);
+    if is_made && !is_done(&renewed) {
+        take_empty(rt, redo);
+    }
     let answer = match renewed {
         Renewed::Kept(answer) | Renewed::Changed(answer) => answer,
-        Renewed::Undropped(unseen) => {
-            if is_made {
-                take_empty(rt, redo);
-            }
-            return Err(not_seen(rt, target, &world, unseen, None));
-        }
+        Renewed::Undropped(unseen) => return Err(not_seen(rt, target, &world, unseen, None)),
     };
     remarks.look_at_recovered(answer.how);
     match answer.reply.standing() {
@@ -105,6 +105,23 @@ where
             Err(stopped(rt, target, &world, answer.unopened, fault))
         }
     }
+}
+
+/// Whether the change was made, or stopped in the middle; else it was refused.
+fn is_done(renewed: &Renewed) -> bool {
+    match renewed {
+        Renewed::Kept(answer) | Renewed::Changed(answer) => match answer.reply.standing() {
+            Ok(_) => true,
+            Err(fault) => is_interrupted(fault),
+        },
+        Renewed::Undropped(Unseen::Stopped(fault)) => is_interrupted(*fault),
+        Renewed::Undropped(Unseen::Unopened(_) | Unseen::Unfinished) => false,
+    }
+}
+
+/// Whether a fault says that writing was stopped in the middle.
+fn is_interrupted(fault: Fault) -> bool {
+    matches!(fault, Fault::Session(SessionFault::Interrupted))
 }
 
 /// The image, where it is missing and is made, so that its texts can be judged beside it.
