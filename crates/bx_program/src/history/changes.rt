@@ -16,7 +16,7 @@ use bx_program_commands::Renewed;
 use bx_program_files::Which;
 use bx_program_looks::Unseen;
 use bx_program_sessions::Task;
-use bx_program_system::{Progress, take_away};
+use bx_program_system::{OpenFile, Progress};
 use bx_program_world::World;
 use std::fs::File;
 use std::io::{Empty, Read};
@@ -64,8 +64,10 @@ where
     }
     let made = made_image(rt, target, progress)?;
     let outcome = renew_image(rt, target, task, progress, remarks);
-    if let (Some(file), Err(_)) = (made, &outcome) {
-        take_away(rt, target.image.as_str(), &file);
+    if let (Some(file), Err(stopped)) = (made, &outcome) {
+        if !is_interrupted(stopped.fault) {
+            world_of(rt, target, progress).take_away(target.image.as_str(), &file);
+        }
     }
     outcome
 }
@@ -125,11 +127,11 @@ fn is_interrupted(fault: Fault) -> bool {
 }
 
 /// The image, where it is missing and is made, so that its texts can be judged beside it.
-fn made_image<'a, R>(
-    rt: &R,
+fn made_image<'a, 'p, 'r, R>(
+    rt: &'r R,
     target: &'a Target,
-    progress: &Progress<'_, R>,
-) -> Result<Option<File>, Stopped<'a>>
+    progress: &'p Progress<'r, R>,
+) -> Result<Option<OpenFile<'p, 'r, R>>, Stopped<'a>>
 where
     R: Files<File = File> + Print + Eprint + Clock + AllocGlobal,
 {
@@ -138,11 +140,7 @@ where
         return Ok(None);
     }
     let mut world = world_of(rt, target, progress);
-    let outcome = match world.make_image(image) {
-        Ok(file) => file.into_system(),
-        Err(refusal) => Err(refusal),
-    };
-    match outcome {
+    match world.make_image(image) {
         Ok(file) => Ok(Some(file)),
         Err(refusal) => Err(not_opened(rt, target, Which::Image.refused(refusal), &world)),
     }
