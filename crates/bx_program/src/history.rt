@@ -5,13 +5,16 @@ pub mod forget;
 use crate::devices::left::stopped;
 use crate::files::look::is_missing;
 use crate::files::names::{names_of, world_of};
-use crate::requests::request_change;
+use crate::requests::{request_change, request_report};
 use crate::stopped::Stopped;
 use bx_cli::{Command, Target};
+use bx_journal::{Steps, Way};
+use bx_program_commands::Report;
+use bx_program_looks::Unseen;
 use bx_program_sessions::Task;
 use bx_program_system::{Progress, is_untouched, lock, open_there};
 use std::fs::{self, File};
-use std::io::Empty;
+use std::io::{self, Empty};
 use std::rt::Files;
 use std::time::Clock;
 
@@ -40,6 +43,32 @@ where
     match answer.reply.standing() {
         Ok(_) => Ok(()),
         Err(fault) => Err(stopped(rt, target, &world, answer.unopened, fault).unrecovered()),
+    }
+}
+
+/// Recovers what is unfinished of an image, if something is. What else hinders that is said by the command behind it.
+///
+/// # Errors
+/// As of an undo.
+pub fn settle_image<'a, R>(
+    rt: &R,
+    target: &'a Target,
+    progress: &Progress<'_, R>,
+) -> Result<(), Stopped<'a>>
+where
+    R: Files<File = File> + Print + Eprint + Clock + AllocGlobal,
+{
+    let nothing = Report::Show(Steps {
+        way: Way::Undo,
+        count: 0,
+        changes: 0,
+        compares: false,
+    });
+    let names = names_of(rt.alloc(), target)?;
+    let mut world = world_of(rt, target, progress);
+    match request_report(&mut world, rt.alloc(), &names, nothing, &mut io::sink()) {
+        Err(Unseen::Unfinished) => recover_image(rt, target, progress),
+        Ok(()) | Err(Unseen::Unopened(_) | Unseen::Stopped(_)) => Ok(()),
     }
 }
 

@@ -6,6 +6,7 @@ use crate::devices::agreement::agree;
 use crate::files::look::is_device;
 use crate::hints::remarks::Remarks;
 use crate::history::changes::{change_anew, change_image};
+use crate::history::settle_image;
 use crate::jobs::previews::preview_patch;
 use crate::stopped::{Noted, STANDARD_INPUT, Stopped};
 use crate::streams::input::{MOST_INPUT, open, size_of};
@@ -44,7 +45,8 @@ where
     let advice = Advice::before(rt, &job.target, job.fresh);
     let target = &job.target;
     if job.fresh {
-        // Nothing is dropped for a patch with which the image doesn't agree.
+        // Nothing is dropped for a patch with which the image doesn't agree, once it is recovered.
+        settle_image(rt, target, &progress)?;
         agree(rt, image, &patch, &progress)?;
         change_anew(rt, target, Task::Run(asking(patch)), &progress, remarks)?;
     } else {
