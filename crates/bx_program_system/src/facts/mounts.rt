@@ -82,10 +82,7 @@ where
     R: Files<File = File> + AllocGlobal,
 {
     for line in table.split(|byte| *byte == b'\n') {
-        let Ok(line) = str::from_utf8(line) else {
-            continue;
-        };
-        let mounted = line.split(' ').nth(2).unwrap_or("");
+        let mounted = field(line, 2);
         if mounted == number
             || is_part(rt, mounted, number)
             || is_device_of(rt, source(line), device)
@@ -96,10 +93,19 @@ where
     false
 }
 
+/// A field of a line, whatever the others are; empty where there is none, or where it isn't UTF-8.
+fn field(line: &[u8], place: usize) -> &str {
+    let found = line.split(|byte| *byte == b' ').nth(place);
+    str::from_utf8(found.unwrap_or(b"")).unwrap_or("")
+}
+
 /// What is mounted, as the line names it: behind the fields that may be missing, and a type.
-fn source(line: &str) -> &str {
-    match line.split_once(" - ") {
-        Some((_, rest)) => rest.split(' ').nth(1).unwrap_or(""),
+fn source(line: &[u8]) -> &str {
+    match line
+        .windows(3)
+        .position(|part| matches!(part, [b' ', b'-', b' ']))
+    {
+        Some(at) => field(&line[at..], 3),
         None => "",
     }
 }
@@ -132,8 +138,7 @@ where
         return false;
     };
     for line in table.as_slice().split(|byte| *byte == b'\n') {
-        let name = str::from_utf8(line).unwrap_or("");
-        if is_device_of(rt, name.split(' ').next().unwrap_or(""), device) {
+        if is_device_of(rt, field(line, 0), device) {
             return true;
         }
     }
