@@ -44,7 +44,8 @@ where
         Err(_) => return Err(Unknown::NoTable),
     };
     let number = number_text(rt.alloc(), device.rdev())?;
-    Ok(is_in_table(rt, table.as_slice(), number.as_str(), device) || is_swap(rt, device))
+    let number = number.as_str();
+    Ok(is_in_table(rt, table.as_slice(), number) || is_swap(rt, number))
 }
 
 /// Whether a block device is read-only, or is a partition of one that is. Where the system has no table, it counts as one that
@@ -76,17 +77,14 @@ fn number_text(alloc: Global, number: u64) -> Result<String, AllocError> {
     format!(in alloc; "{major}:{minor}")
 }
 
-/// Whether a line of the mounts names this device: by its number, by a partition's, or by its name.
-fn is_in_table<R>(rt: &R, table: &[u8], number: &str, device: &Metadata) -> bool
+/// Whether a line of the mounts names this device or a partition of it: by its number, or, where the file system has a number of
+/// its own, as btrfs has, by its name.
+fn is_in_table<R>(rt: &R, table: &[u8], number: &str) -> bool
 where
     R: Files<File = File> + AllocGlobal,
 {
     for line in table.split(|byte| *byte == b'\n') {
-        let mounted = field(line, 2);
-        if mounted == number
-            || is_part(rt, mounted, number)
-            || is_device_of(rt, source(line), device)
-        {
+        if is_part(rt, field(line, 2), number) || is_named(rt, source(line), number) {
             return true;
         }
     }
@@ -110,27 +108,41 @@ fn source(line: &[u8]) -> &str {
     }
 }
 
-/// Whether the device that is mounted is a partition of this one.
-fn is_part<R>(rt: &R, mounted: &str, number: &str) -> bool
+/// Whether the device with the number `used` is this one, or a partition of it.
+fn is_part<R>(rt: &R, used: &str, number: &str) -> bool
 where
     R: Files<File = File> + AllocGlobal,
 {
-    let Ok(name) = format!(in rt.alloc(); "/sys/dev/block/{mounted}/../dev") else {
+    if used == number {
+        return true;
+    }
+    let Ok(name) = format!(in rt.alloc(); "/sys/dev/block/{used}/../dev") else {
         return true;
     };
     fs::read_to_string(rt, name.as_str()).is_ok_and(|whole| whole.as_str().trim_end() == number)
 }
 
-/// Whether this is a name of the device.
-fn is_device_of<R: Files<File = File>>(rt: &R, name: &str, device: &Metadata) -> bool {
-    name.starts_with('/')
-        && fs::metadata(rt, name).is_ok_and(|file| {
-            file.file_type().is_block_device() && file.rdev() == device.rdev()
-        })
+/// Whether this is a name of the device, or of a partition of it.
+fn is_named<R>(rt: &R, name: &str, number: &str) -> bool
+where
+    R: Files<File = File> + AllocGlobal,
+{
+    if !name.starts_with('/') {
+        return false;
+    }
+    match fs::metadata(rt, name) {
+        Ok(file) if file.file_type().is_block_device() => {
+            match number_text(rt.alloc(), file.rdev()) {
+                Ok(used) => is_part(rt, used.as_str(), number),
+                Err(_) => true,
+            }
+        }
+        Ok(_) | Err(_) => false,
+    }
 }
 
-/// Whether the device is used as swap. A system without swap has no such table.
-fn is_swap<R>(rt: &R, device: &Metadata) -> bool
+/// Whether the device, or a partition of it, is used as swap. A system without swap has no such table.
+fn is_swap<R>(rt: &R, number: &str) -> bool
 where
     R: Files<File = File> + AllocGlobal,
 {
@@ -138,7 +150,7 @@ where
         return false;
     };
     for line in table.as_slice().split(|byte| *byte == b'\n') {
-        if is_device_of(rt, field(line, 0), device) {
+        if is_named(rt, field(line, 0), number) {
             return true;
         }
     }
