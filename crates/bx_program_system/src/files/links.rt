@@ -1,11 +1,12 @@
 //! Making an image that is missing, which links may lead to.
+use crate::facts::alias::is_same;
 use crate::facts::dev::is_among_devices;
 use crate::facts::stat::is_root_or_caller;
 use crate::files::mode::Permits;
-use crate::files::open::take_away;
+use crate::files::open::{open_there, take_away};
 use crate::folders::{folder_of, sync_folder};
 use std::alloc::AllocError;
-use std::fs::{self, File};
+use std::fs::{self, File, Metadata};
 use std::io::{self, ErrorKind};
 use std::os::unix::fs::MetadataExt;
 use std::rt::Files;
@@ -62,16 +63,20 @@ where
     }
 }
 
-/// Makes the image that a link leads to, and says whether this run made it: where another program made it by now, or its place
-/// has no name here, it is opened by the link's name.
+/// Makes the image that a link leads to, and says whether this run made it. Where another program made it by now it is opened, and
+/// not made once more if it is missing again; and where its place has no name here, it is opened by the link's name.
 fn make_linked<R>(rt: &R, name: &str, permits: Permits, waits: bool) -> Result<(File, bool), Unmade>
 where
     R: Files<File = File> + AllocGlobal,
 {
     let mut link = String::from_str(rt.alloc(), name)?;
     for _ in 0..MOST_LINKS {
-        refuse_of_another(rt, link.as_str())?;
-        let Some(place) = target_of(rt, link.as_str()) else {
+        let Some(found) = own_link(rt, link.as_str())? else {
+            return as_found(open_there(rt, name, true));
+        };
+        let target = target_of(rt, link.as_str());
+        refuse_another(rt, link.as_str(), &found)?;
+        let Some(place) = target else {
             break;
         };
         refuse_among_devices(rt, place.as_str())?;
@@ -81,7 +86,12 @@ where
             Ok(file) => return Ok((kept(rt, place.as_str(), file, waits)?, true)),
         }
     }
-    match permits.open(rt, name) {
+    as_found(permits.open(rt, name))
+}
+
+/// A file that is opened and counts as one that this run didn't make.
+fn as_found(opened: io::Result<File>) -> Result<(File, bool), Unmade> {
+    match opened {
         Ok(file) => Ok((file, false)),
         Err(e) => Err(Unmade::System(e)),
     }
@@ -115,17 +125,27 @@ where
     Ok(())
 }
 
-/// Refuses a link that belongs to somebody else than the caller and root.
-fn refuse_of_another<R>(rt: &R, link: &str) -> Result<(), Unmade>
+/// The link of this name, where it is one; refused where it belongs to somebody else than the caller and root.
+fn own_link<R>(rt: &R, name: &str) -> Result<Option<Metadata>, Unmade>
 where
     R: Files<File = File> + AllocGlobal,
 {
-    match fs::symlink_metadata(rt, link) {
-        Ok(found) if found.is_symlink() && !is_root_or_caller(rt, found.uid()) => {
-            Err(Unmade::Misplaced(Misplaced::OfAnother))
-        }
-        // one that can't be looked at can't be read or made either, which says so
-        Ok(_) | Err(_) => Ok(()),
+    match fs::symlink_metadata(rt, name) {
+        Ok(found) if !found.is_symlink() => Ok(None),
+        Ok(found) if is_root_or_caller(rt, found.uid()) => Ok(Some(found)),
+        Ok(_) => Err(Unmade::Misplaced(Misplaced::OfAnother)),
+        Err(e) => Err(Unmade::System(e)),
+    }
+}
+
+/// Refuses a name that has another link by now than the one that was looked at: what was read may be of a link of somebody else.
+fn refuse_another<R>(rt: &R, name: &str, link: &Metadata) -> Result<(), Unmade>
+where
+    R: Files<File = File> + AllocGlobal,
+{
+    match own_link(rt, name)? {
+        Some(found) if is_same(&found, link) => Ok(()),
+        Some(_) | None => Err(Unmade::Misplaced(Misplaced::OfAnother)),
     }
 }
 
