@@ -37,6 +37,28 @@ nothing. With -U nothing is synced, and `log` syncs nothing.
   > done | sort | uniq -c
         9 1 8 2
 
+# Links that take a name meanwhile (wants root cc)
+
+One takes the redo file's, which a recovery made: it stays, and so does the empty file that it leads to.
+
+  $ shim; mkdir system; : > system/empty; fresh ABxyEFGH "$stopped"
+  $ SHIM_RUN='mv img.bxj.redo away; ln -s system/empty img.bxj.redo' failing p 1 bx log img
+  bx: recovered: change 1 was taken back
+  bx: cannot open file
+  [1]
+  $ ls system; cat img; readlink img.bxj.redo
+  empty
+  ABCDEFGHsystem/empty
+
+Another one, of a neighbour, takes that of a link to an image that is missing:
+
+  $ fresh; ln -s system/made img; echo '0: 41' > dump
+  $ SHIM_RUN='ln -sfn system/other img; chown -h 65534 img' failing l 1 bx revert -f dump img
+  bx: cannot open file
+  [1]
+  $ ls system
+  empty
+
 # A file system without locks (wants cc)
 
 One file by two names is refused there too.

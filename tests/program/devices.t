@@ -115,6 +115,33 @@ A device's texts are its user's alone; and once it is unmounted:
   600
   600
 
+# A device that is mounted at a name that is no UTF-8 (wants root losetup mkfs.ext2)
+
+  $ head -c 1M /dev/zero > ../disk; dev=$(losetup -f --show ../disk) || left_out 'there are no loop devices'
+  $ place=$(printf 'm\374'); trap 'umount "$place" 2> /dev/null; losetup -d $dev' EXIT
+  $ mkfs.ext2 -q -F $dev; mkdir "$place"; mount -o ro $dev "$place" 2> /dev/null || left_out 'it cannot be mounted'
+  $ echo '3ff: 00' > dump; refused 'cannot open file' <<< "revert -f dump -J device.bxj $dev"
+
+# A disk with a partition in use that the tables name alone (wants root losetup partx unshare)
+
+As one with btrfs, whose mounts have a number of their own, and one that is swap. The tables are stood in for by files.
+
+  $ head -c 1M /dev/urandom > ../parts; table='\0\0\0\0\203\0\0\0\1\0\0\0\377\7\0\0'
+  $ (printf "$table"; mega '\0' 48; printf '\125\252') | dd of=../parts bs=1 seek=446 conv=notrunc status=none
+  $ dev=$(losetup -f --show ../parts) || left_out 'there are no loop devices'
+  $ trap 'partx -d $dev; losetup -d $dev' EXIT; partx -a $dev; echo '10: 4142' > dump
+  $ unshare -m true 2> /dev/null || left_out 'there are no mount namespaces'
+  $ beside() { # MOUNT SWAP COMMAND ..
+  >   unshare -m bash -c 'cat /proc/$$/mountinfo > ../mounts; echo "$1" >> ../mounts; mount --bind ../mounts /proc/$$/mountinfo
+  >     printf "Filename Type Size Used Priority\n%s\n" "$2" > ../swaps; mount --bind ../swaps /proc/swaps; exec "${@:3}"' - "$@"
+  > }
+  $ for part in $dev ${dev}p1; do
+  >   refused 'cannot open file' beside "'99 27 0:45 / /mnt rw - btrfs $part rw'" "''" bx <<< "revert -f dump -J device.bxj $dev"
+  >   refused 'cannot open file' beside "''" "'$part partition 1020 0 -2'" bx <<< "revert -f dump -J device.bxj $dev"
+  > done
+  $ beside '99 27 0:45 / /mnt rw - btrfs /dev/none rw' '/swap file 1020 0 -2' bx revert -f dump -J device.bxj $dev; bx undo -J device.bxj $dev
+  0
+
 # A device that is read-only, and a partition of one (wants root losetup partx)
 
 Nothing is written or made. It may be looked at, but for a recovery. The partition begins at sector 1.

@@ -108,6 +108,38 @@ No journal:
   bx: read failed
   [1]
 
+# What a change that is refused or stopped leaves behind --fresh
+
+A redo file that was missing stays so; an image that was made stays where it was stopped.
+
+  $ fresh ABxyEFGH "$patched"; echo '1000000000000: 41' | bx revert --fresh img
+  bx: image too large
+  [1]
+  $ echo img*
+  img img.bxj
+  $ fresh - "$patched"; (ulimit -f 0; echo '0: 41' | bx revert --fresh img) 2>&1 | cat; echo img*
+  bx: interrupted: open again to recover
+  img img.bxj img.bxj.redo
+  $ bx log img
+
+# A patch behind a change that was stopped
+
+The image has to agree with it once it is recovered.
+
+  $ second='change2 00000002 0000000000000008\n00000000: 4142                                     AB\nsave 00000002\n'
+  $ printf -- '-0: 6162\n+0: 5a5a\n' > torn; printf -- '-0: 4142\n+0: 5a5a\n' > whole
+  $ fresh abxyEFGH "$patched$second"; bx patch --fresh -f torn img
+  bx: recovered: change 2 was taken back
+  bx: the image has other bytes at 0
+  [1]
+  $ bx log img; cat img
+  1 8 2
+  ABxyEFGH
+  $ fresh abxyEFGH "$patched$second"; bx patch --fresh -f whole img; bx log img; cat img
+  bx: recovered: change 2 was taken back
+  1 8 2
+  ZZxyEFGH
+
 # What somebody planted, and what is in use
 
   $ fresh ABxyEFGH; echo 'change2 precious' > precious

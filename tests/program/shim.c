@@ -1,6 +1,7 @@
 // A library that makes the Nth memory request fail, the Nth read, write, sync or other call on a file fail, the Nth
-// sync fail on a full disk, each sync of a folder fail with error N, the Nth read or write move one byte, or answers
-// each lock as a file system that has none: by SHIM_MODE and SHIM_AT. How many there were goes into SHIM_COUNT's file.
+// sync fail on a full disk, each sync of a folder fail with error N, the Nth read or write move one byte, answers each
+// lock as a file system that has none, or runs SHIM_RUN before the Nth sync or the Nth link that is read: by SHIM_MODE
+// and SHIM_AT. How many there were goes into SHIM_COUNT's file.
 #define _GNU_SOURCE
 #include <dlfcn.h>
 #include <errno.h>
@@ -29,6 +30,7 @@ __attribute__((destructor)) static void end(void) {
 static int strikes(int kind) { return what == kind && ++count == at; }
 #define FAIL(kind, error, answer) do { if (strikes(kind)) { errno = error; return answer; } } while (0)
 #define REAL(f) static __typeof__(f) *real; if (!real) real = dlsym(RTLD_NEXT, #f)
+#define RUN(kind) do { if (strikes(kind)) { unsetenv("LD_PRELOAD"); if (system(getenv("SHIM_RUN"))) abort(); } } while (0)
 #define SOME(n) do { FAIL('f', EIO, -1); if ((n) > 1 && strikes('s')) n = 1; } while (0)
 void *malloc(size_t n) { FAIL('a', ENOMEM, 0); return __libc_malloc(n); }
 void *calloc(size_t n, size_t m) { FAIL('a', ENOMEM, 0); return __libc_calloc(n, m); }
@@ -58,9 +60,11 @@ int fsync(int d) {
     REAL(fsync);
     FAIL('f', EIO, -1);
     FAIL('d', ENOSPC, -1);
+    RUN('p');
     if (what == 'o' && is_folder(d)) { errno = (int)at; return -1; }
     return real(d);
 }
+ssize_t readlink(const char *p, char *b, size_t n) { REAL(readlink); RUN('l'); return real(p, b, n); }
 int flock(int d, int how) {
     REAL(flock);
     if (what == 'n') { errno = EOPNOTSUPP; return -1; }
