@@ -210,6 +210,18 @@ nothing.
   $ chmod 2770 .; as 1:1,7 bx log img
   bx: recovered: change 1 was taken back
 
+# A group that a folder gave to a file of a neighbour (wants root)
+
+User 65534 isn't of the group 7: in a folder below the one that gives it, and where the file was moved, the group tells nothing.
+
+  $ echo '0: 58' > dump; evil="change2 00000001 0000000000000008\n$(printf EVIL | bx xxd)\nsave 00000001\n"
+  $ put 0:7 660 system ABCDEFGH; mkdir pool home; chown 0:7 pool; chmod 3777 pool; chown 65534:65534 home
+  $ as 65534 mkdir pool/sub; ln -s $PWD/system pool/sub/img; ln -s $PWD/system home/img
+  $ for name in pool/sub/img pool/img; do as 65534 bash -c "umask 007; printf %b '$evil' > $name.bxj"; done; as 65534 mv pool/img.bxj home
+  $ stat -c '%a %u:%g' pool/sub/img.bxj home/img.bxj; opening pool/sub/img; opening home/img
+  660 65534:7
+  660 65534:7
+
 # A folder that may be searched and written, and not be read
 
 It can't be opened, but by root: another user does it then.

@@ -13,8 +13,10 @@ const ROOT: u32 = 0;
 /// A number that no user has.
 const NOBODY: u32 = u32::MAX;
 
-/// The bits of a folder that gives its group to each file in it, and that others may write.
-const GIVES_ITS_GROUP: u32 = 0o2002;
+/// The bit of a folder that its group may write, and that of one that others may write.
+const GROUP_WRITES: u32 = 0o020;
+
+const OTHERS_WRITE: u32 = 0o002;
 
 /// What the system says of this process, a line for each fact.
 const STATUS: &str = "/proc/self/status";
@@ -76,11 +78,16 @@ fn classes(bits: u32, group: u32, others: u32) -> Classes {
     }
 }
 
-/// Whether the folder of a file of this name gives the file's group to whatever anybody makes there; also where that isn't known.
+/// Whether the group of a file of this name says nothing of its owner, who may have got it of a folder that gives its own: where
+/// others may write the file's folder, or another group may, or it is the owner's. A file keeps its group where it is moved. Also
+/// where that isn't known.
 pub fn is_group_given<R: Files<File = File>>(rt: &R, name: &str, file: &Metadata) -> bool {
     match fs::metadata(rt, folder_of(name)) {
         Ok(folder) => {
-            folder.mode() & GIVES_ITS_GROUP == GIVES_ITS_GROUP && folder.gid() == file.gid()
+            let bits = folder.mode();
+            let others = bits & OTHERS_WRITE != 0;
+            let another = bits & GROUP_WRITES != 0 && folder.gid() != file.gid();
+            others || another || folder.uid() == file.uid()
         }
         Err(_) => true,
     }
