@@ -108,7 +108,7 @@ fn source(line: &[u8]) -> &str {
     }
 }
 
-/// Whether the device with the number `used` is this one, or a partition of it.
+/// Whether the device with the number `used` is this one, or a partition of it; also where the system doesn't say.
 fn is_part<R>(rt: &R, used: &str, number: &str) -> bool
 where
     R: Files<File = File> + AllocGlobal,
@@ -119,7 +119,11 @@ where
     let Ok(name) = format!(in rt.alloc(); "/sys/dev/block/{used}/../dev") else {
         return true;
     };
-    fs::read_to_string(rt, name.as_str()).is_ok_and(|whole| whole.as_str().trim_end() == number)
+    match fs::read_to_string(rt, name.as_str()) {
+        Ok(whole) => whole.as_str().trim_end() == number,
+        // what is no partition has no such file
+        Err(e) => e.kind() != ErrorKind::NotFound,
+    }
 }
 
 /// Whether this is a name of the device, or of a partition of it.
@@ -141,13 +145,14 @@ where
     }
 }
 
-/// Whether the device, or a partition of it, is used as swap. A system without swap has no such table.
+/// Whether the device, or a partition of it, is used as swap; also where that can't be read. A system without swap has no such table.
 fn is_swap<R>(rt: &R, number: &str) -> bool
 where
     R: Files<File = File> + AllocGlobal,
 {
-    let Ok(table) = fs::read(rt, SWAPS) else {
-        return false;
+    let table = match fs::read(rt, SWAPS) {
+        Ok(table) => table,
+        Err(e) => return e.kind() != ErrorKind::NotFound,
     };
     for line in table.as_slice().split(|byte| *byte == b'\n') {
         if is_named(rt, field(line, 0), number) {
