@@ -124,7 +124,7 @@ A device's texts are its user's alone; and once it is unmounted:
 
 # A disk with a partition in use that the tables name alone (wants root losetup partx unshare)
 
-As one with btrfs, whose mounts have a number of their own, and one that is swap. The tables are stood in for by files.
+It is refused, as one with btrfs, whose mounts have a number of their own, and one that is swap. The tables are stood in for by files.
 
   $ head -c 1M /dev/urandom > ../parts; table='\0\0\0\0\203\0\0\0\1\0\0\0\377\7\0\0'
   $ (printf "$table"; mega '\0' 48; printf '\125\252') | dd of=../parts bs=1 seek=446 conv=notrunc status=none
@@ -141,6 +141,11 @@ As one with btrfs, whose mounts have a number of their own, and one that is swap
   > done
   $ beside '99 27 0:45 / /mnt rw - btrfs /dev/none rw' '/swap file 1020 0 -2' bx revert -f dump -J device.bxj $dev; bx undo -J device.bxj $dev
   0
+
+So is one where the table of swap can't be read: here it is a process's memory.
+
+  $ unread() { unshare -m bash -c 'mount --bind /proc/$$/mem /proc/swaps; exec "$@"' - "$@"; }
+  $ refused 'cannot open file' unread bx <<< "revert -f dump -J device.bxj $dev"
 
 # A device that is read-only, and a partition of one (wants root losetup partx)
 
