@@ -122,6 +122,13 @@ A redo file that was missing stays so; an image that was made stays where it was
   img img.bxj img.bxj.redo
   $ bx log img
 
+Where the history is kept, so is what is known of the image that a redo is for:
+
+  $ changes '2: 7879'; bx undo img; echo '0: 41' > dump; kept flock -s img bx revert --fresh -f dump img
+  0
+  bx: cannot open file
+  [1]
+
 # A patch behind a change that was stopped
 
 The image has to agree with it once it is recovered.

@@ -96,16 +96,19 @@ where
         take_empty(rt, redo);
     }
     let answer = match renewed {
-        Renewed::Kept(answer) | Renewed::Changed(answer) => answer,
+        Renewed::Kept(answer) => answer,
+        Renewed::Changed(answer) => {
+            if answer.reply.standing().is_err() {
+                forget_line(rt, target);
+            }
+            answer
+        }
         Renewed::Undropped(unseen) => return Err(not_seen(rt, target, &world, unseen, None)),
     };
     remarks.look_at_recovered(answer.how);
     match answer.reply.standing() {
         Ok(_) => Ok(answer.reply),
-        Err(fault) => {
-            forget_line(rt, target);
-            Err(stopped(rt, target, &world, answer.unopened, fault))
-        }
+        Err(fault) => Err(stopped(rt, target, &world, answer.unopened, fault)),
     }
 }
 
