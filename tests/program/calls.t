@@ -59,6 +59,15 @@ Another one, of a neighbour, takes that of a link to an image that is missing:
   $ ls system
   empty
 
+# Somebody who waits for a lock (wants cc)
+
+From the drop of a history to the change the files stay locked: who waits for the image gets it behind both.
+
+  $ shim; changes '2: 7879'; echo '0: 61' > dump
+  $ SHIM_RUN='flock -s img sleep 1 > /dev/null 2>&1 &' failing p 1 bx revert --fresh -f dump img; cat img; echo; bx log img
+  aBxyEFGH
+  1 8 1
+
 # A file system without locks (wants cc)
 
 One file by two names is refused there too.

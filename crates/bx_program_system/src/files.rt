@@ -3,6 +3,7 @@ pub mod counted_file;
 pub mod devices;
 pub mod left;
 pub mod links;
+pub mod locks;
 pub mod look;
 pub mod mode;
 pub mod open;

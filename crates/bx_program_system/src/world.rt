@@ -9,9 +9,10 @@ use crate::files::counted_file::CountedFile;
 use crate::files::devices::{held, image_of, size_of_texts};
 use crate::files::left::Left;
 use crate::files::links::{Misplaced, Unmade, make_image, refuse_among_devices};
+use crate::files::locks::Locks;
 use crate::files::look::{is_in_place, look, look_at_text};
 use crate::files::mode::Permits;
-use crate::files::open::{fixed_length, length_of, lock, lock_shared, open_there, take_away};
+use crate::files::open::{fixed_length, length_of, open_there, take_away};
 use crate::files::opened::{Known, OpenFile};
 use crate::folders::{folder_of, sync_folder};
 use crate::noted::Noted;
@@ -63,6 +64,7 @@ pub struct SystemWorld<'p, 'r, R> {
     // how many bytes the texts have that are lent to be read
     to_read: u64,
     kept: Option<Folder>,
+    locks: Locks,
     /// What the devices of the last session said.
     pub left: Left,
     /// Whether a name was refused its place on the disk.
@@ -95,6 +97,7 @@ where
             },
             to_read: 0,
             kept: None,
+            locks: Locks::PASSING,
             left: Left::NOTHING,
             is_unkept: false,
             unwritten: None,
@@ -108,6 +111,16 @@ where
         let mut world = SystemWorld::new(rt, progress, false);
         world.most = most;
         world
+    }
+
+    /// Keeps each file that is locked to be changed locked from then on, whatever is closed and opened again, until `pass_locks`.
+    pub fn keep_locks(&mut self) {
+        self.locks = Locks::lasting(self.rt.alloc());
+    }
+
+    /// Lets locks go with their files, and those go that were kept.
+    pub fn pass_locks(&mut self) {
+        self.locks = Locks::PASSING;
     }
 
     /// How many bytes are read of an input behind `passed` of them, where somebody looks and as far as that is known.
@@ -332,7 +345,7 @@ where
     }
 
     fn lock(&mut self, name: &str, file: &OpenFile<'p, 'r, R>) -> Result<(), Refusal> {
-        match lock(file.system()?) {
+        match self.locks.lock(file.system()?) {
             Ok(()) => is_in_place(self.rt, name, file),
             Err(TryLockError::WouldBlock) => Err(Refusal::Locked),
             Err(TryLockError::Error(e)) => Err(refused(e)),
@@ -457,7 +470,7 @@ where
     }
 
     fn lock_shared(&mut self, name: &str, file: &OpenFile<'p, 'r, R>) -> Result<(), Refusal> {
-        match lock_shared(file.system()?) {
+        match self.locks.lock_shared(file.system()?) {
             Ok(()) => is_in_place(self.rt, name, file),
             Err(TryLockError::WouldBlock) => Err(Refusal::Locked),
             Err(TryLockError::Error(e)) => Err(refused(e)),

@@ -29,7 +29,7 @@ pub struct Stat {
     pub owner: u32,
     /// The group that it belongs to.
     pub group: u32,
-    /// Whether its folder gives that group to whatever anybody makes there.
+    /// Whether that group says nothing of the owner, who may have got it from a folder.
     pub is_group_given: bool,
     /// Who may read it, by its permission bits.
     pub reads: Classes,

@@ -16,7 +16,7 @@ use bx_program_commands::Renewed;
 use bx_program_files::Which;
 use bx_program_looks::Unseen;
 use bx_program_sessions::Task;
-use bx_program_system::{OpenFile, Progress};
+use bx_program_system::{OpenFile, Progress, SystemWorld};
 use bx_program_world::World;
 use std::fs::File;
 use std::io::{Empty, Read};
@@ -72,7 +72,31 @@ where
     outcome
 }
 
-/// Drops the history of an image that is there, and then changes it. A redo text that is missing is made by the change alone.
+/// Drops the history of an image that is there, and then does a task on it: the files stay locked from one to the other. A redo text
+/// that was missing stays so where the change is refused.
+fn renew<'a, R>(
+    rt: &R,
+    world: &mut SystemWorld<'_, '_, R>,
+    target: &'a Target,
+    task: Task<Empty>,
+) -> Result<Renewed, Stopped<'a>>
+where
+    R: Files<File = File> + Print + Eprint + Clock + AllocGlobal,
+    requires near { IsNearTask task }
+{
+    let redo = target.texts.redo.as_str();
+    let is_made = is_missing(rt, redo);
+    let names = names_of(rt.alloc(), target)?;
+    world.keep_locks();
+    let renewed = request_renewal(world, rt.alloc(), &names, target.access.mounted, task);
+    world.pass_locks();
+    if is_made && !is_done(&renewed) {
+        take_empty(rt, redo);
+    }
+    Ok(renewed)
+}
+
+/// Drops the history of an image that is there, and then changes it.
 fn renew_image<'a, R>(
     rt: &R,
     target: &'a Target,
@@ -85,17 +109,8 @@ where
     requires near { IsNearTask task }
 {
     refuse_without_journal(rt, target)?;
-    let redo = target.texts.redo.as_str();
-    let is_made = is_missing(rt, redo);
-    let names = names_of(rt.alloc(), target)?;
     let mut world = world_of(rt, target, progress);
-    let mounted = target.access.mounted;
-    let renewed = request_renewal(&mut world, rt.alloc(), &names, mounted, task);
-    drop(names);
-    if is_made && !is_done(&renewed) {
-        take_empty(rt, redo);
-    }
-    let answer = match renewed {
+    let answer = match renew(rt, &mut world, target, task)? {
         Renewed::Kept(answer) => answer,
         Renewed::Changed(answer) => {
             if answer.reply.standing().is_err() {

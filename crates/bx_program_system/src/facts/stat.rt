@@ -78,7 +78,7 @@ fn classes(bits: u32, group: u32, others: u32) -> Classes {
     }
 }
 
-/// Whether the group of a file of this name says nothing of its owner, who may have got it of a folder that gives its own: where
+/// Whether the group of a file of this name says nothing of its owner, who may have got it from a folder that gives its own: where
 /// others may write the file's folder, or another group may, or it is the owner's. A file keeps its group where it is moved. Also
 /// where that isn't known.
 pub fn is_group_given<R: Files<File = File>>(rt: &R, name: &str, file: &Metadata) -> bool {

@@ -34,7 +34,7 @@ pub struct Known {
     pub role: Role,
     /// Its length, where it can't have another one: of a block device.
     pub length: Option<u64>,
-    /// Whether its folder gives its group to whatever anybody makes there.
+    /// Whether its group says nothing of its owner, who may have got it from a folder.
     pub is_group_given: bool,
     /// Whether this run made it.
     pub made: bool,
