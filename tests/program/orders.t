@@ -1,7 +1,8 @@
 What each command syncs, and in which order, by the calls that strace sees it make, beside the table in docs/FORMATS.md, "Order of
 device calls": F and I are the folders of the texts and of the image, J the journal, D the image, R the redo file. A command that may
 write syncs all five first; a change then JRDJ, with a J before it where it is the journal's first byte, and an undo or a redo of one
-change JDRJ. `wrong:` stands where a file is written before the folder of the texts is synced, or while another one is not on the disk.
+change JDRJ. A history that is dropped is JDRRJ, and by `forget`, which makes no file, no folder's. `wrong:` stands where a file is
+written before the folder of the texts is synced, or while another one is not on the disk.
 
   $ head='change2 0000000N 0000000000000008\n' saved="${head}00000000: 41                                       A\nsave 0000000N\n"
   $ line() { echo "${*/IMAGE/-J texts/journal images/image}" | sed 's|OF$|-J texts/journal of=images/image|'; }
@@ -21,7 +22,8 @@ save line:
   >   strace -f -y -o ../calls -e trace=fsync,fdatasync,ftruncate,fallocate,/write,copy_file_range bx $(line "$@") > /dev/null 2>&1
   >   status=$?
   >   sed -nE 's/^([0-9]+ +)?(\w+)\([0-9]+<[^>]*\/(texts|images|image|journal|journal\.redo)>.* = [0-9]+.*/\2 \3/p' ../calls | awk -v unsynced="$*" '
-  >     BEGIN { letter["texts"] = "F"; letter["images"] = "I"; letter["image"] = "D"; letter["journal"] = "J"; letter["journal.redo"] = "R" }
+  >     BEGIN { letter["texts"] = "F"; letter["images"] = "I"; letter["image"] = "D"; letter["journal"] = "J"; letter["journal.redo"] = "R"
+  >       named = unsynced ~ /^forget / }
   >     { at = letter[$2] }
   >     /^f(data)?sync/ { order = order at; named = named || at == "F"; if (left == at) left = ""; next }
   >     unsynced !~ / -U / && (!named || left && left != at) { print "wrong: " $0 }
@@ -78,6 +80,12 @@ save line:
   FIJDRRJJJDR
   $ given 0 0 "$saved"; synced log IMAGE
   FIJDRRDJJJDR
+  $ given 2 1; synced forget IMAGE
+  JDRRJ
+  $ given 1 0 "$saved"; synced forget IMAGE
+  JDRFIJDRRDJJDRJDRRJ
+  $ given 2 1; synced revert --fresh -f dump IMAGE
+  FIJDRJDRRJFIJDRJJRDJ
   $ given 0 0; synced xxd images/image
   $ given 0 0; synced dd if=images/image
   $ given 0 0; rm -r images/* texts/*; synced revert -U -f dump IMAGE
@@ -86,5 +94,7 @@ save line:
   $ given 2 2; synced redo -U -k 2 IMAGE
   $ given 1 0 "$saved"; synced undo -U -k 0 IMAGE
   $ given 1 0; synced log -U IMAGE
+  $ given 2 1; synced forget -U IMAGE
+  $ given 2 1; synced revert -U --fresh -f dump IMAGE
   $ given 3 0; synced show -k 3 IMAGE
   $ given 1 0 "$saved"; synced show -k 0 IMAGE
