@@ -427,15 +427,15 @@ Dumps and a patch:
   [1]
   $ bx xxd -
   bx: cannot open file
-  hint: -: No such file or directory; - is a file's name here; without a name standard input is read
+  hint: -: No such file or directory; - is a file's name here; an input without a name is standard input
   [1]
   $ bx dd if=-
   bx: cannot open file
-  hint: -: No such file or directory; - is a file's name here; without a name standard input is read
+  hint: -: No such file or directory; - is a file's name here; an input without a name is standard input
   [1]
   $ bx revert -f - img
   bx: cannot open file
-  hint: -: No such file or directory; - is a file's name here; without a name standard input is read
+  hint: -: No such file or directory; - is a file's name here; an input without a name is standard input
   [1]
   $ bx log img.bxj
   bx: cannot open file
@@ -499,7 +499,7 @@ Dumps and a patch:
   [2]
   $ bx patch -f - img
   bx: cannot open file
-  hint: -: No such file or directory; - is a file's name here; without a name standard input is read
+  hint: -: No such file or directory; - is a file's name here; an input without a name is standard input
   [1]
   $ bx forget new
   bx: cannot open file

@@ -4,7 +4,7 @@ use crate::stopped::{STANDARD_INPUT, STANDARD_OUTPUT};
 use std::alloc::{AllocError, Global};
 
 /// What is said where a file is named as standard input is in other programs.
-const DASH: &str = "- is a file's name here; without a name standard input is read";
+const DASH: &str = "- is a file's name here; an input without a name is standard input";
 
 /// What is said of an image that is named as texts of images are.
 const TEXT_NAME: &str = "its image has the name of a journal or a redo file";
