@@ -25,11 +25,14 @@ pub enum Form {
 /// The change that a text asks for, which is read up to the source's end: `at` is added to the addresses of a dump, and is the place of
 /// plain hexadecimal. No more is held than the bytes, a window, and what can still matter of a line of a dump. A fault of the text is
 /// answered once the source is at its end; one of the source, or want of memory, as soon as it comes, and nothing more is read.
+/// `expected` is the length of the text as far as it is known before, else 0: the answer doesn't depend on it, but plain hexadecimal
+/// of a known length takes its memory at once.
 pub fn change_from<R: Read + Drop, A: Allocator + Clone>(
     alloc: &A,
     source: &mut Source<R>,
     form: Form,
     at: u64,
+    expected: u64,
 ) -> Result<Result<Change<A>, ReadFault>, IoFault>
     requires { at ≤ 2 ^ 62 }
 
@@ -49,7 +52,7 @@ pub fn change_from<R: Read + Drop, A: Allocator + Clone>(
 {
     match form {
         Form::Dump => dump_from(alloc, source, at),
-        Form::Plain => plain_from(alloc, source, at),
+        Form::Plain => plain_from(alloc, source, at, expected),
     }
 }
 
@@ -83,6 +86,7 @@ fn plain_from<R: Read + Drop, A: Allocator + Clone>(
     alloc: &A,
     source: &mut Source<R>,
     at: u64,
+    expected: u64,
 ) -> Result<Result<Change<A>, ReadFault>, IoFault>
     ensures change { IfOk result (λ read. (text : List ℕ) × Consumes (R.remaining source.old.reader) (R.remaining source.new.reader) text
         × MatchResult read (IsChangeOf Form.Plain text at) (IsTextFault Form.Plain text)) }
@@ -96,7 +100,7 @@ fn plain_from<R: Read + Drop, A: Allocator + Clone>(
     let Ok(memory) = alloc.clone() else {
         return Err(IoFault::NoMemory);
     };
-    match read_plain_from(memory, source) {
+    match read_plain_from(memory, source, expected) {
         Ok(Ok(bytes)) => match change_of_bytes(alloc, bytes, at) {
             Ok(change) => Ok(Ok(change)),
             Err(_) => Err(IoFault::NoMemory),

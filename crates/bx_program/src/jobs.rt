@@ -22,7 +22,7 @@ use crate::jobs::steps::take_steps;
 use crate::requests::{request_dump, request_input};
 use crate::stopped::{Noted, STANDARD_INPUT, Stopped};
 use crate::streams::closed::Held;
-use crate::streams::input::{MOST_INPUT, open, size_of};
+use crate::streams::input::{MOST_INPUT, Placed, whole};
 use bx_cli::{
     ChangeJob, DdImageJob, Done, DumpJob, Fault, ForgetJob, Form, Job, RevertJob, change_from,
     plan_words,
@@ -281,15 +281,16 @@ where
     let alloc = rt.alloc();
     match &job.dump {
         Some(name) => {
-            let file = open(rt, name)?;
-            let progress = remarks.progress_of_input(rt, size_of(rt, name.as_str(), &file));
-            let read = change_of(alloc, job, name.as_str(), file, seen, &progress);
+            let input = whole(rt, name)?;
+            let progress = remarks.progress_of_input(rt, input.left);
+            let read = change_of(alloc, job, input, seen, &progress);
             progress.end();
             read
         }
         None => {
+            let input = Placed::whole(STANDARD_INPUT, rt.reader(), None);
             let progress = remarks.progress_of_standard(rt);
-            let read = change_of(alloc, job, STANDARD_INPUT, rt.reader(), seen, &progress);
+            let read = change_of(alloc, job, input, seen, &progress);
             progress.end();
             read
         }
@@ -332,17 +333,19 @@ where
 fn change_of<'a, R: Eprint + Clock, I: Read + Drop>(
     alloc: Global,
     job: &RevertJob,
-    name: &'a str,
-    input: I,
+    input: Placed<'a, I>,
     seen: &mut Seen,
     progress: &Progress<'_, R>,
 ) -> Result<Result<Change, ReadFault>, Stopped<'a>> {
     let form = if job.plain { Form::Plain } else { Form::Dump };
-    let mut input = Noted::new(input);
-    let watched = Watched::new(Counted::new(&mut input, progress), seen);
-    match change_from(&alloc, &mut Source::new(watched, MOST_INPUT), form, job.at) {
+    let expected = input.left.unwrap_or(0);
+    let name = input.name;
+    let mut reader = Noted::new(input.reader);
+    let watched = Watched::new(Counted::new(&mut reader, progress), seen);
+    let mut source = Source::new(watched, MOST_INPUT);
+    match change_from(&alloc, &mut source, form, job.at, expected) {
         Ok(read) => Ok(read),
-        Err(fault) => Err(Stopped::from(Fault::from(fault)).on_input(name, input.error)),
+        Err(fault) => Err(Stopped::from(Fault::from(fault)).on_input(name, reader.error)),
     }
 }
 

@@ -36,6 +36,18 @@ impl<A: Allocator> PlainRead<A> {
         }
     }
 
+    /// The same with room for `count` bytes at once, where there is as much memory; else it grows as it reads.
+    pub(crate) fn with_room(alloc: A, count: usize) -> PlainRead<A>
+        ensures read { HasReadPlain [] result }
+        ensures count { result.passed ≡ 0 }
+    {
+        let mut bytes = Vec::new(alloc);
+        let _ = bytes.reserve_exact(count);
+        PlainRead {
+            read: DigitsRead::begin(bytes),
+        }
+    }
+
     /// The same with room for `capacity` bytes, without another growth.
     pub(crate) fn with_capacity(alloc: A, capacity: usize) -> Result<PlainRead<A>, AllocError>
         ensures read { IfOk result (λ read. HasReadPlain [] read) }

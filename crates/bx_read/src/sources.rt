@@ -137,9 +137,12 @@ pub fn read_runs_from<R: Read + Drop, A: Allocator + Clone>(
 }
 
 /// Reads plain hexadecimal up to the source's end: what `read_plain` answers of it. Of the text no more is held than a window.
+/// `expected` is the length of the text as far as it is known before, else 0: where memory allows it, room for that many digits is
+/// taken at once. The answer doesn't depend on it.
 pub fn read_plain_from<R: Read + Drop, A: Allocator>(
     alloc: A,
     source: &mut Source<R>,
+    expected: u64,
 ) -> Result<Result<Vec<u8, A>, ReadFault>, IoFault>
     ensures bytes { IfOk result (λ read. (text : List ℕ) × Consumes (R.remaining source.old.reader) (R.remaining source.new.reader) text
         × (length text ≤ source.old.meter.limit - source.old.meter.taken)
@@ -153,7 +156,7 @@ pub fn read_plain_from<R: Read + Drop, A: Allocator>(
     ensures lasting { IfSome (fault_of source.old.meter.state) (λ e. IsErrOf result e ⊎ IsErrOf result IoFault.NoMemory) }
     ensures closed { source.old.meter.state ≢ State.Open → source.new.reader ≡ source.old.reader }
 {
-    let mut read = PlainRead::new(alloc);
+    let mut read = PlainRead::with_room(alloc, (expected / 2) as usize);
     match read_all(source, &mut read) {
         Ok(()) => {}
         Err(fault) => return Err(fault),

@@ -145,7 +145,7 @@ fn no_memory_ends_the_reading(rt: HostRuntime) -> Result<(), Fail> {
     let bump = ration(rt.alloc(), 1024)?;
     let dump = read_runs_from(&&bump, &mut failing());
     assert!(rt; matches!(dump, Err(IoFault::NoMemory)));
-    let digits = read_plain_from(&bump, &mut failing());
+    let digits = read_plain_from(&bump, &mut failing(), 0);
     assert!(rt; matches!(digits, Err(IoFault::NoMemory)));
     Ok(())
 }
@@ -155,7 +155,7 @@ fn no_memory_ends_the_reading(rt: HostRuntime) -> Result<(), Fail> {
 fn a_failing_source_is_told(rt: HostRuntime) {
     let dump = read_runs_from(&rt.alloc(), &mut failing());
     assert!(rt; matches!(dump, Err(IoFault::ReadFailed)));
-    let digits = read_plain_from(rt.alloc(), &mut failing());
+    let digits = read_plain_from(rt.alloc(), &mut failing(), 131_072);
     assert!(rt; matches!(digits, Err(IoFault::ReadFailed)));
 }
 

@@ -106,7 +106,7 @@ fn read_as(
     at: u64,
 ) -> Result<Result<Change, ReadFault>, Wrong> {
     let mut source = Source::new(text, MOST_TEXT);
-    match change_from(&alloc, &mut source, form, at.min(MOST_PLACE)) {
+    match change_from(&alloc, &mut source, form, at.min(MOST_PLACE), 0) {
         Ok(read) => Ok(read),
         Err(_) => Err(Wrong::Unknown),
     }

@@ -9,7 +9,7 @@ use crate::history::changes::{change_anew, change_image};
 use crate::history::settle_image;
 use crate::jobs::previews::preview_patch;
 use crate::stopped::{Noted, STANDARD_INPUT, Stopped};
-use crate::streams::input::{MOST_INPUT, open, size_of};
+use crate::streams::input::{MOST_INPUT, Placed, whole};
 use bx_cli::{Command, Fault, PatchJob};
 use bx_patch::{Patch, read_patch};
 use bx_program_sessions::Task;
@@ -80,15 +80,16 @@ where
     let alloc = rt.alloc();
     match &job.patch {
         Some(name) => {
-            let file = open(rt, name)?;
-            let progress = remarks.progress_of_input(rt, size_of(rt, name.as_str(), &file));
-            let text = text_of(alloc, name.as_str(), file, &progress);
+            let input = whole(rt, name)?;
+            let progress = remarks.progress_of_input(rt, input.left);
+            let text = text_of(alloc, input, &progress);
             progress.end();
             asked_of(alloc, job, name.as_str(), text?)
         }
         None => {
             let progress = remarks.progress_of_standard(rt);
-            let text = text_of(alloc, STANDARD_INPUT, rt.reader(), &progress);
+            let input = Placed::whole(STANDARD_INPUT, rt.reader(), None);
+            let text = text_of(alloc, input, &progress);
             progress.end();
             asked_of(alloc, job, STANDARD_INPUT, text?)
         }
@@ -98,15 +99,15 @@ where
 /// All that an input gives.
 fn text_of<'a, R: Eprint + Clock, I: Read + Drop>(
     alloc: Global,
-    name: &'a str,
-    input: I,
+    input: Placed<'a, I>,
     progress: &Progress<'_, R>,
 ) -> Result<Vec<u8>, Stopped<'a>> {
-    let mut input = Noted::new(input);
-    let counted = Counted::new(&mut input, progress);
+    let name = input.name;
+    let mut reader = Noted::new(input.reader);
+    let counted = Counted::new(&mut reader, progress);
     match Source::new(counted, MOST_INPUT).rest(alloc) {
         Ok(text) => Ok(text),
-        Err(fault) => Err(Stopped::from(Fault::Io(fault)).on_input(name, input.error)),
+        Err(fault) => Err(Stopped::from(Fault::Io(fault)).on_input(name, reader.error)),
     }
 }
 

@@ -35,7 +35,17 @@ pub struct Placed<'a, I> {
     pub left: Option<u64>,
 }
 
-impl<I> Placed<'_, I> {
+impl<'a, I> Placed<'a, I> {
+    /// A whole input, with nothing passed; `left` is its length, where that is known.
+    pub fn whole(name: &'a str, reader: I, left: Option<u64>) -> Placed<'a, I> {
+        Placed {
+            name,
+            reader,
+            passed: 0,
+            left,
+        }
+    }
+
     /// How many bytes are read where a job reads at most `limit`, as far as either is known.
     pub fn most(&self, limit: Option<u64>) -> Option<u64> {
         match (limit, self.left) {
@@ -45,8 +55,18 @@ impl<I> Placed<'_, I> {
     }
 }
 
+/// The whole of FILE.
+pub fn whole<'a, R>(rt: &R, name: &'a Name) -> Result<Placed<'a, File>, Stopped<'a>>
+where
+    R: Files<File = File>,
+{
+    let file = open(rt, name)?;
+    let length = size_of(rt, name.as_str(), &file);
+    Ok(Placed::whole(name.as_str(), file, length))
+}
+
 /// A file that is only read, from its first byte on.
-pub fn open<'a, R: Files<File = File>>(rt: &R, name: &'a Name) -> Result<File, Stopped<'a>> {
+fn open<'a, R: Files<File = File>>(rt: &R, name: &'a Name) -> Result<File, Stopped<'a>> {
     match File::open(rt, name.as_str()) {
         Ok(file) => Ok(file),
         Err(error) => Err(Stopped::unopened(name.as_str(), error)),
@@ -69,7 +89,7 @@ pub fn file<'a, R: Files<File = File>>(
 
 /// How many bytes a regular file or a block device of this name has; none of another one, or where it doesn't tell. The file
 /// stays where it stands: a device is opened once more, since only a seek tells its length.
-pub fn size_of<R: Files<File = File>>(rt: &R, name: &str, file: &File) -> Option<u64> {
+fn size_of<R: Files<File = File>>(rt: &R, name: &str, file: &File) -> Option<u64> {
     let found = file.metadata().ok()?;
     let kind = found.file_type();
     if kind.is_file() {

@@ -49,7 +49,8 @@ fn reads_from<A: Allocator + Clone>(
 ) -> Result<bool, Wrong> {
     let form = if case.plain { Form::Plain } else { Form::Dump };
     let mut source = Source::new(case.text.as_slice(), MOST);
-    match change_from(memory, &mut source, form, 0) {
+    let expected = case.text.len() as u64;
+    match change_from(memory, &mut source, form, 0, expected) {
         Ok(Ok(change)) => same_change(alloc, &case.reads, &change)?,
         Ok(Err(fault)) => refused(alloc, &case.reads, Fault::from(fault))?,
         Err(IoFault::NoMemory) => return Ok(false),
