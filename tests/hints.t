@@ -849,3 +849,8 @@ Each was a file in a folder; the last three have a character that turns the orde
   0+1 records out
   $ for n in 1 2 3 4 5 6 7 8; do printf '0: 42\n'; sleep 0.25; done | bx revert new
   (\\x1b\[Kbx: [0-9]+[.][0-9] [kM]B)+\\x1b\[K (re)
+
+## A comparison of long files
+
+  $ truncate -s 8G ../one ../other; bx diff ../one ../other; rm ../one ../other
+  (\\x1b\[Kbx: [0-9]+[.][0-9] of 17[.]1 GB)+\\x1b\[K (re)

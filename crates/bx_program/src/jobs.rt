@@ -173,7 +173,7 @@ where
             Ok(None)
         }
         Job::Diff(job) => {
-            diff::diff(rt, job, out)?;
+            diff::diff(rt, job, out, remarks)?;
             Ok(None)
         }
         Job::Help { text } => {

@@ -60,8 +60,10 @@ pub struct SystemWorld<'p, 'r, R> {
     caller: Cell<Option<u32>>,
     // how many bytes of an input are read at most; none where that isn't known
     most: Option<u64>,
+    // whether images that are read alone are compared, each to its end
+    compares: bool,
     lent: Lent,
-    // how many bytes the texts have that are lent to be read
+    // how many bytes those have that are lent to be read: texts, or images that are compared
     to_read: u64,
     kept: Option<Folder>,
     locks: Locks,
@@ -90,6 +92,7 @@ where
             waits,
             caller: Cell::new(None),
             most: None,
+            compares: false,
             lent: Lent {
                 image: Known::of_image(None, false),
                 journal: Known::of_text(false, false),
@@ -110,6 +113,13 @@ where
     pub fn reading(rt: &'r R, progress: &'p Progress<'r, R>, most: Option<u64>) -> Self {
         let mut world = SystemWorld::new(rt, progress, false);
         world.most = most;
+        world
+    }
+
+    /// The same for a program that compares images, whose bytes are counted as they are read.
+    pub fn comparing(rt: &'r R, progress: &'p Progress<'r, R>) -> Self {
+        let mut world = SystemWorld::new(rt, progress, false);
+        world.compares = true;
         world
     }
 
@@ -175,6 +185,16 @@ where
         sync_folder(self.rt, folder)?;
         self.kept = found;
         Ok(())
+    }
+
+    /// The file of an image that is compared. Progress has the length of all that are, where somebody looks.
+    fn compared(&mut self, image: OpenFile<'p, 'r, R>) -> CountedFile<'p, 'r, R> {
+        if self.progress.shows {
+            let length = image.system().ok().and_then(|file| length_of(file));
+            self.to_read = self.to_read.saturating_add(length.unwrap_or(0));
+            self.progress.begin(Some(self.to_read));
+        }
+        image.file.counting_reads()
     }
 
     /// Lends a text to be read, and tells how many bytes those have that are.
@@ -478,6 +498,10 @@ where
     }
 
     fn lend_image_to_read(&mut self, image: OpenFile<'p, 'r, R>) -> Result<Self::Image, Refusal> {
+        if self.compares {
+            let length = image.known.length;
+            return Ok(image_of(self.compared(image), length));
+        }
         self.to_read = 0;
         self.progress.begin(None);
         Ok(image_of(image.file, image.known.length))

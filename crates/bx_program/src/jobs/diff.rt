@@ -1,5 +1,6 @@
 //! The patch from one file to another.
 use crate::files::unopened::not_opened_alone;
+use crate::hints::remarks::Remarks;
 use crate::requests::request_diff;
 use crate::stopped::Stopped;
 use bx_cli::{DiffJob, Fault};
@@ -7,7 +8,7 @@ use bx_image::FailedCall;
 use bx_journal::SessionFault;
 use bx_patch::{DiffFault, Extent};
 use bx_program_commands::Undiffed;
-use bx_program_system::{Progress, SystemWorld};
+use bx_program_system::SystemWorld;
 use bx_text::IoFault;
 use std::fs::File;
 use std::io::Write;
@@ -29,12 +30,17 @@ fn stopped<'a>(fault: DiffFault, job: &'a DiffJob, call: Option<FailedCall>) -> 
 }
 
 /// Writes the patch from one file to another.
-pub fn diff<'a, R, W: Write>(rt: &R, job: &'a DiffJob, out: &mut W) -> Result<(), Stopped<'a>>
+pub fn diff<'a, R, W: Write>(
+    rt: &R,
+    job: &'a DiffJob,
+    out: &mut W,
+    remarks: &Remarks,
+) -> Result<(), Stopped<'a>>
 where
     R: Files<File = File> + Print + Eprint + Clock + AllocGlobal,
 {
-    let silent = Progress::new(rt, false, None);
-    let mut world = SystemWorld::new(rt, &silent, false);
+    let progress = remarks.progress_of_dump(rt, None);
+    let mut world = SystemWorld::comparing(rt, &progress);
     let extent = if job.rows {
         Extent::Rows
     } else {

@@ -6,7 +6,7 @@ use bx_image::{FailedCall, RandomAccess, Stop, SystemFile};
 use std::time::Clock;
 
 /// An image, a journal or a redo file. One that is missing is as an empty one, and can't be written, nor can one that is only
-/// read. Progress counts all that is written to it, and of a text all that is read.
+/// read. Progress counts all that is written to it, and of a text, and of an image that is compared, all that is read.
 #[derive(Drop)]
 pub struct CountedFile<'p, 'r, R> {
     file: Option<SystemFile>,
@@ -35,6 +35,12 @@ impl<'p, 'r, R: Clock + Eprint> CountedFile<'p, 'r, R> {
             counts_reads: true,
             is_read: false,
         }
+    }
+
+    /// The same, whose reads count too.
+    pub fn counting_reads(mut self) -> CountedFile<'p, 'r, R> {
+        self.counts_reads = true;
+        self
     }
 
     /// The same, which is only read from now on, or may be written again.
