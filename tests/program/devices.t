@@ -147,6 +147,44 @@ So is one where the table of swap can't be read: here it is a process's memory.
   $ unread() { unshare -m bash -c 'mount --bind /proc/$$/mem /proc/swaps; exec "$@"' - "$@"; }
   $ refused 'cannot open file' unread bx <<< "revert -f dump -J device.bxj $dev"
 
+# A device that an array or a volume stands on (wants root losetup partx unshare)
+
+It is refused, and so are a disk with such a partition and a partition of such a disk. The folder that names what stands on
+a device is stood in for, and so is the table of all devices. The partitions begin at sectors 1 and 1024.
+
+  $ table='\0\0\0\0\203\0\0\0\1\0\0\0\377\3\0\0\0\0\0\0\203\0\0\0\0\4\0\0\0\4\0\0'
+  $ head -c 1M /dev/urandom > ../parts; mkdir ../holders; echo '10: 4142' > dump
+  $ (printf "$table"; mega '\0' 32; printf '\125\252') | dd of=../parts bs=1 seek=446 conv=notrunc status=none
+  $ dev=$(losetup -f --show ../parts) || left_out 'there are no loop devices'
+  $ trap 'partx -d $dev; losetup -d $dev' EXIT; partx -a $dev
+  $ unshare -m true 2> /dev/null || left_out 'there are no mount namespaces'
+  $ below() { # HOLDER DEVICE COMMAND ..
+  >   unshare -m bash -c 'rm -f ../holders/*; touch "../holders/${1/\//!}"; mount --bind ../holders /sys/class/block/${2#/dev/}/holders
+  >     (cat /proc/partitions; printf " 252  0  1020 %s\n" "$1") > ../table; mount --bind ../table /proc/partitions; exec "${@:3}"' - "$@"
+  > }
+  $ for holder in dm-0 cciss/c0d0; do for held in $dev ${dev}p1; do refused 'cannot open file' below $holder $held bx << .
+  > revert -f dump -J device.bxj $dev
+  > revert -f dump -J device.bxj ${dev}p1
+  > dd if=dump of=${dev}p1 -J device.bxj
+  > .
+  > done; done
+  $ below dm-0 $dev bx revert --mounted -f dump -J device.bxj ${dev}p1
+  $ refused 'cannot open file' below dm-0 $dev bx <<< "undo -J device.bxj ${dev}p1"
+  $ below dm-0 $dev bx undo --mounted -J device.bxj ${dev}p1
+  0
+
+One whose neighbour is in use isn't refused:
+
+  $ below dm-0 ${dev}p2 bx revert -f dump -J device.bxj ${dev}p1; below dm-0 ${dev}p2 bx undo -J device.bxj ${dev}p1
+  0
+
+But one is where the table can't be read:
+
+  $ unread() { unshare -m bash -c 'mount --bind /proc/$$/mem /proc/partitions; exec "$@"' - "$@"; }
+  $ refused 'cannot open file' unread bx <<< "revert -f dump -J device.bxj $dev"
+  $ unread bx revert --mounted -f dump -J whole.bxj $dev; bx undo -J whole.bxj $dev
+  0
+
 # A device that is read-only, and a partition of one (wants root losetup partx)
 
 Nothing is written or made. It may be looked at, but for a recovery. The partition begins at sector 1.

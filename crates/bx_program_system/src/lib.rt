@@ -12,8 +12,9 @@ mod world;
 
 pub use facts::alias::{is_same, is_untouched};
 pub use facts::dev::is_among_devices;
-pub use facts::mounts::{Unknown, is_mounted};
+pub use facts::mounts::is_mounted;
 pub use facts::stat::{caller_of, is_group_given, stat_of};
+pub use facts::tables::Unknown;
 pub use files::counted_file::CountedFile;
 pub use files::devices::{held, image_of, size_of_texts};
 pub use files::left::{Ended, Left};

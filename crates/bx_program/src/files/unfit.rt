@@ -20,9 +20,9 @@ const HAS_NAMES: &str =
 const NOT_OF_A_WRITER: &str =
     "it belongs neither to you, root or the image's owner nor, by its group, to a group that may read and write the image; -J names a journal elsewhere";
 
-/// What is said of a device that is mounted.
+/// What is said of a device that is mounted, or counts as one.
 const IS_MOUNTED: &str =
-    "it is mounted, or a part of it is, or it is used as swap; unmount it, or give --mounted";
+    "it or a part of it is in use: mounted, as swap, or under an array or a volume; unmount or stop that, or give --mounted";
 
 /// The bits to read and to write of the group and of the others.
 const GROUP_AND_OTHERS: u32 = 0o066;

@@ -33,9 +33,9 @@ const NO_DEVICE: &str = "there is no such device, and no file is made among the 
 const NO_TEXT: &str =
     "no file is made among the devices, where none lasts; -J names a journal elsewhere";
 
-/// What is said of a device where the system doesn't tell what is mounted.
+/// What is said of a device where the system doesn't tell what is in use.
 const IS_UNKNOWN: &str =
-    "whether it is mounted isn't known, since /proc/self/mountinfo can't be read; --mounted goes on without";
+    "whether it is in use isn't known, since /proc/self/mountinfo, /proc/swaps or /proc/partitions can't be read; --mounted goes on without";
 
 /// The system's number for a file that is missing, and for one that is there already.
 const MISSING: i32 = 2;
@@ -143,7 +143,7 @@ where
     }
 }
 
-/// Whether the system doesn't tell if a device is mounted, which then counts as mounted.
+/// Whether the system doesn't tell if a device is in use, which then counts as mounted.
 fn is_unknown<R>(rt: &R, name: &str) -> bool
 where
     R: Files<File = File> + AllocGlobal,

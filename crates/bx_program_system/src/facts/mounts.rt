@@ -1,11 +1,12 @@
-//! Block devices that are mounted, and those that can't be written.
+//! Block devices that are in use, and those that can't be written.
 //!
 //! The files of the kit can't be opened with `O_EXCL`, which the system answers itself, so its tables are read: the mounts
-//! that this process sees, and the swap files. A device that is read-only is opened for writing all the same, and then refuses
-//! each write; its table is read before.
-use std::alloc::{AllocError, Global};
+//! that this process sees, the swap files, and the devices that stand on others. A device that is read-only is opened for
+//! writing all the same, and then refuses each write; its table is read before.
+use crate::facts::holders::is_held;
+use crate::facts::tables::{Unknown, field, is_part, number_text, table_of};
+use std::alloc::AllocError;
 use std::fs::{self, File, Metadata};
-use std::io::ErrorKind;
 use std::os::unix::fs::{FileTypeExt, MetadataExt};
 use std::rt::Files;
 
@@ -15,22 +16,8 @@ const MOUNTS: &str = "/proc/self/mountinfo";
 /// The swap files and devices, a line for each.
 const SWAPS: &str = "/proc/swaps";
 
-/// Why it isn't known whether a device is mounted.
-#[derive(Clone, Copy, Debug, PartialEq, Eq)]
-pub enum Unknown {
-    /// Memory is short.
-    NoMemory,
-    /// The system's table of mounts can't be read.
-    NoTable,
-}
-
-impl From<AllocError> for Unknown {
-    fn from(_: AllocError) -> Self {
-        Unknown::NoMemory
-    }
-}
-
-/// Whether a file system is mounted from a block device, as the whole of it or a partition, or it is used as swap.
+/// Whether a block device counts as mounted: a file system is mounted from it, it is used as swap, or another device stands on
+/// it; each of them also by a partition.
 ///
 /// # Errors
 /// Where it isn't known.
@@ -38,14 +25,12 @@ pub fn is_mounted<R>(rt: &R, device: &Metadata) -> Result<bool, Unknown>
 where
     R: Files<File = File> + AllocGlobal,
 {
-    let table = match fs::read(rt, MOUNTS) {
-        Ok(table) => table,
-        Err(e) if e.kind() == ErrorKind::OutOfMemory => return Err(Unknown::NoMemory),
-        Err(_) => return Err(Unknown::NoTable),
+    let Some(table) = table_of(rt, MOUNTS)? else {
+        return Err(Unknown::NoTable);
     };
     let number = number_text(rt.alloc(), device.rdev())?;
     let number = number.as_str();
-    Ok(is_in_table(rt, table.as_slice(), number) || is_swap(rt, number))
+    Ok(is_in_table(rt, table.as_slice(), number) || is_swap(rt, number)? || is_held(rt, number)?)
 }
 
 /// Whether a block device is read-only, or is a partition of one that is. Where the system has no table, it counts as one that
@@ -70,13 +55,6 @@ where
     Ok(false)
 }
 
-/// A device's number as the system's tables have it, MAJOR:MINOR, from Linux's encoding in one number.
-fn number_text(alloc: Global, number: u64) -> Result<String, AllocError> {
-    let major = ((number >> 32) & 0xffff_f000) | ((number >> 8) & 0xfff);
-    let minor = ((number >> 12) & 0xffff_ff00) | (number & 0xff);
-    format!(in alloc; "{major}:{minor}")
-}
-
 /// Whether a line of the mounts names this device or a partition of it: by its number, or, where the file system has a number of
 /// its own, as btrfs has, by its name.
 fn is_in_table<R>(rt: &R, table: &[u8], number: &str) -> bool
@@ -91,12 +69,6 @@ where
     false
 }
 
-/// A field of a line, whatever the others are; empty where there is none, or where it isn't UTF-8.
-fn field(line: &[u8], place: usize) -> &str {
-    let found = line.split(|byte| *byte == b' ').nth(place);
-    str::from_utf8(found.unwrap_or(b"")).unwrap_or("")
-}
-
 /// What is mounted, as the line names it: behind the fields that may be missing, and a type.
 fn source(line: &[u8]) -> &str {
     match line
@@ -105,24 +77,6 @@ fn source(line: &[u8]) -> &str {
     {
         Some(at) => field(&line[at..], 3),
         None => "",
-    }
-}
-
-/// Whether the device with the number `used` is this one, or a partition of it; also where the system doesn't say.
-fn is_part<R>(rt: &R, used: &str, number: &str) -> bool
-where
-    R: Files<File = File> + AllocGlobal,
-{
-    if used == number {
-        return true;
-    }
-    let Ok(name) = format!(in rt.alloc(); "/sys/dev/block/{used}/../dev") else {
-        return true;
-    };
-    match fs::read_to_string(rt, name.as_str()) {
-        Ok(whole) => whole.as_str().trim_end() == number,
-        // what is no partition has no such file
-        Err(e) => e.kind() != ErrorKind::NotFound,
     }
 }
 
@@ -145,19 +99,21 @@ where
     }
 }
 
-/// Whether the device, or a partition of it, is used as swap; also where that can't be read. A system without swap has no such table.
-fn is_swap<R>(rt: &R, number: &str) -> bool
+/// Whether the device, or a partition of it, is used as swap. A system without swap has no such table.
+///
+/// # Errors
+/// Where it isn't known.
+fn is_swap<R>(rt: &R, number: &str) -> Result<bool, Unknown>
 where
     R: Files<File = File> + AllocGlobal,
 {
-    let table = match fs::read(rt, SWAPS) {
-        Ok(table) => table,
-        Err(e) => return e.kind() != ErrorKind::NotFound,
+    let Some(table) = table_of(rt, SWAPS)? else {
+        return Ok(false);
     };
     for line in table.as_slice().split(|byte| *byte == b'\n') {
         if is_named(rt, field(line, 0), number) {
-            return true;
+            return Ok(true);
         }
     }
-    false
+    Ok(false)
 }
