@@ -24,7 +24,7 @@ flat_along f g a b (suc n) same =
     ap (λ t. t ++ flat_map f (range_with_len (a + 1) n)) (ap f (sym first) ∙ same 0 (omega arith) ∙ ap g other)
     ∙ ap (λ t. g b ++ t) (flat_along f g (a + 1) (b + 1) n (λ k below. let x : a + 1 + k ≡ a + suc k = omega arith in let y : b + suc k ≡ b + 1 + k = omega arith in ap f x ∙ same (suc k) (omega arith) ∙ ap g y))
 
-flat_split : {A : Type 0} (f : ℕ → List A) (a m n : ℕ) → flat_map f (range_with_len a (m + n)) ≡ flat_map f (range_with_len a m) ++ flat_map f (range_with_len (a + m) n)
+pub flat_split : {A : Type 0} (f : ℕ → List A) (a m n : ℕ) → flat_map f (range_with_len a (m + n)) ≡ flat_map f (range_with_len a m) ++ flat_map f (range_with_len (a + m) n)
 flat_split f a zero n =
     let count : 0 + n ≡ n = omega arith in
     let place : a ≡ a + 0 = omega arith in

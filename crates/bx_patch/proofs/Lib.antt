@@ -13,3 +13,4 @@ pub mod ReadLemmas
 pub mod RefusalLemmas
 pub mod EqualLemmas
 pub mod OtherLemmas
+pub mod SameLemmas

@@ -19,7 +19,7 @@ use Rattle.bx_patch.specs.Text.{differs}
 use Rattle.bx_patch.specs.private.Other.{FindsAmong, HasPage, IsImagePage}
 use Rattle.bx_patch.proofs.RowLemmas.{nested_take}
 
-drop_twice : (n m : ℕ) (xs : List ℕ) → drop m (drop n xs) ≡ drop (n + m) xs
+pub drop_twice : (n m : ℕ) (xs : List ℕ) → drop m (drop n xs) ≡ drop (n + m) xs
 drop_twice zero m xs = ap (λ k. drop k xs) (omega arith)
 drop_twice (suc n) m [] = drop_none m ∙ sym (drop_none (suc n + m))
   where
@@ -113,7 +113,7 @@ is_equal a b e = (bytes_eq-Decides a b).0 (back (bytes_eq a b) e)
     back true e = refl
     back false e = cc
 
-is_same : (a b : List ℕ) → a ≡ b → not (bytes_eq a b) ≡ false
+pub is_same : (a b : List ℕ) → a ≡ b → not (bytes_eq a b) ≡ false
 is_same a b e = ap not ((bytes_eq-Decides a b).1 e)
 
 -- an image that has each byte of a piece has the piece

@@ -4,6 +4,7 @@ ghost use Rattle.std.specs.Io.KnownBytes.{Appends};
 ghost use Rattle.bx_patch.specs.Text.{patch_text};
 ghost use Rattle.bx_patch.specs.Diff.{AreShort, IsFaultFor, OnlyReads, WritesPrefix, fails, of_new, of_old};
 
+pub mod alike;
 mod compare;
 mod device;
 pub mod fault;
@@ -12,8 +13,9 @@ mod memory;
 pub mod row;
 mod writing;
 
+use alike::Alike;
 use bx_image::Device;
-use compare::{Place, compare_devices};
+use compare::{Place, Walk, compare_devices};
 use device::lengths_of;
 use fault::DiffFault;
 use memory::memory_for;
@@ -22,26 +24,27 @@ use std::alloc::Allocator;
 use std::io::Write;
 
 /// Writes the patch from one device to another: with it `old` becomes `new`, as `patch_makes_new` says, and equal ones have no text. Both
-/// are only read, once and a window at a time; windows that are equal take no more than their comparison. It takes memory for two windows
-/// and for the lines of one.
+/// are only read, a window at a time and each window at most once; windows that are equal take no more than their comparison, and those that
+/// `alike` knows to be the same aren't read. It takes memory for two windows and for the lines of one.
 ///
 /// # Errors
 /// `TooLarge` where one of the two is longer than an image can be, `OldFailed` and `NewFailed` where a call of that device fails,
 /// `NoMemory`, and `WriteFailed`. A prefix of the text was written then.
-pub fn write_patch<D: Device, E: Device, W: Write, A: Allocator + Clone>(
+pub fn write_patch<D: Device, E: Device, W: Write, S: Alike, A: Allocator + Clone>(
     alloc: &A,
     old: &mut D,
     new: &mut E,
     out: &mut W,
     extent: Extent,
+    alike: &S,
 ) -> Result<(), DiffFault>
     requires old_countable { D.failures old.old < u64.MAX }
     requires new_countable { E.failures new.old < u64.MAX }
-    // Where it succeeds, exactly the text was written.
-    ensures text { D.honest old.old → E.honest new.old
+    // Where it succeeds, exactly the text was written, if the two images are as is known of them.
+    ensures text { D.honest old.old → E.honest new.old → S.AreAlike alike.now (D.image old.old) (E.image new.old)
         → OnOk result (Appends (W.contents out.old) (W.contents out.new) (patch_text extent (D.image old.old) (E.image new.old))) }
     // After a fault a prefix of it was, and a failed write tells how long that is.
-    ensures part { D.honest old.old → E.honest new.old
+    ensures part { D.honest old.old → E.honest new.old → S.AreAlike alike.now (D.image old.old) (E.image new.old)
         → IfErr result (WritesPrefix (W.contents out.old) (W.contents out.new) (patch_text extent (D.image old.old) (E.image new.old))) }
     // It is too large exactly where one of the two is, unless a length couldn't be read.
     ensures fault { D.honest old.old → E.honest new.old
@@ -64,6 +67,7 @@ pub fn write_patch<D: Device, E: Device, W: Write, A: Allocator + Clone>(
         extent,
         head: memory.head.as_bytes(),
     };
+    let walk = Walk { place, alike };
     let buffer = memory.buffer.as_mut_slice();
-    compare_devices(old, new, out, buffer, &mut memory.writing, place)
+    compare_devices(old, new, out, buffer, &mut memory.writing, walk)
 }

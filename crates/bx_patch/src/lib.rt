@@ -6,6 +6,7 @@ pub mod laws;
 mod other;
 mod read;
 
+pub use diff::alike::{Alike, Unknown};
 pub use diff::fault::DiffFault;
 pub use diff::row::Extent;
 pub use diff::write_patch;

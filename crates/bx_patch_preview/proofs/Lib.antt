@@ -1,2 +1,3 @@
 pub mod ChangesLemmas
 pub mod WindowLemmas
+pub mod UntouchedLemmas

@@ -26,3 +26,8 @@ pub record AreLengthsOf {A : Type 0} (cs : List (Change A)) (x : List ℕ) (befo
   pub before_is : before ≡ length x
   pub len_is : len ≡ length (effects cs x)
   pub within : length (effects cs x) ≤ len
+
+-- the one image is what changes make of the other, which has this length
+pub record AreBeforeAndBehind {A : Type 0} (cs : List (Change A)) (before : ℕ) (x y : List ℕ) : Type 0 where
+  pub before_is : before ≡ length x
+  pub behind : y ≡ effects cs x

@@ -1,2 +1,3 @@
 -- What the functions of this crate need among themselves.
 pub mod Window
+pub mod Untouched

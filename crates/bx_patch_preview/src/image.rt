@@ -2,10 +2,11 @@
 ghost use Rattle.std.specs.Prelude.{◌≡◌, ◌⊎◌, ◌↔◌, ◌+◌, ◌<◌, ◌≤◌, ℕ, List, length, take, drop, IfErr, IfOk, IsOk, OnOk, is_err, refl};
 ghost use Rattle.bx_image.specs.declared.change.TheConstants.{MAX_LEN};
 ghost use Rattle.bx_patch.specs.Diff.{OnlyReads};
-ghost use Rattle.bx_patch_preview.specs.Changed.{AreLengthsOf, FitInTurn, effects};
+ghost use Rattle.bx_patch_preview.specs.Changed.{AreLengthsOf, FitInTurn, AreBeforeAndBehind, effects};
 
 mod window;
 
+use crate::untouched::Untouched;
 use bx_image::{Change, Device, DeviceFailed, ImageFault, NoMemory, TooLarge, check};
 use std::alloc::{Allocator, Global};
 use std::marker::Model;
@@ -14,9 +15,9 @@ use window::{put_changes, read_window};
 /// An image behind changes that aren't made: a device that is only read, and has the bytes that the changes would make, one after
 /// another. It is honest where the device within is, and `faults` counts its own failed calls from 0. Calls that would write fail.
 #[derive(Drop)]
-pub struct ChangedImage<D: Device, A: Allocator = Global> {
+pub struct ChangedImage<'a, D: Device, A: Allocator = Global> {
     device: D,
-    changes: Vec<Change<A>, A>,
+    changes: &'a [Change<A>],
     // the length of the device's image
     before: u64,
     // the length behind the changes
@@ -24,37 +25,39 @@ pub struct ChangedImage<D: Device, A: Allocator = Global> {
     failures: u64,
 }
 
-impl<D: Device, A: Allocator> Model for ChangedImage<D, A> {
+impl<'a, D: Device, A: Allocator> Model for ChangedImage<'a, D, A> {
     ghost use Rattle.std.specs.Prelude.{◌≤◌};
     ghost use Rattle.bx_patch_preview.specs.Changed.{AreLengthsOf, Changed};
 
     ghost Value = { Changed D A };
 
-    ghost view = { λ c. record { device = c.device; changes = c.changes.items; before = c.before; len = c.len; failures = c.failures } };
+    ghost view = { λ c. record { device = c.device; changes = c.changes.now; before = c.before; len = c.len; failures = c.failures } };
 
-    ghost invariant = { λ c. (D.failures c.device ≤ c.failures) × (D.honest c.device → AreLengthsOf c.changes.items (D.image c.device) c.before c.len) };
+    ghost invariant = { λ c. (D.failures c.device ≤ c.failures) × (D.honest c.device → AreLengthsOf c.changes.now (D.image c.device) c.before c.len) };
 }
 
-impl<D: Device, A: Allocator> ChangedImage<D, A> {
+impl<'a, D: Device, A: Allocator> ChangedImage<'a, D, A> {
     /// The image on a device, behind changes in their order; behind none it is the device's. The device is asked for its length once.
     ///
     /// # Errors
     /// `TooLarge` where a length, a base or the end of a write is over `MAX_LEN`, as `check` of `bx_image` says of each change in turn;
     /// `DeviceFailed`. The device is given back then.
-    pub fn new(device: D, changes: Vec<Change<A>, A>) -> Result<Self, (D, ImageFault)>
+    pub fn new(device: D, changes: &'a [Change<A>]) -> Result<Self, (D, ImageFault)>
         requires { D.failures device ≡ 0 }
         ensures image { D.honest device
-            → IfOk result (λ c. ⟦<ChangedImage<D, A> as Device>⟧.image c ≡ effects changes.items (D.image device)) }
-        ensures honest { D.honest device → IfOk result ⟦<ChangedImage<D, A> as Device>⟧.honest }
-        ensures failures { IfOk result (λ c. ⟦<ChangedImage<D, A> as Device>⟧.failures c ≡ 0) }
+            → IfOk result (λ c. ⟦<ChangedImage<'a, D, A> as Device>⟧.image c ≡ effects changes.now (D.image device)) }
+        ensures behind { D.honest device
+            → IfOk result (λ c. AreBeforeAndBehind c.changes c.before (D.image device) (⟦<ChangedImage<'a, D, A> as Device>⟧.image c)) }
+        ensures honest { D.honest device → IfOk result ⟦<ChangedImage<'a, D, A> as Device>⟧.honest }
+        ensures failures { IfOk result (λ c. ⟦<ChangedImage<'a, D, A> as Device>⟧.failures c ≡ 0) }
         ensures fault { D.honest device → IfErr result (λ e. (e.1 ≡ ImageFault.DeviceFailed)
-            ⊎ ((e.1 ≡ ImageFault.TooLarge) × (FitInTurn changes.items (D.image device) MAX_LEN → ⊥))) }
+            ⊎ ((e.1 ≡ ImageFault.TooLarge) × (FitInTurn changes.now (D.image device) MAX_LEN → ⊥))) }
     {
         let mut device = device;
         let Ok(before) = device.len() else {
             return Err((device, ImageFault::DeviceFailed));
         };
-        match length_behind(changes.as_slice(), before) {
+        match length_behind(changes, before) {
             Ok(len) => Ok(ChangedImage {
                 device,
                 changes,
@@ -66,9 +69,20 @@ impl<D: Device, A: Allocator> ChangedImage<D, A> {
         }
     }
 
+    /// What the changes leave of the image.
+    pub fn untouched(&self) -> Untouched<'a, A>
+        ensures changes { result.changes.now ≡ self.now.changes }
+        ensures before { result.before ≡ self.now.before }
+    {
+        Untouched {
+            changes: self.changes,
+            before: self.before,
+        }
+    }
+
     /// The device within.
     pub fn into_device(self) -> D
-        ensures { result ≡ self.device }
+        ensures { result ≡ self.entry.device }
     {
         self.device
     }
@@ -121,7 +135,7 @@ fn read_changed<D: Device, A: Allocator>(
     }
 }
 
-impl<D: Device, A: Allocator> Device for ChangedImage<D, A> {
+impl<D: Device, A: Allocator> Device for ChangedImage<'_, D, A> {
     ghost image = { λ c. effects c.changes (D.image c.device) };
 
     ghost honest = { λ c. D.honest c.device × AreLengthsOf c.changes (D.image c.device) c.before c.len };
@@ -141,13 +155,7 @@ impl<D: Device, A: Allocator> Device for ChangedImage<D, A> {
     }
 
     fn read_at(&mut self, at: u64, buf: &mut [u8]) -> Result<(), DeviceFailed> {
-        match read_changed(
-            &mut self.device,
-            self.changes.as_slice(),
-            self.before,
-            at,
-            buf,
-        ) {
+        match read_changed(&mut self.device, self.changes, self.before, at, buf) {
             Ok(()) => Ok(()),
             Err(_) => Err(failed(&mut self.failures)),
         }

@@ -2,5 +2,7 @@
 #![tactic(auto)]
 
 mod image;
+mod untouched;
 
 pub use image::ChangedImage;
+pub use untouched::Untouched;

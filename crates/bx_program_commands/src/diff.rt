@@ -7,7 +7,7 @@ ghost use Rattle.bx_program_files.specs.Reading.{StaysSeen};
 ghost use Rattle.bx_program_commands.specs.Diffs.{StopsDiff, WritesDiff};
 
 use crate::named::{in_order, lend_named};
-use bx_patch::{DiffFault, Extent, write_patch};
+use bx_patch::{DiffFault, Extent, Unknown, write_patch};
 use bx_program_files::{Why, close_alone};
 use bx_program_world::World;
 use std::alloc::Global;
@@ -44,7 +44,7 @@ fn compare<W: World, O: Write>(
     ensures honesty { W.honest world.new ↔ W.honest world.old }
 {
     let (mut old, mut new) = (old, new);
-    let outcome = write_patch(&alloc, &mut old, &mut new, out, extent);
+    let outcome = write_patch(&alloc, &mut old, &mut new, out, extent, &Unknown);
     let (first, last) = in_order(old, new, &outcome);
     close_alone(world, first);
     close_alone(world, last);

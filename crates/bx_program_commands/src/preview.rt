@@ -1,5 +1,6 @@
 //! The patch that a change of a named image would be. The image is only read.
 ghost use Rattle.std.specs.Prelude.{◌≡◌, ◌↔◌, ◌<◌, ◌∷◌, [], IfErr, IfOk, MatchResult, None, OnOk, Some, false};
+ghost use Rattle.bx_image.specs.declared.change.Change.{Change as ChangeOf};
 ghost use Rattle.bx_program_world.specs.World.{MayBeRead, held, stat_named};
 ghost use Rattle.bx_program_files.specs.Reading.{StaysSeen};
 ghost use Rattle.bx_program_files.specs.Reasons.{IsReason, NoneUnfit};
@@ -15,7 +16,7 @@ use bx_patch::{DiffFault, Extent, write_patch};
 use bx_patch_preview::ChangedImage;
 use bx_program_files::{Why, close_alone, lend_alone};
 use bx_program_world::{Kind, Stat, World};
-use std::alloc::Global;
+use std::alloc::{Allocator, Global};
 use std::io::{Read, Write};
 
 /// An image that two devices read.
@@ -49,6 +50,28 @@ fn unchanged_for(fault: ImageFault) -> DiffFault
     }
 }
 
+/// Writes the patch from an image to what a list of one change makes of it. The second device has the same image, and is given back.
+fn write_behind<D: Device, O: Write, A: Allocator>(
+    alloc: Global,
+    image: &mut D,
+    again: D,
+    changes: &[Change<A>],
+    out: &mut O,
+) -> (D, Result<(), DiffFault>)
+    requires countable { D.failures image.old ≡ 0 }
+    requires none { D.failures again ≡ 0 }
+    ensures compared { (change : ChangeOf A) → changes.now ≡ change ∷ [] → D.honest image.old → D.honest again
+        → D.image again ≡ D.image image.old → IsCompared change (D.image image.old) result.1 (O.contents out.old) (O.contents out.new) }
+{
+    let mut changed = match ChangedImage::new(again, changes) {
+        Ok(changed) => changed,
+        Err((again, fault)) => return (again, Err(unchanged_for(fault))),
+    };
+    let untouched = changed.untouched();
+    let outcome = write_patch(&alloc, image, &mut changed, out, Extent::Bytes, &untouched);
+    (changed.into_device(), outcome)
+}
+
 /// Writes the patch from an image to what a change makes of it. The second device has the same image, and is given back.
 fn write_changed<D: Device, O: Write>(
     alloc: Global,
@@ -62,16 +85,10 @@ fn write_changed<D: Device, O: Write>(
     ensures compared { D.honest image.old → D.honest again → D.image again ≡ D.image image.old
         → IsCompared change (D.image image.old) result.1 (O.contents out.old) (O.contents out.new) }
 {
-    let changes = match alone(alloc, change) {
-        Ok(changes) => changes,
-        Err(fault) => return (again, Err(fault)),
-    };
-    let mut changed = match ChangedImage::new(again, changes) {
-        Ok(changed) => changed,
-        Err((again, fault)) => return (again, Err(unchanged_for(fault))),
-    };
-    let outcome = write_patch(&alloc, image, &mut changed, out, Extent::Bytes);
-    (changed.into_device(), outcome)
+    match alone(alloc, change) {
+        Ok(changes) => write_behind(alloc, image, again, changes.as_slice(), out),
+        Err(fault) => (again, Err(fault)),
+    }
 }
 
 /// Writes the patch that what is proposed of an image would be. Nothing is read of the input before both devices are there.

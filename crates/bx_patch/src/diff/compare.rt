@@ -1,11 +1,12 @@
 //! Two devices that are compared, a window at a time.
-ghost use Rattle.std.specs.Prelude.{◌≡◌, ◌<◌, ◌≤◌, ◌+◌, ◌++◌, ◌^◌, ℕ, max, false, List, Option, length, take, IfErr, OnOk};
+ghost use Rattle.std.specs.Prelude.{◌≡◌, ◌<◌, ◌≤◌, ◌+◌, ◌++◌, ◌%◌, ◌^◌, ℕ, max, false, List, Option, length, take, IfErr, OnOk};
 ghost use Rattle.std.specs.Io.KnownBytes.{Appends};
 ghost use Rattle.bx_patch.specs.Text.{PatchLine, headed, patch_lines, row_count};
 ghost use Rattle.bx_patch.specs.Diff.{OnlyReads, WritesPrefix, fails, of_new, of_old};
 ghost use Rattle.bx_patch.specs.private.Diff.{HasPut, IsLate, IsWritingFault, lines_of_window};
-ghost use Rattle.bx_patch.specs.private.Row.{window_lines};
+ghost use Rattle.bx_patch.specs.private.Row.{AreSame, window_lines};
 
+use crate::diff::alike::Alike;
 use crate::diff::device::{Lengths, WINDOW, fill_window};
 use crate::diff::fault::DiffFault;
 use crate::diff::lines::gather;
@@ -22,6 +23,30 @@ pub struct Place<'a> {
     pub lengths: Lengths,
     pub extent: Extent,
     pub head: &'a [u8],
+}
+
+/// A comparison that begins at a place, and what is known of the two devices.
+#[derive(Drop)]
+pub struct Walk<'a, 'b, S: Alike> {
+    pub place: Place<'a>,
+    pub alike: &'b S,
+}
+
+/// Where a comparison goes on that has come to the start of a window: there, or at the first window behind it that isn't known to be the
+/// same, or at the end where there is none.
+fn next_window<S: Alike>(alike: &S, at: u64, end: u64) -> u64
+    requires within { at ≤ end }
+    requires whole { at < end → at % 32768 ≡ 0 }
+    ensures least { at ≤ result }
+    ensures most { result ≤ end }
+    ensures whole { result < end → result % 32768 ≡ 0 }
+    ensures same { (x y : List ℕ) → S.AreAlike alike.now x y → AreSame x y at result }
+{
+    let until = alike.same_until(at);
+    if until >= end {
+        return end;
+    }
+    at.max(until - until % WINDOW as u64)
 }
 
 /// The first bytes of a window.
@@ -100,38 +125,39 @@ fn put_next<D: Device, E: Device, W: Write, A: Allocator>(
     put_window(out, writing, place, old_bytes, new_bytes)
 }
 
-/// Writes the lines of two devices from a place at their start on, where none were written.
-pub fn compare_devices<D: Device, E: Device, W: Write, A: Allocator>(
+/// Writes the lines of two devices from their start on, where none were written. Windows that are known to be the same aren't read.
+pub fn compare_devices<D: Device, E: Device, W: Write, S: Alike, A: Allocator>(
     old: &mut D,
     new: &mut E,
     out: &mut W,
     buffer: &mut [u8],
     writing: &mut Writing<A>,
-    place: Place<'_>,
+    walk: Walk<'_, '_, S>,
 ) -> Result<(), DiffFault>
     requires old_countable { D.failures old.old < u64.MAX }
     requires new_countable { E.failures new.old < u64.MAX }
-    requires old_len { D.honest old.old → place.lengths.old ≡ length (D.image old.old) }
-    requires new_len { E.honest new.old → place.lengths.new ≡ length (E.image new.old) }
+    requires old_len { D.honest old.old → walk.place.lengths.old ≡ length (D.image old.old) }
+    requires new_len { E.honest new.old → walk.place.lengths.new ≡ length (E.image new.old) }
     requires room { length buffer.old ≡ 65536 }
-    requires small { max place.lengths.old place.lengths.new ≤ 2 ^ 48 }
+    requires small { max walk.place.lengths.old walk.place.lengths.new ≤ 2 ^ 48 }
     requires fresh { writing.old.begun ≡ false }
     requires none { writing.old.written ≡ 0 }
-    ensures text { D.honest old.old → E.honest new.old
+    ensures text { D.honest old.old → E.honest new.old → S.AreAlike walk.entry.alike.now (D.image old.old) (E.image new.old)
         → OnOk result (Appends (W.contents out.old) (W.contents out.new)
-        (headed place.entry.head.now (patch_lines place.entry.extent (D.image old.old) (E.image new.old)))) }
-    ensures part { D.honest old.old → E.honest new.old
+        (headed walk.entry.place.head.now (patch_lines walk.entry.place.extent (D.image old.old) (E.image new.old)))) }
+    ensures part { D.honest old.old → E.honest new.old → S.AreAlike walk.entry.alike.now (D.image old.old) (E.image new.old)
         → IfErr result (WritesPrefix (W.contents out.old) (W.contents out.new)
-        (headed place.entry.head.now (patch_lines place.entry.extent (D.image old.old) (E.image new.old)))) }
+        (headed walk.entry.place.head.now (patch_lines walk.entry.place.extent (D.image old.old) (E.image new.old)))) }
     ensures kind { IfErr result IsLate }
     ensures old { OnlyReads D.honest D.image D.room D.failures D.survives (fails of_old result) old.old old.new }
     ensures new { OnlyReads E.honest E.image E.room E.failures E.survives (fails of_new result) new.old new.new }
 {
+    let Walk { place, alike } = walk;
     let end = place.lengths.old.max(place.lengths.new);
-    let mut at: u64 = 0;
+    let mut at = next_window(alike, 0, end);
     while at < end {
         match put_next(old, new, out, buffer, writing, Place { at, ..place }) {
-            Ok(()) => at += (WINDOW as u64).min(end - at),
+            Ok(()) => at = next_window(alike, at + (WINDOW as u64).min(end - at), end),
             Err(fault) => return Err(fault),
         }
     }

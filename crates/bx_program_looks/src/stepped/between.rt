@@ -9,7 +9,7 @@ use crate::unseen::Unseen;
 use bx_cli_commands::Fault;
 use bx_image::{Change, Device, ImageFault};
 use bx_journal::{SessionFault, Way};
-use bx_patch::{DiffFault, Extent, write_patch};
+use bx_patch::{Alike, DiffFault, Extent, write_patch};
 use bx_patch_preview::ChangedImage;
 use bx_text::IoFault;
 use std::alloc::Global;
@@ -42,48 +42,82 @@ fn unchanged_by(fault: ImageFault) -> DiffFault
 }
 
 /// Writes the patch between an image and the one behind steps.
-fn compare<D: Device, E: Device, O: Write>(
+fn compare<D: Device, E: Device, O: Write, S: Alike>(
     alloc: Global,
     image: &mut D,
     behind: &mut E,
     way: Way,
     out: &mut O,
+    alike: &S,
 ) -> Result<(), DiffFault>
     requires countable { D.failures image.old < u64.MAX }
     requires also_countable { E.failures behind.old < u64.MAX }
     ensures text { D.honest image.old → E.honest behind.old
+        → S.AreAlike alike.now (D.image image.old) (E.image behind.old) → S.AreAlike alike.now (E.image behind.old) (D.image image.old)
         → OnOk result (Appends (O.contents out.old) (O.contents out.new) (patch_between way (D.image image.old) (E.image behind.old))) }
     ensures part { D.honest image.old → E.honest behind.old
+        → S.AreAlike alike.now (D.image image.old) (E.image behind.old) → S.AreAlike alike.now (E.image behind.old) (D.image image.old)
         → IfErr result (WritesPrefix (O.contents out.old) (O.contents out.new) (patch_between way (D.image image.old) (E.image behind.old))) }
 {
     match way {
-        Way::Undo => write_patch(&alloc, behind, image, out, Extent::Bytes),
-        Way::Redo => write_patch(&alloc, image, behind, out, Extent::Bytes),
+        Way::Undo => write_patch(&alloc, behind, image, out, Extent::Bytes, alike),
+        Way::Redo => write_patch(&alloc, image, behind, out, Extent::Bytes, alike),
     }
 }
 
 /// The same, and it is said what stopped it.
-fn put_between<D: Device, E: Device, O: Write>(
+fn put_between<D: Device, E: Device, O: Write, S: Alike>(
     alloc: Global,
     image: &mut D,
     behind: &mut E,
     way: Way,
     out: &mut O,
+    alike: &S,
 ) -> Result<(), Unseen>
     requires countable { D.failures image.old < u64.MAX }
     requires also_countable { E.failures behind.old < u64.MAX }
     ensures text { D.honest image.old → E.honest behind.old
+        → S.AreAlike alike.now (D.image image.old) (E.image behind.old) → S.AreAlike alike.now (E.image behind.old) (D.image image.old)
         → OnOk result (Appends (O.contents out.old) (O.contents out.new) (patch_between way (D.image image.old) (E.image behind.old))) }
     ensures part { D.honest image.old → E.honest behind.old
+        → S.AreAlike alike.now (D.image image.old) (E.image behind.old) → S.AreAlike alike.now (E.image behind.old) (D.image image.old)
         → IfErr result (IsPatchCut (patch_between way (D.image image.old) (E.image behind.old)) (O.contents out.old) (O.contents out.new)) }
 {
-    match compare(alloc, image, behind, way, out) {
+    match compare(alloc, image, behind, way, out, alike) {
         Ok(()) => Ok(()),
         Err(fault) => Err(stopped_by(fault)),
     }
 }
 
-/// Writes the patch between an image and what changes would make of it, which `again` reads once more and gives back.
+/// The patch of `put_patch`, of changes that are borrowed.
+fn put_behind<D: Device, O: Write>(
+    alloc: Global,
+    image: &mut D,
+    again: D,
+    way: Way,
+    changes: &[Change],
+    out: &mut O,
+) -> (D, Result<(), Unseen>)
+    requires countable { D.failures image.old < u64.MAX }
+    requires fresh { D.failures again ≡ 0 }
+    ensures text { D.honest image.old → D.honest again → D.image again ≡ D.image image.old
+        → OnOk result.1 (Appends (O.contents out.old) (O.contents out.new)
+        (patch_between way (D.image image.old) (effects changes.now (D.image again)))) }
+    ensures part { D.honest image.old → D.honest again → D.image again ≡ D.image image.old → IfErr result.1
+        (IsPatchCut (patch_between way (D.image image.old) (effects changes.now (D.image again))) (O.contents out.old) (O.contents out.new)) }
+{
+    match ChangedImage::new(again, changes) {
+        Ok(changed) => {
+            let mut behind = changed;
+            let untouched = behind.untouched();
+            let outcome = put_between(alloc, image, &mut behind, way, out, &untouched);
+            (behind.into_device(), outcome)
+        }
+        Err((again, fault)) => (again, Err(stopped_by(unchanged_by(fault)))),
+    }
+}
+
+/// Writes the patch between an image and what changes would make of it. `again` reads that image too, and is given back.
 pub fn put_patch<D: Device, O: Write>(
     alloc: Global,
     image: &mut D,
@@ -94,17 +128,11 @@ pub fn put_patch<D: Device, O: Write>(
 ) -> (D, Result<(), Unseen>)
     requires countable { D.failures image.old < u64.MAX }
     requires fresh { D.failures again ≡ 0 }
-    ensures text { D.honest image.old → D.honest again → OnOk result.1 (Appends (O.contents out.old) (O.contents out.new)
+    ensures text { D.honest image.old → D.honest again → D.image again ≡ D.image image.old
+        → OnOk result.1 (Appends (O.contents out.old) (O.contents out.new)
         (patch_between way (D.image image.old) (effects changes.items (D.image again)))) }
-    ensures part { D.honest image.old → D.honest again → IfErr result.1
+    ensures part { D.honest image.old → D.honest again → D.image again ≡ D.image image.old → IfErr result.1
         (IsPatchCut (patch_between way (D.image image.old) (effects changes.items (D.image again))) (O.contents out.old) (O.contents out.new)) }
 {
-    match ChangedImage::new(again, changes) {
-        Ok(changed) => {
-            let mut behind = changed;
-            let outcome = put_between(alloc, image, &mut behind, way, out);
-            (behind.into_device(), outcome)
-        }
-        Err((again, fault)) => (again, Err(stopped_by(unchanged_by(fault)))),
-    }
+    put_behind(alloc, image, again, way, changes.as_slice(), out)
 }

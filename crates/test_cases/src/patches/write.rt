@@ -2,7 +2,7 @@
 use crate::words::outcome::digest_of;
 use crate::words::streams::{Act, Output, Turn};
 use bx_image::{Device, MemImage};
-use bx_patch::{DiffFault, Extent, write_patch};
+use bx_patch::{DiffFault, Extent, Unknown, write_patch};
 use std::alloc::{Allocator, Global};
 use std::io::Write;
 use test_case_files::PatchWritten;
@@ -51,7 +51,7 @@ pub fn write<A: Allocator + Clone, W: Write>(
     if new.faults() > MANY {
         return Err(Wrong::Unknown);
     }
-    Ok(write_patch(memory, &mut old, &mut new, to, extent))
+    Ok(write_patch(memory, &mut old, &mut new, to, extent, &Unknown))
 }
 
 /// The patch of a case, which nothing stops.

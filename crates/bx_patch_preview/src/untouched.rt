@@ -1,0 +1,91 @@
+//! What changes leave of an image.
+ghost use Rattle.std.specs.Prelude.{◌≡◌, ◌⊎◌, ◌<◌, ◌≤◌, ℕ, false};
+ghost use Rattle.bx_image.specs.Change.{touches};
+ghost use Rattle.bx_image.specs.Image.{is_within};
+ghost use Rattle.bx_patch_preview.specs.Changed.{AreBeforeAndBehind};
+ghost use Rattle.bx_patch_preview.specs.private.Untouched.{AreUntouched, is_overwritten, is_past_base};
+
+use bx_image::Change;
+use bx_patch::Alike;
+use bx_text::Piece;
+use std::alloc::{Allocator, Global};
+
+/// What is known of an image and the one behind changes, whichever is the old one: they have the same bytes where no change cuts off or
+/// overwrites any.
+#[derive(Drop)]
+pub struct Untouched<'a, A: Allocator = Global> {
+    /// The changes, in their order.
+    pub changes: &'a [Change<A>],
+    /// The length of the image before them.
+    pub before: u64,
+}
+
+impl<A: Allocator> Alike for Untouched<'_, A> {
+    ghost AreAlike = { λ u x y. AreBeforeAndBehind u.changes.now u.before x y ⊎ AreBeforeAndBehind u.changes.now u.before y x };
+
+    fn same_until(&self, at: u64) -> u64 {
+        until_changes(self.changes, at, self.before)
+    }
+}
+
+/// A place, `end` at most, below which a base cuts off nothing.
+fn until_base(base: Option<u64>, end: u64) -> u64
+    ensures most { result ≤ end }
+    ensures untouched { (j : ℕ) → j < result → is_past_base base j ≡ false }
+{
+    match base {
+        Some(base) => end.min(base),
+        None => end,
+    }
+}
+
+/// A place, `end` at most, up to which a piece has no byte from an address on.
+fn until_piece<A: Allocator>(piece: &Piece<A>, at: u64, end: u64) -> u64
+    ensures most { result ≤ end }
+    ensures untouched { (j : ℕ) → at ≤ j → j < result → is_within piece.now.at piece.now.bytes j ≡ false }
+{
+    let count = piece.bytes.as_slice().len() as u64;
+    if count == 0 {
+        return end;
+    }
+    if at <= piece.at {
+        return end.min(piece.at);
+    }
+    if at - piece.at < count {
+        return end.min(at);
+    }
+    end
+}
+
+/// The same of pieces.
+fn until_pieces<A: Allocator>(pieces: &[Piece<A>], at: u64, end: u64) -> u64
+    ensures most { result ≤ end }
+    ensures untouched { (j : ℕ) → at ≤ j → j < result → is_overwritten pieces.now j ≡ false }
+{
+    let mut until = end;
+    for piece in pieces {
+        until = until_piece(piece, at, until);
+    }
+    until
+}
+
+/// A place, `end` at most, up to which a change cuts off and overwrites nothing from an address on.
+fn until_change<A: Allocator>(change: &Change<A>, at: u64, end: u64) -> u64
+    ensures most { result ≤ end }
+    ensures untouched { (j : ℕ) → at ≤ j → j < result → touches change.now j ≡ false }
+{
+    let until = until_base(change.base, end);
+    until_pieces(change.writes.as_slice(), at, until)
+}
+
+/// The same of changes.
+fn until_changes<A: Allocator>(changes: &[Change<A>], at: u64, end: u64) -> u64
+    ensures most { result ≤ end }
+    ensures untouched { (j : ℕ) → at ≤ j → j < result → AreUntouched changes.now j }
+{
+    let mut until = end;
+    for change in changes {
+        until = until_change(change, at, until);
+    }
+    until
+}
