@@ -1,4 +1,5 @@
-Patches: round trips with `diff`, texts that are none, images that have other bytes, `-n` and `show -p`, and random pairs.
+Patches: round trips with `diff`, texts that are none, images that have other bytes, `-n` and `show -p`, what these don't read, and
+random pairs.
 
 # A patch is applied, taken back, and applied the other way round
 
@@ -210,6 +211,23 @@ With -r those that a redo would make. It only reads.
   bx: only 0 changes to undo
   bx: only 0 changes to undo
   [1]
+
+# The patch of two far bytes of a sparse image
+
+Of 1 TiB no more is read than what the change touches, by `-n` and by `show -p`.
+
+  $ truncate -s 1T img; printf '00000003: 41\nffffffffff: 42\n' > dump; cat > want << .
+  > length 1099511627776 to 1099511627776
+  > -00000003: 00                                       .
+  > +00000003: 41                                       A
+  > -ffffffffff: 00                                       .
+  > +ffffffffff: 42                                       B
+  > .
+  $ timeout 20 bx revert -n -f dump img | cmp - want
+  $ timeout 20 bx patch -n -f want img | cmp - want
+  $ timeout 20 bx revert -f dump img; timeout 20 bx show -p img | cmp - want
+  $ timeout 20 bx undo img; timeout 20 bx show -rp img | cmp - want
+  0
 
 # Random pairs of files, beside `cmp -l`
 
