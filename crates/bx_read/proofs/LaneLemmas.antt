@@ -55,7 +55,7 @@ pub values_are : (v : List ℕ) → length v ≡ 16 → Each1 (Fits w8) v → va
 values_are v long fits = (λ i. value_lanes v (sym long i)) ∙ all_values v fits
 
 -- no lane is above 15
-top_is : (b : Bool) → top 7 (cond b 255 0) ≡ b
+pub top_is : (b : Bool) → top 7 (cond b 255 0) ≡ b
 top_is true = refl
 top_is false = refl
 
@@ -86,7 +86,7 @@ one_pair high low h l =
     sum : (a b : ℕ) → a < 16 → b < 16 → (a * 16 % 256 + b) % 256 ≡ 16 * a + b
     sum a b small below = omega arith
 
-all_pairs : (n : ℕ) (text : List ℕ) → length text ≡ 2 * n → ((k : ℕ) → k < length text → is_hex (get_or text k 0) ≡ true) → hex_bytes text ≡ Some (joined_all (map value text))
+pub all_pairs : (n : ℕ) (text : List ℕ) → length text ≡ 2 * n → ((k : ℕ) → k < length text → is_hex (get_or text k 0) ≡ true) → hex_bytes text ≡ Some (joined_all (map value text))
 all_pairs zero [] long all = refl
 all_pairs zero (c ∷ text) long all = absurd (omega (arith, long))
 all_pairs (suc n) [] long all = absurd (omega (arith, long))
@@ -105,7 +105,7 @@ joined_lanes v = map (λ k. joined (get_or v (2 * k) 0) (get_or v (2 * k + 1) 0)
 lanes_join : (v : List ℕ) → length v ≡ 32 → joined_lanes v ≡ joined_all v
 lanes_join v long = subst (λ l. joined_lanes l ≡ joined_all l) (pick_l_whole 0 v 32 long) refl
 
-is_digit : (c : ℕ) → value c ≤ 15 → is_hex c ≡ true
+pub is_digit : (c : ℕ) → value c ≤ 15 → is_hex c ≡ true
 is_digit c small = value_small c (value c) refl small
 
 -- a lane of two vectors

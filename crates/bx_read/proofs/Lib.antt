@@ -12,6 +12,7 @@ pub mod WrittenLemmas
 pub mod PlainLemmas
 pub mod HexLemmas
 pub mod LaneLemmas
+pub mod FrontLemmas
 pub mod FullLemmas
 pub mod FullLines
 pub mod RowsLemmas

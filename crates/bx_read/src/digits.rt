@@ -6,6 +6,10 @@ ghost use Rattle.std.specs.List.{prefix_len};
 ghost use Rattle.bx_read.specs.Digits.{is_hex, pair_value};
 ghost use Rattle.bx_read.specs.Plain.{is_space, hex_bytes};
 
+pub(crate) mod lanes;
+
+use crate::digits::lanes::{LANES, put_front};
+
 /// The value of each hexadecimal digit, and 255 for other bytes.
 #[rattlefmt::skip]
 static VALUES: [u8; 256] = [
@@ -62,6 +66,24 @@ pub fn pair(high: u8, low: u8) -> u8
 
 /// Puts the bytes of the pairs of digits that the text begins with, no more than there is room for, and answers how many they are.
 pub fn put_pairs(text: &[u8], out: &mut [u8]) -> usize
+    ensures within { 2 * result ≤ length text.now }
+    ensures room { result ≤ length out.old }
+    ensures bytes { hex_bytes (take (2 * result) text.now) ≡ Some (take result out.new) }
+{
+    let most = out.len().min(text.len() / 2);
+    let mut count = 0;
+    while most - count >= LANES {
+        let more = put_front(&text[2 * count..], &mut out[count..]);
+        if more < LANES {
+            return count + more;
+        }
+        count += LANES;
+    }
+    count + put_each(&text[2 * count..], &mut out[count..])
+}
+
+/// The same, a pair at a time.
+fn put_each(text: &[u8], out: &mut [u8]) -> usize
     ensures within { 2 * result ≤ length text.now }
     ensures room { result ≤ length out.old }
     ensures bytes { hex_bytes (take (2 * result) text.now) ≡ Some (take result out.new) }

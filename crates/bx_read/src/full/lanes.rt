@@ -1,11 +1,11 @@
 //! The digits of a full line, 16 at once.
-ghost use Rattle.std.specs.Prelude.{◌≡◌, ◌+◌, ◌*◌, ◌^◌, ◌<◌, ◌≤◌, ◌++◌, if◌then◌else◌, ℕ, map, length, slice_index, All, IsTrue, Some, IfSome};
-ghost use Rattle.std.specs.Char.{digit_value};
+ghost use Rattle.std.specs.Prelude.{◌≡◌, ◌+◌, ◌*◌, ◌^◌, ◌<◌, ◌≤◌, ◌++◌, ℕ, map, length, slice_index, All, IsTrue, Some, IfSome};
 ghost use Rattle.std.specs.Str.Parse.{digits_value};
 ghost use Rattle.bx_read.specs.Digits.{is_hex, pairs_of};
 ghost use Rattle.bx_read.specs.Plain.{hex_bytes};
 ghost use Rattle.bx_read.specs.private.Lanes.{group_places};
 
+use crate::digits::lanes::values_of;
 use std::simd::prelude::*;
 
 /// The bytes of eight groups of two pairs with a space between two groups, if that is what the text is.
@@ -99,19 +99,6 @@ fn twice_of(text: &[u8]) -> u8x16
 {
     let once = u8x8::from_slice(text);
     once.shuffle(once, [0, 1, 2, 3, 4, 5, 6, 7, 8, 9, 10, 11, 12, 13, 14, 15])
-}
-
-/// The value of each digit, and 255 for other bytes.
-#[inline(always)]
-fn values_of(text: u8x16) -> u8x16
-    ensures { result ≡ map (λ c. if is_hex c then digit_value c else 255) text }
-{
-    let digit = text - u8x16::splat(b'0');
-    let letter = (text | u8x16::splat(0x20)) - u8x16::splat(b'a');
-    let letters = letter
-        .simd_le(u8x16::splat(5))
-        .select(letter + u8x16::splat(10), u8x16::splat(255));
-    digit.simd_le(u8x16::splat(9)).select(digit, letters)
 }
 
 /// Whether these are values of digits.
