@@ -37,7 +37,7 @@ pub struct Stat {
     pub writes: Classes,
     /// How many names it has: its hard links.
     pub links: u64,
-    /// Whether it is a device that a file system is mounted from, or that is used as swap.
+    /// Whether it is a device in use: mounted, used as swap, or under an array or a volume.
     pub is_mounted: bool,
     /// Whether it is a device that can't be written.
     pub is_read_only: bool,
