@@ -115,7 +115,7 @@ Dumps and a patch:
   [1]
   $ bx dd if=img skip=1024G
   bx: operand 2: number too large
-  hint: skip=1024G: a place is at most 281474976710656 bytes from the start; Usage: bx dd [OPTIONS] [OPERAND]...
+  hint: skip=1024G: a number is at most 1099511627775, and a place at most 281474976710656 bytes from the start; Usage: bx dd [OPTIONS] [OPERAND]...
   [1]
   $ bx dd if=img count=1024G
   bx: operand 2: number too large

@@ -357,7 +357,7 @@ fn operand_reason(fault: DdFault, operand: &str) -> &'static str {
             "a block has at most 16777216 bytes, which is 16M"
         }
         DdFault::NumberTooLarge(_) if is_place_operand(operand) => {
-            "a place is at most 281474976710656 bytes from the start"
+            "a number is at most 1099511627775, and a place at most 281474976710656 bytes from the start"
         }
         DdFault::NumberTooLarge(_) => "a number is at most 1099511627775",
         _ => "",
