@@ -34,7 +34,7 @@ Texts that are damaged, twice there, begun, and of an image that something else 
   $ printf "$change"'what is this\n' > bad.bxj; : > bad.redo.bxj; echo 'what is this' > bad.redo.bxj.redo
   $ printf "$change" > twin.bxj; : > twin.bxj.bxj; ln -s twin.bxj soft; ln second.bxj second.too; mkdir dir; mkfifo pipe
   $ printf ABxyEFGH > begun; printf "${change%done2*}" > begun.bxj; printf abcdefgh > other; printf "$change" > other.bxj
-  $ line='image1 00000001 00000000 0000000000000008 3e44107170a520582ade522fa73c1d15 d41d8cd98f00b204e9800998ecf8427e'
+  $ line='image2 00000001 00000000 0000000000000008 3e44107170a520582ade522fa73c1d15 d41d8cd98f00b204e9800998ecf8427e'
   $ echo "$line 00000000" > other.bxj.image; echo "$line 00000001" > older.bxj.image
 
 Dumps and a patch:

@@ -6,10 +6,10 @@ Each command that changes something writes its line: how many changes stand and 
 the last change wrote ("xy", and nothing) and of what the last undo did ("CD").
 
   $ changes '2: 7879'; cat img.bxj.image
-  image1 00000001 00000000 0000000000000008 3e44107170a520582ade522fa73c1d15 d41d8cd98f00b204e9800998ecf8427e 00000000
+  image2 00000001 00000000 0000000000000008 3e44107170a520582ade522fa73c1d15 d41d8cd98f00b204e9800998ecf8427e 00000000
   $ bx undo img; cat img.bxj.image
   0
-  image1 00000000 00000001 0000000000000008 d41d8cd98f00b204e9800998ecf8427e 4170acd6af571e8d0d59fdad999cc605 00000000
+  image2 00000000 00000001 0000000000000008 d41d8cd98f00b204e9800998ecf8427e 4170acd6af571e8d0d59fdad999cc605 00000000
   $ bx forget img; wc -c < img.bxj.image
   0
 
@@ -61,6 +61,29 @@ And what was undone:
   $ kept bx undo -k 2 img
   bx: the image was changed since
   [1]
+
+# What a change appended
+
+  $ fresh ABCD; echo '4: 78797a' | bx revert img; printf ABCDEVI > img; refused 'the image was changed since' <<< 'undo img'
+  $ bx log -v img | head -1; bx undo --anyway img; cat img
+  # the image was changed since
+  0
+  ABCD
+  $ fresh; printf hello | bx dd of=img 2> /dev/null; printf HELLO > img; refused 'the image was changed since' <<< 'undo img'
+  $ fresh ABCD; printf 12345678 | bx dd of=img 2> /dev/null; printf 1234abcd > img; refused 'the image was changed since' <<< 'undo img'
+
+What a redo would cut off, and what counts of more:
+
+  $ changes; printf xy | bx dd of=img 2> /dev/null; bx undo img; printf ABCDEFgh > img; refused 'the image was changed since' <<< 'redo img'
+  0
+  $ mega x 65537 > many
+  $ for place in 65535 65536; do
+  >   fresh; bx dd if=many of=img 2> /dev/null; printf y | dd of=img bs=1 seek=$place conv=notrunc status=none; bx undo img; wc -c < img
+  > done
+  bx: the image was changed since
+  65537
+  0
+  0
 
 # A change on an image that something else changed, and the undo past it
 
@@ -125,14 +148,14 @@ image is refused.
   0
   abCDefgh
   $ bx log -v img > /dev/null; cut -c 1-25 img.bxj.image
-  image1 00000000 00000001 
+  image2 00000000 00000001 
 
 # A build script that runs a hundred times
 
   $ echo '2: 7879' > dump; : > img
   $ for n in $(seq 100); do mega $((n % 10)) 8 > img; bx revert -U --fresh -f dump img || echo "$n: $?"; done; bx log img; cut -c 1-25 img.bxj.image
   1 8 2
-  image1 00000001 00000000 
+  image2 00000001 00000000 
   $ bx undo img; cat img
   0
   00000000
@@ -163,23 +186,25 @@ other stays.
   0 ABCDEFGH stays
   $ undone "$(mega x 1000000)"
   0 ABCDEFGH stays
-  $ undone 'image1 \n'
+  $ undone 'image2 \n'
   0 ABCDEFGH anew
-  $ undone "image1 $(mega 0 110)"
+  $ undone "image2 $(mega 0 110)"
   0 ABCDEFGH anew
-  $ undone "image1 $(mega y 200 | sed 's/y/\\0377/g')"
+  $ undone "image1 00000001 00000000 0000000000000008 $zeros $zeros 00000000\n"
+  0 ABCDEFGH anew
+  $ undone "image2 $(mega y 200 | sed 's/y/\\0377/g')"
   0 ABCDEFGH stays
-  $ undone "image1 00000001 00000000 0000000000000008 $zeros $zeros 00000000"
+  $ undone "image2 00000001 00000000 0000000000000008 $zeros $zeros 00000000"
   0 ABCDEFGH anew
-  $ undone "image1 00000001 00000000 0000000000000008 ${zeros//0/g} $zeros 00000000\n"
+  $ undone "image2 00000001 00000000 0000000000000008 ${zeros//0/g} $zeros 00000000\n"
   0 ABCDEFGH anew
-  $ undone "image1 00000001 00000000 0000000000000008 ${zeros//0/A} $zeros 00000000\n"
+  $ undone "image2 00000001 00000000 0000000000000008 ${zeros//0/A} $zeros 00000000\n"
   0 ABCDEFGH anew
-  $ undone "image1 00000002 00000000 0000000000000008 $zeros $zeros 00000000\n"
+  $ undone "image2 00000002 00000000 0000000000000008 $zeros $zeros 00000000\n"
   0 ABCDEFGH anew
-  $ undone "image1 00000001 00000000 0000000000000009 $zeros $zeros 00000000\n"
+  $ undone "image2 00000001 00000000 0000000000000009 $zeros $zeros 00000000\n"
   0 ABCDEFGH anew
-  $ undone "image1 ffffffff ffffffff ffffffffffffffff $zeros $zeros ffffffff\n"
+  $ undone "image2 ffffffff ffffffff ffffffffffffffff $zeros $zeros ffffffff\n"
   0 ABCDEFGH anew
 
 The line of another image, on as many changes of as many bytes, and a line that may only be read:
@@ -190,19 +215,19 @@ The line of another image, on as many changes of as many bytes, and a line that 
   ABCDEFGH
   $ changes '2: 7879'; chmod 444 img.bxj.image; bx undo img; cut -c 1-25 img.bxj.image
   0
-  image1 00000000 00000001 
+  image2 00000000 00000001 
 
 # Files in its place that aren't touched
 
-  $ echo 'image1 precious' > precious
+  $ echo 'image2 precious' > precious
   $ for link in 'ln -s' 'ln -f'; do
   >   changes '2: 7879'; rm img.bxj.image; $link precious img.bxj.image; bx undo img; bx forget img; cat img precious
   >   [ precious -ef img.bxj.image ] || echo 'another file'
   > done
   0
-  ABCDEFGHimage1 precious
+  ABCDEFGHimage2 precious
   0
-  ABCDEFGHimage1 precious
+  ABCDEFGHimage2 precious
   $ changes '2: 7879'; rm img.bxj.image; mkdir img.bxj.image; bx undo img; cat img
   0
   ABCDEFGH
@@ -217,8 +242,8 @@ An image that has the text's name, and begins as a line does:
   $ bx undo -J a a.image; cat a.image
   0
   ABCDEFGH
-  $ printf 'image1 AB' > a.image; bx forget -J a a.image; echo '2: 7879' | bx revert -J a a.image; cat a.image
-  imxye1 AB
+  $ printf 'image2 AB' > a.image; bx forget -J a a.image; echo '2: 7879' | bx revert -J a a.image; cat a.image
+  imxye2 AB
 
 A line beside files of another history, whose journal is newer:
 

@@ -1,5 +1,5 @@
 -- The fields of the line, one behind another.
-use Rattle.std.proofs.Common.{◌≡◌, ℕ, ◌+◌, ◌*◌, ◌<◌, ◌≤◌, ◌^◌, List, [], ◌∷◌, ◌++◌, length, refl, ap, sym, ◌∙◌, arith, append_assoc, length-append, Some}
+use Rattle.std.proofs.Common.{◌≡◌, ℕ, ◌+◌, ◌<◌, ◌≤◌, ◌^◌, List, [], ◌∷◌, ◌++◌, length, refl, ap, sym, ◌∙◌, arith, append_assoc, length-append, Some}
 use Rattle.std.proofs.Math.Nat.{pow-le-pow_right}
 use Rattle.bx_journal_format.specs.Hex.{hex_digits, number_after}
 use Rattle.bx_journal_format.proofs.HexLemmas.{length-hex_digits, number_after-hex_digits}

@@ -10,7 +10,7 @@ field word width n = word ++ hex_digits width n
 
 -- the line: how many changes stand and are undone, the image's length, both digests, and how many of the oldest changes stand for another image
 unfoldable pub image_line : ImageLine → List ℕ
-image_line l = field (codes "image1 ") 8 l.changes ++ field (codes " ") 8 l.undone ++ field (codes " ") 16 l.length
+image_line l = field (codes "image2 ") 8 l.changes ++ field (codes " ") 8 l.undone ++ field (codes " ") 16 l.length
     ++ field (codes " ") 16 l.last.high ++ field [] 16 l.last.low ++ field (codes " ") 16 l.next.high ++ field [] 16 l.next.low
     ++ field (codes " ") 8 l.others ++ codes "\n"
 
@@ -25,7 +25,10 @@ pub record FitsPlaces (l : ImageLine) : Type 0 where
   pub next_low : l.next.low < 16 ^ 16
   pub others : l.others < 16 ^ 8
 
--- a text whose place the line may take: a front of its first word, what begins with that, or zeros
+-- one of both begins with the other
+abbrev pub is_front : List ℕ → List ℕ → Bool
+is_front word text = starts_with (λ a b. a == b) word text || starts_with (λ a b. a == b) text word
+
+-- a text whose place the line may take: a front of its first word or of that of the older line, what begins with one of these, or zeros
 abbrev pub is_replaceable : List ℕ → Bool
-is_replaceable text = starts_with (λ a b. a == b) (codes "image1 ") text || starts_with (λ a b. a == b) text (codes "image1 ")
-    || starts_with (λ a b. a == b) (replicate 117 0) text
+is_replaceable text = is_front (codes "image2 ") text || is_front (codes "image1 ") text || starts_with (λ a b. a == b) (replicate 117 0) text

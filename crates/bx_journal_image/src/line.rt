@@ -1,7 +1,7 @@
 //! The line that a journal's third text has.
 ghost use Rattle.std.specs.Prelude.{◌≡◌, ◌+◌, ◌<◌, ◌≤◌, ◌^◌, ◌++◌, ℕ, List, length, IfSome, IfNone};
 ghost use Rattle.bx_journal_format.specs.Hex.{hex_digits, hex_nibble, number_after};
-ghost use Rattle.bx_journal_image.specs.Line.{FitsPlaces, field, image_line, is_replaceable};
+ghost use Rattle.bx_journal_image.specs.Line.{FitsPlaces, field, image_line, is_front, is_replaceable};
 
 use crate::digest::Digest;
 use bx_text::{ShortText, hex_field};
@@ -48,7 +48,7 @@ pub fn write_line(line: ImageLine) -> LineText
     ensures { result ≡ image_line line }
 {
     let mut text = LineText::new();
-    push_field(&mut text, b"image1 ", 8, line.changes as u64);
+    push_field(&mut text, b"image2 ", 8, line.changes as u64);
     push_field(&mut text, b" ", 8, line.undone as u64);
     push_field(&mut text, b" ", 16, line.length);
     push_field(&mut text, b" ", 16, line.last.high);
@@ -72,7 +72,7 @@ fn digit(c: u8) -> Option<u64>
 }
 
 /// The number that at most 16 digits give.
-fn number(text: &[u8]) -> Option<u64>
+pub(crate) fn number(text: &[u8]) -> Option<u64>
     requires { length text.now ≤ 16 }
     ensures value { result ≡ number_after 0 text.now }
     ensures fits { IfSome result (λ n. n < 16 ^ length text.now) }
@@ -156,12 +156,18 @@ pub fn read_line(text: &[u8]) -> Option<ImageLine>
     }
 }
 
-/// Whether a text is one whose place the line may take: a front of its first word, what begins with that, or zeros, which a loss of
-/// power may leave.
+/// Whether one of both begins with the other.
+fn is_front(word: &[u8], text: &[u8]) -> bool
+    ensures { result ≡ is_front word.now text.now }
+{
+    word.starts_with(text) || text.starts_with(word)
+}
+
+/// Whether a text is one whose place the line may take: a front of its first word or of that of the older line, what begins with one
+/// of these, or zeros, which a loss of power may leave.
 pub fn is_replaceable(text: &[u8]) -> bool
     ensures { result ≡ is_replaceable text.now }
 {
-    let word = b"image1 ";
     let zeros = [0u8; LINE];
-    word.starts_with(text) || text.starts_with(word) || zeros.starts_with(text)
+    is_front(b"image2 ", text) || is_front(b"image1 ", text) || zeros.starts_with(text)
 }

@@ -88,7 +88,7 @@ fn push_range(ranges: &mut Vec<Range>, range: Range) -> Result<(), NoMemory>
 }
 
 /// Whether an entry begins with this line.
-fn begins_entry(line: &[u8]) -> bool
+pub(crate) fn begins_entry(line: &[u8]) -> bool
     ensures { result ≡ begins_entry line.now }
 {
     line.starts_with(b"change")

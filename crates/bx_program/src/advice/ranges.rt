@@ -1,7 +1,7 @@
 //! The ranges of a text's last entry, by windows of the text: whole towards its end, and before that one at each doubling of the
-//! distance from there, so that a long text costs no more than a short one.
+//! distance from there, so that a long text costs no more than a short one; and what the entry appended.
 use crate::devices::left::length_of;
-use bx_journal_image::{Range, end_of, push_ranges};
+use bx_journal_image::{Range, appended_from, end_of, push_ranges};
 use std::alloc::Global;
 use std::fs::File;
 use std::os::unix::fs::FileExt;
@@ -15,12 +15,15 @@ const WINDOW: u64 = 1 << 14;
 /// How often the distance from the end doubles at most.
 const DOUBLINGS: u32 = 40;
 
-/// The number of a text's last entry, and ranges that it saved.
+/// How many of the bytes that a change appended count.
+const APPENDED: u64 = 1 << 16;
+
+/// The number of a text's last entry, and ranges that it saved or appended.
 #[derive(Drop)]
 pub struct Ranged {
     /// The number; 0 of an empty text.
     pub number: u32,
-    /// The ranges, in the order of the text.
+    /// The ranges, in the order of the text, and behind them what was appended.
     pub ranges: Vec<Range>,
 }
 
@@ -69,5 +72,9 @@ pub fn ranges_of(alloc: Global, file: &File) -> Option<Ranged> {
     fill(file, length - size, window.as_mut_slice())?;
     let number = end_of(window.as_slice())?;
     push_ranges(&mut ranges, window.as_slice(), size == length).ok()?;
+    if let Some(at) = appended_from(window.as_slice(), size == length) {
+        let count = APPENDED;
+        ranges.push(Range { at, count }).ok()?;
+    }
     Some(Ranged { number, ranges })
 }

@@ -1,4 +1,4 @@
-use Rattle.std.proofs.Common.{◌≡◌, refl, ap, sym, ◌∙◌}
+use Rattle.std.proofs.Common.{◌≡◌, refl, ap, ◌∙◌}
 use Rattle.md5.specs.Md5.{md5}
 use Rattle.bx_journal_image.specs.Digest.{eight_at, image_digest}
 use Rattle.bx_journal_image.proofs.digest.digest_of.Goals as goal

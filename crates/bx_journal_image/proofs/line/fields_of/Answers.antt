@@ -7,7 +7,7 @@ use Rattle.bx_journal_image.proofs.line.fields_of.Goals as goal
 pub returns : goal.returns
 unfolding image_line
 returns c l fits is =
-    let f1 = field (codes "image1 ") 8 l.changes in
+    let f1 = field (codes "image2 ") 8 l.changes in
     let f2 = field (codes " ") 8 l.undone in
     let f3 = field (codes " ") 16 l.length in
     let f4 = field (codes " ") 16 l.last.high in
@@ -17,7 +17,7 @@ returns c l fits is =
     let f8 = field (codes " ") 8 l.others in
     let f9 = codes "\n" in
     let whole : c.args.text.now ≡ f1 ++ (f2 ++ (f3 ++ (f4 ++ (f5 ++ (f6 ++ (f7 ++ (f8 ++ f9))))))) = is ∙ assoc_of f1 f2 f3 f4 f5 f6 f7 f8 f9 in
-    let one = c.number_behind-changes.ensures.is (codes "image1 ") (f2 ++ (f3 ++ (f4 ++ (f5 ++ (f6 ++ (f7 ++ (f8 ++ f9))))))) l.changes refl fits.changes whole in
+    let one = c.number_behind-changes.ensures.is (codes "image2 ") (f2 ++ (f3 ++ (f4 ++ (f5 ++ (f6 ++ (f7 ++ (f8 ++ f9))))))) l.changes refl fits.changes whole in
     let two = c.number_behind-undone.ensures.is (codes " ") (f3 ++ (f4 ++ (f5 ++ (f6 ++ (f7 ++ (f8 ++ f9)))))) l.undone refl fits.undone one.1 in
     let three = c.number_behind-length.ensures.is (codes " ") (f4 ++ (f5 ++ (f6 ++ (f7 ++ (f8 ++ f9))))) l.length refl fits.length two.1 in
     let four = c.number_behind-last.ensures.is (codes " ") (f5 ++ (f6 ++ (f7 ++ (f8 ++ f9)))) l.last.high refl fits.last_high three.1 in

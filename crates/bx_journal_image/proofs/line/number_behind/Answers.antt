@@ -1,4 +1,4 @@
-use Rattle.std.proofs.Common.{◌≡◌, ◌+◌, ◌<◌, ◌^◌, sym, ◌∙◌, arith, Some, None}
+use Rattle.std.proofs.Common.{◌≡◌, sym, ◌∙◌, arith, Some, None}
 use Rattle.bx_journal_image.proofs.LineLemmas.{field_long, number_is, parts_of, power_some}
 use Rattle.bx_journal_image.proofs.line.number_behind.Goals as goal
 

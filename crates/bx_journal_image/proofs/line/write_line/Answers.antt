@@ -1,5 +1,5 @@
 use Rattle.std.proofs.Common.{refl}
-use Rattle.bx_journal_image.specs.Line.{field, image_line}
+use Rattle.bx_journal_image.specs.Line.{image_line}
 use Rattle.bx_journal_image.proofs.line.write_line.Goals as goal
 
 pub returns : goal.returns
