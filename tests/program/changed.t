@@ -62,6 +62,22 @@ And what was undone:
   bx: the image was changed since
   [1]
 
+  $ bx show -r -k 0 img | head -1
+
+Between two changes:
+
+  $ changes '2: 7879'; printf abcdefgh > img; echo '0: 5a' | bx revert img; bx show -d -k 2 img | head -1; bx log -v img
+  # the image was changed since
+  # the image was changed after change 1
+  1 8 8 2 2-3
+  2 8 8 1 0-0
+  $ bx show img | head -1; bx undo img; bx show img | head -1; bx log -v img
+  # change 2: undo writes 1 byte at 0-0, keeps length 8
+  1
+  # the image was changed since
+  # the image was changed after change 1
+  1 8 8 2 2-3
+
 # What a change appended
 
   $ fresh ABCD; echo '4: 78797a' | bx revert img; printf ABCDEVI > img; refused 'the image was changed since' <<< 'undo img'
@@ -76,6 +92,8 @@ What a redo would cut off, and what counts of more:
 
   $ changes; printf xy | bx dd of=img 2> /dev/null; bx undo img; printf ABCDEFgh > img; refused 'the image was changed since' <<< 'redo img'
   0
+  $ bx show -r -k 0 img | head -1
+  # the image was changed since
   $ mega x 65537 > many
   $ for place in 65535 65536; do
   >   fresh; bx dd if=many of=img 2> /dev/null; printf y | dd of=img bs=1 seek=$place conv=notrunc status=none; bx undo img; wc -c < img

@@ -13,6 +13,7 @@ use bx_journal_image::{
     ImageLine, Standing, is_changed, is_redo_refused, is_undo_refused, others_after,
 };
 use bx_text::{IoFault, emit};
+use std::alloc::Global;
 use std::fs::File;
 use std::io::Write;
 use std::rt::Files;
@@ -45,13 +46,18 @@ impl Advice {
         }
     }
 
+    /// That nothing is known.
+    pub fn none() -> Advice {
+        Advice { known: None }
+    }
+
     /// The same before a change; nothing where it begins a new history.
     pub fn before<R>(rt: &R, target: &Target, fresh: bool) -> Advice
     where
         R: Files<File = File> + Print + Eprint + Clock + AllocGlobal,
     {
         if fresh {
-            return Advice { known: None };
+            return Advice::none();
         }
         Advice::of(rt, target)
     }
@@ -81,19 +87,31 @@ impl Advice {
         }
     }
 
-    /// The same of `count` changes, as far as there are.
+    /// Whether one of `count` changes would, or is refused, as far as there are as many; of none, whether one of one would.
     pub fn is_shown(&self, way: Way, count: u32) -> bool {
-        match &self.known {
-            Some(known) if way == Way::Undo => self.is_changed() && count <= known.now.changes,
-            _ => self.refuses(way, count),
-        }
+        self.refuses(way, count.max(1))
     }
 
-    /// How many of the oldest changes stand for another image once the command is done.
-    fn others_then(&self) -> u32 {
+    /// How many of the oldest changes stand for another image, all where it isn't the one that the last command left.
+    fn others(&self) -> u32 {
         match &self.known {
             Some(known) => others_after(&known.line, &known.now),
             None => 0,
+        }
+    }
+
+    /// Says at the head of a log that something else changed the image, and after which change where the last one isn't the place.
+    pub fn put_in_log<W: Write>(&self, alloc: Global, out: &mut W) -> Result<(), IoFault> {
+        if self.is_changed() {
+            return put_other(true, out);
+        }
+        let others = self.others();
+        if others == 0 {
+            return Ok(());
+        }
+        match format!(in alloc; "# the image was changed after change {others}\n") {
+            Ok(text) => emit(out, text.as_str().as_bytes()),
+            Err(_) => Err(IoFault::NoMemory),
         }
     }
 
@@ -102,7 +120,7 @@ impl Advice {
     where
         R: Files<File = File> + Print + Eprint + Clock + AllocGlobal,
     {
-        write_anew(rt, target, self.others_then());
+        write_anew(rt, target, self.others());
     }
 }
 

@@ -48,11 +48,15 @@ where
 {
     let target = &job.target;
     refuse_without_journal(rt, target)?;
-    let is_other = job.verbose && Advice::of(rt, target).is_changed();
+    let advice = if job.verbose {
+        Advice::of(rt, target)
+    } else {
+        Advice::none()
+    };
     let names = names_of(rt.alloc(), target)?;
     let mut world = world_of(rt, target, progress);
     let mut page = Paged::new(rt.alloc(), out);
-    put_other(is_other, &mut page).map_err(Fault::Io)?;
+    advice.put_in_log(rt.alloc(), &mut page).map_err(Fault::Io)?;
     let asked = if job.verbose {
         Report::LogWithRanges
     } else {
