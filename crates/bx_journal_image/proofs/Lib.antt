@@ -1,3 +1,12 @@
 pub mod LineLemmas
 pub mod RangeLemmas
 pub mod AppendedLemmas
+pub mod BlockLemmas
+pub mod JudgeLemmas
+pub mod LookLemmas
+pub mod WrittenLemmas
+pub mod EntryLemmas
+pub mod SealLemmas
+pub mod BlockLaws
+pub mod MarkLemmas
+pub mod NamedLemmas

@@ -3,4 +3,11 @@ pub mod Ranges
 pub mod Appended
 pub mod Digest
 pub mod Advice
+pub mod Blocks
+pub mod Looks
+pub mod Entry
+pub mod Written
+pub mod Stand
+pub mod Unfinished
+pub mod Seal
 pub mod Laws

@@ -1,6 +1,6 @@
 -- The line that a journal's third text has.
-use Rattle.std.specs.Prelude.{ℕ, ◌^◌, ◌<◌, ◌==◌, ◌||◌, Bool, List, [], ◌++◌, codes, replicate}
-use Rattle.std.specs.List.{starts_with}
+use Rattle.std.specs.Prelude.{ℕ, ◌≡◌, ◌^◌, ◌<◌, ◌==◌, ◌||◌, ◌&&◌, not, nat_le, Bool, Option, None, Some, IfSome, List, [], ◌++◌, length, drop, slice_index_or, codes, replicate}
+use Rattle.std.specs.List.{flat_map, list_all, starts_with}
 use Rattle.bx_journal_format.specs.Hex.{hex_digits}
 use Rattle.bx_journal_image.specs.declared.line.ImageLine.{ImageLine}
 
@@ -8,11 +8,30 @@ use Rattle.bx_journal_image.specs.declared.line.ImageLine.{ImageLine}
 abbrev pub field : List ℕ → ℕ → ℕ → List ℕ
 field word width n = word ++ hex_digits width n
 
--- the line: how many changes stand and are undone, the image's length, both digests, and how many of the oldest changes stand for another image
+-- what is known of a block
+abbrev pub mark_text : Option ℕ → List ℕ
+mark_text None = codes " --------"
+mark_text (Some n) = field (codes " ") 8 n
+
+-- what is known of all
+abbrev pub marks_text : List (Option ℕ) → List ℕ
+marks_text marks = flat_map mark_text marks
+
+-- the line: how many changes stand and are undone, the image's length, both digests, how many of the oldest changes stand for another image,
+-- the least and the greatest length, and the blocks
 unfoldable pub image_line : ImageLine → List ℕ
-image_line l = field (codes "image2 ") 8 l.changes ++ field (codes " ") 8 l.undone ++ field (codes " ") 16 l.length
+image_line l = field (codes "image3 ") 8 l.changes ++ field (codes " ") 8 l.undone ++ field (codes " ") 16 l.length
     ++ field (codes " ") 16 l.last.high ++ field [] 16 l.last.low ++ field (codes " ") 16 l.next.high ++ field [] 16 l.next.low
-    ++ field (codes " ") 8 l.others ++ codes "\n"
+    ++ field (codes " ") 8 l.others ++ field (codes " ") 16 l.least ++ field (codes " ") 16 l.most ++ marks_text l.marks ++ codes "\n"
+
+-- a digest has places enough
+abbrev pub FitsMark : Option ℕ → Type 0
+FitsMark m = IfSome m (λ n. n < 16 ^ 8)
+
+-- so have those of 32 blocks
+pub record AreFitMarks (ms : List (Option ℕ)) : Type 0 where
+  pub count : length ms ≡ 32
+  pub each : (i : ℕ) → i < 32 → FitsMark (slice_index_or ms i None)
 
 -- its numbers have places enough
 pub record FitsPlaces (l : ImageLine) : Type 0 where
@@ -24,11 +43,22 @@ pub record FitsPlaces (l : ImageLine) : Type 0 where
   pub next_high : l.next.high < 16 ^ 16
   pub next_low : l.next.low < 16 ^ 16
   pub others : l.others < 16 ^ 8
+  pub least : l.least < 16 ^ 16
+  pub most : l.most < 16 ^ 16
+  pub marks : AreFitMarks l.marks
 
--- one of both begins with the other
-abbrev pub is_front : List ℕ → List ℕ → Bool
-is_front word text = starts_with (λ a b. a == b) word text || starts_with (λ a b. a == b) text word
+-- a byte that stands in a line: a digit, a space, a dash or the newline, or the zero that a loss of power may leave in its place
+abbrev pub is_line_byte : ℕ → Bool
+is_line_byte b = (nat_le 48 b && nat_le b 57) || (nat_le 97 b && nat_le b 102) || b == 32 || b == 45 || b == 10 || b == 0
 
--- a text whose place the line may take: a front of its first word or of that of the older line, what begins with one of these, or zeros
+-- a text that begins with a word, behind which all are such bytes
+abbrev pub is_front_behind : List ℕ → List ℕ → Bool
+is_front_behind word text = starts_with (λ a b. a == b) text word && list_all is_line_byte (drop (length word) text)
+
+-- zeros, at least one and no more than a line has
+abbrev pub is_zeros : List ℕ → Bool
+is_zeros text = not (length text == 0) && starts_with (λ a b. a == b) (replicate 439 0) text
+
+-- a text whose place the line may take: one that has the whole first word of a line, of an older one too, and behind it bytes of one, or zeros
 abbrev pub is_replaceable : List ℕ → Bool
-is_replaceable text = is_front (codes "image2 ") text || is_front (codes "image1 ") text || starts_with (λ a b. a == b) (replicate 117 0) text
+is_replaceable text = is_front_behind (codes "image3 ") text || is_front_behind (codes "image2 ") text || is_front_behind (codes "image1 ") text || is_zeros text

@@ -4,6 +4,7 @@ ghost use Rattle.bx_journal_image.specs.Advice.{is_about, is_changed, is_redo_re
 
 use crate::digest::{Digest, is_same};
 use crate::line::ImageLine;
+use crate::marks::Marks;
 
 /// What a command finds: how many changes stand and are undone, how long the image is, and the digests of what it has in the ranges
 /// of the last change and of the one that was undone last.
@@ -22,14 +23,16 @@ pub struct Standing {
 }
 
 impl Standing {
-    /// The line on it.
-    pub fn line(self, others: u32) -> ImageLine
+    /// The line on it, and on the blocks of the image, which no command is changing.
+    pub fn line(self, others: u32, marks: Marks) -> ImageLine
         ensures changes { result.changes ≡ self.changes }
         ensures undone { result.undone ≡ self.undone }
         ensures length { result.length ≡ self.length }
         ensures last { result.last ≡ self.last }
         ensures next { result.next ≡ self.next }
         ensures others { result.others ≡ others }
+        ensures lengths { (result.least ≡ self.length) × (result.most ≡ self.length) }
+        ensures marks { result.marks ≡ marks }
     {
         ImageLine {
             changes: self.changes,
@@ -38,6 +41,9 @@ impl Standing {
             last: self.last,
             next: self.next,
             others,
+            least: self.length,
+            most: self.length,
+            marks,
         }
     }
 }

@@ -1,16 +1,19 @@
 //! The line that a journal's third text has.
-ghost use Rattle.std.specs.Prelude.{◌≡◌, ◌+◌, ◌<◌, ◌≤◌, ◌^◌, ◌++◌, ℕ, List, length, IfSome, IfNone};
+ghost use Rattle.std.specs.Prelude.{◌≡◌, ◌+◌, ◌<◌, ◌≤◌, ◌^◌, ◌++◌, ℕ, List, length, Option, IfSome, IfNone};
+ghost use Rattle.std.specs.List.{list_all};
 ghost use Rattle.bx_journal_format.specs.Hex.{hex_digits, hex_nibble, number_after};
-ghost use Rattle.bx_journal_image.specs.Line.{FitsPlaces, field, image_line, is_front, is_replaceable};
+ghost use Rattle.bx_journal_image.specs.Line.{AreFitMarks, FitsMark, FitsPlaces, field, image_line, is_front_behind, is_line_byte, is_replaceable, is_zeros, mark_text, marks_text};
 
 use crate::digest::Digest;
+use crate::marks::{BLOCKS, Marks};
 use bx_text::{ShortText, hex_field};
 
 /// How many bytes the line has, newline included.
-pub const LINE: usize = 117;
+pub const LINE: usize = 439;
 
 /// What the line says: how many changes stand and are undone, how long the image is, the digests of what it has in the ranges of
-/// the last change and of the one that was undone last, and how many of the oldest changes stand for another image.
+/// the last change and of the one that was undone last, how many of the oldest changes stand for another image, between which lengths
+/// a command that is stopped leaves it, and the digests of its blocks.
 #[derive(Clone, Copy, Debug, PartialEq, Eq)]
 pub struct ImageLine {
     /// How many changes stand.
@@ -25,17 +28,23 @@ pub struct ImageLine {
     pub next: Digest,
     /// How many of the oldest changes stand for another image.
     pub others: u32,
+    /// The least length of the image that a command makes.
+    pub least: u64,
+    /// The greatest.
+    pub most: u64,
+    /// The digests of its blocks.
+    pub marks: Marks,
 }
 
 /// A text of at most as many bytes as the line.
-pub type LineText = ShortText<117>;
+pub type LineText = ShortText<439>;
 
 /// Appends a word, and a number in `width` digits.
 pub(crate) fn push_field(line: &mut LineText, word: &[u8], width: u8, n: u64)
     requires fits { n < 16 ^ width }
     requires some { 0 < width }
     requires wide { width ≤ 16 }
-    requires room { length line.old + length word.now + width ≤ 117 }
+    requires room { length line.old + length word.now + width ≤ 439 }
     ensures text { line.new ≡ line.old ++ field word.now width n }
     ensures long { length line.new ≡ length line.old + length word.now + width }
 {
@@ -43,12 +52,35 @@ pub(crate) fn push_field(line: &mut LineText, word: &[u8], width: u8, n: u64)
     line.push_all(hex_field(n, width, false).as_bytes());
 }
 
+/// Appends what is known of a block.
+fn push_mark(line: &mut LineText, mark: Option<u32>)
+    requires room { length line.old + 9 ≤ 439 }
+    ensures text { line.new ≡ line.old ++ mark_text mark }
+    ensures long { length line.new ≡ length line.old + 9 }
+{
+    match mark {
+        Some(n) => push_field(line, b" ", 8, n as u64),
+        None => line.push_all(b" --------"),
+    }
+}
+
+/// Appends what is known of the blocks.
+fn push_marks(line: &mut LineText, marks: &Marks)
+    requires { length line.old + 288 ≤ 439 }
+    ensures text { line.new ≡ line.old ++ marks_text marks.now }
+    ensures long { length line.new ≡ length line.old + 288 }
+{
+    for i in 0..BLOCKS {
+        push_mark(line, marks[i]);
+    }
+}
+
 /// The line as it is written.
 pub fn write_line(line: ImageLine) -> LineText
     ensures { result ≡ image_line line }
 {
     let mut text = LineText::new();
-    push_field(&mut text, b"image2 ", 8, line.changes as u64);
+    push_field(&mut text, b"image3 ", 8, line.changes as u64);
     push_field(&mut text, b" ", 8, line.undone as u64);
     push_field(&mut text, b" ", 16, line.length);
     push_field(&mut text, b" ", 16, line.last.high);
@@ -56,6 +88,9 @@ pub fn write_line(line: ImageLine) -> LineText
     push_field(&mut text, b" ", 16, line.next.high);
     push_field(&mut text, b"", 16, line.next.low);
     push_field(&mut text, b" ", 8, line.others as u64);
+    push_field(&mut text, b" ", 16, line.least);
+    push_field(&mut text, b" ", 16, line.most);
+    push_marks(&mut text, &line.marks);
     text.push_all(b"\n");
     text
 }
@@ -114,6 +149,48 @@ pub(crate) fn number_behind<'a>(text: &'a [u8], word: usize, width: usize) -> Nu
     }
 }
 
+/// What is known of a block, and what follows it in a text.
+#[derive(Clone, Copy)]
+struct Marked<'a> {
+    mark: Option<u32>,
+    rest: &'a [u8],
+}
+
+/// What is known of a block by the first of a text; nothing where it tells nothing.
+fn mark_before<'a>(text: &'a [u8]) -> Marked<'a>
+    ensures { (m : Option ℕ) (more : List ℕ) → FitsMark m → text.now ≡ mark_text m ++ more → (result.mark ≡ m) × (result.rest.now ≡ more) }
+{
+    if text.len() < 9 {
+        return Marked {
+            mark: None,
+            rest: text,
+        };
+    }
+    let (_, behind) = text.split_at(1);
+    let (digits, rest) = behind.split_at(8);
+    match number(digits) {
+        Some(n) => Marked {
+            mark: Some(n as u32),
+            rest,
+        },
+        None => Marked { mark: None, rest },
+    }
+}
+
+/// What is known of the blocks by the first of a text.
+fn marks_before(text: &[u8]) -> Marks
+    ensures { (ms : List (Option ℕ)) (more : List ℕ) → AreFitMarks ms → text.now ≡ marks_text ms ++ more → result ≡ ms }
+{
+    let mut marks: Marks = [None; 32];
+    let mut rest = text;
+    for i in 0..BLOCKS {
+        let found = mark_before(rest);
+        marks[i] = found.mark;
+        rest = found.rest;
+    }
+    marks
+}
+
 /// What a text says that is the line; of another text what stands in its places.
 fn fields_of(text: &[u8]) -> ImageLine
     ensures { (l : ImageLine) → FitsPlaces l → text.now ≡ image_line l → result ≡ l }
@@ -126,6 +203,9 @@ fn fields_of(text: &[u8]) -> ImageLine
     let next = number_behind(last_low.rest, 1, 16);
     let next_low = number_behind(next.rest, 0, 16);
     let others = number_behind(next_low.rest, 1, 8);
+    let least = number_behind(others.rest, 1, 16);
+    let most = number_behind(least.rest, 1, 16);
+    let marks = marks_before(most.rest);
     ImageLine {
         changes: changes.number as u32,
         undone: undone.number as u32,
@@ -139,6 +219,9 @@ fn fields_of(text: &[u8]) -> ImageLine
             low: next_low.number,
         },
         others: others.number as u32,
+        least: least.number,
+        most: most.number,
+        marks,
     }
 }
 
@@ -156,18 +239,51 @@ pub fn read_line(text: &[u8]) -> Option<ImageLine>
     }
 }
 
-/// Whether one of both begins with the other.
-fn is_front(word: &[u8], text: &[u8]) -> bool
-    ensures { result ≡ is_front word.now text.now }
+/// Whether a byte stands in a line, or is the zero that a loss of power may leave there.
+fn is_line_byte(b: u8) -> bool
+    ensures { result ≡ is_line_byte b }
 {
-    word.starts_with(text) || text.starts_with(word)
+    matches!(b, b'0'..=b'9' | b'a'..=b'f' | b' ' | b'-' | b'\n' | 0)
 }
 
-/// Whether a text is one whose place the line may take: a front of its first word or of that of the older line, what begins with one
-/// of these, or zeros, which a loss of power may leave.
+/// Whether all bytes of a text are such.
+fn are_line_bytes(text: &[u8]) -> bool
+    ensures { result ≡ list_all is_line_byte text.now }
+{
+    for b in text {
+        if !is_line_byte(*b) {
+            return false;
+        }
+    }
+    true
+}
+
+/// Whether a text begins with a word, behind which all are such bytes.
+fn is_front_behind(word: &[u8], text: &[u8]) -> bool
+    ensures { result ≡ is_front_behind word.now text.now }
+{
+    if !text.starts_with(word) {
+        return false;
+    }
+    let (_, rest) = text.split_at(word.len());
+    are_line_bytes(rest)
+}
+
+/// Whether a text is zeros, which a loss of power may leave.
+fn is_zeros(text: &[u8]) -> bool
+    ensures { result ≡ is_zeros text.now }
+{
+    let zeros = [0u8; LINE];
+    !text.is_empty() && zeros.starts_with(text)
+}
+
+/// Whether a text is one whose place the line may take: one that has the whole first word of the line or of an older one, and behind
+/// it bytes that such a line has, or zeros. Of the empty text it says no: its caller knows whether that is one of its own.
 pub fn is_replaceable(text: &[u8]) -> bool
     ensures { result ≡ is_replaceable text.now }
 {
-    let zeros = [0u8; LINE];
-    is_front(b"image2 ", text) || is_front(b"image1 ", text) || zeros.starts_with(text)
+    is_front_behind(b"image3 ", text)
+        || is_front_behind(b"image2 ", text)
+        || is_front_behind(b"image1 ", text)
+        || is_zeros(text)
 }

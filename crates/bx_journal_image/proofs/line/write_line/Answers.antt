@@ -7,6 +7,9 @@ unfolding image_line
 returns c =
     rw (
       c.push_all.ensures,
+      c.push_marks.ensures.text,
+      c.push_field-10.ensures.text,
+      c.push_field-9.ensures.text,
       c.push_field-8.ensures.text,
       c.push_field-7.ensures.text,
       c.push_field-6.ensures.text,
