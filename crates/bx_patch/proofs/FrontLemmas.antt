@@ -1,5 +1,6 @@
 -- What a text gives that begins with a line of a patch.
 use Rattle.std.proofs.Common.{◌≡◌, ◌≢◌, ℕ, ◌<◌, ◌≤◌, ◌^◌, false, true, Some, None, List, [], ◌∷◌, ◌++◌, length, inl, inr, refl, sym, subst, arith}
+use Rattle.std.specs.Prelude.{codes}
 use Rattle.std.specs.List.{All}
 use Rattle.std.proofs.lemmas.List.Elements.{All-cons}
 use Rattle.bx_read.specs.Grammar.{IsLine}
@@ -10,7 +11,7 @@ use Rattle.bx_read.proofs.FullLines.{first_line}
 use Rattle.bx_read.proofs.WrittenLemmas.{reads_back}
 use Rattle.bx_patch.specs.Patch.{Asked, Pieces}
 use Rattle.bx_patch.specs.Text.{length_text}
-use Rattle.bx_patch.specs.Grammar.{IsRemark, IsSigned, GivesSigned, GivesPatch}
+use Rattle.bx_patch.specs.Grammar.{IsInLengths, IsPatch, IsRemark, IsSigned, GivesSigned, GivesPatch}
 use Rattle.bx_patch.proofs.LineLemmas.{length_line, one_line, tells}
 
 -- the pieces that a text gives, and what it asks
@@ -70,3 +71,12 @@ module _ (at : ℕ) (bytes rest : List ℕ) (some : 0 < length bytes) (few : len
   new_in_front =
       let own : IsSigned true (43 ∷ line) (at, bytes) = record { text = line; hex = read_line.0; spelled = refl; is = read_line.1 } in
       subst (λ ls. GivesSigned ls e ((at, bytes) ∷ w)) (sym (split_at 43 (λ h. absurd (omega (arith, h))))) (inr (inr ((at, bytes), w, own, refl, is)))
+
+-- whole lines that ask something, and a last line that doesn't count them
+pub ended_by_hand : (text front : List ℕ) (p : Asked) → text ≡ front ++ codes "\n" → TextAsks text p → IsInLengths p → IsPatch (text ++ codes "end\n") p
+ended_by_hand text front p e asks fits = record {
+  lines = text;
+  last = codes "end";
+  before = record { spelled = refl; whole = inr (front, e); gives = asks; fits = fits };
+  ends = inl refl;
+}

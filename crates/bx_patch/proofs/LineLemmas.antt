@@ -1,20 +1,26 @@
 -- What the lines of a patch give.
-use Rattle.std.proofs.Common.{◌≡◌, ◌≢◌, ℕ, ◌<◌, ◌≤◌, ◌^◌, Bool, true, false, not, cond, Some, None, List, [], ◌∷◌, ◌++◌, length, inl, inr, refl, ap, subst, ◌∙◌, append_assoc, arith}
+use Rattle.std.proofs.Common.{◌≡◌, ◌≢◌, ℕ, zero, suc, ◌+◌, ◌*◌, ◌/◌, ◌%◌, ◌<◌, ◌≤◌, ◌^◌, Bool, true, false, not, cond, Some, None, List, [], ◌∷◌, ◌++◌, length, map, slice_index, inl, inr, refl, sym, ap, subst, ◌∙◌, append_assoc, add-one, ⊎_elim, arith}
 use Rattle.std.specs.Prelude.{codes, flat_map}
-use Rattle.std.specs.Fmt.{decimal}
+use Rattle.std.specs.Fmt.{decimal, digits_onto, digit_glyph}
 use Rattle.std.specs.Char.{digit_value}
 use Rattle.std.specs.List.{All}
 use Rattle.std.specs.Str.Parse.{AllDigits}
+use Rattle.std.proofs.lemmas.Bool.{cases_eq}
 use Rattle.std.proofs.lemmas.Fmt.{decimal_is_IsNumeral, length-decimal-le}
 use Rattle.std.proofs.lemmas.List.Elements.{All-cons}
 use Rattle.bx_read.specs.Laws.{wide_line_text}
 use Rattle.bx_read.specs.Text.{lines_of}
+use Rattle.bx_read.specs.Window.{AreWholeLines}
 use Rattle.bx_read.proofs.FullLines.{first_line}
+use Rattle.bx_read.proofs.PackedLemmas.{glyph_value}
+use Rattle.bx_text.proofs.FieldLemmas.{digits_onto-last, digits_onto-more, digits_start}
 use Rattle.bx_read.proofs.WrittenLemmas.{reads_back}
-use Rattle.bx_text.specs.Dump.{dump_line}
+use Rattle.bx_text.specs.Dump.{dump_line, pair_of, shown_byte}
+use Rattle.bx_text.specs.Field.{hex_text, laid_out}
 use Rattle.bx_patch.specs.Patch.{Asked, Pieces}
-use Rattle.bx_patch.specs.Text.{PatchLine, sign_of, signed_line_text, length_text, headed}
-use Rattle.bx_patch.specs.Grammar.{IsLength, IsSigned, GivesSigned, GivesPatch}
+use Rattle.bx_patch.specs.Text.{PatchLine, end_text, sign_of, signed_line_text, length_text, headed}
+use Rattle.bx_patch.specs.Grammar.{IsEnd, IsLength, IsSigned, GivesSigned, GivesPatch}
+use Rattle.bx_patch.proofs.EndLemmas.{whole_both, whole_line}
 
 -- a line with 1 to 16 bytes at an address that can be read
 pub record IsFine (l : PatchLine) : Type 0 where
@@ -95,7 +101,28 @@ length_line old new small little =
     ends [] all = tt
     ends (c ∷ ds) all = (no_ten c all.0, ends ds all.1)
 
-few_digits : (n : ℕ) → n < 2 ^ 59 → length (decimal n) ≤ 18
+-- the digits of any number
+digits_one : (k n : ℕ) (acc : List ℕ) → IsOneLine acc → IsOneLine (digits_onto k 10 false n acc)
+digits_one zero n acc one = one
+digits_one (suc k) n acc one =
+    let digit : digit_value (digit_glyph false (n % 10)) ≡ n % 10 = glyph_value false (n % 10) (omega arith) in
+    let first = no_ten (digit_glyph false (n % 10)) (omega (arith, digit)) in
+    ⊎_elim
+    (λ z. subst IsOneLine (sym (digits_onto-last (suc k) k 10 false n acc (sym (add-one k)) z)) (first, one))
+    (λ z. subst IsOneLine (sym (digits_onto-more (suc k) k 10 false n acc (sym (add-one k)) z)) (digits_one k (n / 10) (digit_glyph false (n % 10) ∷ acc) (first, one)))
+    (cases_eq (n / 10) 0)
+
+decimal_one : (k n : ℕ) → k ≡ 64 → IsOneLine (decimal n)
+decimal_one k n e = subst IsOneLine (digits_start k 10 false n e) (digits_one k n [] tt)
+
+-- the last line
+pub end_one : (n : ℕ) (line : List ℕ) → IsEnd n line → All (λ c. c ≢ 10) line
+end_one n line (inl is) = subst (All (λ c. c ≢ 10)) (sym is) (one_line (codes "end") (λ h. absurd (omega (arith, h)), (λ h. absurd (omega (arith, h)), (λ h. absurd (omega (arith, h)), tt))))
+end_one n line (inr is) =
+    subst (All (λ c. c ≢ 10)) (sym is)
+    (one_line (end_text n) (λ h. absurd (omega (arith, h)), (λ h. absurd (omega (arith, h)), (λ h. absurd (omega (arith, h)), (λ h. absurd (omega (arith, h)), decimal_one 64 n refl)))))
+
+pub few_digits : (n : ℕ) → n < 2 ^ 59 → length (decimal n) ≤ 18
 few_digits n small = length-decimal-le 18 n (omega arith) (omega arith) (omega arith)
 
 pub tells : (old new : ℕ) → old < 2 ^ 59 → new < 2 ^ 59 → IsLength (length_text old new) old new
@@ -127,3 +154,14 @@ headed_gives old new (l ∷ ls) small little fine =
     let line : lines_of (headed (length_text old new ++ codes "\n") (l ∷ ls)) ≡ text ∷ lines_of body =
     ap lines_of (append_assoc text (10 ∷ []) body) ∙ first_line text body (one_line text (length_line old new small little)) in
     rw line (inr (inl (old, new, tells old new small little, refl, gives (l ∷ ls) fine)))
+
+-- each line of the text has its newline
+pub flat_whole : (ls : List PatchLine) → AreWholeLines (flat_map signed_line_text ls)
+flat_whole [] = inl refl
+flat_whole (l ∷ ls) =
+    let front : List ℕ = hex_text false 8 l.1 ++ codes ": " ++ laid_out (λ i. 2 * i + i / 2) (λ i. pair_of false (slice_index l.2 i)) (length l.2) 40 ++ codes " " ++ map shown_byte l.2 in
+    whole_both (signed_line_text l) (flat_map signed_line_text ls) (whole_line (sign_of l.0 ∷ front)) (flat_whole ls)
+
+pub headed_whole : (text : List ℕ) (ls : List PatchLine) → AreWholeLines (headed (text ++ codes "\n") ls)
+headed_whole text [] = inl refl
+headed_whole text (l ∷ ls) = whole_both (text ++ codes "\n") (flat_map signed_line_text (l ∷ ls)) (whole_line text) (flat_whole (l ∷ ls))

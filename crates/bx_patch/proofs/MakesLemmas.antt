@@ -1,6 +1,6 @@
 -- What the change of a patch makes.
-use Rattle.std.proofs.Common.{◌≡◌, ◌⊎◌, ℕ, suc, ◌+◌, ◌-◌, ◌<◌, ◌≤◌, Bool, true, false, not, cond, eqb, Some, None, Option, List, [], ◌∷◌, length, map, take, drop, get_or, slice_index, inl, inr, refl, sym, ap, subst, ◌∙◌, arith}
-use Rattle.std.specs.Prelude.{IfSome, bytes_eq}
+use Rattle.std.proofs.Common.{◌≡◌, ◌⊎◌, ℕ, suc, ◌+◌, ◌-◌, ◌<◌, ◌≤◌, Bool, true, false, not, cond, eqb, Some, None, Option, List, [], ◌∷◌, ◌++◌, length, map, take, drop, get_or, slice_index, inl, inr, refl, sym, ap, subst, ◌∙◌, arith}
+use Rattle.std.specs.Prelude.{IfSome, bytes_eq, codes}
 use Rattle.std.specs.List.{All}
 use Rattle.std.specs.Option.{option_map_or}
 use Rattle.std.proofs.lemmas.Bool.{cases_lt, eqb-true}
@@ -12,24 +12,19 @@ use Rattle.bx_image.specs.Change.{effect, placed}
 use Rattle.bx_image.specs.Image.{place, cut, end_of}
 use Rattle.bx_image.proofs.Images.{same_image, length-cut, slice_index-cut, length-place, slice_index-place_within, slice_index-place_below, slice_index-place_above, end_of_le, slice_index_past}
 use Rattle.bx_read.specs.Text.{lines_of}
-use Rattle.bx_patch.specs.Patch.{Asked, HasPiece, Agrees, new_length, patch_change, reversed, Pieces}
+use Rattle.bx_patch.specs.Patch.{Asked, HasPiece, Agrees, Reaches, new_length, patch_change, reversed, Pieces}
 use Rattle.bx_patch.specs.declared.diff.row.Extent.{Extent}
-use Rattle.bx_patch.specs.Text.{PatchLine, differs, row_count, patch_lines, patch_text}
+use Rattle.bx_patch.specs.Text.{PatchLine, differs, end_text, headed, length_text, row_count, patch_lines, patch_text}
 use Rattle.bx_patch.specs.Grammar.{EndsWithin, IsInLengths, IsPatch}
-use Rattle.bx_patch.specs.Laws.{IsShort, PatchMakesNew, PatchReversed, PatchIsStrict, PatchTellsLength}
-use Rattle.bx_patch.proofs.UniqueLemmas.{one_patch}
-use Rattle.bx_patch.proofs.LineLemmas.{Each, IsFine, pieces_of, asked_by, headed_gives}
+use Rattle.bx_patch.specs.Laws.{FailedIsRefused, FrontIsRefused, HasNoEnd, IsShort, NothingIsChanged, PatchMakesNew, PatchReversed, PatchIsStrict, PatchTellsLength}
+use Rattle.bx_patch.proofs.CutLemmas.{front_of_any_is_refused, one_request}
+use Rattle.bx_patch.proofs.LineLemmas.{Each, IsFine, pieces_of, asked_by, headed_gives, headed_whole}
 use Rattle.bx_patch.proofs.RowLemmas.{side, IsOf, Reach, reaches, rows_of}
 
 -- each of the pieces is in a list
 abbrev pub EachIn : List ℕ → Pieces → Type 0
 EachIn t [] = Unit {0}
 EachIn t (p ∷ ps) = HasPiece t p × EachIn t ps
-
--- one of the pieces has the address
-abbrev pub Cover : Pieces → ℕ → Type 0
-Cover [] i = ⊥
-Cover (p ∷ ps) i = ((p.0 ≤ i) × (i < p.0 + length p.1)) ⊎ Cover ps i
 
 pub side_in : (x y : List ℕ) (new : Bool) (ls : List PatchLine) → Each (IsOf x y) ls → EachIn (side new x y) (pieces_of new ls)
 side_in x y new [] are = tt
@@ -38,7 +33,7 @@ side_in x y true ((false, at, bytes) ∷ ls) are = side_in x y true ls are.1
 side_in x y false ((true, at, bytes) ∷ ls) are = side_in x y false ls are.1
 side_in x y false ((false, at, bytes) ∷ ls) are = (are.0.has, side_in x y false ls are.1)
 
-pub side_cover : (new : Bool) (ls : List PatchLine) (i : ℕ) → Reach new ls i → Cover (pieces_of new ls) i
+pub side_cover : (new : Bool) (ls : List PatchLine) (i : ℕ) → Reach new ls i → Reaches (pieces_of new ls) i
 side_cover new [] i h = absurd h
 side_cover true ((true, at, bytes) ∷ ls) i (inl h) = inl (h.1, h.2)
 side_cover true ((false, at, bytes) ∷ ls) i (inl h) = let e : false ≡ true = h.0 in cc
@@ -82,14 +77,14 @@ placed_length A t [] z each long = long
 placed_length A t (p ∷ ps) z each long =
     placed_length A t ps (place z p.0 p.1) each.1 (length-place z p.0 p.1 ∙ omega (arith, piece_end t p.0 p.1 each.0))
 
-placed_byte : (A : Type 0) (t : List ℕ) (ps : Pieces) (z : List ℕ) (i : ℕ) → EachIn t ps → (slice_index z i ≡ slice_index t i) ⊎ Cover ps i →
+placed_byte : (A : Type 0) (t : List ℕ) (ps : Pieces) (z : List ℕ) (i : ℕ) → EachIn t ps → (slice_index z i ≡ slice_index t i) ⊎ Reaches ps i →
     slice_index (placed {A = A} (writes ps) z) i ≡ slice_index t i
 unfolding placed
 placed_byte A t [] z i each (inl same) = same
 placed_byte A t [] z i each (inr none) = absurd none
 placed_byte A t (p ∷ ps) z i each have = placed_byte A t ps (place z p.0 p.1) i each.1 (next have)
   where
-    next : (slice_index z i ≡ slice_index t i) ⊎ Cover (p ∷ ps) i → (slice_index (place z p.0 p.1) i ≡ slice_index t i) ⊎ Cover ps i
+    next : (slice_index z i ≡ slice_index t i) ⊎ Reaches (p ∷ ps) i → (slice_index (place z p.0 p.1) i ≡ slice_index t i) ⊎ Reaches ps i
     next (inr (inr later)) = inr later
     next (inr (inl here)) = inl (slice_index-place_within z p.0 p.1 i here.0 here.1 ∙ piece_byte t p.0 p.1 i each.0 here.0 here.1)
     next (inl same) = elim (cases_lt i p.0) [
@@ -102,7 +97,7 @@ placed_byte A t (p ∷ ps) z i each have = placed_byte A t ps (place z p.0 p.1) 
 
 -- pieces of a list that cover what differs make the list
 pub placed_makes : (A : Type 0) (t : List ℕ) (ps : Pieces) (z : List ℕ) → EachIn t ps → length z ≡ length t →
-    ((i : ℕ) → i < length t → (slice_index z i ≡ slice_index t i) ⊎ Cover ps i) → placed {A = A} (writes ps) z ≡ t
+    ((i : ℕ) → i < length t → (slice_index z i ≡ slice_index t i) ⊎ Reaches ps i) → placed {A = A} (writes ps) z ≡ t
 placed_makes A t ps z each long have =
     let len = placed_length A t ps z each long in
     same_image (placed {A = A} (writes ps) z) t len (λ i inside. placed_byte A t ps z i each (have i (omega arith)))
@@ -121,15 +116,15 @@ first_byte x i n some = grind (arith, places)
 pub same_byte : (x y : List ℕ) (i : ℕ) → differs x y i ≡ false → slice_index x i ≡ slice_index y i
 same_byte x y i e = sym (first_byte x i 1 (omega arith)) ∙ ap (λ l. get_or l 0 0) (not_differs x y i e) ∙ first_byte y i 1 (omega arith)
 
-either_differs : (b : Bool) → (b ≡ true) ⊎ (b ≡ false)
+pub either_differs : (b : Bool) → (b ≡ true) ⊎ (b ≡ false)
 either_differs true = inl refl
 either_differs false = inr refl
 
 -- the byte of an image that is brought to a length
-brought : (x : List ℕ) (old new : ℕ) → List ℕ
+unfoldable pub brought : (x : List ℕ) (old new : ℕ) → List ℕ
 brought x old new = option_map_or (cut x) (new_length (old, new)) x
 
-brought_length : (x : List ℕ) (old new : ℕ) → length x ≡ old → length (brought x old new) ≡ new
+pub brought_length : (x : List ℕ) (old new : ℕ) → length x ≡ old → length (brought x old new) ≡ new
 unfolding brought
 brought_length x old new long = go (eqb old new) refl
   where
@@ -137,7 +132,7 @@ brought_length x old new long = go (eqb old new) refl
     go true e = omega (arith, eqb-true old new e)
     go false e = length-cut x new
 
-brought_byte : (x : List ℕ) (old new i : ℕ) → i < new → slice_index (brought x old new) i ≡ slice_index x i
+pub brought_byte : (x : List ℕ) (old new i : ℕ) → i < new → slice_index (brought x old new) i ≡ slice_index x i
 unfolding brought
 brought_byte x old new i inside = go (eqb old new)
   where
@@ -147,14 +142,14 @@ brought_byte x old new i inside = go (eqb old new)
 
 -- from the other side to one
 pub makes_side : (A : Type 0) (z t : List ℕ) (ps : Pieces) → EachIn t ps →
-    ((i : ℕ) → i < length t → (slice_index z i ≡ slice_index t i) ⊎ Cover ps i) →
+    ((i : ℕ) → i < length t → (slice_index z i ≡ slice_index t i) ⊎ Reaches ps i) →
     effect {A = A} (record { base = new_length (length z, length t); writes = writes ps }) z ≡ t
 unfolding effect brought
 makes_side A z t ps each have =
     placed_makes A t ps (brought z (length z) (length t)) each (brought_length z (length z) (length t) refl)
     (λ i inside. again i inside (have i inside))
   where
-    again : (i : ℕ) → i < length t → (slice_index z i ≡ slice_index t i) ⊎ Cover ps i → (slice_index (brought z (length z) (length t)) i ≡ slice_index t i) ⊎ Cover ps i
+    again : (i : ℕ) → i < length t → (slice_index z i ≡ slice_index t i) ⊎ Reaches ps i → (slice_index (brought z (length z) (length t)) i ≡ slice_index t i) ⊎ Reaches ps i
     again i inside (inl same) = inl (brought_byte z (length z) (length t) i inside ∙ same)
     again i inside (inr cover) = inr cover
 
@@ -181,19 +176,28 @@ module _ (extent : Extent) (x y : List ℕ) (short : IsShort x) (little : IsShor
 
   -- the text gives what its lines ask
   pub text_gives : IsPatch (patch_text extent x y) (asked_by (length x) (length y) (patch_lines extent x y))
-  text_gives = (
-    headed_gives (length x) (length y) (patch_lines extent x y) (omega (arith, short.short)) (omega (arith, little.short)) (all_fine (patch_lines extent x y) lines_are),
-    lines_fit (patch_lines extent x y) lines_are,
-  )
+  text_gives =
+      let lines = headed (length_text (length x) (length y) ++ codes "\n") (patch_lines extent x y) in
+      record {
+        lines = lines;
+        last = end_text (length (lines_of lines));
+        before = record {
+          spelled = refl;
+          whole = headed_whole (length_text (length x) (length y)) (patch_lines extent x y);
+          gives = headed_gives (length x) (length y) (patch_lines extent x y) (omega (arith, short.short)) (omega (arith, little.short)) (all_fine (patch_lines extent x y) lines_are);
+          fits = lines_fit (patch_lines extent x y) lines_are;
+        };
+        ends = inr refl;
+      }
 
   -- each address is as before, or one of the written pieces has it
-  pub changed : (i : ℕ) → i < length y → (slice_index x i ≡ slice_index y i) ⊎ Cover (pieces_of true (patch_lines extent x y)) i
+  pub changed : (i : ℕ) → i < length y → (slice_index x i ≡ slice_index y i) ⊎ Reaches (pieces_of true (patch_lines extent x y)) i
   changed i inside = elim (either_differs (differs x y i)) [
     | inl differ ↦ inr (side_cover true (patch_lines extent x y) i (reaches x y extent true i inside differ))
     | inr same ↦ inl (same_byte x y i same)
   ]
 
-  pub kept : (i : ℕ) → i < length x → (slice_index y i ≡ slice_index x i) ⊎ Cover (pieces_of false (patch_lines extent x y)) i
+  pub kept : (i : ℕ) → i < length x → (slice_index y i ≡ slice_index x i) ⊎ Reaches (pieces_of false (patch_lines extent x y)) i
   kept i inside = elim (either_differs (differs x y i)) [
     | inl differ ↦ inr (side_cover false (patch_lines extent x y) i (reaches x y extent false i inside differ))
     | inr same ↦ inl (sym (same_byte x y i same))
@@ -240,7 +244,7 @@ module _ (A : Type 0) (extent : Extent) (x y : List ℕ) (short : IsShort x) (li
   makes_by [] e = (record { long = tt; has = all_in x [] tt }, none_effect x ∙ no_lines extent x y e)
   makes_by (l ∷ ls) e =
       let are : Each (IsOf x y) (l ∷ ls) = subst (Each (IsOf x y)) e (lines_are extent x y short little) in
-      let P : List PatchLine → Type 0 = λ ls. (i : ℕ) → i < length y → (slice_index x i ≡ slice_index y i) ⊎ Cover (pieces_of true ls) i in (
+      let P : List PatchLine → Type 0 = λ ls. (i : ℕ) → i < length y → (slice_index x i ≡ slice_index y i) ⊎ Reaches (pieces_of true ls) i in (
         record { long = refl; has = all_in x (pieces_of false (l ∷ ls)) (side_in x y false (l ∷ ls) are) },
         makes_side A x y (pieces_of true (l ∷ ls)) (side_in x y true (l ∷ ls) are) (subst P e (changed extent x y short little)),
       )
@@ -252,7 +256,7 @@ module _ (A : Type 0) (extent : Extent) (x y : List ℕ) (short : IsShort x) (li
   back_by [] e = (record { long = tt; has = all_in y [] tt }, none_effect y ∙ sym (no_lines extent x y e))
   back_by (l ∷ ls) e =
       let are : Each (IsOf x y) (l ∷ ls) = subst (Each (IsOf x y)) e (lines_are extent x y short little) in
-      let P : List PatchLine → Type 0 = λ ls. (i : ℕ) → i < length x → (slice_index y i ≡ slice_index x i) ⊎ Cover (pieces_of false ls) i in (
+      let P : List PatchLine → Type 0 = λ ls. (i : ℕ) → i < length x → (slice_index y i ≡ slice_index x i) ⊎ Reaches (pieces_of false ls) i in (
         record { long = refl; has = all_in y (pieces_of true (l ∷ ls)) (side_in x y true (l ∷ ls) are) },
         makes_side A y x (pieces_of false (l ∷ ls)) (side_in x y false (l ∷ ls) are) (subst P e (kept extent x y short little)),
       )
@@ -261,7 +265,7 @@ module _ (A : Type 0) (extent : Extent) (x y : List ℕ) (short : IsShort x) (li
   makes_back = back_by (patch_lines extent x y) refl
 
   pub is_asked : (p : Asked) → IsPatch (patch_text extent x y) p → asks (patch_lines extent x y) ≡ p
-  is_asked p is = one_patch (lines_of (patch_text extent x y)) (asks (patch_lines extent x y)) p (text_gives extent x y short little).0 is.0
+  is_asked p is = one_request (patch_text extent x y) (asks (patch_lines extent x y)) p (text_gives extent x y short little) is
 
 pub patch_makes_new : (A : Type 0) → PatchMakesNew A
 patch_makes_new A extent x y short little =
@@ -273,8 +277,16 @@ patch_reversed A extent x y p short little is =
     let P : Asked → Type 0 = λ p. Agrees (reversed p) y × (effect {A = A} (patch_change (reversed p)) y ≡ x) in
     subst P (is_asked A extent x y short little p is) (makes_back A extent x y short little)
 
+pub front_is_refused : FrontIsRefused
+front_is_refused extent x y front rest short little e some =
+    front_of_any_is_refused (patch_text extent x y) front rest (asked_by (length x) (length y) (patch_lines extent x y)) (text_gives extent x y short little) e some
+
+pub failed_is_refused : FailedIsRefused
+failed_is_refused extent x y written fault short little part =
+    subst HasNoEnd (sym part.4) (front_is_refused extent x y part.0 part.1 short little part.2 part.3)
+
 -- two lists that have the same pieces have the same bytes at their addresses
-cover_same : (x z : List ℕ) (ps : Pieces) (i : ℕ) → EachIn x ps → EachIn z ps → Cover ps i → slice_index z i ≡ slice_index x i
+cover_same : (x z : List ℕ) (ps : Pieces) (i : ℕ) → EachIn x ps → EachIn z ps → Reaches ps i → slice_index z i ≡ slice_index x i
 cover_same x z [] i a b none = absurd none
 cover_same x z (p ∷ ps) i a b (inl here) = sym (piece_byte z p.0 p.1 i b.0 here.0 here.1) ∙ piece_byte x p.0 p.1 i a.0 here.0 here.1
 cover_same x z (p ∷ ps) i a b (inr later) = cover_same x z ps i a.1 b.1 later
@@ -296,6 +308,13 @@ patch_is_strict extent x y z p short little apart is agrees = by (patch_lines ex
           ],
         )
 
+-- a patch that writes nothing and keeps the length
+pub nothing_is_changed : (A : Type 0) → NothingIsChanged A
+unfolding effect placed
+nothing_is_changed A p x is =
+    let By : Option ℕ → Pieces → List ℕ = λ base ps. placed {A = A} (writes ps) (option_map_or (cut x) base x) in
+    ap (λ base. By base p.written) is.lengths ∙ ap (By None) is.written
+
 -- pieces that end within a length leave an image of it as long
 fit_length : (A : Type 0) (n : ℕ) (ps : Pieces) (z : List ℕ) → All (EndsWithin n) ps → length z ≡ n → length (placed {A = A} (writes ps) z) ≡ n
 unfolding placed
@@ -304,7 +323,7 @@ fit_length A n (p ∷ ps) z fits long =
     let first = All-head (EndsWithin n) p ps fits in
     fit_length A n ps (place z p.0 p.1) (All-tail (EndsWithin n) p ps fits) (length-place z p.0 p.1 ∙ omega (arith, long, first, end_of_le p.0 p.1))
 
-tells : (A : Type 0) (l : Option (ℕ × ℕ)) (e w : Pieces) (x : List ℕ) → IsInLengths (record { lengths = l; expected = e; written = w }) →
+pub tells : (A : Type 0) (l : Option (ℕ × ℕ)) (e w : Pieces) (x : List ℕ) → IsInLengths (record { lengths = l; expected = e; written = w }) →
     Agrees (record { lengths = l; expected = e; written = w }) x →
     IfSome l (λ lengths. length (effect {A = A} (patch_change (record { lengths = l; expected = e; written = w })) x) ≡ lengths.1)
 unfolding effect brought
@@ -312,4 +331,4 @@ tells A None e w x fits agrees = tt
 tells A (Some l) e w x fits agrees = fit_length A l.1 w (brought x l.0 l.1) fits.1 (brought_length x l.0 l.1 agrees.long)
 
 pub patch_tells_length : (A : Type 0) → PatchTellsLength A
-patch_tells_length A text x p is agrees = tells A p.lengths p.expected p.written x is.1 agrees
+patch_tells_length A text x p is agrees = tells A p.lengths p.expected p.written x is.before.fits agrees

@@ -1,6 +1,7 @@
 -- A text that is read line by line.
-use Rattle.std.proofs.Common.{◌≡◌, ℕ, ◌+◌, ◌<◌, ◌≤◌, ◌^◌, Bool, true, false, Result, OnOk, Ok, Err, Some, None, Option, List, [], ◌∷◌, ◌++◌, length, drop, inl, inr, refl, sym, ap, subst, ◌∙◌, append_assoc, append-nil, arith}
-use Rattle.std.specs.Prelude.{IfOk}
+use Rattle.std.proofs.Common.{◌≡◌, ◌≢◌, ℕ, ◌+◌, ◌<◌, ◌≤◌, ◌^◌, Bool, true, false, Result, OnOk, Ok, Err, Some, None, Option, List, [], ◌∷◌, ◌++◌, length, drop, inl, inr, refl, sym, ap, subst, ◌∙◌, append_assoc, arith}
+use Rattle.std.specs.List.{All}
+use Rattle.std.specs.Prelude.{IfOk, codes}
 use Rattle.std.proofs.lemmas.Bool.{cases_lt}
 use Rattle.std.proofs.lemmas.List.{length-append, map-append}
 use Rattle.std.proofs.lemmas.List.Elements.{All-nil, All-push}
@@ -9,13 +10,18 @@ use Rattle.bx_read.specs.Digits.{pairs_of}
 use Rattle.bx_read.specs.Grammar.{IsLine}
 use Rattle.bx_read.specs.Line.{read_line}
 use Rattle.bx_read.specs.Text.{lines_of, contents}
+use Rattle.bx_read.specs.Window.{AreWholeLines}
+use Rattle.bx_read.proofs.FullLines.{first_line}
 use Rattle.bx_read.proofs.GrammarLemmas.{read_line-found}
+use Rattle.bx_read.proofs.WindowLemmas.{lines_behind}
 use Rattle.bx_patch.specs.declared.read.fault.PatchFault.{PatchFault}
-use Rattle.bx_patch.specs.Fault.{IsFaultOfLine, IsFaultOfPatch, IsPast}
-use Rattle.bx_patch.specs.Grammar.{EndsWithin, IsInLengths, GivesPatch, GivesSigned, IsLength, IsPatch, IsRemark, IsSigned}
+use Rattle.bx_patch.specs.declared.read.fault.PatchFault.TheVariants.{NoEnd, OfNoKind}
+use Rattle.bx_patch.specs.Fault.{IsFaultOfLine, IsFaultOfPatch, IsFaultOfRest, IsPast}
+use Rattle.bx_patch.specs.Grammar.{AsksBefore, EndsWithin, IsInLengths, GivesPatch, GivesSigned, IsEnd, IsLength, IsPatch, IsRemark, IsSigned}
 use Rattle.bx_patch.specs.Patch.{Asked, nothing_asked, Pieces}
 use Rattle.bx_patch.specs.Text.{sign_of}
 use Rattle.bx_patch.specs.private.Read.{Adds, Gives, HasReadLines, HasSign}
+use Rattle.bx_patch.proofs.EndLemmas.{whole_both}
 use Rattle.bx_patch.proofs.LengthLemmas.{true_false}
 
 some_same : {A : Type 0} (x y : A) → Some x ≡ Some y → x ≡ y
@@ -149,10 +155,11 @@ pub IfOk-map : {T E : Type 0} {P Q : T → Type 0} (r : Result T E) → ((t : T)
 IfOk-map (Ok t) f p = f t p
 IfOk-map (Err e) f p = tt
 
--- a text before its first line is read, one that is read a line further, and one that is read whole
-pub read_none : {A : Type 0} (text : List ℕ) (e w : List (Piece A)) → e ≡ [] → w ≡ [] →
-    HasReadLines text text 0 (record { lengths = None; expected = contents e; written = contents w })
-read_none text e w a b = record { before = []; lines = refl; count = refl; gives = (refl, (ap contents a, ap contents b)); fits = tt }
+-- a text before its first line is read
+pub read_none : (text : List ℕ) (p : Asked) → p ≡ nothing_asked → HasReadLines text text 0 p
+read_none text p e =
+    let first : AsksBefore text [] text nothing_asked = record { spelled = refl; whole = inl refl; gives = (refl, (refl, refl)); fits = tt } in
+    record { lines = []; before = subst (λ (q : Asked). AsksBefore text [] text q) (sym e) first; count = refl }
 
 -- a piece that doesn't end behind the length of its image
 pub within : (past : Bool) (l : Option (ℕ × ℕ)) (new side : Bool) (piece : ℕ × List ℕ) → new ≡ side → past ≡ false → (IsPast l new piece → past ≡ true) →
@@ -160,34 +167,52 @@ pub within : (past : Bool) (l : Option (ℕ × ℕ)) (new side : Bool) (piece : 
 within past l new side piece same fits is ends =
     true_false past (is (subst (λ (b : Bool). IsPast l b piece) (sym same) ends)) fits
 
-pub read_on : (text rest later line : List ℕ) (n : ℕ) (old new : Asked) → lines_of rest ≡ line ∷ lines_of later → HasReadLines text rest n old → Adds old line new →
-    HasReadLines text later (n + 1) new
-read_on text rest later line n old new step have adds =
-    let next = adds have.before have.gives have.fits in
+-- a line further
+pub read_on : (text rest later line : List ℕ) (n : ℕ) (old new : Asked) → rest ≡ line ++ 10 ∷ later → All (λ c. c ≢ 10) line → HasReadLines text rest n old →
+    Adds old line new → HasReadLines text later (n + 1) new
+read_on text rest later line n old new step one have adds =
+    let next = adds (lines_of have.lines) have.before.gives have.before.fits in
+    let whole : AreWholeLines (line ++ 10 ∷ []) = inr (line, refl) in
+    let all : lines_of (have.lines ++ (line ++ 10 ∷ [])) ≡ lines_of have.lines ++ line ∷ [] =
+    lines_behind have.lines (line ++ 10 ∷ []) have.before.whole ∙ ap (λ ls. lines_of have.lines ++ ls) (first_line line [] one) in
+    let spelled : text ≡ (have.lines ++ (line ++ 10 ∷ [])) ++ later =
+    have.before.spelled ∙ ap (λ t. have.lines ++ t) (step ∙ sym (append_assoc line (10 ∷ []) later)) ∙ sym (append_assoc have.lines (line ++ 10 ∷ []) later) in
     record {
-      before = have.before ++ line ∷ [];
-      lines = have.lines ∙ ap (λ ls. have.before ++ ls) step ∙ sym (append_assoc have.before (line ∷ []) (lines_of later));
-      count = omega (arith, have.count, length-append have.before (line ∷ []));
-      gives = next.0;
-      fits = next.1;
+      lines = have.lines ++ (line ++ 10 ∷ []);
+      before = record {
+        spelled = spelled;
+        whole = whole_both have.lines (line ++ 10 ∷ []) have.before.whole whole;
+        gives = subst (λ (ls : List (List ℕ)). GivesPatch ls new) (sym all) next.0;
+        fits = next.1;
+      };
+      count = omega (arith, have.count, ap length all, length-append (lines_of have.lines) (line ∷ []));
     }
 
-pub read_all : (text rest : List ℕ) (n : ℕ) (p : Asked) → length rest ≡ 0 → HasReadLines text rest n p → IsPatch text p
-read_all text [] n p none have =
-    (subst (λ (ls : List (List ℕ)). GivesPatch ls p) (sym (have.lines ∙ append-nil have.before)) have.gives, have.fits)
-read_all text (c ∷ rest) n p none have = absurd (omega arith)
-
-pub refused : (text rest later line : List ℕ) (n number : ℕ) (p : Asked) (fault : PatchFault) → lines_of rest ≡ line ∷ lines_of later → number ≡ n + 1 →
-    HasReadLines text rest n p → IsFaultOfLine p number line fault → IsFaultOfPatch text fault
-refused text rest later line n number p fault step e have is =
-    let count : number ≡ length have.before + 1 = e ∙ ap (λ k. k + 1) have.count in
+-- to the end
+pub read_end : (text rest later line : List ℕ) (n : ℕ) (p : Asked) → rest ≡ line ++ 10 ∷ later → IsEnd n line → later ≡ [] → HasReadLines text rest n p → IsPatch text p
+read_end text rest later line n p step end none have =
+    let all : rest ≡ line ++ codes "\n" = step ∙ ap (λ t. line ++ 10 ∷ t) none in
     record {
-      before = have.before;
-      line = line;
-      after = lines_of later;
-      asked = p;
-      lines = have.lines ∙ ap (λ ls. have.before ++ ls) step;
-      gives = have.gives;
-      fits = have.fits;
-      is = subst (λ (k : ℕ). IsFaultOfLine p k line fault) count is;
+      lines = have.lines;
+      last = line;
+      before = subst (λ (t : List ℕ). AsksBefore text have.lines t p) all have.before;
+      ends = subst (λ (k : ℕ). IsEnd k line) have.count end;
     }
+
+-- a rest that has a fault
+pub refused : (text rest : List ℕ) (n : ℕ) (p : Asked) (fault : PatchFault) → HasReadLines text rest n p → IsFaultOfRest p n rest fault → IsFaultOfPatch text fault
+refused text rest n p fault have is =
+    record { lines = have.lines; rest = rest; asked = p; before = have.before; is = subst (λ (k : ℕ). IsFaultOfRest p k rest fault) have.count is }
+
+pub refused_line : (text rest later line : List ℕ) (n : ℕ) (p : Asked) (fault : PatchFault) → rest ≡ line ++ 10 ∷ later → All (λ c. c ≢ 10) line → (IsEnd n line → ⊥) →
+    HasReadLines text rest n p → IsFaultOfLine p (n + 1) line fault → IsFaultOfPatch text fault
+refused_line text rest later line n p fault step one other have is =
+    refused text rest n p fault have (inr (inr (record { line = line; later = later; spelled = step; one = one; no_end = other; is = is })))
+
+pub refused_behind : (text rest later line : List ℕ) (n : ℕ) (p : Asked) (fault : PatchFault) → rest ≡ line ++ 10 ∷ later → IsEnd n line →
+    HasReadLines text rest n p → (fault ≡ OfNoKind (n + 2)) × (0 < length later) → IsFaultOfPatch text fault
+refused_behind text rest later line n p fault step end have is =
+    subst (λ (f : PatchFault). IsFaultOfPatch text f) (sym is.0) (refused text rest n p (OfNoKind (n + 2)) have (inr (inl (refl, (line, later, end, step, is.1)))))
+
+pub refused_cut : (text rest : List ℕ) (n : ℕ) (p : Asked) → All (λ c. c ≢ 10) rest → HasReadLines text rest n p → IsFaultOfPatch text NoEnd
+refused_cut text rest n p none have = refused text rest n p NoEnd have (inl none)

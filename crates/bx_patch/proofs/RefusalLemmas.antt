@@ -1,5 +1,5 @@
--- A text that has a fault is no patch.
-use Rattle.std.proofs.Common.{◌≡◌, ◌⊎◌, ℕ, ◌+◌, ◌-◌, ◌<◌, Bool, true, false, cond, Result, Ok, Err, Some, None, Option, List, [], ◌∷◌, ◌++◌, length, drop, get_or, inl, inr, refl, sym, ap, subst, ◌∙◌, arith}
+-- A line that has a fault is none of a patch.
+use Rattle.std.proofs.Common.{◌≡◌, ◌⊎◌, ℕ, ◌-◌, ◌<◌, Bool, true, false, cond, Result, Ok, Err, Some, None, Option, List, [], ◌∷◌, ◌++◌, length, drop, get_or, inl, inr, refl, sym, ap, subst, ◌∙◌, arith}
 use Rattle.std.specs.List.{All}
 use Rattle.std.proofs.lemmas.List.{length-append, get_or-append_right}
 use Rattle.bx_read.specs.FaultTable.{IsFaultOf}
@@ -9,12 +9,12 @@ use Rattle.bx_read.specs.declared.fault.ReadFault.{ReadFault}
 use Rattle.bx_read.proofs.FaultLemmas.{fault_is_of_line}
 use Rattle.bx_read.proofs.GrammarLemmas.{read_line-only}
 use Rattle.bx_patch.specs.declared.read.fault.PatchFault.{PatchFault}
-use Rattle.bx_patch.specs.declared.read.fault.PatchFault.TheVariants.{NoMemory, Line, OfNoKind, BadLength, PastLength}
-use Rattle.bx_patch.specs.Fault.{FaultIsOfPatch, HasNoSign, IsFaultOfLine, IsNoLength, IsPast, IsToTell}
+use Rattle.bx_patch.specs.declared.read.fault.PatchFault.TheVariants.{NoMemory, NoEnd, Line, OfNoKind, BadLength, PastLength, BadCount}
+use Rattle.bx_patch.specs.Fault.{HasNoSign, IsFaultOfLine, IsNoLength, IsPast, IsToTell, TellsCount}
 use Rattle.bx_patch.specs.Grammar.{EndsWithin, IsInLengths, GivesPatch, GivesSigned, IsRemark, IsSigned}
 use Rattle.bx_patch.specs.Patch.{Asked, nothing_asked, Pieces}
 use Rattle.bx_patch.specs.Text.{sign_of}
-use Rattle.bx_patch.proofs.UniqueLemmas.{first_of, length_first, no_remark, one_patch, one_piece, one_sign, remark_first, signed_first}
+use Rattle.bx_patch.proofs.UniqueLemmas.{first_of, length_first, no_remark, one_piece, one_sign, remark_first, signed_first}
 
 -- signed lines in two parts
 SignedFront : List (List ℕ) → List (List ℕ) → Pieces → Pieces → Type 0
@@ -35,11 +35,11 @@ signed_front (l ∷ before) rest e w (inr (inr a)) =
     (r.0, a.0 ∷ r.1, r.2, r.3, inr (inr (a.0, r.1, a.2, refl, r.4)), r.5, r.6, a.3 ∙ ap (λ t. a.0 ∷ t) r.7)
 
 -- what the rest of a patch is: a patch, behind lines that count for nothing, or signed lines
-abbrev Rest : Asked → Asked → List (List ℕ) → Type 0
+abbrev pub Rest : Asked → Asked → List (List ℕ) → Type 0
 Rest q p rest = ((q ≡ nothing_asked) × GivesPatch rest p)
     ⊎ ((later more : Pieces) × (p.lengths ≡ q.lengths) × (p.expected ≡ q.expected ++ later) × (p.written ≡ q.written ++ more) × GivesSigned rest later more)
 
-front : (before rest : List (List ℕ)) (p : Asked) → GivesPatch (before ++ rest) p → (q : Asked) × GivesPatch before q × Rest q p rest
+pub front : (before rest : List (List ℕ)) (p : Asked) → GivesPatch (before ++ rest) p → (q : Asked) × GivesPatch before q × Rest q p rest
 unfolding SignedFront
 front [] rest p given = (nothing_asked, (refl, (refl, refl)), inl (refl, given))
 front (l ∷ before) rest p (inl a) = let r = front before rest p a.1 in (r.0, inl (a.0, r.1), r.2)
@@ -51,10 +51,10 @@ front (l ∷ before) rest p (inr (inr a)) =
     (record { lengths = None; expected = s.0; written = s.1 }, inr (inr (refl, s.4)), inr (s.2, s.3, a.0, s.6, s.7, s.5))
 
 -- no patch goes on with the line
-record Bars (q : Asked) (line : List ℕ) : Type 0 where
-  no_remark : IsRemark line → ⊥
-  no_sign : (new : Bool) (piece : ℕ × List ℕ) → IsSigned new line piece → ⊥
-  no_length : q ≡ nothing_asked → IsNoLength line
+pub record Bars (q : Asked) (line : List ℕ) : Type 0 where
+  pub no_remark : IsRemark line → ⊥
+  pub no_sign : (new : Bool) (piece : ℕ × List ℕ) → IsSigned new line piece → ⊥
+  pub no_length : q ≡ nothing_asked → IsNoLength line
 
 bars_signed : (q : Asked) (line : List ℕ) (after : List (List ℕ)) (e w : Pieces) → Bars q line → GivesSigned (line ∷ after) e w → ⊥
 bars_signed q line after e w bars (inl a) = bars.no_remark a.0
@@ -66,22 +66,22 @@ bars_patch q p line after bars none (inl a) = bars.no_remark a.0
 bars_patch q p line after bars none (inr (inl a)) = bars.no_length none a.0 a.1 a.2
 bars_patch q p line after bars none (inr (inr a)) = bars_signed q line after p.expected p.written bars a.1
 
-bars_rest : (q p : Asked) (line : List ℕ) (after : List (List ℕ)) → Bars q line → Rest q p (line ∷ after) → ⊥
+pub bars_rest : (q p : Asked) (line : List ℕ) (after : List (List ℕ)) → Bars q line → Rest q p (line ∷ after) → ⊥
 bars_rest q p line after bars (inl a) = bars_patch q p line after bars a.0 a.1
 bars_rest q p line after bars (inr a) = bars_signed q line after a.0 a.1 bars a.5
 
 -- a fault behind a sign
-clash : {A : Type 0} (r : Result A ReadFault) (x : A) (e : ReadFault) → r ≡ Ok x → r ≡ Err e → ⊥
+pub clash : {A : Type 0} (r : Result A ReadFault) (x : A) (e : ReadFault) → r ≡ Ok x → r ≡ Err e → ⊥
 clash {A = A} r x e ok err = let h : ◌≡◌ {A = Result A ReadFault} (Ok x) (Err e) = sym ok ∙ err in cc
 
-sign_first : (new : Bool) (line text : List ℕ) → line ≡ sign_of new ∷ text → first_of line ≡ sign_of new
+pub sign_first : (new : Bool) (line text : List ℕ) → line ≡ sign_of new ∷ text → first_of line ≡ sign_of new
 sign_first new line text e = ap first_of e
 
-sign_range : (new : Bool) → (42 < sign_of new) × (sign_of new < 46)
+pub sign_range : (new : Bool) → (42 < sign_of new) × (sign_of new < 46)
 sign_range true = (omega arith, omega arith)
 sign_range false = (omega arith, omega arith)
 
-bars_fault : (q : Asked) (number : ℕ) (line text : List ℕ) (new : Bool) (fault : ReadFault) → line ≡ sign_of new ∷ text → IsFaultOf number text fault → Bars q line
+pub bars_fault : (q : Asked) (number : ℕ) (line text : List ℕ) (new : Bool) (fault : ReadFault) → line ≡ sign_of new ∷ text → IsFaultOf number text fault → Bars q line
 bars_fault q number line text new fault spelled is =
     let first = sign_first new line text spelled in
     let range = sign_range new in
@@ -102,6 +102,18 @@ bars_length q line tells none =
       no_sign = λ new piece is. absurd (omega (arith, first, sign_range new, signed_first new line piece is));
       no_length = λ e. none;
     }
+
+-- a word in whose place none of the others stands
+pub bars_end : (q : Asked) (line : List ℕ) → first_of line ≡ 101 → Bars q line
+bars_end q line first =
+    record {
+      no_remark = λ remark. absurd (omega (arith, first, remark_first line remark));
+      no_sign = λ new piece is. absurd (omega (arith, first, sign_range new, signed_first new line piece is));
+      no_length = λ none o n long. absurd (omega (arith, first, length_first line o n long));
+    }
+
+pub count_first : (line : List ℕ) → TellsCount line → first_of line ≡ 101
+count_first line tells = ap first_of tells.1
 
 bars_kind : (q : Asked) (line : List ℕ) → HasNoSign line → (IsRemark line → ⊥) → (IsToTell q line → ⊥) → Bars q line
 bars_kind q line no_sign remark tells =
@@ -157,17 +169,11 @@ past_rest (Some l) (Some m) q p line after new piece e f is past fits (inr a) =
     some_same e = cc
 
 -- a line with a fault behind lines that ask q
-no_rest : (fault : PatchFault) (q p : Asked) (number : ℕ) (line : List ℕ) (after : List (List ℕ)) → IsFaultOfLine q number line fault → IsInLengths p → Rest q p (line ∷ after) → ⊥
+pub no_rest : (fault : PatchFault) (q p : Asked) (number : ℕ) (line : List ℕ) (after : List (List ℕ)) → IsFaultOfLine q number line fault → IsInLengths p → Rest q p (line ∷ after) → ⊥
 no_rest NoMemory q p number line after is fits rest = is
+no_rest NoEnd q p number line after is fits rest = is
 no_rest (Line fault) q p number line after is fits rest = bars_rest q p line after (bars_fault q number line is.1 is.0 fault is.2 is.3) rest
 no_rest (OfNoKind n) q p number line after is fits rest = bars_rest q p line after (bars_kind q line is.1 is.2 is.3) rest
 no_rest (BadLength n) q p number line after is fits rest = bars_rest q p line after (bars_length q line is.1 is.2) rest
+no_rest (BadCount n) q p number line after is fits rest = bars_rest q p line after (bars_end q line (count_first line is.1)) rest
 no_rest (PastLength n) q p number line after is fits rest = past_rest q.lengths p.lengths q p line after is.1.0 is.1.1 refl refl is.1.2 is.1.3 fits rest
-
-pub fault_is_of_patch : FaultIsOfPatch
-fault_is_of_patch text fault p of is =
-    let whole : GivesPatch (of.before ++ of.line ∷ of.after) p = subst (λ (ls : List (List ℕ)). GivesPatch ls p) of.lines is.0 in
-    let cut = front of.before (of.line ∷ of.after) p whole in
-    let same : cut.0 ≡ of.asked = one_patch of.before cut.0 of.asked cut.1 of.gives in
-    let rest : Rest of.asked p (of.line ∷ of.after) = subst (λ (q : Asked). Rest q p (of.line ∷ of.after)) same cut.2 in
-    no_rest fault of.asked p (length of.before + 1) of.line of.after of.is is.1 rest

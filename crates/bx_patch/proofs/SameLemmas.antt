@@ -1,5 +1,5 @@
 -- Places at which two lists have the same bytes, and the rows that have no lines there.
-use Rattle.std.proofs.Common.{◌≡◌, ℕ, zero, suc, ◌+◌, ◌-◌, ◌*◌, ◌/◌, ◌%◌, ◌<◌, ◌≤◌, inl, inr, max, Bool, false, Option, List, [], ◌∷◌, ◌++◌, length, take, drop, slice_index, refl, sym, ap, subst, ◌∙◌, append-nil, arith}
+use Rattle.std.proofs.Common.{◌≡◌, ℕ, zero, suc, ◌+◌, ◌-◌, ◌*◌, ◌/◌, ◌%◌, ◌<◌, ◌≤◌, inl, inr, max, false, Option, List, [], ◌∷◌, ◌++◌, length, take, drop, slice_index, refl, sym, ap, subst, ◌∙◌, append-nil, arith}
 use Rattle.std.proofs.Math.Seq.{drop-cons}
 use Rattle.std.proofs.lemmas.Bool.{cases_lt}
 use Rattle.std.proofs.lemmas.List.{drop_all}
@@ -8,9 +8,11 @@ use Rattle.bx_text.proofs.KnownLemmas.{Appends-nil}
 use Rattle.bx_patch.specs.declared.diff.row.Extent.{Extent}
 use Rattle.bx_patch.specs.Text.{PatchLine, differs, row_lines, rows_from}
 use Rattle.bx_patch.specs.private.Row.{AreSame}
-use Rattle.bx_patch.specs.private.Diff.{HasPut, lines_before}
+use Rattle.bx_image.proofs.Images.{same_image}
+use Rattle.bx_patch.specs.private.Diff.{HasPut, lines_before, part_at}
 use Rattle.bx_patch.proofs.DiffLemmas.{flat_split}
-use Rattle.bx_patch.proofs.MakesLemmas.{not_differs}
+use Rattle.bx_patch.proofs.MakesLemmas.{not_differs, same_byte}
+use Rattle.bx_patch.proofs.RowLemmas.{nested_take}
 use Rattle.bx_patch.proofs.OtherLemmas.{drop_twice, is_same}
 use Rattle.bx_patch.proofs.PushLemmas.{equal_rows}
 use Rattle.bx_patch.proofs.WritingLemmas.{no_more}
@@ -79,10 +81,30 @@ module _ (extent : Extent) (x y : List ℕ) (at next end : ℕ) (long : end ≡ 
     | inr over ↦ let here : at ≡ next = omega arith in ap (lines_before extent x y) here
   ]
 
-  pub put_passed : (head : List ℕ) (begun : Bool) (written : ℕ) (first now : Option (List ℕ)) →
-      HasPut head (lines_before extent x y at) begun written first now → HasPut head (lines_before extent x y next) begun written first now
-  put_passed head begun written first now put = subst (λ (ls : List PatchLine). HasPut head ls begun written first now) lines_passed put
+  pub put_passed : (head : List ℕ) (number written : ℕ) (first now : Option (List ℕ)) →
+      HasPut head (lines_before extent x y at) number written first now → HasPut head (lines_before extent x y next) number written first now
+  put_passed head number written first now put = subst (λ (ls : List PatchLine). HasPut head ls number written first now) lines_passed put
 
 -- nothing was written
-pub put_first : (head : List ℕ) (begun : Bool) (written : ℕ) (first : Option (List ℕ)) → begun ≡ false → written ≡ 0 → HasPut head [] begun written first first
-put_first head begun written first fresh none = record { put = Appends-nil first; begun_is = fresh; count = none }
+pub put_first : (head : List ℕ) (number written : ℕ) (first : Option (List ℕ)) → number ≡ 0 → written ≡ 0 → HasPut head [] number written first first
+put_first head number written first fresh none = record { put = Appends-nil first; number_is = omega (arith, fresh); count = none }
+
+-- windows that are the same
+pub window_same : (x y : List ℕ) (at : ℕ) → part_at x at ≡ part_at y at → AreSame x y at (at + 32768)
+window_same x y at same j above below =
+    let k : ℕ = j - at in
+    let place : at + k ≡ j = omega (arith, above) in
+    let byte = λ (t : List ℕ). nested_take t at 32768 k 1 (omega (arith, below, above)) in
+    is_same (take 1 (drop j x)) (take 1 (drop j y))
+    (ap (λ p. take 1 (drop p x)) (sym place) ∙ sym (byte x) ∙ ap (λ (t : List ℕ). take 1 (drop k t)) same ∙ byte y ∙ ap (λ p. take 1 (drop p y)) place)
+
+-- the same so far, in a window behind that, and from there on
+pub same_further : (x y : List ℕ) (at mid next : ℕ) → AreSame x y 0 at → part_at x at ≡ part_at y at → mid ≤ at + 32768 → AreSame x y mid next → AreSame x y 0 next
+same_further x y at mid next before here within on j above below = elim (cases_lt j at) [
+  | inl first ↦ before j above first
+  | inr behind ↦ elim (cases_lt j mid) [ inl inside ↦ window_same x y at here j behind (omega (arith, inside, within)) | inr later ↦ on j later below ]
+]
+
+-- the same up to their end
+pub all_same : (x y : List ℕ) (at : ℕ) → length x ≡ length y → length x ≤ at → AreSame x y 0 at → x ≡ y
+all_same x y at long all same = same_image x y long (λ i inside. same_byte x y i (same i (omega arith) (omega (arith, inside, all))))

@@ -50,10 +50,10 @@ one_piece new line piece other a b =
 no_space : (c : ℕ) → digit_value c < 10 → 32 ≡ c → ⊥
 no_space c digit e = let h : digit_value 32 < 10 = subst (λ (n : ℕ). digit_value n < 10) (sym e) digit in absurd (omega (arith, h))
 
-head_same : (c d : ℕ) (x y : List ℕ) → c ∷ x ≡ d ∷ y → c ≡ d
+pub head_same : (c d : ℕ) (x y : List ℕ) → c ∷ x ≡ d ∷ y → c ≡ d
 head_same c d x y e = cc
 
-both_same : (c d : ℕ) (x y : List ℕ) → c ∷ x ≡ d ∷ y → x ≡ y
+pub both_same : (c d : ℕ) (x y : List ℕ) → c ∷ x ≡ d ∷ y → x ≡ y
 both_same c d x y e = cc
 
 -- digits end at a space

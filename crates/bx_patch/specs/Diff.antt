@@ -45,12 +45,12 @@ IsFaultFor x y NewFailed = Unit {0}
 abbrev pub counted : ℕ → ℕ
 counted n = min n (2 ^ 64 - 1)
 
--- a failed write tells how many bytes were written, and more were to follow
-abbrev pub TellsWritten : ℕ → ℕ → DiffFault → Type 0
-TellsWritten n more (WriteFailed written) = (written ≡ counted n) × (0 < more)
-TellsWritten n more fault = Unit {0}
+-- a failed write tells how many bytes were written
+abbrev pub TellsWritten : ℕ → DiffFault → Type 0
+TellsWritten n (WriteFailed written) = written ≡ counted n
+TellsWritten n fault = Unit {0}
 
--- A prefix of the text was written, and a failed write tells its length.
+-- A prefix of the text was written that isn't the whole text, and a failed write tells its length.
 abbrev pub WritesPrefix : Option (List ℕ) → Option (List ℕ) → List ℕ → DiffFault → Type 0
 WritesPrefix old new text fault =
-    (prefix rest : List ℕ) × (text ≡ prefix ++ rest) × Appends old new prefix × TellsWritten (length prefix) (length rest) fault
+    (prefix rest : List ℕ) × (text ≡ prefix ++ rest) × (0 < length rest) × Appends old new prefix × TellsWritten (length prefix) fault

@@ -3,8 +3,9 @@ use Rattle.std.specs.Prelude.{◌≡◌, ◌⊎◌, ℕ, ◌+◌, ◌≤◌, Boo
 use Rattle.std.specs.Str.Parse.{IsNumeral, digits_value}
 use Rattle.bx_read.specs.Grammar.{IsLine}
 use Rattle.bx_read.specs.Text.{lines_of}
+use Rattle.bx_read.specs.Window.{AreWholeLines}
 use Rattle.bx_patch.specs.Patch.{Asked, Pieces}
-use Rattle.bx_patch.specs.Text.{sign_of}
+use Rattle.bx_patch.specs.Text.{end_text, sign_of}
 
 -- a line that counts for nothing: an empty one, or one that begins with `#`
 abbrev pub IsRemark : List ℕ → Type 0
@@ -53,6 +54,24 @@ EndsWithin n piece = piece.0 + length piece.1 ≤ n
 abbrev pub IsInLengths : Asked → Type 0
 IsInLengths p = IfSome p.lengths (λ lengths. All (EndsWithin lengths.0) p.expected × All (EndsWithin lengths.1) p.written)
 
--- The text is a patch that asks this.
-abbrev pub IsPatch : List ℕ → Asked → Type 0
-IsPatch text p = GivesPatch (lines_of text) p × IsInLengths p
+-- The text begins with whole lines that ask this, each with its newline, and goes on with the rest.
+pub record AsksBefore (text lines rest : List ℕ) (p : Asked) : Type 0 where
+  pub spelled : text ≡ lines ++ rest
+  pub whole : AreWholeLines lines
+  pub gives : GivesPatch (lines_of lines) p
+  pub fits : IsInLengths p
+
+-- The line is the last one of a text that has n lines before it: `end`, or that and their number.
+abbrev pub IsEnd : ℕ → List ℕ → Type 0
+IsEnd n line = (line ≡ codes "end") ⊎ (line ≡ end_text n)
+
+-- The text is a patch that asks this: lines that ask it, and then the last one with its newline, and nothing else.
+pub record IsPatch (text : List ℕ) (p : Asked) : Type 0 where
+  pub lines : List ℕ
+  pub last : List ℕ
+  pub before : AsksBefore text lines (last ++ codes "\n") p
+  pub ends : IsEnd (length (lines_of lines)) last
+
+-- a text asks this
+abbrev pub IsReadable : Asked → Type 0
+IsReadable p = (text : List ℕ) × IsPatch text p

@@ -1,5 +1,5 @@
 -- What a patch asks of an image, when an image agrees with it, and the change that it makes.
-use Rattle.std.specs.Prelude.{◌≡◌, ℕ, ◌==◌, if◌then◌else◌, Option, None, Some, List, [], map, length, take, drop, IfSome}
+use Rattle.std.specs.Prelude.{◌≡◌, ◌⊎◌, ℕ, ◌+◌, ◌<◌, ◌≤◌, ◌==◌, if◌then◌else◌, Option, None, Some, List, [], ◌∷◌, map, length, take, drop, IfSome}
 use Rattle.std.specs.List.{All}
 use Rattle.std.specs.Option.{option_map, option_and_then}
 use Rattle.bx_image.specs.declared.change.Change.{Change}
@@ -39,3 +39,36 @@ patch_change p = record { base = option_and_then new_length p.lengths; writes = 
 -- The patch the other way round.
 abbrev pub reversed : Asked → Asked
 reversed p = record { lengths = option_map (λ lengths. (lengths.1, lengths.0)) p.lengths; expected = p.written; written = p.expected }
+
+-- The patch writes no byte, and keeps the length.
+pub record ChangesNothing (p : Asked) : Type 0 where
+  pub written : p.written ≡ []
+  pub lengths : option_and_then new_length p.lengths ≡ None
+
+-- one of the pieces has a byte at the place
+abbrev pub Reaches : Pieces → ℕ → Type 0
+Reaches [] i = ⊥
+Reaches (piece ∷ pieces) i = ((piece.0 ≤ i) × (i < piece.0 + length piece.1)) ⊎ Reaches pieces i
+
+-- the first piece stands at a place or behind it, and each other one where the one before it ends, or behind that
+abbrev pub AreInOrder : ℕ → Pieces → Type 0
+AreInOrder from [] = Unit {0}
+AreInOrder from (piece ∷ pieces) = (from ≤ piece.0) × AreInOrder (piece.0 + length piece.1) pieces
+
+-- the place is below both lengths, where the patch has them
+abbrev pub IsBelowBoth : Option (ℕ × ℕ) → ℕ → Type 0
+IsBelowBoth lengths i = IfSome lengths (λ l. (i < l.0) × (i < l.1))
+
+-- the place is one of those that are cut off
+abbrev pub IsCutAway : Option (ℕ × ℕ) → ℕ → Type 0
+IsCutAway None i = ⊥
+IsCutAway (Some l) i = (l.1 ≤ i) × (i < l.0)
+
+-- The patch can be turned round: its pieces stand in order, below both lengths they are expected and written at the same places, and each
+-- place that is cut off is expected.
+pub record TurnsRound (p : Asked) : Type 0 where
+  pub old_order : AreInOrder 0 p.expected
+  pub new_order : AreInOrder 0 p.written
+  pub told : (i : ℕ) → IsBelowBoth p.lengths i → Reaches p.written i → Reaches p.expected i
+  pub rewritten : (i : ℕ) → IsBelowBoth p.lengths i → Reaches p.expected i → Reaches p.written i
+  pub cut : (i : ℕ) → IsCutAway p.lengths i → Reaches p.expected i

@@ -4,6 +4,7 @@ use Rattle.std.specs.List.{range_with_len}
 use Rattle.std.specs.Fmt.{decimal}
 use Rattle.bx_text.specs.Dump.{dump_line}
 use Rattle.bx_text.specs.Fold.{line_bytes}
+use Rattle.bx_read.specs.Text.{lines_of}
 use Rattle.bx_image.specs.declared.record.spans.Span.{Span}
 use Rattle.bx_patch.specs.declared.diff.row.Extent.{Extent}
 use Rattle.bx_patch.specs.declared.diff.row.Extent.TheVariants.{Bytes, Rows}
@@ -69,6 +70,14 @@ abbrev pub headed : List ℕ → List PatchLine → List ℕ
 headed head [] = []
 headed head (line ∷ lines) = head ++ flat_map signed_line_text (line ∷ lines)
 
+-- the last line of a text that has n lines before it, without its newline
+abbrev pub end_text : ℕ → List ℕ
+end_text n = codes "end " ++ decimal n
+
+-- lines, and the last one, which tells how many they are and behind which nothing stands
+abbrev pub ended : List ℕ → List ℕ
+ended lines = lines ++ (end_text (length (lines_of lines)) ++ codes "\n")
+
 -- The text of the patch from x to y.
 abbrev pub patch_text : Extent → List ℕ → List ℕ → List ℕ
-patch_text extent x y = headed (length_text (length x) (length y) ++ codes "\n") (patch_lines extent x y)
+patch_text extent x y = ended (headed (length_text (length x) (length y) ++ codes "\n") (patch_lines extent x y))

@@ -3,3 +3,4 @@ pub mod Diff
 pub mod Other
 pub mod Read
 pub mod Row
+pub mod Turn

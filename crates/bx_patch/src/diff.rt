@@ -7,6 +7,7 @@ ghost use Rattle.bx_patch.specs.Diff.{AreShort, IsFaultFor, OnlyReads, WritesPre
 pub mod alike;
 mod compare;
 mod device;
+pub mod equal;
 pub mod fault;
 mod lines;
 mod memory;
@@ -23,13 +24,13 @@ use row::Extent;
 use std::alloc::Allocator;
 use std::io::Write;
 
-/// Writes the patch from one device to another: with it `old` becomes `new`, as `patch_makes_new` says, and equal ones have no text. Both
+/// Writes the patch from one device to another: with it `old` becomes `new`, as `patch_makes_new` says. Both
 /// are only read, a window at a time and each window at most once; windows that are equal take no more than their comparison, and those that
 /// `alike` knows to be the same aren't read. It takes memory for two windows and for the lines of one.
 ///
 /// # Errors
 /// `TooLarge` where one of the two is longer than an image can be, `OldFailed` and `NewFailed` where a call of that device fails,
-/// `NoMemory`, and `WriteFailed`. A prefix of the text was written then.
+/// `NoMemory`, and `WriteFailed`. What was written then is no patch, as `failed_is_refused` says.
 pub fn write_patch<D: Device, E: Device, W: Write, S: Alike, A: Allocator + Clone>(
     alloc: &A,
     old: &mut D,
@@ -43,7 +44,7 @@ pub fn write_patch<D: Device, E: Device, W: Write, S: Alike, A: Allocator + Clon
     // Where it succeeds, exactly the text was written, if the two images are as is known of them.
     ensures text { D.honest old.old → E.honest new.old → S.AreAlike alike.now (D.image old.old) (E.image new.old)
         → OnOk result (Appends (W.contents out.old) (W.contents out.new) (patch_text extent (D.image old.old) (E.image new.old))) }
-    // After a fault a prefix of it was, and a failed write tells how long that is.
+    // After a fault a prefix of it was that isn't all of it, and a failed write tells how long that is.
     ensures part { D.honest old.old → E.honest new.old → S.AreAlike alike.now (D.image old.old) (E.image new.old)
         → IfErr result (WritesPrefix (W.contents out.old) (W.contents out.new) (patch_text extent (D.image old.old) (E.image new.old))) }
     // It is too large exactly where one of the two is, unless a length couldn't be read.

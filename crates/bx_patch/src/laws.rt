@@ -1,7 +1,7 @@
 //! Laws of patches, over definitions alone.
-ghost use Rattle.bx_patch.specs.Fault.{FaultIsOfPatch};
+ghost use Rattle.bx_patch.specs.Fault.{FaultIsOfPatch, PatchFaultIsUnique};
 ghost use Rattle.bx_patch.specs.Other.{OtherDisagrees};
-ghost use Rattle.bx_patch.specs.Laws.{EqualIsEmpty, PatchIsLeast, PatchIsStrict, PatchIsUnique, PatchMakesNew, PatchReversed, PatchTellsLength};
+ghost use Rattle.bx_patch.specs.Laws.{EqualIsEmpty, FailedIsRefused, FrontIsRefused, FrontOfAnyIsRefused, NothingIsChanged, PatchIsLeast, PatchIsStrict, PatchIsUnique, PatchMakesNew, PatchReversed, PatchTellsLength, PatchTurnsRound, TurnedMakesOld};
 
 use std::alloc::Allocator;
 
@@ -25,6 +25,16 @@ pub fn patch_reversed<A: Allocator>()
     ensures { PatchReversed A }
 {}
 
+/// The patch from one image to another can be turned round.
+pub fn patch_turns_round()
+    ensures { PatchTurnsRound }
+{}
+
+/// A patch that can be turned round makes the old image of the new one, for each image that agreed with it.
+pub fn turned_makes_old<A: Allocator>()
+    ensures { TurnedMakesOld A }
+{}
+
 /// Where the patch from one image to another agrees with an image, that has the length of the first, and its byte at each address where
 /// the two differ.
 pub fn patch_is_strict()
@@ -41,7 +51,32 @@ pub fn patch_is_least()
     ensures { PatchIsLeast }
 {}
 
-/// Two images have no text between them exactly where they are equal.
+/// A patch that changes nothing makes of each image the same image.
+pub fn nothing_is_changed<A: Allocator>()
+    ensures { NothingIsChanged A }
+{}
+
+/// A text has one fault at most, as `read_patch` answers it.
+pub fn patch_fault_is_unique()
+    ensures { PatchFaultIsUnique }
+{}
+
+/// No front of a patch is a patch, even where a single byte is missing: it has no end.
+pub fn front_of_any_is_refused()
+    ensures { FrontOfAnyIsRefused }
+{}
+
+/// No front of the patch from one image to another is a patch: it has no end.
+pub fn front_is_refused()
+    ensures { FrontIsRefused }
+{}
+
+/// What a failed `write_patch` left is no patch: it has no end.
+pub fn failed_is_refused()
+    ensures { FailedIsRefused }
+{}
+
+/// Two images have the last line alone between them exactly where they are equal.
 pub fn equal_is_empty()
     ensures { EqualIsEmpty }
 {}

@@ -7,6 +7,7 @@ mod other;
 mod read;
 
 pub use diff::alike::{Alike, Unknown};
+pub use diff::equal::are_equal;
 pub use diff::fault::DiffFault;
 pub use diff::row::Extent;
 pub use diff::write_patch;

@@ -1,5 +1,5 @@
 -- Lines that were written so far.
-use Rattle.std.specs.Prelude.{◌≡◌, ℕ, ◌+◌, ◌/◌, Bool, true, false, Option, List, [], ◌∷◌, length, take, drop, ◌++◌, codes}
+use Rattle.std.specs.Prelude.{◌≡◌, ℕ, ◌+◌, ◌/◌, ◌^◌, ◌<◌, Bool, true, false, Option, List, length, take, drop, ◌++◌, codes}
 use Rattle.std.specs.Fmt.{decimal}
 use Rattle.std.specs.Io.KnownBytes.{Appends}
 use Rattle.bx_patch.specs.declared.diff.fault.DiffFault.{DiffFault}
@@ -7,27 +7,33 @@ use Rattle.bx_patch.specs.declared.diff.fault.DiffFault.TheVariants.{TooLarge}
 use Rattle.bx_patch.specs.declared.diff.row.Extent.{Extent}
 use Rattle.bx_patch.specs.Diff.{TellsWritten, counted, of_new, of_old}
 use Rattle.bx_patch.specs.Text.{PatchLine, headed, row_count, rows_from}
+use Rattle.bx_read.specs.private.Window.{newlines}
 use Rattle.bx_patch.specs.private.Row.{window_lines}
 
--- whether there is a line
-abbrev pub has_lines : List PatchLine → Bool
-has_lines [] = false
-has_lines (line ∷ lines) = true
-
--- the lines were written behind the first one, which was written where there are any, and their bytes were counted
-pub record HasPut (head : List ℕ) (lines : List PatchLine) (begun : Bool) (written : ℕ) (first now : Option (List ℕ)) : Type 0 where
+-- the lines were written behind the first one, which was written where there are any, and all of them and their bytes were counted
+pub record HasPut (head : List ℕ) (lines : List PatchLine) (number written : ℕ) (first now : Option (List ℕ)) : Type 0 where
   pub put : Appends first now (headed head lines)
-  pub begun_is : begun ≡ has_lines lines
+  pub number_is : number ≡ counted (newlines (headed head lines))
   pub count : written ≡ counted (length (headed head lines))
 
--- a prefix of the bytes was written behind `before` others
+-- a first line, with its newline
+pub record IsHead (head : List ℕ) : Type 0 where
+  pub text : List ℕ
+  pub spelled : head ≡ text ++ codes "\n"
+  pub short : length head < 2 ^ 63
+
+-- a prefix of the bytes was written behind `before` others, and not all of them
 abbrev pub PutsPart : ℕ → Option (List ℕ) → Option (List ℕ) → List ℕ → DiffFault → Type 0
 PutsPart before old new text fault =
-    (prefix rest : List ℕ) × (text ≡ prefix ++ rest) × Appends old new prefix × TellsWritten (before + length prefix) (length rest) fault
+    (prefix rest : List ℕ) × (text ≡ prefix ++ rest) × (0 < length rest) × Appends old new prefix × TellsWritten (before + length prefix) fault
+
+-- a prefix of a text was written, or all of it, where more is to follow
+abbrev pub WritesPart : Option (List ℕ) → Option (List ℕ) → List ℕ → DiffFault → Type 0
+WritesPart old new text fault = (prefix rest : List ℕ) × (text ≡ prefix ++ rest) × Appends old new prefix × TellsWritten (length prefix) fault
 
 -- a fault that isn't one of a write
 abbrev pub IsUntold : DiffFault → Type 0
-IsUntold fault = (n more : ℕ) → TellsWritten n more fault
+IsUntold fault = (n : ℕ) → TellsWritten n fault
 
 -- whether a length is too large
 abbrev pub of_length : DiffFault → Bool

@@ -6,9 +6,9 @@ use Rattle.bx_read.specs.Text.{lines_of}
 use Rattle.bx_patch.specs.declared.read.fault.PatchFault.{PatchFault}
 use Rattle.bx_patch.specs.declared.read.fault.PatchFault.TheVariants.{Line}
 use Rattle.bx_patch.specs.declared.read.line.Kind.{Kind}
-use Rattle.bx_patch.specs.declared.read.line.Kind.TheVariants.{Remark, Lengths, Signed, Other}
-use Rattle.bx_patch.specs.Fault.{HasNoSign, IsToTell}
-use Rattle.bx_patch.specs.Grammar.{IsInLengths, GivesPatch, IsRemark}
+use Rattle.bx_patch.specs.declared.read.line.Kind.TheVariants.{Remark, Lengths, Signed, Count, Other}
+use Rattle.bx_patch.specs.Fault.{HasNoSign, IsToTell, TellsCount}
+use Rattle.bx_patch.specs.Grammar.{AsksBefore, IsInLengths, GivesPatch, IsRemark}
 use Rattle.bx_patch.specs.Patch.{Asked}
 use Rattle.bx_patch.specs.Text.{sign_of}
 
@@ -30,7 +30,8 @@ abbrev pub IsKind : Asked → List ℕ → Kind → Type 0
 IsKind before line Remark = IsRemark line
 IsKind before line Lengths = IsToTell before line
 IsKind before line (Signed new) = HasSign new line
-IsKind before line Other = HasNoSign line × (IsRemark line → ⊥) × (IsToTell before line → ⊥)
+IsKind before line Count = TellsCount line
+IsKind before line Other = HasNoSign line × (IsRemark line → ⊥) × (IsToTell before line → ⊥) × (TellsCount line → ⊥)
 
 -- with the line behind them, lines that ask the one ask the other
 abbrev pub Adds : Asked → List ℕ → Asked → Type 0
@@ -38,11 +39,9 @@ Adds old line new = (before : List (List ℕ)) → GivesPatch before old → IsI
 
 -- of a text the first `number` lines were read, which ask this, and the rest wasn't
 pub record HasReadLines (text rest : List ℕ) (number : ℕ) (asked : Asked) : Type 0 where
-  pub before : List (List ℕ)
-  pub lines : lines_of text ≡ before ++ lines_of rest
-  pub count : number ≡ length before
-  pub gives : GivesPatch before asked
-  pub fits : IsInLengths asked
+  pub lines : List ℕ
+  pub before : AsksBefore text lines rest asked
+  pub count : number ≡ length (lines_of lines)
 
 -- the text doesn't begin with the word
 abbrev pub BeginsElse : List ℕ → List ℕ → Type 0

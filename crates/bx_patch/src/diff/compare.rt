@@ -1,9 +1,9 @@
 //! Two devices that are compared, a window at a time.
 ghost use Rattle.std.specs.Prelude.{◌≡◌, ◌<◌, ◌≤◌, ◌+◌, ◌++◌, ◌%◌, ◌^◌, ℕ, max, false, List, Option, length, take, IfErr, OnOk};
 ghost use Rattle.std.specs.Io.KnownBytes.{Appends};
-ghost use Rattle.bx_patch.specs.Text.{PatchLine, headed, patch_lines, row_count};
+ghost use Rattle.bx_patch.specs.Text.{PatchLine, ended, headed, patch_lines, row_count};
 ghost use Rattle.bx_patch.specs.Diff.{OnlyReads, WritesPrefix, fails, of_new, of_old};
-ghost use Rattle.bx_patch.specs.private.Diff.{HasPut, IsLate, IsWritingFault, lines_of_window};
+ghost use Rattle.bx_patch.specs.private.Diff.{HasPut, IsHead, IsLate, IsWritingFault, WritesPart, lines_of_window};
 ghost use Rattle.bx_patch.specs.private.Row.{AreSame, window_lines};
 
 use crate::diff::alike::Alike;
@@ -11,7 +11,7 @@ use crate::diff::device::{Lengths, WINDOW, fill_window};
 use crate::diff::fault::DiffFault;
 use crate::diff::lines::gather;
 use crate::diff::row::Extent;
-use crate::diff::writing::{Writing, put_text};
+use crate::diff::writing::{Writing, put_end, put_text};
 use bx_image::Device;
 use std::alloc::Allocator;
 use std::io::Write;
@@ -34,7 +34,7 @@ pub struct Walk<'a, 'b, S: Alike> {
 
 /// Where a comparison goes on that has come to the start of a window: there, or at the first window behind it that isn't known to be the
 /// same, or at the end where there is none.
-fn next_window<S: Alike>(alike: &S, at: u64, end: u64) -> u64
+pub fn next_window<S: Alike>(alike: &S, at: u64, end: u64) -> u64
     requires within { at ≤ end }
     requires whole { at < end → at % 32768 ≡ 0 }
     ensures least { at ≤ result }
@@ -50,7 +50,7 @@ fn next_window<S: Alike>(alike: &S, at: u64, end: u64) -> u64
 }
 
 /// The first bytes of a window.
-fn front(window: &[u8], count: usize) -> &[u8]
+pub fn front(window: &[u8], count: usize) -> &[u8]
     requires { count ≤ length window.now }
     ensures bytes { result.now ≡ take count window.now }
     ensures most { length result.now ≤ length window.now }
@@ -69,13 +69,13 @@ fn put_window<W: Write, A: Allocator>(
     requires small { place.at + length old.now + 32 < 2 ^ 64 }
     requires little { place.at + length new.now + 32 < 2 ^ 64 }
     ensures put { (lines : List PatchLine) (first : Option (List ℕ))
-        → HasPut place.entry.head.now lines writing.old.begun writing.old.written first (W.contents out.old)
+        → HasPut place.entry.head.now lines writing.old.number writing.old.written first (W.contents out.old)
         → OnOk result (HasPut place.entry.head.now
         (lines ++ window_lines place.entry.extent place.entry.at old.now new.now (row_count old.now new.now))
-        writing.new.begun writing.new.written first (W.contents out.new)) }
+        writing.new.number writing.new.written first (W.contents out.new)) }
     ensures part { (lines : List PatchLine) (first : Option (List ℕ))
-        → HasPut place.entry.head.now lines writing.old.begun writing.old.written first (W.contents out.old)
-        → IfErr result (WritesPrefix first (W.contents out.new) (headed place.entry.head.now
+        → HasPut place.entry.head.now lines writing.old.number writing.old.written first (W.contents out.old)
+        → IfErr result (WritesPart first (W.contents out.new) (headed place.entry.head.now
         (lines ++ window_lines place.entry.extent place.entry.at old.now new.now (row_count old.now new.now)))) }
     ensures kind { IfErr result IsWritingFault }
 {
@@ -101,13 +101,13 @@ fn put_next<D: Device, E: Device, W: Write, A: Allocator>(
     requires room { length buffer.old ≡ 65536 }
     requires small { place.at ≤ 2 ^ 48 }
     ensures put { D.honest old.old → E.honest new.old → (lines : List PatchLine) (first : Option (List ℕ))
-        → HasPut place.entry.head.now lines writing.old.begun writing.old.written first (W.contents out.old)
+        → HasPut place.entry.head.now lines writing.old.number writing.old.written first (W.contents out.old)
         → OnOk result (HasPut place.entry.head.now
         (lines ++ lines_of_window place.entry.extent (D.image old.old) (E.image new.old) place.entry.at)
-        writing.new.begun writing.new.written first (W.contents out.new)) }
+        writing.new.number writing.new.written first (W.contents out.new)) }
     ensures part { D.honest old.old → E.honest new.old → (lines : List PatchLine) (first : Option (List ℕ))
-        → HasPut place.entry.head.now lines writing.old.begun writing.old.written first (W.contents out.old)
-        → IfErr result (WritesPrefix first (W.contents out.new)
+        → HasPut place.entry.head.now lines writing.old.number writing.old.written first (W.contents out.old)
+        → IfErr result (WritesPart first (W.contents out.new)
         (headed place.entry.head.now (lines ++ lines_of_window place.entry.extent (D.image old.old) (E.image new.old) place.entry.at))) }
     ensures kind { IfErr result IsLate }
     ensures old { OnlyReads D.honest D.image D.room D.failures D.survives (fails of_old result) old.old old.new }
@@ -126,7 +126,7 @@ fn put_next<D: Device, E: Device, W: Write, A: Allocator>(
 }
 
 /// Writes the lines of two devices from their start on, where none were written. Windows that are known to be the same aren't read.
-pub fn compare_devices<D: Device, E: Device, W: Write, S: Alike, A: Allocator>(
+fn compare_lines<D: Device, E: Device, W: Write, S: Alike, A: Allocator>(
     old: &mut D,
     new: &mut E,
     out: &mut W,
@@ -140,13 +140,13 @@ pub fn compare_devices<D: Device, E: Device, W: Write, S: Alike, A: Allocator>(
     requires new_len { E.honest new.old → walk.place.lengths.new ≡ length (E.image new.old) }
     requires room { length buffer.old ≡ 65536 }
     requires small { max walk.place.lengths.old walk.place.lengths.new ≤ 2 ^ 48 }
-    requires fresh { writing.old.begun ≡ false }
+    requires fresh { writing.old.number ≡ 0 }
     requires none { writing.old.written ≡ 0 }
-    ensures text { D.honest old.old → E.honest new.old → S.AreAlike walk.entry.alike.now (D.image old.old) (E.image new.old)
-        → OnOk result (Appends (W.contents out.old) (W.contents out.new)
-        (headed walk.entry.place.head.now (patch_lines walk.entry.place.extent (D.image old.old) (E.image new.old)))) }
+    ensures put { D.honest old.old → E.honest new.old → S.AreAlike walk.entry.alike.now (D.image old.old) (E.image new.old)
+        → OnOk result (HasPut walk.entry.place.head.now (patch_lines walk.entry.place.extent (D.image old.old) (E.image new.old))
+        writing.new.number writing.new.written (W.contents out.old) (W.contents out.new)) }
     ensures part { D.honest old.old → E.honest new.old → S.AreAlike walk.entry.alike.now (D.image old.old) (E.image new.old)
-        → IfErr result (WritesPrefix (W.contents out.old) (W.contents out.new)
+        → IfErr result (WritesPart (W.contents out.old) (W.contents out.new)
         (headed walk.entry.place.head.now (patch_lines walk.entry.place.extent (D.image old.old) (E.image new.old)))) }
     ensures kind { IfErr result IsLate }
     ensures old { OnlyReads D.honest D.image D.room D.failures D.survives (fails of_old result) old.old old.new }
@@ -162,4 +162,39 @@ pub fn compare_devices<D: Device, E: Device, W: Write, S: Alike, A: Allocator>(
         }
     }
     Ok(())
+}
+
+/// Writes the patch from one device to another, where nothing of it was written: their lines, and the last one, which isn't written after a
+/// fault.
+pub fn compare_devices<D: Device, E: Device, W: Write, S: Alike, A: Allocator>(
+    old: &mut D,
+    new: &mut E,
+    out: &mut W,
+    buffer: &mut [u8],
+    writing: &mut Writing<A>,
+    walk: Walk<'_, '_, S>,
+) -> Result<(), DiffFault>
+    requires old_countable { D.failures old.old < u64.MAX }
+    requires new_countable { E.failures new.old < u64.MAX }
+    requires old_len { D.honest old.old → walk.place.lengths.old ≡ length (D.image old.old) }
+    requires new_len { E.honest new.old → walk.place.lengths.new ≡ length (E.image new.old) }
+    requires room { length buffer.old ≡ 65536 }
+    requires small { max walk.place.lengths.old walk.place.lengths.new ≤ 2 ^ 48 }
+    requires fresh { writing.old.number ≡ 0 }
+    requires none { writing.old.written ≡ 0 }
+    requires head { IsHead walk.place.head.now }
+    ensures text { D.honest old.old → E.honest new.old → S.AreAlike walk.entry.alike.now (D.image old.old) (E.image new.old)
+        → OnOk result (Appends (W.contents out.old) (W.contents out.new)
+        (ended (headed walk.entry.place.head.now (patch_lines walk.entry.place.extent (D.image old.old) (E.image new.old))))) }
+    ensures part { D.honest old.old → E.honest new.old → S.AreAlike walk.entry.alike.now (D.image old.old) (E.image new.old)
+        → IfErr result (WritesPrefix (W.contents out.old) (W.contents out.new)
+        (ended (headed walk.entry.place.head.now (patch_lines walk.entry.place.extent (D.image old.old) (E.image new.old))))) }
+    ensures kind { IfErr result IsLate }
+    ensures old { OnlyReads D.honest D.image D.room D.failures D.survives (fails of_old result) old.old old.new }
+    ensures new { OnlyReads E.honest E.image E.room E.failures E.survives (fails of_new result) new.old new.new }
+{
+    match compare_lines(old, new, out, buffer, writing, walk) {
+        Ok(()) => put_end(out, writing.number, writing.written),
+        Err(fault) => Err(fault),
+    }
 }

@@ -1,5 +1,5 @@
 //! What a comparison is made with.
-ghost use Rattle.std.specs.Prelude.{◌≡◌, ◌++◌, false, length, string_bytes, codes, IfOk, IfErr, OnOk};
+ghost use Rattle.std.specs.Prelude.{◌≡◌, ◌++◌, length, string_bytes, codes, IfOk, IfErr, OnOk};
 ghost use Rattle.bx_patch.specs.Text.{length_text};
 ghost use Rattle.bx_patch.specs.private.Diff.{lengths_line};
 
@@ -39,14 +39,14 @@ fn header<A: Allocator>(alloc: A, lengths: Lengths) -> Result<String<A>, AllocEr
 fn allocate<A: Allocator + Clone>(alloc: &A, lengths: Lengths) -> Result<Memory<A>, AllocError>
     ensures head { IfOk result (λ m. string_bytes m.head ≡ length_text lengths.old lengths.new ++ codes "\n") }
     ensures room { IfOk result (λ m. length m.buffer.items ≡ 65536) }
-    ensures fresh { IfOk result (λ m. m.writing.begun ≡ false) }
+    ensures fresh { IfOk result (λ m. m.writing.number ≡ 0) }
     ensures none { IfOk result (λ m. m.writing.written ≡ 0) }
 {
     let head = header(alloc.clone()?, lengths)?;
     let buffer = vec![in alloc.clone()?; 0u8; 2 * WINDOW]?;
     let writing = Writing {
         text: Vec::new(alloc.clone()?),
-        begun: false,
+        number: 0,
         written: 0,
     };
     Ok(Memory {
@@ -60,7 +60,7 @@ fn allocate<A: Allocator + Clone>(alloc: &A, lengths: Lengths) -> Result<Memory<
 pub fn memory_for<A: Allocator + Clone>(alloc: &A, lengths: Lengths) -> Result<Memory<A>, DiffFault>
     ensures head { IfOk result (λ m. string_bytes m.head ≡ length_text lengths.old lengths.new ++ codes "\n") }
     ensures room { IfOk result (λ m. length m.buffer.items ≡ 65536) }
-    ensures fresh { IfOk result (λ m. m.writing.begun ≡ false) }
+    ensures fresh { IfOk result (λ m. m.writing.number ≡ 0) }
     ensures none { IfOk result (λ m. m.writing.written ≡ 0) }
     ensures kind { IfErr result (λ e. e ≡ DiffFault.NoMemory) }
 {

@@ -1,7 +1,8 @@
 //! A line of a patch, taken.
 ghost use Rattle.std.specs.Prelude.{◌≡◌, ◌⊎◌, ◌↔◌, ◌+◌, ◌<◌, ◌^◌, length, IfErr, OnOk, IsTrue};
 ghost use Rattle.std.specs.Option.{option_map};
-ghost use Rattle.bx_patch.specs.Fault.{IsFaultOfLine, IsPast, IsToTell};
+ghost use Rattle.bx_patch.specs.Fault.{HasNoSign, IsFaultOfLine, IsPast, IsToTell, TellsCount};
+ghost use Rattle.bx_patch.specs.Grammar.{IsRemark};
 ghost use Rattle.bx_patch.specs.Read.{asked_of};
 ghost use Rattle.bx_patch.specs.private.Read.{Adds, HasSign, IsKind};
 
@@ -21,6 +22,8 @@ pub enum Kind {
     Lengths,
     /// It begins with a sign, which says whether it has new bytes.
     Signed { new: bool },
+    /// It tells how many lines stand before it.
+    Count,
     /// It is none of these.
     Other,
 }
@@ -38,7 +41,32 @@ fn lengths_kind<A: Allocator>(patch: &Patch<A>, line: &[u8]) -> bool
     }
 }
 
-/// What a line is behind others.
+/// Whether a line tells how many lines stand before it.
+fn tells_count(line: &[u8]) -> bool
+    ensures { IsTrue result ↔ TellsCount line.now }
+{
+    match after(line, b"end ") {
+        Some(_) => true,
+        None => false,
+    }
+}
+
+/// What a line is behind others that begins with no sign, and isn't a remark.
+fn kind_of_words<A: Allocator>(patch: &Patch<A>, line: &[u8]) -> Kind
+    requires sign { HasNoSign line.now }
+    requires remark { IsRemark line.now → ⊥ }
+    ensures { IsKind (asked_of patch.now) line.now result }
+{
+    if lengths_kind(patch, line) {
+        return Kind::Lengths;
+    }
+    if tells_count(line) {
+        return Kind::Count;
+    }
+    Kind::Other
+}
+
+/// What a line is behind others, where it isn't the last one.
 fn kind_of<A: Allocator>(patch: &Patch<A>, line: &[u8]) -> Kind
     ensures { IsKind (asked_of patch.now) line.now result }
 {
@@ -47,13 +75,7 @@ fn kind_of<A: Allocator>(patch: &Patch<A>, line: &[u8]) -> Kind
         Some(b'#') => Kind::Remark,
         Some(b'+') => Kind::Signed { new: true },
         Some(b'-') => Kind::Signed { new: false },
-        Some(_) => {
-            if lengths_kind(patch, line) {
-                Kind::Lengths
-            } else {
-                Kind::Other
-            }
-        }
+        Some(_) => kind_of_words(patch, line),
     }
 }
 
@@ -114,7 +136,7 @@ fn take_signed<A: Allocator + Clone>(
     }
 }
 
-/// Takes a line behind others, which is line `number`.
+/// Takes a line behind others, which is line `number` and not the last one.
 pub fn take_line<A: Allocator + Clone>(
     alloc: &A,
     patch: &mut Patch<A>,
@@ -128,6 +150,7 @@ pub fn take_line<A: Allocator + Clone>(
         Kind::Remark => Ok(()),
         Kind::Lengths => take_lengths(patch, line, number),
         Kind::Signed { new } => take_signed(alloc, patch, line, new, number),
+        Kind::Count => Err(PatchFault::BadCount { line: number }),
         Kind::Other => Err(PatchFault::OfNoKind { line: number }),
     }
 }

@@ -1,11 +1,13 @@
 //! What a patch asks of an image.
-ghost use Rattle.std.specs.Prelude.{◌≡◌, ◌++◌, ◌∷◌, [], IsTrue, ◌↔◌, IfErr, OnOk};
+ghost use Rattle.std.specs.Prelude.{◌≡◌, ◌++◌, ◌∷◌, [], IsTrue, ◌↔◌, IfErr, MatchOption, OnOk};
 ghost use Rattle.std.specs.Option.{option_and_then, option_map};
 ghost use Rattle.bx_read.specs.Text.{contents};
-ghost use Rattle.bx_patch.specs.Patch.{new_length, nothing_asked, patch_change, reversed};
+ghost use Rattle.bx_patch.specs.Grammar.{IsReadable};
+ghost use Rattle.bx_patch.specs.Patch.{ChangesNothing, TurnsRound, new_length, nothing_asked, patch_change, reversed};
 ghost use Rattle.bx_patch.specs.Read.{asked_of};
 
 use crate::read::fault::PatchFault;
+use crate::read::turn::turns;
 use bx_image::Change;
 use bx_text::{Piece, Pieces};
 use std::alloc::{Allocator, Global};
@@ -42,8 +44,37 @@ impl<A: Allocator> Patch<A> {
         self.written.as_slice().is_empty()
     }
 
-    /// The patch the other way round: what was written is expected.
-    pub fn reversed(self) -> Patch<A>
+    /// Whether it writes no byte and keeps the length, as the patch of two equal images. Then it makes of each image the same image, as
+    /// `nothing_is_changed` says.
+    pub fn changes_nothing(&self) -> bool
+        ensures { IsTrue result ↔ ChangesNothing (asked_of self.now) }
+    {
+        if base_of(self.lengths).is_some() {
+            return false;
+        }
+        self.written.as_slice().is_empty()
+    }
+
+    /// The patch the other way round, where it can be turned round: what was written is expected. Then it makes the old image of the new
+    /// one, as `turned_makes_old` says. None where it can't: pieces stand in no order, or below both lengths they are expected and written at
+    /// other places, or a place that is cut off isn't expected.
+    pub fn reversed(self) -> Option<Patch<A>>
+        requires { IsReadable (asked_of self) }
+        ensures { MatchOption result (TurnsRound (asked_of self) → ⊥)
+            (λ patch. TurnsRound (asked_of self) × (asked_of patch ≡ reversed (asked_of self))) }
+    {
+        if turns(
+            self.expected.as_slice(),
+            self.written.as_slice(),
+            self.lengths,
+        ) {
+            return Some(self.turned());
+        }
+        None
+    }
+
+    /// The patch the other way round.
+    fn turned(self) -> Patch<A>
         ensures { asked_of result ≡ reversed (asked_of self) }
     {
         let lengths = match self.lengths {

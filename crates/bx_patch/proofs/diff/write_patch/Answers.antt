@@ -1,15 +1,25 @@
-use Rattle.std.proofs.Common.{◌∙◌, List, ℕ, sym, subst}
-use Rattle.std.specs.Prelude.{IfErr}
+use Rattle.std.proofs.Common.{◌∙◌, arith, ◌++◌, List, ℕ, length, sym, subst}
+use Rattle.std.specs.Prelude.{IfErr, codes}
 use Rattle.bx_patch.specs.Diff.{WritesPrefix}
-use Rattle.bx_patch.specs.Text.{headed, patch_lines, patch_text}
-use Rattle.bx_patch.proofs.DiffLemmas.{headed_is}
-use Rattle.bx_patch.proofs.WritingLemmas.{nothing_written}
+use Rattle.bx_patch.specs.Text.{ended, headed, length_text, patch_lines, patch_text}
+use Rattle.bx_patch.proofs.CountLemmas.{head_is}
+use Rattle.bx_patch.proofs.DiffLemmas.{ended_is}
+use Rattle.bx_patch.proofs.WritingLemmas.{ended_some, memory_untold, nothing_written}
 use Rattle.bx_patch.proofs.diff.write_patch.Goals as goal
 
 pub returns-in-Err-clause-part : goal.returns-in-Err-clause-part
 returns-in-Err-clause-part g c = λ honest faithful known.
+    let x = g.D.Device.image c.args.old.now in
+    let y = g.E.Device.image c.args.new.now in
     nothing_written c.in-Err.fault (g.W.Write.contents c.args.out.now)
-    (patch_text c.args.extent (g.D.Device.image c.args.old.now) (g.E.Device.image c.args.new.now)) c.in-Err.ensures.untold
+    (patch_text c.args.extent x y) (ended_some (headed (length_text (length x) (length y) ++ codes "\n") (patch_lines c.args.extent x y))) c.in-Err.ensures.untold
+
+pub returns-in-Err-memory_for-clause-part : goal.returns-in-Err-memory_for-clause-part
+returns-in-Err-memory_for-clause-part g c = λ honest faithful known.
+    let x = g.D.Device.image c.args.old.now in
+    let y = g.E.Device.image c.args.new.now in
+    nothing_written c.in-Err-memory_for.fault (g.W.Write.contents c.args.out.now)
+    (patch_text c.args.extent x y) (ended_some (headed (length_text (length x) (length y) ++ codes "\n") (patch_lines c.args.extent x y))) (memory_untold c.in-Err-memory_for.fault c.in-Err-memory_for.ensures.kind)
 
 pub returns-clause-part : goal.returns-clause-part
 returns-clause-part g c = λ honest faithful known.
@@ -22,6 +32,11 @@ returns-clause-part g c = λ honest faithful known.
     let here = subst (λ (b : List ℕ). g.S.Alike.AreAlike c.args.alike.now (g.D.Device.image c.lengths_of.new.old) b) (sym (on.new.stays faithful))
     (subst (λ (a : List ℕ). g.S.Alike.AreAlike c.args.alike.now a y) (sym (on.old.stays honest)) known) in
     let part = c.compare_devices.ensures.part (on.old.goes_on.honesty.1 honest) (on.new.goes_on.honesty.1 faithful) here in
-    let first = subst (λ (a : List ℕ). P (headed head (patch_lines extent a (g.E.Device.image c.lengths_of.new.new)))) (on.old.stays honest) part in
-    let both = subst (λ (b : List ℕ). P (headed head (patch_lines extent x b))) (on.new.stays faithful) first in
-    subst P (headed_is extent head x y c.in-Ok.lengths.old c.in-Ok.lengths.new (on.old_len honest) (on.new_len faithful) (c.as_bytes.ensures.value ∙ c.in-Ok-memory_for.ensures.head)) both
+    let first = subst (λ (a : List ℕ). P (ended (headed head (patch_lines extent a (g.E.Device.image c.lengths_of.new.new))))) (on.old.stays honest) part in
+    let both = subst (λ (b : List ℕ). P (ended (headed head (patch_lines extent x b)))) (on.new.stays faithful) first in
+    subst P (ended_is extent head x y c.in-Ok.lengths.old c.in-Ok.lengths.new (on.old_len honest) (on.new_len faithful) (c.as_bytes.ensures.value ∙ c.in-Ok-memory_for.ensures.head)) both
+
+pub compare_devices-requires-clause-head : goal.compare_devices-requires-clause-head
+compare_devices-requires-clause-head g c =
+    head_is c.in-Ok.lengths.old c.in-Ok.lengths.new c.as_bytes.result.now (omega (arith, c.in-Ok.ensures.most)) (omega (arith, c.in-Ok.ensures.most))
+    (c.as_bytes.ensures.value ∙ c.in-Ok-memory_for.ensures.head)

@@ -9,4 +9,4 @@ returns-in-Err-clause-part g c = λ lines first put.
     let old = c.args.old.now in
     let new = c.args.new.now in
     let place = c.args.place in
-    lines_part NoMemory place.head.now lines (window_lines place.extent place.at old new (row_count old new)) c.args.writing.now.begun c.args.writing.now.written first _ (λ n more. tt) put
+    lines_part NoMemory place.head.now lines (window_lines place.extent place.at old new (row_count old new)) c.args.writing.now.number c.args.writing.now.written first _ (λ n. tt) put

@@ -1,7 +1,7 @@
 use Rattle.std.proofs.Common.{◌≡◌, ◌%◌, ◌-◌, ◌<◌, ◌≤◌, false}
 use Rattle.bx_patch.specs.Diff.{OnlyReads}
-use Rattle.bx_patch.specs.private.Diff.{HasPut, lines_before}
-use Rattle.bx_patch.proofs.diff.compare.compare_devices.Given as goal
+use Rattle.bx_patch.specs.private.Row.{AreSame}
+use Rattle.bx_patch.proofs.diff.equal.are_same.Given as goal
 
 abbrev pub invariant-loop-at : goal.invariant-loop-at
 invariant-loop-at g l = record {
@@ -9,9 +9,8 @@ invariant-loop-at g l = record {
   whole : l.at < l.end → l.at % 32768 ≡ 0;
   old : OnlyReads g.D.Device.honest g.D.Device.image g.D.Device.room g.D.Device.failures g.D.Device.survives false l.fn.old l.old;
   new : OnlyReads g.E.Device.honest g.E.Device.image g.E.Device.room g.E.Device.failures g.E.Device.survives false l.fn.new l.new;
-  put : g.D.Device.honest l.fn.old → g.E.Device.honest l.fn.new → g.S.Alike.AreAlike l.alike (g.D.Device.image l.fn.old) (g.E.Device.image l.fn.new)
-      → HasPut l.place.head.now (lines_before l.place.extent (g.D.Device.image l.fn.old) (g.E.Device.image l.fn.new) l.at) l.writing.begun l.writing.written
-      (g.W.Write.contents l.fn.out) (g.W.Write.contents l.out);
+  same : g.D.Device.honest l.fn.old → g.E.Device.honest l.fn.new → g.S.Alike.AreAlike l.alike (g.D.Device.image l.fn.old) (g.E.Device.image l.fn.new)
+      → AreSame (g.D.Device.image l.fn.old) (g.E.Device.image l.fn.new) 0 l.at;
 }
 
 abbrev pub decreases-loop-at : goal.decreases-loop-at
