@@ -1,3 +1,4 @@
 pub mod ChangesLemmas
 pub mod WindowLemmas
 pub mod UntouchedLemmas
+pub mod OrderLemmas

@@ -17,9 +17,8 @@ use window::{put_changes, read_window};
 #[derive(Drop)]
 pub struct ChangedImage<'a, D: Device, A: Allocator = Global> {
     device: D,
-    changes: &'a [Change<A>],
-    // the length of the device's image
-    before: u64,
+    // the changes, and the length of the device's image
+    known: Untouched<'a, A>,
     // the length behind the changes
     len: u64,
     failures: u64,
@@ -31,9 +30,9 @@ impl<'a, D: Device, A: Allocator> Model for ChangedImage<'a, D, A> {
 
     ghost Value = { Changed D A };
 
-    ghost view = { λ c. record { device = c.device; changes = c.changes.now; before = c.before; len = c.len; failures = c.failures } };
+    ghost view = { λ c. record { device = c.device; changes = c.known.changes.now; before = c.known.before; len = c.len; failures = c.failures } };
 
-    ghost invariant = { λ c. (D.failures c.device ≤ c.failures) × (D.honest c.device → AreLengthsOf c.changes.now (D.image c.device) c.before c.len) };
+    ghost invariant = { λ c. (D.failures c.device ≤ c.failures) × (D.honest c.device → AreLengthsOf c.known.changes.now (D.image c.device) c.known.before c.len) };
 }
 
 impl<'a, D: Device, A: Allocator> ChangedImage<'a, D, A> {
@@ -60,8 +59,7 @@ impl<'a, D: Device, A: Allocator> ChangedImage<'a, D, A> {
         match length_behind(changes, before) {
             Ok(len) => Ok(ChangedImage {
                 device,
-                changes,
-                before,
+                known: Untouched::by(changes, before),
                 len,
                 failures: 0,
             }),
@@ -75,8 +73,9 @@ impl<'a, D: Device, A: Allocator> ChangedImage<'a, D, A> {
         ensures before { result.before ≡ self.now.before }
     {
         Untouched {
-            changes: self.changes,
-            before: self.before,
+            changes: self.known.changes,
+            before: self.known.before,
+            ordered: self.known.ordered,
         }
     }
 
@@ -115,20 +114,19 @@ fn failed(failures: &mut u64) -> DeviceFailed
 /// Fills a buffer with the bytes that an image has behind changes, from an address on.
 fn read_changed<D: Device, A: Allocator>(
     device: &mut D,
-    changes: &[Change<A>],
-    before: u64,
+    known: &Untouched<'_, A>,
     at: u64,
     buf: &mut [u8],
 ) -> Result<(), DeviceFailed>
     requires countable { D.failures device.old < u64.MAX }
-    requires before { D.honest device.old → before ≡ length (D.image device.old) }
-    ensures bytes { D.honest device.old → at + length buf.old ≤ length (effects changes.now (D.image device.old))
-        → OnOk result (buf.new ≡ take (length buf.old) (drop at (effects changes.now (D.image device.old)))) }
+    requires before { D.honest device.old → known.now.before ≡ length (D.image device.old) }
+    ensures bytes { D.honest device.old → at + length buf.old ≤ length (effects known.now.changes.now (D.image device.old))
+        → OnOk result (buf.new ≡ take (length buf.old) (drop at (effects known.now.changes.now (D.image device.old)))) }
     ensures reads { OnlyReads D.honest D.image D.room D.failures D.survives (is_err result) device.old device.new }
 {
-    match read_window(device, before, at, buf) {
+    match read_window(device, known.before, at, buf) {
         Ok(()) => {
-            put_changes(changes, at, buf);
+            put_changes(known, at, buf);
             Ok(())
         }
         Err(fault) => Err(fault),
@@ -155,7 +153,7 @@ impl<D: Device, A: Allocator> Device for ChangedImage<'_, D, A> {
     }
 
     fn read_at(&mut self, at: u64, buf: &mut [u8]) -> Result<(), DeviceFailed> {
-        match read_changed(&mut self.device, self.changes, self.before, at, buf) {
+        match read_changed(&mut self.device, &self.known, at, buf) {
             Ok(()) => Ok(()),
             Err(_) => Err(failed(&mut self.failures)),
         }

@@ -2,6 +2,7 @@
 #![tactic(auto)]
 
 mod image;
+mod order;
 mod untouched;
 
 pub use image::ChangedImage;

@@ -1,10 +1,13 @@
 //! What changes leave of an image.
-ghost use Rattle.std.specs.Prelude.{◌≡◌, ◌⊎◌, ◌<◌, ◌≤◌, ℕ, false};
+ghost use Rattle.std.specs.Prelude.{◌≡◌, ◌⊎◌, ◌<◌, ◌≤◌, ℕ, All, IsTrue, false};
+ghost use Rattle.std.proofs.Props.{props};
 ghost use Rattle.bx_image.specs.Change.{touches};
 ghost use Rattle.bx_image.specs.Image.{is_within};
 ghost use Rattle.bx_patch_preview.specs.Changed.{AreBeforeAndBehind};
+ghost use Rattle.bx_patch_preview.specs.private.Order.{AreOrdered};
 ghost use Rattle.bx_patch_preview.specs.private.Untouched.{AreUntouched, is_overwritten, is_past_base};
 
+use crate::order::{all_ordered, count_ended};
 use bx_image::Change;
 use bx_patch::Alike;
 use bx_text::Piece;
@@ -18,13 +21,30 @@ pub struct Untouched<'a, A: Allocator = Global> {
     pub changes: &'a [Change<A>],
     /// The length of the image before them.
     pub before: u64,
+    // whether a search may look for their pieces
+    pub(crate) ordered: bool,
+    ghost order: { IsTrue ordered → All (λ c. AreOrdered c.writes) changes.now } by { Prim.hlevel props },
+}
+
+impl<'a, A: Allocator> Untouched<'a, A> {
+    /// What these changes leave of an image that has this length.
+    pub(crate) fn by(changes: &'a [Change<A>], before: u64) -> Self
+        ensures changes { result.changes.now ≡ changes.now }
+        ensures before { result.before ≡ before }
+    {
+        Untouched {
+            changes,
+            before,
+            ordered: all_ordered(changes),
+        }
+    }
 }
 
 impl<A: Allocator> Alike for Untouched<'_, A> {
     ghost AreAlike = { λ u x y. AreBeforeAndBehind u.changes.now u.before x y ⊎ AreBeforeAndBehind u.changes.now u.before y x };
 
     fn same_until(&self, at: u64) -> u64 {
-        until_changes(self.changes, at, self.before)
+        until_changes(self, at)
     }
 }
 
@@ -69,23 +89,41 @@ fn until_pieces<A: Allocator>(pieces: &[Piece<A>], at: u64, end: u64) -> u64
     until
 }
 
+/// The same of pieces in order: of those that don't end before, the first one alone is looked at.
+fn until_next<A: Allocator>(pieces: &[Piece<A>], at: u64, end: u64) -> u64
+    requires ordered { AreOrdered pieces.now }
+    ensures most { result ≤ end }
+    ensures untouched { (j : ℕ) → at ≤ j → j < result → is_overwritten pieces.now j ≡ false }
+{
+    match pieces.get(count_ended(pieces, at)) {
+        Some(piece) => end.min(at.max(piece.at)),
+        None => end,
+    }
+}
+
 /// A place, `end` at most, up to which a change cuts off and overwrites nothing from an address on.
-fn until_change<A: Allocator>(change: &Change<A>, at: u64, end: u64) -> u64
+fn until_change<A: Allocator>(change: &Change<A>, ordered: bool, at: u64, end: u64) -> u64
+    requires ordered { IsTrue ordered → AreOrdered change.now.writes }
     ensures most { result ≤ end }
     ensures untouched { (j : ℕ) → at ≤ j → j < result → touches change.now j ≡ false }
 {
     let until = until_base(change.base, end);
-    until_pieces(change.writes.as_slice(), at, until)
+    let pieces = change.writes.as_slice();
+    if ordered {
+        until_next(pieces, at, until)
+    } else {
+        until_pieces(pieces, at, until)
+    }
 }
 
-/// The same of changes.
-fn until_changes<A: Allocator>(changes: &[Change<A>], at: u64, end: u64) -> u64
-    ensures most { result ≤ end }
-    ensures untouched { (j : ℕ) → at ≤ j → j < result → AreUntouched changes.now j }
+/// A place, the image's end at most, up to which changes cut off and overwrite nothing from an address on.
+fn until_changes<A: Allocator>(known: &Untouched<'_, A>, at: u64) -> u64
+    ensures most { result ≤ known.now.before }
+    ensures untouched { (j : ℕ) → at ≤ j → j < result → AreUntouched known.now.changes.now j }
 {
-    let mut until = end;
-    for change in changes {
-        until = until_change(change, at, until);
+    let mut until = known.before;
+    for change in known.changes {
+        until = until_change(change, known.ordered, at, until);
     }
     until
 }

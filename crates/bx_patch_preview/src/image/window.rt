@@ -1,12 +1,15 @@
 //! A window of an image behind changes.
-ghost use Rattle.std.specs.Prelude.{◌≡◌, ◌+◌, ◌<◌, ◌≤◌, ℕ, List, [], length, slice_index, OnOk, is_err};
+ghost use Rattle.std.specs.Prelude.{◌≡◌, ◌+◌, ◌<◌, ◌≤◌, ℕ, List, [], IsTrue, length, slice_index, OnOk, is_err};
 ghost use Rattle.std.specs.Option.{option_map_or};
 ghost use Rattle.bx_image.specs.Change.{effect, placed};
 ghost use Rattle.bx_image.specs.Image.{cut, place};
 ghost use Rattle.bx_patch.specs.Diff.{OnlyReads};
 ghost use Rattle.bx_patch_preview.specs.Changed.{effects};
+ghost use Rattle.bx_patch_preview.specs.private.Order.{AreOrdered};
 ghost use Rattle.bx_patch_preview.specs.private.Window.{IsWindow};
 
+use crate::order::{count_begun, count_ended};
+use crate::untouched::Untouched;
 use bx_image::{Change, Device, DeviceFailed};
 use bx_text::Piece;
 use std::alloc::Allocator;
@@ -111,21 +114,38 @@ fn put_pieces<A: Allocator>(pieces: &[Piece<A>], at: u64, buf: &mut [u8])
     }
 }
 
+/// Puts pieces in order into a window: those alone that reach into it.
+fn put_reaching<A: Allocator>(pieces: &[Piece<A>], at: u64, buf: &mut [u8])
+    requires ordered { AreOrdered pieces.now }
+    ensures length { length buf.new ≡ length buf.old }
+    ensures put { (y : List ℕ) → IsWindow buf.old at y → IsWindow buf.new at (placed pieces.now y) }
+{
+    let (begun, _) = pieces.split_at(count_begun(pieces, at, buf.len()));
+    let (_, reaching) = begun.split_at(count_ended(begun, at));
+    put_pieces(reaching, at, buf);
+}
+
 /// Makes a change in a window.
-fn put_change<A: Allocator>(change: &Change<A>, at: u64, buf: &mut [u8])
+fn put_change<A: Allocator>(change: &Change<A>, ordered: bool, at: u64, buf: &mut [u8])
+    requires ordered { IsTrue ordered → AreOrdered change.now.writes }
     ensures length { length buf.new ≡ length buf.old }
     ensures put { (y : List ℕ) → IsWindow buf.old at y → IsWindow buf.new at (effect change.now y) }
 {
     cut_window(change.base, at, buf);
-    put_pieces(change.writes.as_slice(), at, buf);
+    let pieces = change.writes.as_slice();
+    if ordered {
+        put_reaching(pieces, at, buf);
+    } else {
+        put_pieces(pieces, at, buf);
+    }
 }
 
 /// Makes changes in a window, in their order.
-pub fn put_changes<A: Allocator>(changes: &[Change<A>], at: u64, buf: &mut [u8])
+pub fn put_changes<A: Allocator>(known: &Untouched<'_, A>, at: u64, buf: &mut [u8])
     ensures length { length buf.new ≡ length buf.old }
-    ensures put { (y : List ℕ) → IsWindow buf.old at y → IsWindow buf.new at (effects changes.now y) }
+    ensures put { (y : List ℕ) → IsWindow buf.old at y → IsWindow buf.new at (effects known.now.changes.now y) }
 {
-    for change in changes {
-        put_change(change, at, buf);
+    for change in known.changes {
+        put_change(change, known.ordered, at, buf);
     }
 }

@@ -2,7 +2,15 @@ use Rattle.std.proofs.Common.{arith}
 use Rattle.bx_patch_preview.proofs.UntouchedLemmas.{touches_none}
 use Rattle.bx_patch_preview.proofs.untouched.until_change.Goals as goal
 
-pub returns-clause-untouched : goal.returns-clause-untouched
-returns-clause-untouched g c j above below =
+pub until_next-requires : goal.until_next-requires
+until_next-requires g c = record { ordered = rw c.as_slice-pieces.ensures (c.requires.ordered c.if-ordered.true) }
+
+pub returns-then-ordered-clause-untouched : goal.returns-then-ordered-clause-untouched
+returns-then-ordered-clause-untouched g c j above below =
+    touches_none c.args.change.now j (c.until_base-until.ensures.untouched j (omega (arith, c.until_next.ensures.most, below)))
+    (rw c.as_slice-pieces.ensures at (c.until_next.ensures.untouched j above below))
+
+pub returns-else-ordered-clause-untouched : goal.returns-else-ordered-clause-untouched
+returns-else-ordered-clause-untouched g c j above below =
     touches_none c.args.change.now j (c.until_base-until.ensures.untouched j (omega (arith, c.until_pieces.ensures.most, below)))
-    (rw c.as_slice.ensures at (c.until_pieces.ensures.untouched j above below))
+    (rw c.as_slice-pieces.ensures at (c.until_pieces.ensures.untouched j above below))

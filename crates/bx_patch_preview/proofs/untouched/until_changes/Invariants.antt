@@ -5,6 +5,6 @@ use Rattle.bx_patch_preview.proofs.untouched.until_changes.Given as goal
 -- what none of those left touches, none touches
 abbrev pub invariant-loop-change : goal.invariant-loop-change
 invariant-loop-change g l = record {
-  most : l.until ≤ l.end;
-  untouched : (j : ℕ) → l.at ≤ j → j < l.until → AreUntouched (drop l.change-index l.changes) j → AreUntouched l.changes j;
+  most : l.until ≤ l.known.before;
+  untouched : (j : ℕ) → l.at ≤ j → j < l.until → AreUntouched (drop l.change-index l.known.changes.now) j → AreUntouched l.known.changes.now j;
 }

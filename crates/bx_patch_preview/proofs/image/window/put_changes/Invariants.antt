@@ -7,5 +7,5 @@ use Rattle.bx_patch_preview.proofs.image.window.put_changes.Given as goal
 abbrev pub invariant-loop-change : goal.invariant-loop-change
 invariant-loop-change g l = record {
   long : length l.buf ≡ length l.fn.buf;
-  put : (y : List ℕ) → IsWindow l.fn.buf l.at y → (z : List ℕ) × IsWindow l.buf l.at z × (effects (drop l.change-index l.changes) z ≡ effects l.changes y);
+  put : (y : List ℕ) → IsWindow l.fn.buf l.at y → (z : List ℕ) × IsWindow l.buf l.at z × (effects (drop l.change-index l.known.changes.now) z ≡ effects l.known.changes.now y);
 }
