@@ -1,9 +1,12 @@
 //! The system as the world that the program runs in: its files by name, and the standard streams. An inner part of `bx_program`.
+//!
+//! No proof takes it for honest: `docs/DECISIONS.md` says how to look at it ("How that trust is looked at").
 #![tactic(auto)]
 
 mod facts;
 mod files;
 mod folders;
+mod note;
 mod noted;
 mod progress;
 mod refusal;
@@ -20,7 +23,7 @@ pub use files::devices::{held, image_of, size_of_texts};
 pub use files::left::{Ended, Left};
 pub use files::links::Misplaced;
 pub use files::mode::Permits;
-pub use files::open::{fixed_length, lock, lock_shared, open_there, take_away};
+pub use files::open::{fixed_length, lock, lock_shared, open_there, open_to_read, take_away};
 pub use files::opened::OpenFile;
 pub use folders::folder_of;
 pub use noted::Noted;

@@ -1,5 +1,5 @@
 //! The system as a world.
-ghost use Rattle.std.specs.Prelude.{◌≡◌, ◌≤◌, IfErr, IfOk, None, length};
+ghost use Rattle.std.specs.Prelude.{◌≡◌, ◌≤◌, [], IfErr, IfOk, None, length};
 ghost use Rattle.bx_program_system.specs.Unseen.{unseen};
 
 use crate::facts::alias::is_same;
@@ -12,9 +12,10 @@ use crate::files::links::{Misplaced, Unmade, make_image, refuse_among_devices};
 use crate::files::locks::Locks;
 use crate::files::look::{is_in_place, look, look_at_text};
 use crate::files::mode::Permits;
-use crate::files::open::{fixed_length, length_of, open_there, take_away};
+use crate::files::open::{fixed_length, length_of, open_there, open_to_read, take_away};
 use crate::files::opened::{Known, OpenFile};
 use crate::folders::{folder_of, sync_folder};
+use crate::note::{self, NoteNames, Place, Put};
 use crate::noted::Noted;
 use crate::progress::{Counted, Progress};
 use crate::refusal::{refused, unmade, unopened};
@@ -23,8 +24,9 @@ use bx_image::FileImage;
 use bx_journal_store::{FileText, TextStore};
 use bx_program_world::{Look, Refusal, Stat, Unwritten, World};
 use bx_text::{IoFault, emit};
+use std::alloc::AllocError;
 use std::cell::Cell;
-use std::fs::{self, File, TryLockError};
+use std::fs::{self, File, Metadata, TryLockError};
 use std::io::{self, Seek, SeekFrom, Write};
 use std::os::unix::fs::MetadataExt;
 use std::rt::Files;
@@ -67,6 +69,10 @@ pub struct SystemWorld<'p, 'r, R> {
     to_read: u64,
     kept: Option<Folder>,
     locks: Locks,
+    // the names of the files that a note stands beside; none where none is kept
+    note: Option<NoteNames>,
+    // what the system had of the image that was lent last, where a note is kept
+    image: Option<Metadata>,
     /// What the devices of the last session said.
     pub left: Left,
     /// Whether a name was refused its place on the disk.
@@ -77,6 +83,8 @@ pub struct SystemWorld<'p, 'r, R> {
     pub unread: Option<i32>,
     /// Why the last image that is missing wasn't made, where its place is none.
     pub misplaced: Option<Misplaced>,
+    /// Whether a note was to be put, and there is none: another file has its name, or it can't be made or written.
+    pub is_without_note: bool,
 }
 
 impl<'p, 'r, R> SystemWorld<'p, 'r, R>
@@ -101,11 +109,14 @@ where
             to_read: 0,
             kept: None,
             locks: Locks::PASSING,
+            note: None,
+            image: None,
             left: Left::NOTHING,
             is_unkept: false,
             unwritten: None,
             unread: None,
             misplaced: None,
+            is_without_note: false,
         }
     }
 
@@ -121,6 +132,36 @@ where
         let mut world = SystemWorld::new(rt, progress, false);
         world.compares = true;
         world
+    }
+
+    /// The same, with a note beside the journal: the file of its name with `.image` behind it. Else there is none.
+    ///
+    /// # Errors
+    /// Where memory is short.
+    pub fn with_note(mut self, image: &str, journal: &str, redo: &str) -> Result<Self, AllocError> {
+        self.note = Some(NoteNames::new(self.rt.alloc(), image, journal, redo)?);
+        Ok(self)
+    }
+
+    /// Where the note stands, where one is kept; it is beside the image that was lent last, or else the one of its name.
+    fn place(&self) -> Option<Place<'_>> {
+        let names = self.note.as_ref()?;
+        let image = match &self.image {
+            Some(image) => image.clone().ok()?,
+            None => fs::metadata(self.rt, names.image()).ok()?,
+        };
+        Some(Place {
+            names,
+            image,
+            caller: self.caller(),
+        })
+    }
+
+    /// Keeps what the system has of an image that is lent, where a note is kept beside it.
+    fn stand_beside(&mut self, image: &OpenFile<'p, 'r, R>) {
+        if self.note.is_some() {
+            self.image = image.metadata().ok();
+        }
     }
 
     /// Keeps each file that is locked to be changed locked from then on, whatever is closed and opened again, until `pass_locks`.
@@ -194,7 +235,7 @@ where
             self.to_read = self.to_read.saturating_add(length.unwrap_or(0));
             self.progress.begin(Some(self.to_read));
         }
-        image.file.counting_reads()
+        image.file.only_read(true).counting_reads()
     }
 
     /// Lends a text to be read, and tells how many bytes those have that are.
@@ -243,6 +284,7 @@ where
 
     type Input = Noted<Counted<'p, 'r, File, R>>;
 
+    // No proof knows what a real file holds, so nothing is claimed: `docs/DECISIONS.md`, "The program and runs of commands".
     ghost honest = { λ _. ⊥ };
 
     ghost sight = { λ _. unseen };
@@ -254,6 +296,10 @@ where
     ghost refusals = { λ _. 0 };
 
     ghost beside = { λ _. None };
+
+    ghost note = { λ _. [] };
+
+    ghost note_survives = { λ _ _. ⊥ };
 
     ghost begun = { λ _ honest. absurd honest };
 
@@ -297,6 +343,7 @@ where
         if is_among_devices(self.rt, folder_of(name)) {
             return Err(Refusal::Other(None));
         }
+        // The folder gets a name that isn't on the disk yet.
         self.kept = None;
         let file = Permits::beside(&image.metadata()?)
             .make(self.rt, name)
@@ -408,6 +455,7 @@ where
         redo: OpenFile<'p, 'r, R>,
     ) -> (Self::Image, Self::Text, Self::Text) {
         self.progress.begin_reading(self.size_of(&journal, &redo));
+        self.stand_beside(&image);
         self.lent = Lent {
             image: image.known,
             journal: journal.known,
@@ -467,7 +515,7 @@ where
     }
 
     fn open_image_to_read(&mut self, name: &str) -> Result<OpenFile<'p, 'r, R>, Refusal> {
-        let file = open_there(self.rt, name, false).map_err(unopened)?;
+        let file = open_to_read(self.rt, name).map_err(unopened)?;
         let length = fixed_length(&file).map_err(refused)?;
         Ok(OpenFile {
             file: CountedFile::image(held(file, false), self.progress),
@@ -482,7 +530,7 @@ where
     ) -> Result<OpenFile<'p, 'r, R>, Refusal> {
         let image = stat_of(&image.metadata()?, false);
         let text = look_at_text(self.rt, name, self.caller(), &image)?;
-        let file = open_there(self.rt, name, false).map_err(unopened)?;
+        let file = open_to_read(self.rt, name).map_err(unopened)?;
         Ok(OpenFile {
             file: CountedFile::text(Some(held(file, false)), self.progress),
             known: Known::of_text(text.is_group_given, false),
@@ -498,13 +546,14 @@ where
     }
 
     fn lend_image_to_read(&mut self, image: OpenFile<'p, 'r, R>) -> Result<Self::Image, Refusal> {
+        self.stand_beside(&image);
         if self.compares {
             let length = image.known.length;
             return Ok(image_of(self.compared(image), length));
         }
         self.to_read = 0;
         self.progress.begin(None);
-        Ok(image_of(image.file, image.known.length))
+        Ok(image_of(image.file.only_read(true), image.known.length))
     }
 
     fn lend_text_to_read(&mut self, text: OpenFile<'p, 'r, R>) -> Result<Self::Text, Refusal> {
@@ -528,7 +577,8 @@ where
         self.to_read = 0;
         self.progress.begin(None);
         let text = self.lend_text(journal)?;
-        let file = image.file.waiting(self.waits);
+        self.stand_beside(&image);
+        let file = image.file.only_read(true).waiting(self.waits);
         Ok((image_of(file, image.known.length), text))
     }
 
@@ -548,5 +598,30 @@ where
     fn close_beside(&mut self, image: Self::Image, journal: Self::Text, redo: Self::Text) {
         self.progress.end();
         self.left = Left::of(&image, &journal, &redo, FIRST_OF_REDO);
+    }
+
+    fn read_note(&mut self, buf: &mut [u8]) -> Result<usize, Refusal> {
+        let Some(place) = self.place() else {
+            return Ok(0);
+        };
+        let count = note::read(self.rt, &place, buf).map_err(refused)?;
+        Ok(count.min(buf.len()))
+    }
+
+    fn put_note(&mut self, bytes: &[u8], synced: bool) -> bx_program_world::Noted {
+        let put = match self.place() {
+            Some(place) => note::put_note(self.rt, &place, bytes, synced && self.waits),
+            None => Put::Without,
+        };
+        self.is_without_note = put == Put::Without && !bytes.is_empty();
+        match put {
+            Put::InPlace => bx_program_world::Noted::Put,
+            Put::Made => {
+                self.kept = None;
+                bx_program_world::Noted::Put
+            }
+            Put::Without => bx_program_world::Noted::Without,
+            Put::Stands => bx_program_world::Noted::Stands,
+        }
     }
 }

@@ -1,7 +1,7 @@
 -- What a world in memory has.
 use Rattle.std.specs.Prelude.{◌≡◌, ◌⊎◌, ◌+◌, ◌<◌, ℕ, Bool, true, false, cond, List, [], ◌∷◌, ◌++◌, length}
 use Rattle.std.specs.Option.{unwrap_or}
-use Rattle.bx_program_world.specs.World.{Sight}
+use Rattle.bx_program_world.specs.World.{Sight, noted}
 use Rattle.bx_program_world.specs.MemoryFiles.{bytes_at, file_named, is_gone_at, is_link_of, lent_trio, stat_of, synced_at}
 use Rattle.bx_program_world.specs.declared.memory.MemoryWorld.{MemoryWorld}
 use Rattle.bx_program_world.specs.declared.memory.Run.{Run}
@@ -11,6 +11,7 @@ use Rattle.bx_program_world.specs.declared.memory.files.Leads.TheVariants.{File}
 use Rattle.bx_program_world.specs.declared.memory.files.Stored.{Stored}
 use Rattle.bx_program_world.specs.declared.stat.Kind.TheVariants.{Other, Regular}
 use Rattle.bx_program_world.specs.declared.stat.Stat.{Stat}
+use Rattle.bx_program_world.specs.declared.world.Noted.{Noted}
 
 -- what the system says of a file that isn't there
 abbrev pub no_stat : Stat
@@ -68,6 +69,14 @@ refusals_of w = w.run.refusals.count.number
 abbrev pub found_of : MemoryWorld → ℕ → List ℕ → Type 0
 found_of w n c = (c ≡ bytes_at w.files.items n) ⊎ (c ≡ synced_at w.files.items n)
 
+-- what the note has
+abbrev pub note_of : MemoryWorld → List ℕ
+note_of w = w.run.note.bytes.items
+
+-- what may be found of the note after a loss of power: what it has, or what was on its disk
+abbrev pub note_found_of : MemoryWorld → List ℕ → Type 0
+note_found_of w c = (c ≡ w.run.note.bytes.items) ⊎ (c ≡ w.run.note.synced.items)
+
 -- a call was noted as refused, or passed; files and all else are as they were
 pub record IsNoted (refused : Bool) (old new : MemoryWorld) : Type 0 where
   pub files : new.files ≡ old.files
@@ -79,6 +88,7 @@ pub record IsNoted (refused : Bool) (old new : MemoryWorld) : Type 0 where
   pub output : new.run.output ≡ old.run.output
   pub errors : new.run.errors ≡ old.run.errors
   pub stuck : new.run.stuck ≡ old.run.stuck
+  pub note : new.run.note ≡ old.run.note
   pub refusals : refusals_of new ≡ cond refused (refusals_of old + 1) (refusals_of old)
 
 -- all but the bytes of one file is as it was
@@ -147,7 +157,22 @@ pub record Sticks (old new : MemoryWorld) : Type 0 where
   pub output : new.run.output ≡ old.run.output
   pub errors : new.run.errors ≡ old.run.errors
   pub stuck : new.run.stuck ≡ old.run.stuck + 1
+  pub note : new.run.note ≡ old.run.note
   pub refusals : refusals_of new ≡ refusals_of old
 
 abbrev pub BuriesOrSticks : ℕ → MemoryWorld → MemoryWorld → Type 0
 BuriesOrSticks n old new = BuriesEmpty n old new ⊎ Sticks old new
+
+-- the note has what a call left that was to put these bytes in its place, and all else is as it was
+pub record PutsNote (answer : Noted) (bytes : List ℕ) (old new : MemoryWorld) : Type 0 where
+  pub note : note_of new ≡ noted answer bytes (note_of old)
+  pub files : new.files ≡ old.files
+  pub entries : new.entries ≡ old.entries
+  pub caller : new.run.caller ≡ old.run.caller
+  pub before : new.run.before ≡ old.run.before
+  pub lent : new.run.lent ≡ old.run.lent
+  pub beside : new.run.beside ≡ old.run.beside
+  pub output : new.run.output ≡ old.run.output
+  pub errors : new.run.errors ≡ old.run.errors
+  pub stuck : new.run.stuck ≡ old.run.stuck
+  pub refusals : refusals_of new ≡ refusals_of old

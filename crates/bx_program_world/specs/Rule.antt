@@ -7,6 +7,7 @@ use Rattle.bx_program_world.specs.declared.stat.Kind.{Kind}
 use Rattle.bx_program_world.specs.declared.stat.Kind.TheVariants.{Regular, Block, Other}
 use Rattle.bx_program_world.specs.declared.stat.Stat.{Stat}
 
+-- whether a file is a regular one
 abbrev pub is_regular : Kind → Bool
 is_regular Regular = true
 is_regular Block = false
@@ -45,6 +46,7 @@ device_unfit mounted image =
     if image.is_mounted && not mounted then Some Mounted else
     None
 
+-- why a file of this kind can't be an image that is changed
 abbrev pub unfit_by_kind : Kind → Bool → Stat → Option Unfit
 unfit_by_kind Regular mounted image = None
 unfit_by_kind Block mounted image = device_unfit mounted image
@@ -54,6 +56,7 @@ unfit_by_kind Other mounted image = Some WrongKind
 abbrev pub image_unfit : Bool → Stat → Option Unfit
 image_unfit mounted image = unfit_by_kind image.kind mounted image
 
+-- why a file of this kind can't be an image that is read
 abbrev pub read_unfit_by : Kind → Option Unfit
 read_unfit_by Regular = None
 read_unfit_by Block = None

@@ -1,9 +1,11 @@
 -- The world of a program: files under names, and the standard streams.
-use Rattle.std.specs.Prelude.{◌≡◌, ◌⊎◌, ◌<◌, ◌≤◌, ◌+◌, ◌++◌, ℕ, Bool, false, List, [], length, Option, None, Some, Result, Ok, Err}
+use Rattle.std.specs.Prelude.{◌≡◌, ◌⊎◌, ◌<◌, ◌≤◌, ◌+◌, ◌++◌, ℕ, min, take, Bool, false, List, [], length, Option, None, Some, Result, Ok, Err}
 use Rattle.std.specs.Option.{option_map_or}
 use Rattle.bx_image.specs.Power.{NoMore}
 use Rattle.bx_program_world.specs.Rule.{image_unfit, read_unfit, text_unfit}
 use Rattle.bx_program_world.specs.declared.stat.Stat.{Stat}
+use Rattle.bx_program_world.specs.declared.world.Noted.{Noted}
+use Rattle.bx_program_world.specs.declared.world.Noted.TheVariants.{Put, Without, Stands}
 use Rattle.bx_program_world.specs.declared.world.Refusal.{Refusal}
 use Rattle.bx_program_world.specs.declared.world.Refusal.TheVariants.{Missing}
 
@@ -251,3 +253,15 @@ NothingNewSpared spared old new = (n : ℕ) → spared n → NoMore (old n) (new
 pub record TextsLeft (f : ReadFiles) (journal redo : List ℕ → Type 0) (new : ℕ → List ℕ → Type 0) : Type 0 where
   pub journal_found : NoMore journal (new f.journal)
   pub redo_found : (n : ℕ) → f.redo ≡ Some n → NoMore redo (new n)
+
+-- of a note with these bytes the first n stand in a buffer of `room` bytes: all, or as many as the buffer has
+pub record IsFrontRead (n room : ℕ) (buf bytes : List ℕ) : Type 0 where
+  pub within : n ≤ room
+  pub all : n ≡ min room (length bytes)
+  pub front : take n buf ≡ take n bytes
+
+-- what a note has that had `old`, where `bytes` were to be put in its place
+abbrev pub noted : Noted → List ℕ → List ℕ → List ℕ
+noted Put bytes old = bytes
+noted Without bytes old = []
+noted Stands bytes old = old

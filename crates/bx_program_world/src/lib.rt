@@ -14,4 +14,4 @@ pub use memory::text::LentText;
 pub use memory::{Fails, MemoryWorld, OpenFile, Plan};
 pub use rule::{Unfit, image_unfit, read_unfit, text_unfit};
 pub use stat::{Classes, Kind, Look, Stat};
-pub use world::{Refusal, Unwritten, World};
+pub use world::{Noted, Refusal, Unwritten, World};

@@ -6,6 +6,7 @@ ghost use Rattle.bx_program_world.specs.declared.memory.files.LentBeside.{LentBe
 pub(crate) mod files;
 pub(crate) mod image;
 pub(crate) mod input;
+pub(crate) mod note;
 pub(crate) mod reading;
 pub(crate) mod refusals;
 pub(crate) mod setup;
@@ -21,7 +22,7 @@ use crate::memory::reading::{copy_of, nothing, whole_copy_of};
 use crate::memory::refusals::Refusals;
 use crate::memory::text::LentText;
 use crate::stat::{Classes, Kind, Look, Stat};
-use crate::{Refusal, Unwritten, World};
+use crate::{Noted, Refusal, Unwritten, World};
 use bx_image::{Device, Fuse, FuseImage, Part};
 use bx_journal_store::{CountedText, FuseText, TextStore};
 use bx_text::Name;
@@ -103,6 +104,7 @@ pub struct Run {
     errors: Vec<u8>,
     stuck: u64,
     refusals: Refusals,
+    note: Contents,
 }
 
 /// A world in memory. Its calls are refused where its plan says so, where a file is missing or there already, and for want of
@@ -143,7 +145,7 @@ impl MemoryWorld {
     ghost use Rattle.bx_program_world.specs.declared.world.Refusal.TheVariants.{Missing};
     ghost use Rattle.bx_program_world.specs.World.{CountsRefusal, IsAlwaysFit, IsOwnText, Makes};
     ghost use Rattle.bx_program_world.specs.MemoryFiles.{file_named, free_end, is_taken};
-    ghost use Rattle.bx_program_world.specs.Memory.{AddsFile, BuriesEmpty, BuriesOrSticks, HasOtherBytes, LendsContents, NamesFile, NamesNothing, TakesContents, IsNoted, refusals_of, sight_of, stat_beside};
+    ghost use Rattle.bx_program_world.specs.Memory.{AddsFile, BuriesEmpty, BuriesOrSticks, HasOtherBytes, LendsContents, NamesFile, NamesNothing, TakesContents, IsNoted, note_of, refusals_of, sight_of, stat_beside};
 
     /// A world without files, which this user runs a program in.
     pub fn new(alloc: Global, caller: u32) -> Self
@@ -163,6 +165,7 @@ impl MemoryWorld {
                 errors: Vec::new(alloc),
                 stuck: 0,
                 refusals: Refusals::none(),
+                note: nothing(alloc),
             },
             plan: Plan::NOTHING,
         }
@@ -213,6 +216,7 @@ impl MemoryWorld {
         ensures files { self.new.files ≡ self.old.files }
         ensures same { sight_of self.new ≡ sight_of self.old }
         ensures counted { CountsRefusal result (refusals_of self.old) (refusals_of self.new) }
+        ensures note { note_of self.new ≡ note_of self.old }
     {
         if self.refuses() {
             return Err(Refusal::Other(None));
@@ -232,6 +236,7 @@ impl MemoryWorld {
         ensures synced { (n : ℕ) → n < length self.old.files.items
             → synced_at self.new.files.items n ≡ synced_at self.old.files.items n }
         ensures counted { refusals_of self.new ≡ refusals_of self.old }
+        ensures note { note_of self.new ≡ note_of self.old }
     {
         let number = self.files.len();
         self.files.reserve(1).map_err(|_| Refusal::Other(None))?;
@@ -258,6 +263,7 @@ impl MemoryWorld {
         ensures synced { (n : ℕ) → n < length self.old.files.items
             → synced_at self.new.files.items n ≡ synced_at self.old.files.items n }
         ensures counted { refusals_of self.new ≡ refusals_of self.old }
+        ensures note { note_of self.new ≡ note_of self.old }
     {
         let beside = stat_of(self.files.as_slice(), image).unwrap();
         let stat = Stat {
@@ -312,6 +318,7 @@ impl MemoryWorld {
         ensures synced { (n : ℕ) → n < length self.old.files.items
             → synced_at self.new.files.items n ≡ synced_at self.old.files.items n }
         ensures counted { refusals_of self.new ≡ refusals_of self.old }
+        ensures note { note_of self.new ≡ note_of self.old }
     {
         let Some(place) = self.place_of_image(name) else {
             return Err(Refusal::Other(None));
@@ -443,7 +450,7 @@ impl MemoryWorld {
 }
 
 impl World for MemoryWorld {
-    ghost use Rattle.bx_program_world.specs.Memory.{found_of, refusals_of, sight_of};
+    ghost use Rattle.bx_program_world.specs.Memory.{found_of, note_found_of, note_of, refusals_of, sight_of};
     ghost use Rattle.bx_program_world.specs.MemoryFiles.{file_within, lent_beside};
 
     type Image = FuseImage<LentImage>;
@@ -465,6 +472,10 @@ impl World for MemoryWorld {
     ghost refusals = { refusals_of };
 
     ghost beside = { λ w. lent_beside w.run.beside };
+
+    ghost note = { note_of };
+
+    ghost note_survives = { note_found_of };
 
     ghost begun = { λ w _. w.kept.before_there };
 
@@ -756,5 +767,16 @@ impl World for MemoryWorld {
         );
         self.take_if(lent.redo, redo.into_inner().into_inner().into_contents());
         self.run.beside = None;
+    }
+
+    fn read_note(&mut self, buf: &mut [u8]) -> Result<usize, Refusal> {
+        if self.plan.calls.blows() {
+            return Err(Refusal::Other(None));
+        }
+        Ok(self.note_front(buf))
+    }
+
+    fn put_note(&mut self, bytes: &[u8], synced: bool) -> Noted {
+        self.write_note(bytes, synced)
     }
 }

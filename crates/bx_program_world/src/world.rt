@@ -1,9 +1,10 @@
 //! The world that a program runs in.
 ghost use Rattle.std.specs.Prelude.{◌≡◌, ◌↔◌, ◌⊎◌, ◌+◌, ◌<◌, ◌≤◌, ◌^◌, ◌++◌, ℕ, List, [], Option, true, false, Err, None, Some, IfOk, IfErr, IfSome, OnOk, OnErr, drop, length, take};
+ghost use Rattle.bx_program_world.specs.declared.world.Noted.TheVariants.{Put};
 ghost use Rattle.bx_program_world.specs.declared.world.Refusal.TheVariants.{Locked, Missing};
 ghost use Rattle.bx_program_world.specs.World.{AreThreeFiles, ChangesOnly, CountsRefusal, GivesBack, IsAlwaysFit, IsEmptyUnder, IsOwnText, IsStuck, KeepsFiles, LeavesTrio, Lends, Makes, MayBeImage, MayBeText, NothingNewFound, NothingNewBelow, NothingNewOf, Sight, TakesAtMost, TakesAway, Trio, AddsFront, stat_named};
-ghost use Rattle.bx_program_world.specs.World.{AreOwnFiles, ClosesTexts, IsNoText, IsNoneRead, MayBeRead, NothingNewSpared, ReadFiles, Spares, TextsLeft, bytes_if};
-ghost use Rattle.bx_image.specs.Power.{NoMore};
+ghost use Rattle.bx_program_world.specs.World.{AreOwnFiles, ClosesTexts, IsFrontRead, IsNoText, IsNoneRead, MayBeRead, NothingNewSpared, ReadFiles, Spares, TextsLeft, bytes_if, noted};
+ghost use Rattle.bx_image.specs.Power.{NoMore, Only};
 
 use crate::stat::{Look, Stat};
 use bx_image::Device;
@@ -32,7 +33,18 @@ pub struct Unwritten {
     pub written: u64,
 }
 
-/// All that a program asks of the system: files by name, and the standard streams.
+/// What stands of the note behind a call that was to put bytes in its place.
+#[derive(Clone, Copy, Debug, PartialEq, Eq)]
+pub enum Noted {
+    /// These bytes.
+    Put,
+    /// Nothing: there is none, and none can be made, or it was emptied.
+    Without,
+    /// What stood there: it could be neither written nor emptied.
+    Stands,
+}
+
+/// All that a program asks of the system: files by name, a note beside a journal, and the standard streams.
 ///
 /// A world is honest if nobody else changes its files and names, and its calls do what they answer. What is said of files is
 /// said of honest worlds. The three files of a session are lent as devices and given back: what a session wrote is then theirs.
@@ -69,6 +81,12 @@ pub trait World {
     /// The files of an image that is lent to be read beside its texts; none where none are.
     ghost beside: { Self → Option ReadFiles };
 
+    /// What the note has that stands beside the journal: its third text. One that is missing has nothing.
+    ghost note: { Self → List ℕ };
+
+    /// What may be found of the note after a loss of power.
+    ghost note_survives: { Self → List ℕ → Type 0 };
+
     /// Looks at what stands under a name, before it is opened.
     fn look(&mut self, name: &str) -> Result<Look, Refusal>
         ensures is_link { honest self.old → IfOk result (λ l. l.is_link ≡ (sight self.old).is_link name.now) }
@@ -77,6 +95,7 @@ pub trait World {
         ensures same { honest self.old → sight self.new ≡ sight self.old }
         ensures counted { honest self.old → CountsRefusal result (refusals self.old) (refusals self.new) }
         ensures survives { honest self.old → NothingNewFound (survives self.old) (survives self.new) }
+        ensures note { honest self.old → note self.new ≡ note self.old }
         ensures honesty { honest self.new ↔ honest self.old };
 
     /// The user who runs the program.
@@ -92,6 +111,7 @@ pub trait World {
         ensures same { honest self.old → sight self.new ≡ sight self.old }
         ensures counted { honest self.old → CountsRefusal result (refusals self.old) (refusals self.new) }
         ensures survives { honest self.old → NothingNewFound (survives self.old) (survives self.new) }
+        ensures note { honest self.old → note self.new ≡ note self.old }
         ensures honesty { honest self.new ↔ honest self.old };
 
     /// Opens a journal or a redo text that is there, beside its image.
@@ -103,6 +123,7 @@ pub trait World {
         ensures same { honest self.old → sight self.new ≡ sight self.old }
         ensures counted { honest self.old → CountsRefusal result (refusals self.old) (refusals self.new) }
         ensures survives { honest self.old → NothingNewFound (survives self.old) (survives self.new) }
+        ensures note { honest self.old → note self.new ≡ note self.old }
         ensures honesty { honest self.new ↔ honest self.old };
 
     /// Makes an empty journal or redo text beside an image, and opens it. It may be read and written by nobody who may not read
@@ -116,6 +137,7 @@ pub trait World {
         ensures missing { honest self.old → result ≡ Err Missing → ⊥ }
         ensures counted { honest self.old → CountsRefusal result (refusals self.old) (refusals self.new) }
         ensures survives { honest self.old → NothingNewBelow (sight self.old).there (survives self.old) (survives self.new) }
+        ensures note { honest self.old → note self.new ≡ note self.old }
         ensures honesty { honest self.new ↔ honest self.old };
 
     /// Makes an empty image, and opens it: a regular file, which a link may lead to.
@@ -126,6 +148,7 @@ pub trait World {
         ensures missing { honest self.old → result ≡ Err Missing → ⊥ }
         ensures counted { honest self.old → CountsRefusal result (refusals self.old) (refusals self.new) }
         ensures survives { honest self.old → NothingNewBelow (sight self.old).there (survives self.old) (survives self.new) }
+        ensures note { honest self.old → note self.new ≡ note self.old }
         ensures honesty { honest self.new ↔ honest self.old };
 
     /// Opens a file of any kind to read it alone.
@@ -136,6 +159,7 @@ pub trait World {
         ensures same { honest self.old → sight self.new ≡ sight self.old }
         ensures counted { honest self.old → CountsRefusal result (refusals self.old) (refusals self.new) }
         ensures survives { honest self.old → NothingNewFound (survives self.old) (survives self.new) }
+        ensures note { honest self.old → note self.new ≡ note self.old }
         ensures honesty { honest self.new ↔ honest self.old };
 
     /// How many bytes an open file has that has a place for each of them; none of another one, as a pipe, and where it doesn't
@@ -145,6 +169,7 @@ pub trait World {
         ensures same { honest self.old → sight self.new ≡ sight self.old }
         ensures counted { honest self.old → refusals self.new ≡ refusals self.old }
         ensures survives { honest self.old → NothingNewFound (survives self.old) (survives self.new) }
+        ensures note { honest self.old → note self.new ≡ note self.old }
         ensures honesty { honest self.new ↔ honest self.old };
 
     /// Lends an open file as an input, behind `passed` of its bytes; where any are passed, it has a place for each.
@@ -156,6 +181,7 @@ pub trait World {
         ensures same { honest self.old → sight self.new ≡ sight self.old }
         ensures counted { honest self.old → CountsRefusal result (refusals self.old) (refusals self.new) }
         ensures survives { honest self.old → NothingNewFound (survives self.old) (survives self.new) }
+        ensures note { honest self.old → note self.new ≡ note self.old }
         ensures honesty { honest self.new ↔ honest self.old };
 
     /// Takes an input back, which is closed.
@@ -163,6 +189,7 @@ pub trait World {
         ensures same { honest self.old → sight self.new ≡ sight self.old }
         ensures counted { honest self.old → refusals self.new ≡ refusals self.old }
         ensures survives { honest self.old → NothingNewFound (survives self.old) (survives self.new) }
+        ensures note { honest self.old → note self.new ≡ note self.old }
         ensures honesty { honest self.new ↔ honest self.old };
 
     /// What the system tells of an open file.
@@ -172,6 +199,7 @@ pub trait World {
         ensures same { honest self.old → sight self.new ≡ sight self.old }
         ensures counted { honest self.old → CountsRefusal result (refusals self.old) (refusals self.new) }
         ensures survives { honest self.old → NothingNewFound (survives self.old) (survives self.new) }
+        ensures note { honest self.old → note self.new ≡ note self.old }
         ensures honesty { honest self.new ↔ honest self.old };
 
     /// Locks a file up to its closing, which has to have its name still. One that another program has locked is refused; nobody
@@ -182,6 +210,7 @@ pub trait World {
         ensures same { honest self.old → sight self.new ≡ sight self.old }
         ensures counted { honest self.old → CountsRefusal result (refusals self.old) (refusals self.new) }
         ensures survives { honest self.old → NothingNewFound (survives self.old) (survives self.new) }
+        ensures note { honest self.old → note self.new ≡ note self.old }
         ensures honesty { honest self.new ↔ honest self.old };
 
     /// Whether both are one file.
@@ -191,6 +220,7 @@ pub trait World {
         ensures same { honest self.old → sight self.new ≡ sight self.old }
         ensures counted { honest self.old → CountsRefusal result (refusals self.old) (refusals self.new) }
         ensures survives { honest self.old → NothingNewFound (survives self.old) (survives self.new) }
+        ensures note { honest self.old → note self.new ≡ note self.old }
         ensures honesty { honest self.new ↔ honest self.old };
 
     /// Takes a file away that this run made, if it is empty and has the name.
@@ -201,6 +231,7 @@ pub trait World {
         ensures most { honest self.old → TakesAtMost (sight self.old) (sight self.new) (number file.now) }
         ensures counted { honest self.old → refusals self.new ≡ refusals self.old }
         ensures survives { honest self.old → NothingNewFound (survives self.old) (survives self.new) }
+        ensures note { honest self.old → note self.new ≡ note self.old }
         ensures honesty { honest self.new ↔ honest self.old };
 
     /// Puts the name of a file on the disk.
@@ -209,6 +240,7 @@ pub trait World {
         ensures counted { honest self.old → CountsRefusal result (refusals self.old) (refusals self.new) }
         ensures same { honest self.old → sight self.new ≡ sight self.old }
         ensures survives { honest self.old → NothingNewFound (survives self.old) (survives self.new) }
+        ensures note { honest self.old → note self.new ≡ note self.old }
         ensures honesty { honest self.new ↔ honest self.old };
 
     /// Lends the three files of a session.
@@ -220,8 +252,7 @@ pub trait World {
     ) -> (Self::Image, Self::Text, Self::Text)
         requires free { honest self.old → (sight self.old).lent ≡ None }
         requires apart { honest self.old → AreThreeFiles (sight self.old).there (record { image = number image; journal = number journal; redo = number redo }) }
-        ensures image_failures { Self.Image.failures result.0 ≡ 0 }
-        ensures text_failures { (Self.Text.failures result.1 ≡ 0) × (Self.Text.failures result.2 ≡ 2 ^ 32) }
+        ensures failures { (Self.Image.failures result.0 ≡ 0) × (Self.Text.failures result.1 ≡ 0) × (Self.Text.failures result.2 ≡ 2 ^ 32) }
         ensures image { honest self.old → Self.Image.honest result.0 × (Self.Image.image result.0 ≡ (sight self.old).bytes (number image)) }
         ensures journal { honest self.old → Self.Text.honest result.1 × (Self.Text.text result.1 ≡ (sight self.old).bytes (number journal)) }
         ensures redo { honest self.old → Self.Text.honest result.2 × (Self.Text.text result.2 ≡ (sight self.old).bytes (number redo)) }
@@ -232,6 +263,7 @@ pub trait World {
         ensures image_survives { honest self.old → NoMore (survives self.old (number image)) (Self.Image.survives result.0) }
         ensures journal_survives { honest self.old → NoMore (survives self.old (number journal)) (Self.Text.survives result.1) }
         ensures redo_survives { honest self.old → NoMore (survives self.old (number redo)) (Self.Text.survives result.2) }
+        ensures note { honest self.old → note self.new ≡ note self.old }
         ensures honesty { honest self.new ↔ honest self.old };
 
     /// Takes the three devices back; the files have then what the devices have.
@@ -251,6 +283,7 @@ pub trait World {
             → LeavesTrio t (Self.Image.survives image) (Self.Text.survives journal) (Self.Text.survives redo) (survives self.new) }
         ensures others { honest self.old → (t : Trio) → (sight self.old).lent ≡ Some t → NothingNewOf t (survives self.old) (survives self.new) }
         ensures counted { honest self.old → refusals self.new ≡ refusals self.old }
+        ensures note { honest self.old → note self.new ≡ note self.old }
         ensures honesty { honest self.new ↔ honest self.old };
 
     /// Writes to standard output. What a fault leaves is a front of the bytes, with no fewer than it tells.
@@ -263,6 +296,7 @@ pub trait World {
         ensures files { honest self.old → KeepsFiles (sight self.old) (sight self.new) }
         ensures counted { honest self.old → refusals self.new ≡ refusals self.old }
         ensures survives { honest self.old → NothingNewFound (survives self.old) (survives self.new) }
+        ensures note { honest self.old → note self.new ≡ note self.old }
         ensures honesty { honest self.new ↔ honest self.old };
 
     /// Writes to standard error; how much of it arrives isn't known.
@@ -272,6 +306,7 @@ pub trait World {
         ensures files { honest self.old → KeepsFiles (sight self.old) (sight self.new) }
         ensures counted { honest self.old → refusals self.new ≡ refusals self.old }
         ensures survives { honest self.old → NothingNewFound (survives self.old) (survives self.new) }
+        ensures note { honest self.old → note self.new ≡ note self.old }
         ensures honesty { honest self.new ↔ honest self.old };
 
     /// Opens an image that is there, to read it alone. It may be a device that is mounted.
@@ -282,6 +317,7 @@ pub trait World {
         ensures same { honest self.old → sight self.new ≡ sight self.old }
         ensures counted { honest self.old → CountsRefusal result (refusals self.old) (refusals self.new) }
         ensures survives { honest self.old → NothingNewFound (survives self.old) (survives self.new) }
+        ensures note { honest self.old → note self.new ≡ note self.old }
         ensures honesty { honest self.new ↔ honest self.old };
 
     /// Opens a journal or a redo text that is there, beside its image, to read it alone.
@@ -292,6 +328,7 @@ pub trait World {
         ensures same { honest self.old → sight self.new ≡ sight self.old }
         ensures counted { honest self.old → CountsRefusal result (refusals self.old) (refusals self.new) }
         ensures survives { honest self.old → NothingNewFound (survives self.old) (survives self.new) }
+        ensures note { honest self.old → note self.new ≡ note self.old }
         ensures honesty { honest self.new ↔ honest self.old };
 
     /// Locks a file that is only read up to its closing, beside others that lock it so. It has to have its name still. One that
@@ -302,6 +339,7 @@ pub trait World {
         ensures same { honest self.old → sight self.new ≡ sight self.old }
         ensures counted { honest self.old → CountsRefusal result (refusals self.old) (refusals self.new) }
         ensures survives { honest self.old → NothingNewFound (survives self.old) (survives self.new) }
+        ensures note { honest self.old → note self.new ≡ note self.old }
         ensures honesty { honest self.new ↔ honest self.old };
 
     /// Lends an open image to be read. The device refuses each write, cut and sync, so the file stays whatever is done with it.
@@ -313,6 +351,7 @@ pub trait World {
         ensures same { honest self.old → sight self.new ≡ sight self.old }
         ensures counted { honest self.old → CountsRefusal result (refusals self.old) (refusals self.new) }
         ensures survives { honest self.old → NothingNewFound (survives self.old) (survives self.new) }
+        ensures note { honest self.old → note self.new ≡ note self.old }
         ensures honesty { honest self.new ↔ honest self.old };
 
     /// Lends an open journal or redo text to be read. The device refuses each write, cut and sync.
@@ -324,6 +363,7 @@ pub trait World {
         ensures same { honest self.old → sight self.new ≡ sight self.old }
         ensures counted { honest self.old → CountsRefusal result (refusals self.old) (refusals self.new) }
         ensures survives { honest self.old → NothingNewFound (survives self.old) (survives self.new) }
+        ensures note { honest self.old → note self.new ≡ note self.old }
         ensures honesty { honest self.new ↔ honest self.old };
 
     /// Lends a redo text that is missing to be read: it has no bytes, and refuses each write.
@@ -335,6 +375,7 @@ pub trait World {
         ensures same { honest self.old → sight self.new ≡ sight self.old }
         ensures counted { honest self.old → refusals self.new ≡ refusals self.old }
         ensures survives { honest self.old → NothingNewFound (survives self.old) (survives self.new) }
+        ensures note { honest self.old → note self.new ≡ note self.old }
         ensures honesty { honest self.new ↔ honest self.old };
 
     /// Takes devices back that were lent to be read; their files are closed.
@@ -342,6 +383,7 @@ pub trait World {
         ensures same { honest self.old → sight self.new ≡ sight self.old }
         ensures counted { honest self.old → refusals self.new ≡ refusals self.old }
         ensures survives { honest self.old → NothingNewFound (survives self.old) (survives self.new) }
+        ensures note { honest self.old → note self.new ≡ note self.old }
         ensures honesty { honest self.new ↔ honest self.old };
 
     /// Lends an image that is open to be read, and its journal, which is open to be changed. Both are lent to be read: the devices
@@ -364,6 +406,7 @@ pub trait World {
         ensures same { honest self.old → sight self.new ≡ sight self.old }
         ensures counted { honest self.old → CountsRefusal result (refusals self.old) (refusals self.new) }
         ensures survives { honest self.old → NothingNewFound (survives self.old) (survives self.new) }
+        ensures note { honest self.old → note self.new ≡ note self.old }
         ensures honesty { honest self.new ↔ honest self.old };
 
     /// Lends a redo text that is open to be changed, beside the image and the journal that are lent, to be read like the journal.
@@ -379,6 +422,7 @@ pub trait World {
         ensures same { honest self.old → sight self.new ≡ sight self.old }
         ensures counted { honest self.old → CountsRefusal result (refusals self.old) (refusals self.new) }
         ensures survives { honest self.old → NothingNewFound (survives self.old) (survives self.new) }
+        ensures note { honest self.old → note self.new ≡ note self.old }
         ensures honesty { honest self.new ↔ honest self.old };
 
     /// Lends the texts that are lent beside an image to be changed. Whatever was done with their devices before, they hold what the
@@ -398,6 +442,7 @@ pub trait World {
         ensures redo_survives { honest self.old → (f : ReadFiles) → beside self.old ≡ Some f
             → (n : ℕ) → f.redo ≡ Some n → NoMore (survives self.old n) (Self.Text.survives result.1) }
         ensures counted { honest self.old → refusals self.new ≡ refusals self.old }
+        ensures note { honest self.old → note self.new ≡ note self.old }
         ensures honesty { honest self.new ↔ honest self.old };
 
     /// Takes an image and its texts back, which may have been changed; their files are closed. The texts have then what the devices
@@ -415,6 +460,32 @@ pub trait World {
             → NothingNewSpared (IsNoneRead f) (survives self.old) (survives self.new) }
         ensures beside { honest self.old → beside self.new ≡ None }
         ensures counted { honest self.old → refusals self.new ≡ refusals self.old }
+        ensures note { honest self.old → note self.new ≡ note self.old }
+        ensures honesty { honest self.new ↔ honest self.old };
+
+    /// Reads the first bytes of the note into a buffer, and says how many there are up to its length. A note that is missing has none;
+    /// one that can't be read is no refusal that is counted.
+    fn read_note(&mut self, buf: &mut [u8]) -> Result<usize, Refusal>
+        ensures within { length buf.new ≡ length buf.old }
+        ensures few { IfOk result (λ n. n ≤ length buf.old) }
+        ensures read { honest self.old → IfOk result (λ n. IsFrontRead n (length buf.old) buf.new (note self.old)) }
+        ensures same { honest self.old → sight self.new ≡ sight self.old }
+        ensures beside { honest self.old → beside self.new ≡ beside self.old }
+        ensures counted { honest self.old → refusals self.new ≡ refusals self.old }
+        ensures survives { honest self.old → NothingNewFound (survives self.old) (survives self.new) }
+        ensures note { honest self.old → note self.new ≡ note self.old }
+        ensures found { honest self.old → NoMore (note_survives self.old) (note_survives self.new) }
+        ensures honesty { honest self.new ↔ honest self.old };
+
+    /// Puts these bytes in place of the note, and says what stands then; `synced` says whether they are put on the disk too. No file
+    /// that has a name in this world is changed by it, nor one that is lent. No bytes take the note away.
+    fn put_note(&mut self, bytes: &[u8], synced: bool) -> Noted
+        ensures note { honest self.old → note self.new ≡ noted result bytes.now (note self.old) }
+        ensures settled { honest self.old → result ≡ Put → synced ≡ true → Only bytes.now (note_survives self.new) }
+        ensures same { honest self.old → sight self.new ≡ sight self.old }
+        ensures beside { honest self.old → beside self.new ≡ beside self.old }
+        ensures counted { honest self.old → refusals self.new ≡ refusals self.old }
+        ensures survives { honest self.old → NothingNewFound (survives self.old) (survives self.new) }
         ensures honesty { honest self.new ↔ honest self.old };
 
     /// No fewer files are there than were when the run began.

@@ -44,6 +44,7 @@ where
 {
     let number = number_text(rt.alloc(), device.rdev())?;
     let number = number.as_str();
+    // The second is that of the disk that a partition stands on.
     for table in ["ro", "../ro"] {
         let table = format!(in rt.alloc(); "/sys/dev/block/{number}/{table}")?;
         if fs::read_to_string(rt, table.as_str()).is_ok_and(|whole| whole.as_str().trim_end()

@@ -51,6 +51,7 @@ pub fn look_at_text<R>(rt: &R, name: &str, caller: u32, image: &Stat) -> Result<
 where
     R: Files<File = File> + AllocGlobal,
 {
+    // The kit has no `O_NOFOLLOW`: the name is asked before, the open file behind it, and then the name again.
     let found = Role::Text.found(rt, name).map_err(unopened)?;
     let text = stat_of(&found, is_group_given(rt, name, &found));
     match text_unfit(caller, image, found.is_symlink(), &text) {

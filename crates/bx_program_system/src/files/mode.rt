@@ -77,6 +77,7 @@ impl Permits {
 
     fn make_new<R: Files<File = File>>(self, rt: &R, name: &str) -> io::Result<File> {
         let mut how = File::options();
+        // With its bits from the first moment on: set afterwards, somebody could have it open by then.
         how.read(true).write(true).create_new(true).mode(self.bits);
         how.open(rt, name)
     }

@@ -12,9 +12,38 @@ pub fn open_there<R: Files<File = File>>(rt: &R, name: &str, writes: bool) -> io
     how.open(rt, name)
 }
 
+/// Opens a regular file to read it. Where it may be written it is opened for that too: a pipe that has taken its place by now is
+/// then open at once, and else not before somebody writes it. The system can't be asked for that in another way here.
+pub fn open_regular<R: Files<File = File>>(rt: &R, name: &str) -> io::Result<File> {
+    match open_there(rt, name, true) {
+        Ok(file) => Ok(file),
+        Err(error) if error.kind() == ErrorKind::NotFound => Err(error),
+        Err(_) => open_there(rt, name, false),
+    }
+}
+
+/// Opens a regular file or a block device to read it, and refuses any other one that has taken its place.
+pub fn open_to_read<R: Files<File = File>>(rt: &R, name: &str) -> io::Result<File> {
+    let kind = fs::metadata(rt, name)?.file_type();
+    let file = if kind.is_file() {
+        open_regular(rt, name)?
+    } else if kind.is_block_device() {
+        open_there(rt, name, false)?
+    } else {
+        return Err(io::Error::from(ErrorKind::InvalidInput));
+    };
+    let kind = file.metadata()?.file_type();
+    if kind.is_file() || kind.is_block_device() {
+        Ok(file)
+    } else {
+        Err(io::Error::from(ErrorKind::InvalidInput))
+    }
+}
+
 /// The length of a file that can't have another one: of a block device.
 pub fn fixed_length(mut file: &File) -> io::Result<Option<u64>> {
     if file.metadata()?.file_type().is_block_device() {
+        // The system tells the length of a device by no other call of the kit.
         return Ok(Some(file.seek(SeekFrom::End(0))?));
     }
     Ok(None)
@@ -36,6 +65,7 @@ pub fn length_of(mut file: &File) -> Option<u64> {
 /// Where the file system has no locks it goes on without.
 fn where_there_are_locks(outcome: Result<(), TryLockError>) -> Result<(), TryLockError> {
     match outcome {
+        // Else no command would work there; `man bx`, CAVEATS, says so.
         Err(TryLockError::Error(e)) if e.kind() == ErrorKind::Unsupported => Ok(()),
         outcome => outcome,
     }

@@ -1,5 +1,6 @@
 //! What cases do with a world in memory between runs.
 ghost use Rattle.std.specs.Prelude.{◌≡◌, ◌==◌, ◌<◌, List, ℕ, length, not, None, IfOk, OnOk};
+ghost use Rattle.bx_image.specs.Power.{Only};
 ghost use Rattle.bx_program_world.specs.Loss.{HasLost};
 ghost use Rattle.bx_program_world.specs.MemoryFiles.{bytes_at, synced_at};
 
@@ -78,6 +79,21 @@ impl MemoryWorld {
         }
     }
 
+    /// Puts a note there, which is on its disk. No bytes are none.
+    ///
+    /// # Errors
+    /// `NoMemory`, and then the note is as it was.
+    pub fn plant_note(&mut self, bytes: &[u8]) -> Result<(), NoMemory>
+        ensures note { OnOk result (⟦<MemoryWorld as World>⟧.note self.new ≡ bytes.now) }
+        ensures settled { OnOk result (Only bytes.now (⟦<MemoryWorld as World>⟧.note_survives self.new)) }
+    {
+        self.run.note = Contents {
+            bytes: copy_of(self.alloc, bytes)?,
+            synced: copy_of(self.alloc, bytes)?,
+        };
+        Ok(())
+    }
+
     /// Begins a run, with nothing lent or written yet.
     pub fn begin(&mut self, plan: Plan)
         ensures free { (⟦<MemoryWorld as World>⟧.sight self.new).lent ≡ None }
@@ -85,6 +101,7 @@ impl MemoryWorld {
         ensures calm { ⟦<MemoryWorld as World>⟧.refusals self.new ≡ 0 }
         ensures named { (m : List ℕ) → (⟦<MemoryWorld as World>⟧.sight self.new).named m ≡ (⟦<MemoryWorld as World>⟧.sight self.old).named m }
         ensures bytes { (i : ℕ) → (⟦<MemoryWorld as World>⟧.sight self.new).bytes i ≡ (⟦<MemoryWorld as World>⟧.sight self.old).bytes i }
+        ensures note { ⟦<MemoryWorld as World>⟧.note self.new ≡ ⟦<MemoryWorld as World>⟧.note self.old }
     {
         self.run.lent = None;
         self.run.beside = None;
@@ -96,15 +113,19 @@ impl MemoryWorld {
         self.plan = plan;
     }
 
-    /// Loses its power: each file has what is on its disk.
+    /// Loses its power: each file has what is on its disk, and so has the note.
     ///
     /// # Errors
     /// `NoMemory`, and then some files have it, and some have not.
     pub fn lose_power(&mut self) -> Result<(), NoMemory>
-        ensures { OnOk result ((n : ℕ) → ⟦<MemoryWorld as World>⟧.survives self.old n ((⟦<MemoryWorld as World>⟧.sight self.new).bytes n)) }
+        ensures files { OnOk result ((n : ℕ)
+            → ⟦<MemoryWorld as World>⟧.survives self.old n ((⟦<MemoryWorld as World>⟧.sight self.new).bytes n)) }
+        ensures note { OnOk result (⟦<MemoryWorld as World>⟧.note_survives self.old (⟦<MemoryWorld as World>⟧.note self.new)) }
     {
         let alloc = self.alloc;
-        lose_all(alloc, self.files.as_mut_slice())
+        lose_all(alloc, self.files.as_mut_slice())?;
+        self.run.note.bytes = copy_of(alloc, self.run.note.synced.as_slice())?;
+        Ok(())
     }
 
     /// What the file of a name has; none where it leads to none.
@@ -112,6 +133,13 @@ impl MemoryWorld {
         let number = file_named(self.files.as_slice(), self.entries.as_slice(), name)?;
         let file = self.files.get(number)?;
         Some(file.contents.bytes.as_slice())
+    }
+
+    /// What the note has; nothing where it is missing.
+    pub fn note(&self) -> &[u8]
+        ensures { result.now ≡ ⟦<MemoryWorld as World>⟧.note self.now }
+    {
+        self.run.note.bytes.as_slice()
     }
 
     /// What was written to standard output.
