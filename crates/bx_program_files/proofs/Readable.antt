@@ -15,7 +15,7 @@ use Rattle.bx_program_files.specs.declared.unopened.Unopened.{Unopened}
 use Rattle.bx_program_files.specs.declared.unopened.Which.{Which}
 use Rattle.bx_program_files.specs.declared.unopened.Which.TheVariants.{Image, Journal, Redo}
 use Rattle.bx_program_files.specs.declared.unopened.Why.{Why}
-use Rattle.bx_program_files.specs.declared.unopened.Why.TheVariants.{System, Unfit as NotFit, Alias}
+use Rattle.bx_program_files.specs.declared.unopened.Why.TheVariants.{System, Unfit as NotFit, Alias, Another}
 
 -- a look behind another one
 pub seen_then : {W : Type 0} → (sight : W → Sight) (survives : W → ℕ → List ℕ → Type 0) (a b c : W)
@@ -38,6 +38,7 @@ reason_map : (P Q A B counted : Type 0) (U V : Unfit → Type 0) (why : Why) →
 reason_map P Q A B counted U V (System e) missing unfit alias is = refused_map P Q counted e missing is
 reason_map P Q A B counted U V (NotFit u) missing unfit alias is = unfit u is
 reason_map P Q A B counted U V Alias missing unfit alias is = alias is
+reason_map P Q A B counted U V Another missing unfit alias is = is
 
 none : (P : Type 0) → ⊥ → P
 none P wrong = absurd wrong

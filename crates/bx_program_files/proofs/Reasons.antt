@@ -14,7 +14,7 @@ use Rattle.bx_program_files.specs.declared.unopened.Unopened.{Unopened}
 use Rattle.bx_program_files.specs.declared.unopened.Which.{Which}
 use Rattle.bx_program_files.specs.declared.unopened.Which.TheVariants.{Image, Journal, Redo}
 use Rattle.bx_program_files.specs.declared.unopened.Why.{Why}
-use Rattle.bx_program_files.specs.declared.unopened.Why.TheVariants.{System, Unfit as NotFit, Alias}
+use Rattle.bx_program_files.specs.declared.unopened.Why.TheVariants.{System, Unfit as NotFit, Alias, Another}
 use Rattle.bx_program_files.proofs.Making.{made_still, made_then, none_some, some_one}
 
 pub refused_weaker : (P Q C D : Type 0) (e : Refusal) → (P → Q) → (C → D) → IsRefusedFor P C e → IsRefusedFor Q D e
@@ -55,6 +55,7 @@ pub reason_weaker : (P Q A B C D : Type 0) (U V : Unfit → Type 0) (why : Why) 
 reason_weaker P Q A B C D U V (System e) missing unfit alias more is = refused_weaker P Q C D e missing more is
 reason_weaker P Q A B C D U V (NotFit u) missing unfit alias more is = unfit u is
 reason_weaker P Q A B C D U V Alias missing unfit alias more is = alias is
+reason_weaker P Q A B C D U V Another missing unfit alias more is = is
 
 pub never : (P : Type 0) → ⊥ → P
 never P wrong = absurd wrong

@@ -72,6 +72,7 @@ IsUnfitTextOf image_name w name unfit = (image : Stat) × (stat_named w image_na
 abbrev pub LeadToOneFile : Sight → List ℕ → List ℕ → Type 0
 LeadToOneFile w a b = (n : ℕ) × (w.named a ≡ Some n) × (w.named b ≡ Some n)
 
+-- why one of the files of an image may not be opened to be read
 abbrev pub MayRefuseToRead : Names → Type 0 → Sight → Which → Why → Type 0
 MayRefuseToRead names counted w Image why = IsReason (w.named names.image ≡ None) (IsUnfitToRead w names.image) ⊥ counted why
 MayRefuseToRead names counted w Journal why =

@@ -12,18 +12,20 @@ use Rattle.bx_program_files.specs.declared.unopened.Unopened.{Unopened}
 use Rattle.bx_program_files.specs.declared.unopened.Which.{Which}
 use Rattle.bx_program_files.specs.declared.unopened.Which.TheVariants.{Image, Journal, Redo}
 use Rattle.bx_program_files.specs.declared.unopened.Why.{Why}
-use Rattle.bx_program_files.specs.declared.unopened.Why.TheVariants.{System, Unfit as NotFit, Alias}
+use Rattle.bx_program_files.specs.declared.unopened.Why.TheVariants.{System, Unfit as NotFit, Alias, Another}
 
 -- the system refused a call: for a file that is missing, or it counted so
 abbrev pub IsRefusedFor : Type 0 → Type 0 → Refusal → Type 0
 IsRefusedFor missing counted Missing = missing
 IsRefusedFor missing counted refusal = counted
 
--- why a file may be refused: it is missing, the system counted a call that it refused, it is unfit, or it is another one
+-- why a file may be refused: it is missing, the system counted a call that it refused, it is unfit, or it is another one of the three. None is
+-- refused for what it holds.
 abbrev pub IsReason : Type 0 → (Unfit → Type 0) → Type 0 → Type 0 → Why → Type 0
 IsReason missing unfit alias counted (System refusal) = IsRefusedFor missing counted refusal
 IsReason missing unfit alias counted (NotFit why) = unfit why
 IsReason missing unfit alias counted Alias = alias
+IsReason missing unfit alias counted Another = ⊥
 
 -- one of the three is refused for such a reason
 abbrev pub IsRefusedFile : Which → Type 0 → (Unfit → Type 0) → Type 0 → Type 0 → Unopened → Type 0
@@ -72,6 +74,7 @@ abbrev pub MayLeadToOne : Bool → Sight → List ℕ → List ℕ → Type 0
 MayLeadToOne makes w a b =
     ((n : ℕ) × (w.named a ≡ Some n) × (w.named b ≡ Some n)) ⊎ ((makes ≡ true) × (w.named a ≡ None) × (w.named b ≡ None))
 
+-- why one of three files may not be opened to be changed
 abbrev pub MayRefuseWhich : Names → Bool → Bool → Type 0 → Sight → Which → Why → Type 0
 MayRefuseWhich names mounted makes counted w Image why =
     IsReason (IsUnmade makes w names.image) (IsUnfitImage mounted w names.image) ⊥ counted why

@@ -14,6 +14,7 @@ pub fn look_alone<W: World>(world: &mut W, name: &str) -> Result<Stat, Why>
         → IfErr result (MayNotRead name.now (W.refusals world.old < W.refusals world.new) (W.sight world.old)) }
     ensures calm { W.honest world.old → OnOk result (W.refusals world.new ≡ W.refusals world.old) }
     ensures seen { W.honest world.old → StaysSeen W.sight W.survives world.old world.new }
+    ensures note { W.honest world.old → W.note world.new ≡ W.note world.old }
     ensures honesty { W.honest world.new ↔ W.honest world.old }
 {
     let look = match world.look(name) {
@@ -37,6 +38,7 @@ pub fn open_alone<W: World>(world: &mut W, name: &str) -> Result<W::File, Why>
         (W.refusals world.old < W.refusals world.new)) }
     ensures calm { W.honest world.old → OnOk result (W.refusals world.new ≡ W.refusals world.old) }
     ensures seen { W.honest world.old → StaysSeen W.sight W.survives world.old world.new }
+    ensures note { W.honest world.old → W.note world.new ≡ W.note world.old }
     ensures honesty { W.honest world.new ↔ W.honest world.old }
 {
     let file = match world.open_image_to_read(name) {
@@ -59,6 +61,7 @@ pub fn lend_alone<W: World>(world: &mut W, name: &str) -> Result<W::Image, Why>
         (W.refusals world.old < W.refusals world.new)) }
     ensures calm { W.honest world.old → OnOk result (W.refusals world.new ≡ W.refusals world.old) }
     ensures seen { W.honest world.old → StaysSeen W.sight W.survives world.old world.new }
+    ensures note { W.honest world.old → W.note world.new ≡ W.note world.old }
     ensures honesty { W.honest world.new ↔ W.honest world.old }
 {
     let file = match open_alone(world, name) {
@@ -74,6 +77,7 @@ pub fn lend_alone<W: World>(world: &mut W, name: &str) -> Result<W::Image, Why>
 /// Takes a file back that was lent so, and closes it.
 pub fn close_alone<W: World>(world: &mut W, image: W::Image)
     ensures seen { W.honest world.old → StaysSeen W.sight W.survives world.old world.new }
+    ensures note { W.honest world.old → W.note world.new ≡ W.note world.old }
     ensures honesty { W.honest world.new ↔ W.honest world.old }
 {
     let journal = world.lend_no_text();

@@ -1,5 +1,6 @@
 //! What stands under the three names, asked before a file is opened.
 ghost use Rattle.std.specs.Prelude.{◌≡◌, ◌↔◌, ◌<◌, ◌≤◌, ℕ, Some, None, false, IfErr, IfOk, OnOk};
+ghost use Rattle.bx_program_world.specs.World.{NothingNewFound};
 ghost use Rattle.bx_program_files.specs.Fit.{AreFit, AreFitBeside, IsFitImage, look_unfit, unfit_beside};
 ghost use Rattle.bx_program_files.specs.Reasons.{IsRefusedFile, IsUnfitBeside, IsUnfitImage, IsUnfitOrRefused, IsUnmade, MayRefuseOpening};
 ghost use Rattle.bx_program_files.specs.declared.unopened.Which.TheVariants.{Image};
@@ -21,6 +22,8 @@ fn look_at_image<W: World>(
         (IsUnfitImage mounted (W.sight world.old) name.now) ⊥ (least < W.refusals world.new)) }
     ensures same { W.honest world.old → W.sight world.new ≡ W.sight world.old }
     ensures counted { W.honest world.old → W.refusals world.old ≤ W.refusals world.new }
+    ensures survives { W.honest world.old → NothingNewFound (W.survives world.old) (W.survives world.new) }
+    ensures note { W.honest world.old → W.note world.new ≡ W.note world.old }
     ensures honesty { W.honest world.new ↔ W.honest world.old }
 {
     let look = match world.look(name) {
@@ -65,6 +68,8 @@ fn look_at_text<W: World>(
         (least < W.refusals world.new)) }
     ensures same { W.honest world.old → W.sight world.new ≡ W.sight world.old }
     ensures counted { W.honest world.old → W.refusals world.old ≤ W.refusals world.new }
+    ensures survives { W.honest world.old → NothingNewFound (W.survives world.old) (W.survives world.new) }
+    ensures note { W.honest world.old → W.note world.new ≡ W.note world.old }
     ensures honesty { W.honest world.new ↔ W.honest world.old }
 {
     let look = match world.look(name) {
@@ -86,6 +91,8 @@ pub fn look_beside<W: World>(world: &mut W, names: &Names, image: Stat) -> Resul
         (W.sight world.old) u) }
     ensures same { W.honest world.old → W.sight world.new ≡ W.sight world.old }
     ensures counted { W.honest world.old → W.refusals world.old ≤ W.refusals world.new }
+    ensures survives { W.honest world.old → NothingNewFound (W.survives world.old) (W.survives world.new) }
+    ensures note { W.honest world.old → W.note world.new ≡ W.note world.old }
     ensures honesty { W.honest world.new ↔ W.honest world.old }
 {
     look_at_text(world, names.journal.as_str(), Which::Journal, Some(image))?;
@@ -108,6 +115,8 @@ pub fn look_at_all<W: World>(
         (W.sight world.old)) }
     ensures same { W.honest world.old → W.sight world.new ≡ W.sight world.old }
     ensures counted { W.honest world.old → W.refusals world.old ≤ W.refusals world.new }
+    ensures survives { W.honest world.old → NothingNewFound (W.survives world.old) (W.survives world.new) }
+    ensures note { W.honest world.old → W.note world.new ≡ W.note world.old }
     ensures honesty { W.honest world.new ↔ W.honest world.old }
 {
     let image = look_at_image(world, names.image.as_str(), mounted, makes)?;

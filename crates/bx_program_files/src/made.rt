@@ -1,6 +1,6 @@
 //! The three files of a session, and taking away again those of them that this run made.
 ghost use Rattle.std.specs.Prelude.{◌≡◌, ◌↔◌, ◌⊎◌, ◌≤◌, ℕ, Some, true, false, []};
-ghost use Rattle.bx_program_world.specs.World.{AreThreeFiles, IsStuck, Sight, TakesAtMost, TakesAway};
+ghost use Rattle.bx_program_world.specs.World.{AreThreeFiles, IsStuck, NothingNewFound, Sight, TakesAtMost, TakesAway};
 ghost use Rattle.bx_program_files.specs.Files.{AreAllThere, HasMade, IsMadeFile, IsOneOfMade, LeavesFiles, LeavesMade, TakesOnly};
 ghost use Rattle.bx_program_files.specs.Numbers.{numbers_of};
 
@@ -40,6 +40,8 @@ fn take_made<W: World>(world: &mut W, name: &str, file: &W::File, made: bool)
     ensures most { W.honest world.old → TakesAtMost (W.sight world.old) (W.sight world.new) (W.number file.now) }
     ensures stays { W.honest world.old → made ≡ false → W.sight world.new ≡ W.sight world.old }
     ensures counted { W.honest world.old → W.refusals world.new ≡ W.refusals world.old }
+    ensures survives { W.honest world.old → NothingNewFound (W.survives world.old) (W.survives world.new) }
+    ensures note { W.honest world.old → W.note world.new ≡ W.note world.old }
     ensures honesty { W.honest world.new ↔ W.honest world.old }
 {
     if made {
@@ -54,6 +56,8 @@ pub fn unmake<W: World>(world: &mut W, name: &str, file: &W::File, made: bool)
     ensures left { W.honest world.old → (first : Sight) → AreAllThere first
         → LeavesMade (IsMadeFile made (W.number file.now)) first (W.sight world.old) → LeavesFiles first (W.sight world.new) }
     ensures counted { W.honest world.old → W.refusals world.new ≡ W.refusals world.old }
+    ensures survives { W.honest world.old → NothingNewFound (W.survives world.old) (W.survives world.new) }
+    ensures note { W.honest world.old → W.note world.new ≡ W.note world.old }
     ensures honesty { W.honest world.new ↔ W.honest world.old }
 {
     take_made(world, name, file, made);
@@ -75,6 +79,8 @@ pub fn unmake_all<W: World>(world: &mut W, names: &Names, files: &Files<W::File>
     ensures stays { W.honest world.old → files.now.made ≡ record { image = false; journal = false; redo = false }
         → W.sight world.new ≡ W.sight world.old }
     ensures counted { W.honest world.old → W.refusals world.new ≡ W.refusals world.old }
+    ensures survives { W.honest world.old → NothingNewFound (W.survives world.old) (W.survives world.new) }
+    ensures note { W.honest world.old → W.note world.new ≡ W.note world.old }
     ensures honesty { W.honest world.new ↔ W.honest world.old }
 {
     take_made(world, names.redo.as_str(), &files.redo, files.made.redo);

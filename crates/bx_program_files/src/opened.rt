@@ -1,6 +1,6 @@
 //! One file that is opened, or made and opened.
 ghost use Rattle.std.specs.Prelude.{◌≡◌, ◌↔◌, ◌<◌, ◌≤◌, ℕ, true, false, Some, None, IfErr, IfOk, OnErr, OnOk};
-ghost use Rattle.bx_program_world.specs.World.{IsAlwaysFit, MayBeImage, MayBeText, Sight};
+ghost use Rattle.bx_program_world.specs.World.{IsAlwaysFit, MayBeImage, MayBeText, NothingNewBelow, NothingNewFound, Sight};
 ghost use Rattle.bx_program_world.specs.declared.world.Refusal.TheVariants.{Missing};
 ghost use Rattle.bx_program_files.specs.Files.{AreAllThere, HasMade, IsFileOpened, IsImageOpened, IsMadeFile, IsOwn, IsTextOpened, IsThere, LeavesFiles};
 ghost use Rattle.bx_program_files.specs.Reasons.{IsRefusedFile, IsRefusedFor, IsUnmade, NoneUnfit};
@@ -27,6 +27,8 @@ fn open_image_there<W: World>(world: &mut W, name: &str, mounted: bool) -> Resul
         → IfErr result (IsRefusedFor ((W.sight world.old).named name.now ≡ None) (least < W.refusals world.new)) }
     ensures same { W.honest world.old → W.sight world.new ≡ W.sight world.old }
     ensures counted { W.honest world.old → W.refusals world.old ≤ W.refusals world.new }
+    ensures survives { W.honest world.old → NothingNewFound (W.survives world.old) (W.survives world.new) }
+    ensures note { W.honest world.old → W.note world.new ≡ W.note world.old }
     ensures honesty { W.honest world.new ↔ W.honest world.old }
 {
     let file = world.open_image(name, mounted)?;
@@ -42,6 +44,8 @@ fn open_text_there<W: World>(world: &mut W, name: &str, image: &W::File) -> Resu
         → IfErr result (IsRefusedFor ((W.sight world.old).named name.now ≡ None) (least < W.refusals world.new)) }
     ensures same { W.honest world.old → W.sight world.new ≡ W.sight world.old }
     ensures counted { W.honest world.old → W.refusals world.old ≤ W.refusals world.new }
+    ensures survives { W.honest world.old → NothingNewFound (W.survives world.old) (W.survives world.new) }
+    ensures note { W.honest world.old → W.note world.new ≡ W.note world.old }
     ensures honesty { W.honest world.new ↔ W.honest world.old }
 {
     let file = world.open_text(name, image)?;
@@ -60,6 +64,8 @@ fn lock_made<W: World>(world: &mut W, name: &str, file: &W::File) -> Result<(), 
     ensures why { W.honest world.old → (least : ℕ) → least ≤ W.refusals world.old
         → IfErr result (IsRefusedFor ⊥ (least < W.refusals world.new)) }
     ensures counted { W.honest world.old → W.refusals world.old ≤ W.refusals world.new }
+    ensures survives { W.honest world.old → NothingNewFound (W.survives world.old) (W.survives world.new) }
+    ensures note { W.honest world.old → W.note world.new ≡ W.note world.old }
     ensures honesty { W.honest world.new ↔ W.honest world.old }
 {
     match world.lock(name, file) {
@@ -81,6 +87,8 @@ fn make_image<W: World>(world: &mut W, name: &str) -> Result<W::File, Refusal>
     ensures why { W.honest world.old → (least : ℕ) → least ≤ W.refusals world.old
         → IfErr result (IsRefusedFor ⊥ (least < W.refusals world.new)) }
     ensures counted { W.honest world.old → W.refusals world.old ≤ W.refusals world.new }
+    ensures survives { W.honest world.old → NothingNewBelow (W.sight world.old).there (W.survives world.old) (W.survives world.new) }
+    ensures note { W.honest world.old → W.note world.new ≡ W.note world.old }
     ensures honesty { W.honest world.new ↔ W.honest world.old }
 {
     let file = world.make_image(name)?;
@@ -98,6 +106,8 @@ fn make_text<W: World>(world: &mut W, name: &str, image: &W::File) -> Result<W::
     ensures why { W.honest world.old → (least : ℕ) → least ≤ W.refusals world.old
         → IfErr result (IsRefusedFor ⊥ (least < W.refusals world.new)) }
     ensures counted { W.honest world.old → W.refusals world.old ≤ W.refusals world.new }
+    ensures survives { W.honest world.old → NothingNewBelow (W.sight world.old).there (W.survives world.old) (W.survives world.new) }
+    ensures note { W.honest world.old → W.note world.new ≡ W.note world.old }
     ensures honesty { W.honest world.new ↔ W.honest world.old }
 {
     let file = world.make_text(name, image)?;
@@ -128,6 +138,8 @@ fn open_or_make_image<W: World>(
     ensures why { W.honest world.old → (least : ℕ) → least ≤ W.refusals world.old
         → IfErr result (IsRefusedFor (IsUnmade makes (W.sight world.old) name.now) (least < W.refusals world.new)) }
     ensures counted { W.honest world.old → W.refusals world.old ≤ W.refusals world.new }
+    ensures survives { W.honest world.old → NothingNewBelow (W.sight world.old).there (W.survives world.old) (W.survives world.new) }
+    ensures note { W.honest world.old → W.note world.new ≡ W.note world.old }
     ensures honesty { W.honest world.new ↔ W.honest world.old }
 {
     match open_image_there(world, name, mounted) {
@@ -156,6 +168,8 @@ fn open_or_make_text<W: World>(
     ensures why { W.honest world.old → (least : ℕ) → least ≤ W.refusals world.old
         → IfErr result (IsRefusedFor (IsUnmade makes (W.sight world.old) name.now) (least < W.refusals world.new)) }
     ensures counted { W.honest world.old → W.refusals world.old ≤ W.refusals world.new }
+    ensures survives { W.honest world.old → NothingNewBelow (W.sight world.old).there (W.survives world.old) (W.survives world.new) }
+    ensures note { W.honest world.old → W.note world.new ≡ W.note world.old }
     ensures honesty { W.honest world.new ↔ W.honest world.old }
 {
     match open_text_there(world, name, image) {
@@ -185,6 +199,8 @@ pub fn open_image<W: World>(
         → IfErr result (IsRefusedFile Image (IsUnmade makes (W.sight world.old) name.now) NoneUnfit ⊥
         (least < W.refusals world.new)) }
     ensures counted { W.honest world.old → W.refusals world.old ≤ W.refusals world.new }
+    ensures survives { W.honest world.old → NothingNewBelow (W.sight world.old).there (W.survives world.old) (W.survives world.new) }
+    ensures note { W.honest world.old → W.note world.new ≡ W.note world.old }
     ensures honesty { W.honest world.new ↔ W.honest world.old }
 {
     match open_or_make_image(world, name, mounted, makes) {
@@ -210,6 +226,8 @@ pub fn open_text<W: World>(
         → IfErr result (IsRefusedFile which (IsUnmade makes (W.sight world.old) name.now) NoneUnfit ⊥
         (least < W.refusals world.new)) }
     ensures counted { W.honest world.old → W.refusals world.old ≤ W.refusals world.new }
+    ensures survives { W.honest world.old → NothingNewBelow (W.sight world.old).there (W.survives world.old) (W.survives world.new) }
+    ensures note { W.honest world.old → W.note world.new ≡ W.note world.old }
     ensures honesty { W.honest world.new ↔ W.honest world.old }
 {
     match open_or_make_text(world, name, image, makes) {

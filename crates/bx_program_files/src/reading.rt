@@ -30,6 +30,7 @@ fn look_at_image<W: World>(world: &mut W, name: &str) -> Result<Stat, Unopened>
         (IsUnfitToRead (W.sight world.old) name.now) ⊥ (W.refusals world.old < W.refusals world.new)) }
     ensures calm { W.honest world.old → OnOk result (W.refusals world.new ≡ W.refusals world.old) }
     ensures seen { W.honest world.old → StaysSeen W.sight W.survives world.old world.new }
+    ensures note { W.honest world.old → W.note world.new ≡ W.note world.old }
     ensures honesty { W.honest world.new ↔ W.honest world.old }
 {
     match look_alone(world, name) {
@@ -63,6 +64,7 @@ fn look_at_text<W: World>(
         (W.refusals world.old < W.refusals world.new)) }
     ensures calm { W.honest world.old → OnOk result (W.refusals world.new ≡ W.refusals world.old) }
     ensures seen { W.honest world.old → StaysSeen W.sight W.survives world.old world.new }
+    ensures note { W.honest world.old → W.note world.new ≡ W.note world.old }
     ensures honesty { W.honest world.new ↔ W.honest world.old }
 {
     let look = match world.look(name) {
@@ -84,6 +86,7 @@ fn look_at_journal<W: World>(world: &mut W, name: &str, image: &Stat) -> Result<
         (IsUnfitBeside (Some image.now) (W.sight world.old) name.now) ⊥ (W.refusals world.old < W.refusals world.new)) }
     ensures calm { W.honest world.old → OnOk result (W.refusals world.new ≡ W.refusals world.old) }
     ensures seen { W.honest world.old → StaysSeen W.sight W.survives world.old world.new }
+    ensures note { W.honest world.old → W.note world.new ≡ W.note world.old }
     ensures honesty { W.honest world.new ↔ W.honest world.old }
 {
     match look_at_text(world, name, Which::Journal, image) {
@@ -100,6 +103,7 @@ fn look_at_names<W: World>(world: &mut W, names: &Names) -> Result<(), Unopened>
         → IfErr result (MayRefuseReading names.now (W.refusals world.old < W.refusals world.new) (W.sight world.old)) }
     ensures calm { W.honest world.old → OnOk result (W.refusals world.new ≡ W.refusals world.old) }
     ensures seen { W.honest world.old → StaysSeen W.sight W.survives world.old world.new }
+    ensures note { W.honest world.old → W.note world.new ≡ W.note world.old }
     ensures honesty { W.honest world.new ↔ W.honest world.old }
 {
     let image = match look_at_image(world, names.image.as_str()) {
@@ -123,6 +127,7 @@ fn open_image<W: World>(world: &mut W, name: &str) -> Result<W::File, Unopened>
         (W.refusals world.old < W.refusals world.new)) }
     ensures calm { W.honest world.old → OnOk result (W.refusals world.new ≡ W.refusals world.old) }
     ensures seen { W.honest world.old → StaysSeen W.sight W.survives world.old world.new }
+    ensures note { W.honest world.old → W.note world.new ≡ W.note world.old }
     ensures honesty { W.honest world.new ↔ W.honest world.old }
 {
     match open_alone(world, name) {
@@ -143,6 +148,7 @@ fn open_as<W: World>(
     ensures missing { W.honest world.old → result ≡ Err Refusal.Missing → (W.sight world.old).named name.now ≡ None }
     ensures counted { W.honest world.old → CountsRefusal result (W.refusals world.old) (W.refusals world.new) }
     ensures seen { W.honest world.old → StaysSeen W.sight W.survives world.old world.new }
+    ensures note { W.honest world.old → W.note world.new ≡ W.note world.old }
     ensures honesty { W.honest world.new ↔ W.honest world.old }
 {
     if changes {
@@ -162,6 +168,7 @@ fn lock_as<W: World>(
     ensures missing { W.honest world.old → result ≡ Err Refusal.Missing → ⊥ }
     ensures counted { W.honest world.old → CountsRefusal result (W.refusals world.old) (W.refusals world.new) }
     ensures seen { W.honest world.old → StaysSeen W.sight W.survives world.old world.new }
+    ensures note { W.honest world.old → W.note world.new ≡ W.note world.old }
     ensures honesty { W.honest world.new ↔ W.honest world.old }
 {
     if changes {
@@ -185,6 +192,7 @@ fn open_text<W: World>(
     ensures missing { W.honest world.old → IfErr result (λ e. e ≡ Refusal.Missing → W.refusals world.new ≡ W.refusals world.old) }
     ensures calm { W.honest world.old → OnOk result (W.refusals world.new ≡ W.refusals world.old) }
     ensures seen { W.honest world.old → StaysSeen W.sight W.survives world.old world.new }
+    ensures note { W.honest world.old → W.note world.new ≡ W.note world.old }
     ensures honesty { W.honest world.new ↔ W.honest world.old }
 {
     let file = match open_as(world, name, image, changes) {
@@ -210,6 +218,7 @@ fn open_journal<W: World>(
         (W.refusals world.old < W.refusals world.new)) }
     ensures calm { W.honest world.old → OnOk result (W.refusals world.new ≡ W.refusals world.old) }
     ensures seen { W.honest world.old → StaysSeen W.sight W.survives world.old world.new }
+    ensures note { W.honest world.old → W.note world.new ≡ W.note world.old }
     ensures honesty { W.honest world.new ↔ W.honest world.old }
 {
     match open_text(world, name, image, changes) {
@@ -230,6 +239,7 @@ fn open_redo<W: World>(
     ensures why { W.honest world.old → IfErr result (IsRefusedFile Redo ⊥ NoneUnfit ⊥ (W.refusals world.old < W.refusals world.new)) }
     ensures calm { W.honest world.old → OnOk result (W.refusals world.new ≡ W.refusals world.old) }
     ensures seen { W.honest world.old → StaysSeen W.sight W.survives world.old world.new }
+    ensures note { W.honest world.old → W.note world.new ≡ W.note world.old }
     ensures honesty { W.honest world.new ↔ W.honest world.old }
 {
     match open_text(world, name, image, changes) {
@@ -251,6 +261,7 @@ fn open_names<W: World>(
         → IfErr result (MayRefuseReading names.now (W.refusals world.old < W.refusals world.new) (W.sight world.old)) }
     ensures calm { W.honest world.old → OnOk result (W.refusals world.new ≡ W.refusals world.old) }
     ensures seen { W.honest world.old → StaysSeen W.sight W.survives world.old world.new }
+    ensures note { W.honest world.old → W.note world.new ≡ W.note world.old }
     ensures honesty { W.honest world.new ↔ W.honest world.old }
 {
     let image = match open_image(world, names.image.as_str()) {
@@ -278,6 +289,7 @@ fn look_again<W: World>(world: &mut W, image: &W::File) -> Result<Stat, Unopened
         (λ unfit. read_unfit ((W.sight world.old).stat (W.number image.now)) ≡ Some unfit) ⊥ (W.refusals world.old < W.refusals world.new)) }
     ensures calm { W.honest world.old → OnOk result (W.refusals world.new ≡ W.refusals world.old) }
     ensures seen { W.honest world.old → StaysSeen W.sight W.survives world.old world.new }
+    ensures note { W.honest world.old → W.note world.new ≡ W.note world.old }
     ensures honesty { W.honest world.new ↔ W.honest world.old }
 {
     let stat = match world.stat(image) {
@@ -302,6 +314,7 @@ fn look_again_at_text<W: World>(
         (W.refusals world.old < W.refusals world.new)) }
     ensures calm { W.honest world.old → OnOk result (W.refusals world.new ≡ W.refusals world.old) }
     ensures seen { W.honest world.old → StaysSeen W.sight W.survives world.old world.new }
+    ensures note { W.honest world.old → W.note world.new ≡ W.note world.old }
     ensures honesty { W.honest world.new ↔ W.honest world.old }
 {
     let stat = match world.stat(text) {
@@ -327,6 +340,7 @@ fn is_apart<W: World>(
         (W.refusals world.old < W.refusals world.new)) }
     ensures calm { W.honest world.old → OnOk result (W.refusals world.new ≡ W.refusals world.old) }
     ensures seen { W.honest world.old → StaysSeen W.sight W.survives world.old world.new }
+    ensures note { W.honest world.old → W.note world.new ≡ W.note world.old }
     ensures honesty { W.honest world.new ↔ W.honest world.old }
 {
     match world.is_same(file, other) {
@@ -350,6 +364,7 @@ fn is_text_beside<W: World>(
         (W.number text.now ≡ W.number image.now) (W.refusals world.old < W.refusals world.new)) }
     ensures calm { W.honest world.old → OnOk result (W.refusals world.new ≡ W.refusals world.old) }
     ensures seen { W.honest world.old → StaysSeen W.sight W.survives world.old world.new }
+    ensures note { W.honest world.old → W.note world.new ≡ W.note world.old }
     ensures honesty { W.honest world.new ↔ W.honest world.old }
 {
     match look_again_at_text(world, which, text, stat) {
@@ -365,6 +380,7 @@ fn is_third<W: World>(world: &mut W, looked: &Looked<W::File>, image: &Stat) -> 
         Redo ⊥ NoneUnfit (IsAnother (numbers_read W.number looked.now) Redo) (W.refusals world.old < W.refusals world.new)) }
     ensures calm { W.honest world.old → OnOk result (W.refusals world.new ≡ W.refusals world.old) }
     ensures seen { W.honest world.old → StaysSeen W.sight W.survives world.old world.new }
+    ensures note { W.honest world.old → W.note world.new ≡ W.note world.old }
     ensures honesty { W.honest world.new ↔ W.honest world.old }
 {
     let Some(redo) = &looked.redo else {
@@ -384,6 +400,7 @@ fn are_ready<W: World>(world: &mut W, looked: &Looked<W::File>) -> Result<(), Un
         IsReason ⊥ NoneUnfit (IsAnother (numbers_read W.number looked.now) u.which) (W.refusals world.old < W.refusals world.new) u.why) }
     ensures calm { W.honest world.old → OnOk result (W.refusals world.new ≡ W.refusals world.old) }
     ensures seen { W.honest world.old → StaysSeen W.sight W.survives world.old world.new }
+    ensures note { W.honest world.old → W.note world.new ≡ W.note world.old }
     ensures honesty { W.honest world.new ↔ W.honest world.old }
 {
     let stat = match look_again(world, &looked.image) {
@@ -408,6 +425,7 @@ fn open_looked<W: World>(
     ensures calm { W.honest world.old → OnOk result (W.refusals world.new ≡ W.refusals world.old) }
     ensures same { W.honest world.old → W.sight world.new ≡ W.sight world.old }
     ensures survives { W.honest world.old → NothingNewFound (W.survives world.old) (W.survives world.new) }
+    ensures note { W.honest world.old → W.note world.new ≡ W.note world.old }
     ensures honesty { W.honest world.new ↔ W.honest world.old }
 {
     if let Err(unopened) = look_at_names(world, names) {
@@ -436,6 +454,7 @@ pub fn open_to_look<W: World>(world: &mut W, names: &Names) -> Result<Looked<W::
     ensures calm { W.honest world.old → OnOk result (W.refusals world.new ≡ W.refusals world.old) }
     ensures same { W.honest world.old → W.sight world.new ≡ W.sight world.old }
     ensures survives { W.honest world.old → NothingNewFound (W.survives world.old) (W.survives world.new) }
+    ensures note { W.honest world.old → W.note world.new ≡ W.note world.old }
     ensures honesty { W.honest world.new ↔ W.honest world.old }
 {
     open_looked(world, names, false)
@@ -452,6 +471,7 @@ pub fn open_to_forget<W: World>(world: &mut W, names: &Names) -> Result<Looked<W
     ensures calm { W.honest world.old → OnOk result (W.refusals world.new ≡ W.refusals world.old) }
     ensures same { W.honest world.old → W.sight world.new ≡ W.sight world.old }
     ensures survives { W.honest world.old → NothingNewFound (W.survives world.old) (W.survives world.new) }
+    ensures note { W.honest world.old → W.note world.new ≡ W.note world.old }
     ensures honesty { W.honest world.new ↔ W.honest world.old }
 {
     open_looked(world, names, true)

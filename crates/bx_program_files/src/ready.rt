@@ -1,5 +1,6 @@
 //! Three files that are open: looked at again, each a file of its own, and their names on the disk.
 ghost use Rattle.std.specs.Prelude.{◌≡◌, ◌↔◌, ◌<◌, ◌≤◌, ℕ, Some, false, OnOk, IfErr, IfOk};
+ghost use Rattle.bx_program_world.specs.World.{NothingNewFound};
 ghost use Rattle.bx_program_world.specs.Rule.{image_unfit, text_unfit};
 ghost use Rattle.bx_program_files.specs.Reasons.{AreFitFiles, IsOneOf, IsReason, IsRefusedFile, NoneUnfit};
 ghost use Rattle.bx_program_files.specs.declared.unopened.Which.TheVariants.{Image};
@@ -20,6 +21,8 @@ fn is_apart<W: World>(
         → IfErr result (IsRefusedFile which ⊥ NoneUnfit (W.number file.now ≡ W.number other.now) (least < W.refusals world.new)) }
     ensures same { W.honest world.old → W.sight world.new ≡ W.sight world.old }
     ensures counted { W.honest world.old → W.refusals world.old ≤ W.refusals world.new }
+    ensures survives { W.honest world.old → NothingNewFound (W.survives world.old) (W.survives world.new) }
+    ensures note { W.honest world.old → W.note world.new ≡ W.note world.old }
     ensures honesty { W.honest world.new ↔ W.honest world.old }
 {
     match world.is_same(file, other) {
@@ -36,6 +39,8 @@ pub fn stat_of<W: World>(world: &mut W, which: Which, file: &W::File) -> Result<
         → IfErr result (IsRefusedFile which ⊥ NoneUnfit ⊥ (least < W.refusals world.new)) }
     ensures same { W.honest world.old → W.sight world.new ≡ W.sight world.old }
     ensures counted { W.honest world.old → W.refusals world.old ≤ W.refusals world.new }
+    ensures survives { W.honest world.old → NothingNewFound (W.survives world.old) (W.survives world.new) }
+    ensures note { W.honest world.old → W.note world.new ≡ W.note world.old }
     ensures honesty { W.honest world.new ↔ W.honest world.old }
 {
     match world.stat(file) {
@@ -52,6 +57,8 @@ fn look_again<W: World>(world: &mut W, image: &W::File, mounted: bool) -> Result
         (λ unfit. image_unfit mounted ((W.sight world.old).stat (W.number image.now)) ≡ Some unfit) ⊥ (least < W.refusals world.new)) }
     ensures same { W.honest world.old → W.sight world.new ≡ W.sight world.old }
     ensures counted { W.honest world.old → W.refusals world.old ≤ W.refusals world.new }
+    ensures survives { W.honest world.old → NothingNewFound (W.survives world.old) (W.survives world.new) }
+    ensures note { W.honest world.old → W.note world.new ≡ W.note world.old }
     ensures honesty { W.honest world.new ↔ W.honest world.old }
 {
     let stat = stat_of(world, Which::Image, image)?;
@@ -74,6 +81,8 @@ fn look_again_at_text<W: World>(
         (least < W.refusals world.new)) }
     ensures same { W.honest world.old → W.sight world.new ≡ W.sight world.old }
     ensures counted { W.honest world.old → W.refusals world.old ≤ W.refusals world.new }
+    ensures survives { W.honest world.old → NothingNewFound (W.survives world.old) (W.survives world.new) }
+    ensures note { W.honest world.old → W.note world.new ≡ W.note world.old }
     ensures honesty { W.honest world.new ↔ W.honest world.old }
 {
     let stat = stat_of(world, which, text)?;
@@ -97,6 +106,8 @@ fn are_fit<W: World>(
         → IfErr result (λ u. IsReason ⊥ NoneUnfit ⊥ (least < W.refusals world.new) u.why) }
     ensures same { W.honest world.old → W.sight world.new ≡ W.sight world.old }
     ensures counted { W.honest world.old → W.refusals world.old ≤ W.refusals world.new }
+    ensures survives { W.honest world.old → NothingNewFound (W.survives world.old) (W.survives world.new) }
+    ensures note { W.honest world.old → W.note world.new ≡ W.note world.old }
     ensures honesty { W.honest world.new ↔ W.honest world.old }
 {
     let stat = look_again(world, image, mounted)?;
@@ -121,8 +132,11 @@ fn are_apart<W: World>(
         (least < W.refusals world.new) u.why) }
     ensures same { W.honest world.old → W.sight world.new ≡ W.sight world.old }
     ensures counted { W.honest world.old → W.refusals world.old ≤ W.refusals world.new }
+    ensures survives { W.honest world.old → NothingNewFound (W.survives world.old) (W.survives world.new) }
+    ensures note { W.honest world.old → W.note world.new ≡ W.note world.old }
     ensures honesty { W.honest world.new ↔ W.honest world.old }
 {
+    // The locks don't tell two names of one file: some file systems have none.
     is_apart(world, Which::Journal, journal, image)?;
     is_apart(world, Which::Redo, redo, image)?;
     is_apart(world, Which::Redo, redo, journal)?;
@@ -147,8 +161,11 @@ fn are_three<W: World>(
         (least < W.refusals world.new) u.why) }
     ensures same { W.honest world.old → W.sight world.new ≡ W.sight world.old }
     ensures counted { W.honest world.old → W.refusals world.old ≤ W.refusals world.new }
+    ensures survives { W.honest world.old → NothingNewFound (W.survives world.old) (W.survives world.new) }
+    ensures note { W.honest world.old → W.note world.new ≡ W.note world.old }
     ensures honesty { W.honest world.new ↔ W.honest world.old }
 {
+    // The names were looked at before, and may lead to other files by now: the open files are asked.
     are_fit(world, image, mounted, journal, redo)?;
     are_apart(world, image, journal, redo)
 }
@@ -160,6 +177,8 @@ fn keep_names<W: World>(world: &mut W, names: &Names) -> Result<(), Unopened>
         → IfErr result (λ u. IsReason ⊥ NoneUnfit ⊥ (least < W.refusals world.new) u.why) }
     ensures same { W.honest world.old → W.sight world.new ≡ W.sight world.old }
     ensures counted { W.honest world.old → W.refusals world.old ≤ W.refusals world.new }
+    ensures survives { W.honest world.old → NothingNewFound (W.survives world.old) (W.survives world.new) }
+    ensures note { W.honest world.old → W.note world.new ≡ W.note world.old }
     ensures honesty { W.honest world.new ↔ W.honest world.old }
 {
     if let Err(refusal) = world.keep_name(names.journal.as_str()) {
@@ -190,6 +209,8 @@ pub fn are_ready<W: World>(
         (least < W.refusals world.new) u.why) }
     ensures same { W.honest world.old → W.sight world.new ≡ W.sight world.old }
     ensures counted { W.honest world.old → W.refusals world.old ≤ W.refusals world.new }
+    ensures survives { W.honest world.old → NothingNewFound (W.survives world.old) (W.survives world.new) }
+    ensures note { W.honest world.old → W.note world.new ≡ W.note world.old }
     ensures honesty { W.honest world.new ↔ W.honest world.old }
 {
     are_three(world, image, mounted, journal, redo)?;

@@ -1,7 +1,7 @@
 //! The three files of a session, opened and made.
 ghost use Rattle.std.specs.Prelude.{◌≡◌, ◌↔◌, ◌<◌, ◌≤◌, ℕ, None, Some, true, false, OnOk, IfErr, IfOk, OnErr};
 ghost use Rattle.bx_program_world.specs.Rule.{image_unfit, text_unfit};
-ghost use Rattle.bx_program_world.specs.World.{AreThreeFiles, MayBeText, Sight};
+ghost use Rattle.bx_program_world.specs.World.{AreThreeFiles, MayBeText, NothingNewBelow, NothingNewFound, Sight};
 ghost use Rattle.bx_program_files.specs.Files.{AreAllThere, AreOpened, AreTextsOpened, IsImageOpened, IsMadeFile, IsTextOpened, LeavesFiles, LeavesMade};
 ghost use Rattle.bx_program_files.specs.Fit.{AreFitBeside};
 ghost use Rattle.bx_program_files.specs.Numbers.{files_beside, made_beside, numbers_beside, numbers_of};
@@ -49,6 +49,8 @@ fn open_redo<W: World>(
         (LeadsToOther names.now (W.number image.now) (W.number journal.now) (W.sight world.old) u.which)
         (least < W.refusals world.new) u.why) }
     ensures counted { W.honest world.old → W.refusals world.old ≤ W.refusals world.new }
+    ensures survives { W.honest world.old → NothingNewBelow (W.sight world.old).there (W.survives world.old) (W.survives world.new) }
+    ensures note { W.honest world.old → W.note world.new ≡ W.note world.old }
     ensures honesty { W.honest world.new ↔ W.honest world.old }
 {
     let redo = open_text(world, names.redo.as_str(), Which::Redo, image, true)?;
@@ -68,6 +70,8 @@ fn unmake_journal<W: World>(world: &mut W, names: &Names, journal: &Opened<W::Fi
     ensures left { W.honest world.old → (first : Sight) → AreAllThere first
         → LeavesMade (IsMadeFile journal.now.made (W.number journal.now.file)) first (W.sight world.old) → LeavesFiles first (W.sight world.new) }
     ensures counted { W.honest world.old → W.refusals world.new ≡ W.refusals world.old }
+    ensures survives { W.honest world.old → NothingNewFound (W.survives world.old) (W.survives world.new) }
+    ensures note { W.honest world.old → W.note world.new ≡ W.note world.old }
     ensures honesty { W.honest world.new ↔ W.honest world.old }
 {
     unmake(world, names.journal.as_str(), &journal.file, journal.made);
@@ -89,6 +93,8 @@ fn look_beside_made<W: World>(
         (least < W.refusals world.new) (W.sight world.old)) }
     ensures same { W.honest world.old → W.sight world.new ≡ W.sight world.old }
     ensures counted { W.honest world.old → W.refusals world.old ≤ W.refusals world.new }
+    ensures survives { W.honest world.old → NothingNewFound (W.survives world.old) (W.survives world.new) }
+    ensures note { W.honest world.old → W.note world.new ≡ W.note world.old }
     ensures honesty { W.honest world.new ↔ W.honest world.old }
 {
     if !image.made {
@@ -119,6 +125,8 @@ fn open_texts<W: World>(
         → IsImageOpened names.now.image mounted makes image.now.made (W.number image.now.file) first (W.sight world.old)
         → IfErr result (MayRefuseOpening names.now mounted makes (least < W.refusals world.new) first) }
     ensures counted { W.honest world.old → W.refusals world.old ≤ W.refusals world.new }
+    ensures survives { W.honest world.old → NothingNewBelow (W.sight world.old).there (W.survives world.old) (W.survives world.new) }
+    ensures note { W.honest world.old → W.note world.new ≡ W.note world.old }
     ensures honesty { W.honest world.new ↔ W.honest world.old }
 {
     look_beside_made(world, names, image)?;
@@ -129,6 +137,7 @@ fn open_texts<W: World>(
         &image.file,
         makes,
     )?;
+    // The redo text comes last, so a missing journal leaves none that was made for nothing.
     match open_redo(world, names, mounted, &image.file, &journal.file) {
         Ok(redo) => Ok(Texts { journal, redo }),
         Err(unopened) => {
@@ -145,6 +154,8 @@ fn unmake_image<W: World>(world: &mut W, names: &Names, image: &Opened<W::File>)
     ensures left { W.honest world.old → (first : Sight) → AreAllThere first
         → LeavesMade (IsMadeFile image.now.made (W.number image.now.file)) first (W.sight world.old) → LeavesFiles first (W.sight world.new) }
     ensures counted { W.honest world.old → W.refusals world.new ≡ W.refusals world.old }
+    ensures survives { W.honest world.old → NothingNewFound (W.survives world.old) (W.survives world.new) }
+    ensures note { W.honest world.old → W.note world.new ≡ W.note world.old }
     ensures honesty { W.honest world.new ↔ W.honest world.old }
 {
     unmake(world, names.image.as_str(), &image.file, image.made);
@@ -185,8 +196,11 @@ pub fn open_trio<W: World>(
     ensures why { W.honest world.old → IfErr result (MayRefuseOpening names.now mounted makes (W.refusals world.old < W.refusals world.new)
         (W.sight world.old)) }
     ensures counted { W.honest world.old → W.refusals world.old ≤ W.refusals world.new }
+    ensures survives { W.honest world.old → NothingNewBelow (W.sight world.old).there (W.survives world.old) (W.survives world.new) }
+    ensures note { W.honest world.old → W.note world.new ≡ W.note world.old }
     ensures honesty { W.honest world.new ↔ W.honest world.old }
 {
+    // All three are looked at before one is opened: to open a pipe may act on it.
     look_at_all(world, names, mounted, makes)?;
     let image = open_image(world, names.image.as_str(), mounted, makes)?;
     match open_texts(world, names, mounted, makes, &image) {

@@ -23,6 +23,8 @@ pub enum Why {
     Unfit(Unfit),
     /// It is one of the others by another name.
     Alias,
+    /// It isn't the image that the journal was written beside.
+    Another,
 }
 
 /// The file that is not opened, and why.
