@@ -20,5 +20,6 @@ pub mod ShownPatch
 pub mod SpelledLaws
 pub mod ForgottenLemmas
 pub mod StoppedLooks
+pub mod ShownEnd
 pub use Rattle.bx_journal_protocol.proofs.Ready
 pub use Rattle.bx_journal_read.proofs.Phases

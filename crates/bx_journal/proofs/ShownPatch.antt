@@ -22,14 +22,15 @@ use Rattle.bx_journal_read.specs.model.Images.{Images, redone_by}
 use Rattle.bx_journal_read.specs.model.Machine.{changes_of, top}
 use Rattle.bx_journal_read.specs.model.Stack.{HaveLengths, StandsFor, stack_of}
 use Rattle.bx_journal_read.specs.show.Differences.{diff_text, lines_beside, signed_line}
-use Rattle.bx_journal_read.specs.show.ShownSteps.{first_number, heading, lines_text, patch_length, shown_steps, shows_patch, step_text, steps_text}
+use Rattle.bx_journal_read.specs.show.ShownSteps.{first_number, heading, length_told, lines_text, patch_length, shown_steps, shows_patch, step_text, steps_text}
 use Rattle.bx_journal_read.proofs.OpenLemmas.{some_same}
-use Rattle.bx_patch.specs.Grammar.{EndsWithin, IsInLengths}
+use Rattle.bx_patch.specs.Grammar.{EndsWithin, IsInLengths, IsPatch}
 use Rattle.bx_patch.specs.Patch.{Agrees, Asked, HasPiece, Pieces, patch_change}
 use Rattle.bx_patch.specs.Text.{length_text}
 use Rattle.bx_patch.proofs.DiffLemmas.{lengths_are}
-use Rattle.bx_patch.proofs.FrontLemmas.{TextAsks, TextGives, gives_none, lengths_in_front, line_sizes, new_in_front, no_lengths, old_in_front, remark_in_front}
+use Rattle.bx_patch.proofs.FrontLemmas.{TextAsks, TextGives, ended_by_hand, gives_none, lengths_in_front, line_sizes, new_in_front, no_lengths, old_in_front, remark_in_front}
 use Rattle.bx_patch.proofs.MakesLemmas.{EachIn, all_in, piece_end, writes}
+use Rattle.bx_journal.specs.ShownText.{last_line}
 use Rattle.bx_journal.specs.ShowLaws.{IsShownPatch, ShownRedoIsAPatch, ShownUndoIsAPatch, run_then, shown_runs, step_onto}
 use Rattle.bx_journal.proofs.HeadingLines.{head, head_in}
 use Rattle.bx_journal.proofs.ShownWritten.{shown_is_written}
@@ -193,18 +194,35 @@ module _ (A : Type 0) (x : List ℕ) (are : All (λ b. b < 256) x) (c : EntryLin
       ap (λ k. steps_text s x n (take k (c ∷ older))) one.1 ∙ append-nil (step_text s x n c) ∙ step
       ∙ append_assoc (front ++ told keeps) diff (codes "\n") ∙ append_assoc front (told keeps) body ∙ append_assoc line (codes "\n") (told keeps ++ body)
 
+  -- it is whole lines
+  abbrev front_of : Steps → List EntryLines → List ℕ
+  front_of s older =
+      heading s.way (first_number s.way s.changes (length (c ∷ older))) c.entry ++ length_told s c.entry.after len ++ lines_text s.compares x len c.saved
+
+  text_whole : (s : Steps) (older : List EntryLines) → (s.compares ≡ true) × (s.count ≡ 1) → shown_steps s x (c ∷ older) ≡ front_of s older ++ codes "\n"
+  unfolding steps_text
+  text_whole s older one =
+      let n = first_number s.way s.changes (length (c ∷ older)) in
+      ap (λ k. steps_text s x n (take k (c ∷ older))) one.1 ∙ append-nil (step_text s x n c)
+
+  -- and the last line stands behind them
+  last_is : (s : Steps) → (s.compares ≡ true) × (s.count ≡ 1) → last_line s ≡ codes "end\n"
+  last_is s one =
+      ap (λ (k : ℕ). if (if s.compares then k == 1 else false) then codes "end\n" else []) one.1
+      ∙ ap (λ (b : Bool). if (if b then true else false) then codes "end\n" else []) one.0
+
   pub step_is_a_patch : (s : Steps) (older : List EntryLines) → (s.compares ≡ true) × (s.count ≡ 1) → c.entry.after ≡ Some (length x) → length x ≤ MAX_LEN → len ≤ MAX_LEN
       → IsShownPatch A s (c ∷ older) x (step_onto c x)
   step_is_a_patch s older one after small little =
       let n = first_number s.way s.changes (length (c ∷ older)) in
       let keeps = eqb (length x) len in
-      let line = head s.way n c.entry in (
+      let line = head s.way n c.entry in
+      let gives : TextAsks (shown_steps s x (c ∷ older)) (asked keeps) =
+      subst (λ t. TextAsks t (asked keeps)) (sym (text_is s older one after))
+      (remark_in_front line (told keeps ++ body) (asked keeps) (head_in s.way n c.entry) (inr (drop 1 line, refl)) (asks keeps small little)) in (
         asked keeps,
-        (
-          subst (λ t. TextAsks t (asked keeps)) (sym (text_is s older one after))
-              (remark_in_front line (told keeps ++ body) (asked keeps) (head_in s.way n c.entry) (inr (drop 1 line, refl)) (asks keeps small little)),
-          fits keeps,
-        ),
+        subst (λ last. IsPatch (shown_steps s x (c ∷ older) ++ last) (asked keeps)) (sym (last_is s one))
+            (ended_by_hand (shown_steps s x (c ∷ older)) (front_of s older) (asked keeps) (text_whole s older one) gives (fits keeps)),
         agrees keeps,
         makes keeps refl,
       )

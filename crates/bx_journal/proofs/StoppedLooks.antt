@@ -7,7 +7,7 @@ use Rattle.std.specs.Io.KnownBytes.{Appends}
 use Rattle.bx_journal_format.specs.declared.read.marks.Mark.{Mark}
 use Rattle.bx_journal_format.specs.Finished.{IsFinished}
 use Rattle.bx_journal_format.specs.Spelled.{EntryLines, IsSpelled, entry_in, entry_lines}
-use Rattle.bx_journal_format.specs.Text.{Entry, IsPrefix, Reading, text_of_lines}
+use Rattle.bx_journal_format.specs.Text.{Entry, IsPrefix, Reading, Stage, text_of_lines}
 use Rattle.bx_journal_format.specs.count.Marks.{marks_of}
 use Rattle.bx_journal_format.proofs.Foreign.{joined_lines, lines_plain}
 use Rattle.bx_journal_format.proofs.Splits.{AllPlain}
@@ -17,8 +17,9 @@ use Rattle.bx_journal_read.specs.declared.show.fault.ShowFault.{ShowFault}
 use Rattle.bx_journal_read.specs.declared.show.fault.ShowFault.TheVariants.{Text}
 use Rattle.bx_journal_read.specs.declared.show.way.Steps.{Steps}
 use Rattle.bx_journal_read.specs.show.Showing.{AreAllMarks, StopsRows, mark_row, mark_rows, ranges_rows}
-use Rattle.bx_journal_read.specs.show.ShownSteps.{AreFrontMarks, StopsShown, first_number, mark_step, newest_first, newest_steps, number_at, shown_steps, steps_text, torn_text, unfinished_line}
+use Rattle.bx_journal_read.specs.show.ShownSteps.{AreFrontMarks, HasFront, IsUnfinishedBehind, first_number, mark_step, newest_first, newest_steps, number_at, shown_steps, steps_text, torn_text, unfinished_line}
 use Rattle.bx_journal_read.specs.show.Stopping.{CountsBytes, StopsPrefix}
+use Rattle.bx_journal.specs.ShownText.{StopsText, last_line, shown_text}
 use Rattle.bx_journal_read.proofs.OpenLemmas.{some_same}
 use Rattle.bx_journal_read.proofs.RowTexts.{log_rows, mark_rows-append, marks_many, rows_next}
 use Rattle.bx_journal_read.proofs.Spellings.{front_once, spelled_once}
@@ -138,40 +139,57 @@ newest_are text now image s slice marks front cs enough same is prefix spelled m
     ∙ steps_there s image cs (first_number s.way s.changes (length (marks_of cs))) s.count prefix.0 text whole plain spelled.runs fits
     ∙ ap (λ n. steps_text s image (first_number s.way s.changes n) (take s.count cs)) many
 
--- what was written of them
-pub shown_stopped : (text now image : List ℕ) (s : Steps) (slice marks : List Mark) (w0 w1 : Option (List ℕ)) (fault : ShowFault) → s.count ≤ length marks → now ≡ text → slice ≡ marks → (torn : Option Torn)
-    → AreFrontMarks (Unit {0}) text marks torn → StopsPrefix 0 (torn_text torn ++ newest_steps s image now s.count slice) w0 w1 fault → StopsShown text image s w0 w1 fault
-shown_stopped text now image s slice marks w0 w1 fault enough same is None a stop =
+-- what is so of the line on what is unfinished and the steps of marks is so of what is shown of the entries
+record ShownOf (text image : List ℕ) (s : Steps) (P : List ℕ → Type 0) : Type 0 where
+  accepted : HasFront text
+  finished : (entries : List EntryLines) → IsSpelled text entries → P (shown_steps s image entries)
+  unfinished : (front : List ℕ) (entries : List EntryLines) (stage : Stage) → IsUnfinishedBehind text front entries stage
+      → P (unfinished_line (suc (length entries)) stage ++ shown_steps s image entries)
+
+shown_of : (P : List ℕ → Type 0) (text now image : List ℕ) (s : Steps) (slice marks : List Mark) → s.count ≤ length marks → now ≡ text → slice ≡ marks → (torn : Option Torn)
+    → AreFrontMarks (Unit {0}) text marks torn → P (torn_text torn ++ newest_steps s image now s.count slice) → ShownOf text image s P
+shown_of P text now image s slice marks enough same is None a holds =
     let whole : text ≡ a.front = a.behind tt in
     let steps = newest_are text now image s slice marks a.front a.entries enough same is ([], whole ∙ sym (append-nil a.front)) a.spelled a.marks_are in
-    let all : StopsPrefix 0 (shown_steps s image a.entries) w0 w1 fault = subst (λ t. StopsPrefix 0 t w0 w1 fault) steps stop in
+    let all : P (shown_steps s image a.entries) = subst P steps holds in
     record {
-      quiet = λ no. absurd (no (inl (a.entries, subst (λ t. IsSpelled t a.entries) (sym whole) a.spelled)));
-      finished = λ ds d. subst (λ xs. StopsPrefix 0 (shown_steps s image xs) w0 w1 fault) (spelled_once a.front a.entries ds a.spelled (subst (λ t. IsSpelled t ds) whole d)) all;
+      accepted = inl (a.entries, subst (λ t. IsSpelled t a.entries) (sym whole) a.spelled);
+      finished = λ ds d. subst (λ xs. P (shown_steps s image xs)) (spelled_once a.front a.entries ds a.spelled (subst (λ t. IsSpelled t ds) whole d)) all;
       unfinished = λ front ds stage u. absurd (u.unfinished (map entry_in a.entries, subst (λ t. IsFinished t (map entry_in a.entries)) (sym whole) a.spelled.finished));
     }
-shown_stopped text now image s slice marks w0 w1 fault enough same is (Some torn) a stop =
+shown_of P text now image s slice marks enough same is (Some torn) a holds =
     let b = a.behind tt in
     let steps = newest_are text now image s slice marks a.front a.entries enough same is b.1.front_is a.spelled a.marks_are in
-    let all : StopsPrefix 0 (unfinished_line (suc (length a.entries)) b.0 ++ shown_steps s image a.entries) w0 w1 fault =
-    subst (λ t. StopsPrefix 0 (t ++ shown_steps s image a.entries) w0 w1 fault) (torn_is torn a.entries b.0 b.2 b.3)
-    (subst (λ t. StopsPrefix 0 (torn_text (Some torn) ++ t) w0 w1 fault) steps stop) in
+    let all : P (unfinished_line (suc (length a.entries)) b.0 ++ shown_steps s image a.entries) =
+    subst (λ t. P (t ++ shown_steps s image a.entries)) (torn_is torn a.entries b.0 b.2 b.3) (subst (λ t. P (torn_text (Some torn) ++ t)) steps holds) in
     record {
-      quiet = λ no. absurd (no (inr (a.front, a.entries, b.0, b.1)));
+      accepted = inr (a.front, a.entries, b.0, b.1);
       finished = λ ds d. absurd (b.1.unfinished (map entry_in ds, d.finished));
       unfinished = λ front ds stage u.
           let read : record { entries = map entry_in a.entries; stage = b.0 } ≡ record { entries = map entry_in ds; stage = stage } =
           some_same (record { entries = map entry_in a.entries; stage = b.0 }) (record { entries = map entry_in ds; stage = stage }) (sym b.1.reads.lines ∙ u.reads.lines) in
           let fronts : front ≡ a.front = sym (front_once text a.front front a.entries ds b.1.front_is u.front_is a.spelled u.spelled (ap (λ (r : Reading). r.entries) read)) in
           let entries : a.entries ≡ ds = spelled_once a.front a.entries ds a.spelled (subst (λ t. IsSpelled t ds) fronts u.spelled) in
-          subst (λ g. StopsPrefix 0 (unfinished_line (suc (length ds)) g ++ shown_steps s image ds) w0 w1 fault) (ap (λ (r : Reading). r.stage) read)
-          (subst (λ xs. StopsPrefix 0 (unfinished_line (suc (length xs)) b.0 ++ shown_steps s image xs) w0 w1 fault) entries all);
+          subst (λ g. P (unfinished_line (suc (length ds)) g ++ shown_steps s image ds)) (ap (λ (r : Reading). r.stage) read)
+          (subst (λ xs. P (unfinished_line (suc (length xs)) b.0 ++ shown_steps s image xs)) entries all);
+    }
+
+-- a front of that, or of that and the last line, was written
+pub shown_stopped : (text now image : List ℕ) (s : Steps) (slice marks : List Mark) (w0 w1 : Option (List ℕ)) (fault : ShowFault) → s.count ≤ length marks → now ≡ text → slice ≡ marks → (torn : Option Torn)
+    → AreFrontMarks (Unit {0}) text marks torn → StopsPrefix 0 ((torn_text torn ++ newest_steps s image now s.count slice) ++ last_line s) w0 w1 fault → StopsText text image s w0 w1 fault
+shown_stopped text now image s slice marks w0 w1 fault enough same is torn a stop =
+    let of = shown_of (λ t. StopsPrefix 0 (t ++ last_line s) w0 w1 fault) text now image s slice marks enough same is torn a stop in
+    record {
+      quiet = λ no. absurd (no of.accepted);
+      finished = of.finished;
+      unfinished = λ front entries stage u.
+          subst (λ t. StopsPrefix 0 t w0 w1 fault) (append_assoc (unfinished_line (suc (length entries)) stage) (shown_steps s image entries) (last_line s)) (of.unfinished front entries stage u);
     }
 
 -- nothing was written
-pub shown_refused : (text image : List ℕ) (s : Steps) (w : Option (List ℕ)) (fault : SessionFault) → StopsShown text image s w w (Text fault)
+pub shown_refused : (text image : List ℕ) (s : Steps) (w : Option (List ℕ)) (fault : SessionFault) → StopsText text image s w w (Text fault)
 shown_refused text image s w fault = record {
   quiet = λ no. refl;
-  finished = λ ds d. stops_none 0 (shown_steps s image ds) w fault;
-  unfinished = λ front ds stage u. stops_none 0 (unfinished_line (suc (length ds)) stage ++ shown_steps s image ds) w fault;
+  finished = λ ds d. stops_none 0 (shown_text s image ds) w fault;
+  unfinished = λ front ds stage u. stops_none 0 (unfinished_line (suc (length ds)) stage ++ shown_text s image ds) w fault;
 }

@@ -34,6 +34,7 @@ pub mod Losses
 pub mod Opened
 pub mod Recovery
 pub mod ShowLaws
+pub mod ShownText
 pub mod private
 pub use Rattle.bx_journal_read.specs.declared.fault.SessionFault
 pub use Rattle.bx_journal_read.specs.declared.answers.How

@@ -24,6 +24,8 @@ fn empty_text<T: TextStore>(store: &mut T) -> Result<(), DeviceFailed>
     ensures survives { T.honest store.old → Only (T.text store.old) (T.survives store.old) → AllFade 0 (T.text store.old) (T.survives store.new) }
     ensures goes_on { GoesOn T.honest T.room T.failures (is_err result) store.old store.new }
 {
+    // In one cut, and no byte is kept: a front of a journal is a journal too, of other images. `docs/DECISIONS.md`, "History that
+    // is dropped".
     store.cut(0)?;
     store.sync()
 }

@@ -9,6 +9,8 @@
 //! ```
 //!
 //! `docs/CALLING.md` has the whole caller, which the gate proves and runs.
+//!
+//! `docs/SAFETY.md` argues for it.
 #![tactic(auto)]
 
 mod forget;

@@ -1,13 +1,15 @@
 //! A look at the changes of a text, without a session: nothing is recovered, and the text stays.
-ghost use Rattle.std.specs.Prelude.{◌≡◌, ◌<◌, ◌≤◌, ℕ, All, IsTrue, length, OnOk, IfOk, IfErr, IfSome, IfNone};
+ghost use Rattle.std.specs.Prelude.{◌≡◌, ◌<◌, ◌≤◌, ◌++◌, ℕ, All, IsTrue, length, OnOk, IfOk, IfErr, IfSome, IfNone};
 ghost use Rattle.bx_journal_read.specs.show.Showing.{RangesOf, StopsLog, StopsRows, LiesWithin, LookCounts, PutFault, Stays};
-ghost use Rattle.bx_journal_read.specs.show.ShownSteps.{RefusesSteps, ShowsSteps, StopsFound, StopsShown, StopsSteps, CannotStep, FindsSteps, IsChecked, IsFoundPut, IsLeftIn, IsSettled, few_that, fault_that};
+ghost use Rattle.bx_journal_read.specs.show.ShownSteps.{RefusesSteps, StopsFound, StopsSteps, CannotStep, FindsSteps, IsChecked, IsFoundPut, IsLeftIn, IsSettled, few_that, fault_that, newest_steps, torn_text};
+ghost use Rattle.bx_journal_read.specs.show.Stopping.{CountsBytes};
+ghost use Rattle.bx_journal.specs.ShownText.{ShowsText, StopsText};
 
 mod entries;
 mod step;
 
 use crate::look::entries::put_rows;
-use crate::look::step::put_steps;
+use crate::look::step::{put_last, put_steps};
 use bx_image::{Device, DeviceFailed};
 use bx_journal_read::{
     Marked, SessionFault, ShowFault, Steps, Torn, Way, all_marks, begin_writing, front_marks,
@@ -112,7 +114,7 @@ fn find_steps<T: TextStore, A: Allocator + Clone>(
     }
 }
 
-/// Writes the line on what is unfinished, and the steps.
+/// Writes the line on what is unfinished, and the steps, and answers how many bytes these are.
 fn put_found<D: Device, T: TextStore, A: Allocator + Clone, W: Write>(
     alloc: &A,
     image: &mut D,
@@ -120,13 +122,15 @@ fn put_found<D: Device, T: TextStore, A: Allocator + Clone, W: Write>(
     found: &Marked<A>,
     steps: Steps,
     out: &mut W,
-) -> Result<(), ShowFault>
+) -> Result<u64, ShowFault>
     requires countable { D.failures image.old < u64.MAX }
     requires also_countable { T.failures journal.old < u64.MAX }
     requires enough { steps.count ≤ length found.now.marks.items }
     requires lie { (len : ℕ) × (T.honest journal.old → len ≤ length (T.text journal.old)) × All (LiesWithin len) found.now.marks.items }
     ensures put { T.honest journal.old → (IsTrue steps.compares → D.honest image.old) → OnOk result
         (IsFoundPut steps (D.image image.old) (T.text journal.old) found.now (W.contents out.old) (W.contents out.new)) }
+    ensures counted { T.honest journal.old → (IsTrue steps.compares → D.honest image.old) → IfOk result (CountsBytes 0
+        (torn_text found.now.torn ++ newest_steps steps (D.image image.old) (T.text journal.old) steps.count found.now.marks.items)) }
     ensures stops { T.honest journal.old → (IsTrue steps.compares → D.honest image.old) → IfErr result
         (StopsFound steps (D.image image.old) (T.text journal.old) found.now (W.contents out.old) (W.contents out.new)) }
     ensures kind { IfErr result PutFault }
@@ -136,19 +140,22 @@ fn put_found<D: Device, T: TextStore, A: Allocator + Clone, W: Write>(
 {
     let before = put_torn(alloc, found.torn, out)?;
     let mut writing = begin_writing(alloc, before)?;
-    put_steps(
+    match put_steps(
         image,
         journal,
         &mut writing,
         found.marks.as_slice(),
         steps,
         out,
-    )
+    ) {
+        Ok(()) => Ok(writing.written),
+        Err(fault) => Err(fault),
+    }
 }
 
 /// Writes what the next undos of a journal's text, or the next redos of a redo text, would do: for each step a heading, the
 /// saved lines of the entry, each made from the bytes that it gives, where they are compared beside what the image has there, and
-/// an empty line.
+/// an empty line. One step that is compared is a patch, and ends as one.
 ///
 /// Where something is unfinished at the end of a journal, a line says so first, and the steps are over the entries before it.
 /// Of memory it takes windows of 256 KiB, 56 bytes for each entry, and about 1 MiB for lines.
@@ -167,11 +174,11 @@ pub fn show_steps<D: Device, T: TextStore, A: Allocator + Clone, W: Write>(
     requires countable { D.failures image.old < u64.MAX }
     requires also_countable { T.failures journal.old < u64.MAX }
     ensures shows { T.honest journal.old → (IsTrue steps.compares → D.honest image.old) → OnOk result
-        (ShowsSteps (T.text journal.old) (D.image image.old) steps (W.contents out.old) (W.contents out.new)) }
+        (ShowsText (T.text journal.old) (D.image image.old) steps (W.contents out.old) (W.contents out.new)) }
     ensures fault { IfErr result (StopsSteps (T.honest journal.old) (T.text journal.old) steps) }
     ensures quiet { IfErr result (λ fault. RefusesSteps fault → W.contents out.new ≡ W.contents out.old) }
     ensures stops { T.honest journal.old → (IsTrue steps.compares → D.honest image.old) → IfErr result
-        (StopsShown (T.text journal.old) (D.image image.old) steps (W.contents out.old) (W.contents out.new)) }
+        (StopsText (T.text journal.old) (D.image image.old) steps (W.contents out.old) (W.contents out.new)) }
     ensures image { Stays D.honest D.image D.failures result image.old image.new }
     ensures text { Stays T.honest T.text T.failures result journal.old journal.new }
     ensures counts { IfErr result (λ f. LookCounts f (D.failures image.old) (T.failures journal.old) (D.failures image.new) (T.failures journal.new)) }
@@ -180,5 +187,8 @@ pub fn show_steps<D: Device, T: TextStore, A: Allocator + Clone, W: Write>(
         Ok(found) => found,
         Err(fault) => return Err(ShowFault::Text(fault)),
     };
-    put_found(alloc, image, journal, &found, steps, out)
+    match put_found(alloc, image, journal, &found, steps, out) {
+        Ok(written) => put_last(steps, written, out),
+        Err(fault) => Err(fault),
+    }
 }

@@ -48,6 +48,7 @@ pub fn recover<D: Device, T: TextStore, A: Allocator + Clone>(
             &mut devices.redo,
             counted,
         ),
+        // Nothing of the redo text is read: a bad one doesn't hinder recovery, which empties it.
         Found::Unfinished(torn) => recover_read(alloc, devices, torn),
     }
 }

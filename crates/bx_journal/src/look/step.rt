@@ -1,9 +1,10 @@
 //! Steps over changes, as they are shown: a heading, the saved lines, and an empty line for each.
 ghost use Rattle.std.specs.Prelude.{◌≡◌, ◌+◌, ◌<◌, ◌≤◌, ℕ, All, IsTrue, length, OnOk, IfErr};
 ghost use Rattle.std.specs.Io.KnownBytes.{Appends};
-ghost use Rattle.bx_journal_read.specs.show.ShownSteps.{first_number, AreStepsPut, mark_step, newest_steps, number_at, saved_lines_at};
+ghost use Rattle.bx_journal_read.specs.show.ShownSteps.{first_number, AreStepsPut, mark_step, newest_steps, number_at, saved_lines_at, shows_patch};
 ghost use Rattle.bx_journal_read.specs.show.Stopping.{CountsBytes, StopsPrefix};
-ghost use Rattle.bx_journal_read.specs.show.Showing.{LiesWithin, WritesBeside};
+ghost use Rattle.bx_journal_read.specs.show.Showing.{CountsNone, LiesWithin, PutFault, WritesBeside};
+ghost use Rattle.bx_journal.specs.ShownText.{last_line};
 
 use bx_image::Device;
 use bx_journal_format::Mark;
@@ -93,6 +94,8 @@ pub fn put_steps<D: Device, T: TextStore, A: Allocator + Clone, W: Write>(
     requires lie { (len : ℕ) × (T.honest journal.old → len ≤ length (T.text journal.old)) × All (LiesWithin len) marks.now }
     ensures steps { T.honest journal.old → (IsTrue steps.compares → D.honest image.old) → OnOk result
         (AreStepsPut steps (D.image image.old) (T.text journal.old) steps.count marks.now (W.contents out.old) (W.contents out.new)) }
+    ensures counted { T.honest journal.old → (IsTrue steps.compares → D.honest image.old) → OnOk result (CountsBytes writing.old.written
+        (newest_steps steps (D.image image.old) (T.text journal.old) steps.count marks.now) writing.new.written) }
     ensures stops { T.honest journal.old → (IsTrue steps.compares → D.honest image.old) → IfErr result (StopsPrefix writing.old.written
         (newest_steps steps (D.image image.old) (T.text journal.old) steps.count marks.now) (W.contents out.old) (W.contents out.new)) }
     ensures puts { WritesBeside D.Device T.TextStore result image.old image.new journal.old journal.new }
@@ -108,4 +111,30 @@ pub fn put_steps<D: Device, T: TextStore, A: Allocator + Clone, W: Write>(
         put_step(image, journal, writing, step, out)?;
     }
     Ok(())
+}
+
+/// Whether steps are shown as a patch.
+fn is_patch(steps: Steps) -> bool
+    ensures { result ≡ shows_patch steps }
+{
+    match steps.compares {
+        true => steps.count == 1,
+        false => false,
+    }
+}
+
+/// Writes the last line of a patch, where the steps are shown as one, behind `before` bytes.
+pub fn put_last<W: Write>(steps: Steps, before: u64, out: &mut W) -> Result<(), ShowFault>
+    ensures put { OnOk result (Appends (W.contents out.old) (W.contents out.new) (last_line steps)) }
+    ensures kind { IfErr result PutFault }
+    ensures counts { IfErr result CountsNone }
+    ensures stops { IfErr result (StopsPrefix before (last_line steps) (W.contents out.old) (W.contents out.new)) }
+{
+    if !is_patch(steps) {
+        return Ok(());
+    }
+    match put(out, before, b"end\n") {
+        Ok(_) => Ok(()),
+        Err(fault) => Err(fault),
+    }
 }

@@ -122,6 +122,7 @@ pub fn redo_counted<A: Allocator + Clone>(
     ensures refused { IfErr result (RedoTextFault text.now changes) }
     ensures unfit { (line : ℕ) → IsUnfitAt text.now changes line → MatchResult result (λ _. ⊥) (RefusesRedo line) }
 {
+    // Reading takes the text, in which the number of the line is counted afterwards.
     let copy = Vec::from_slice(alloc.clone()?, text)?;
     match read_journal(alloc, copy) {
         Ok(journal) => counted_read(text, &journal, changes),

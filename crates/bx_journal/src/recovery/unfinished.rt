@@ -116,6 +116,7 @@ fn finish<D: Device, T: TextStore, A: Allocator>(
     ensures settles { StaySettled D.Device T.TextStore devices.old devices.new result }
     ensures steps_on { StepsOn D.Device T.TextStore result devices.old devices.new }
 {
+    // Before the journal is finished again, else a stop could leave a finished journal beside another image's redo text.
     cut_redo(&mut devices.redo, 0)?;
     cut_unfinished(&mut devices.image, &mut devices.journal, buffers, torn)
 }

@@ -85,6 +85,7 @@ impl<D: Device, T: TextStore, A: Allocator + Clone> Session<D, T, A> {
             return Err(SessionFault::TooFew { have: self.count });
         }
         let read = read_last_of(&self.alloc, &mut self.devices.journal, self.count, k)?;
+        // All memory is taken here, and all three are on the disk behind it: from then on only a device can stop this.
         let mut taking = prepare_takens(&self.alloc, &mut self.devices, read, k)?;
         match undo_entries(
             &mut self.devices,

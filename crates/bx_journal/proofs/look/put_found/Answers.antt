@@ -1,15 +1,13 @@
-use Rattle.std.proofs.Common.{◌≤◌, length, subst, sym}
+use Rattle.std.proofs.Common.{◌≤◌, List, length, subst, sym}
 use Rattle.std.specs.Prelude.{All}
 use Rattle.bx_journal_read.specs.show.Showing.{LiesWithin}
 use Rattle.bx_journal_read.specs.show.ShownSteps.{AreStepsPut}
-use Rattle.std.specs.Prelude.{IfErr}
-use Rattle.std.proofs.lemmas.Result.{IfErr-weaker}
 use Rattle.bx_journal_read.specs.declared.fault.SessionFault.TheVariants.{NoMemory}
 use Rattle.bx_journal_read.specs.declared.show.fault.ShowFault.TheVariants.{Text}
-use Rattle.bx_journal_read.specs.show.ShownSteps.{newest_steps, torn_text, StopsFound}
-use Rattle.bx_journal_read.specs.show.Stopping.{StopsPrefix}
-use Rattle.bx_journal_read.proofs.RowTexts.{ok_weaker}
-use Rattle.bx_journal_read.proofs.StopLemmas.{handed_on, stops_first, stops_later, stops_none}
+use Rattle.bx_journal_read.specs.show.ShownSteps.{newest_steps, torn_text}
+use Rattle.bx_journal_read.specs.show.Stopping.{CountsBytes, StopsPrefix}
+use Rattle.bx_journal_format.specs.declared.read.marks.Mark.{Mark}
+use Rattle.bx_journal_read.proofs.StopLemmas.{counts_both, handed_on, stops_first, stops_later, stops_none}
 use Rattle.bx_journal.proofs.look.put_found.Goals as goal
 
 pub put_steps-requires-clause-enough : goal.put_steps-requires-clause-enough
@@ -18,15 +16,20 @@ put_steps-requires-clause-enough g c = subst (λ ms. c.args.steps.count ≤ leng
 pub put_steps-requires-clause-lie : goal.put_steps-requires-clause-lie
 put_steps-requires-clause-lie g c = (c.requires.lie.0, c.requires.lie.1, subst (All (LiesWithin c.requires.lie.0)) (sym c.as_slice.ensures.value) c.requires.lie.2)
 
-pub returns-clause-put : goal.returns-clause-put
-returns-clause-put g c h hd =
-    ok_weaker c.put_steps.result
-    (λ put. (
-      g.W.Write.contents c.put_torn.new.out,
-      c.in_ok-before.ensures.line,
-      subst (λ ms. AreStepsPut c.args.steps (g.D.Device.image c.args.image.now) (g.T.TextStore.text c.args.journal.now) c.args.steps.count ms (g.W.Write.contents c.put_torn.new.out) (g.W.Write.contents c.put_steps.new.out)) c.as_slice.ensures.value put,
-    ))
-    (c.put_steps.ensures.steps h hd)
+pub returns-in-Ok-clause-put : goal.returns-in-Ok-clause-put
+returns-in-Ok-clause-put g c h hd = (
+  g.W.Write.contents c.put_torn.new.out,
+  c.in_ok-before.ensures.line,
+  subst (λ ms. AreStepsPut c.args.steps (g.D.Device.image c.args.image.now) (g.T.TextStore.text c.args.journal.now) c.args.steps.count ms (g.W.Write.contents c.put_torn.new.out) (g.W.Write.contents c.put_steps.new.out)) c.as_slice.ensures.value
+      (c.in-Ok.ensures.steps h hd),
+)
+
+pub returns-in-Ok-clause-counted : goal.returns-in-Ok-clause-counted
+returns-in-Ok-clause-counted g c h hd =
+    let steps = λ (ms : List Mark). newest_steps c.args.steps (g.D.Device.image c.args.image.now) (g.T.TextStore.text c.args.journal.now) c.args.steps.count ms in
+    counts_both 0 c.in_ok-before.before c.put_steps.new.writing.written (torn_text c.args.found.now.torn) (steps c.args.found.now.marks.items) c.in_ok-before.ensures.counted
+    (subst (λ n. CountsBytes n (steps c.args.found.now.marks.items) c.put_steps.new.writing.written) c.in_ok-writing.ensures
+    (subst (λ ms. CountsBytes c.in_ok-writing.writing.written (steps ms) c.put_steps.new.writing.written) c.as_slice.ensures.value (c.in-Ok.ensures.counted h hd)))
 
 pub returns-in_err-before-clause-stops : goal.returns-in_err-before-clause-stops
 returns-in_err-before-clause-stops g c h hd =
@@ -44,13 +47,10 @@ returns-in_err-writing-clause-stops g c h hd =
 
 pub returns-clause-stops : goal.returns-clause-stops
 returns-clause-stops g c h hd =
-    let image = g.D.Device.image c.args.image.now in
-    let text = g.T.TextStore.text c.args.journal.now in
-    let w0 = g.W.Write.contents c.args.out.now in
+    let steps = λ (ms : List Mark). newest_steps c.args.steps (g.D.Device.image c.args.image.now) (g.T.TextStore.text c.args.journal.now) c.args.steps.count ms in
     let w1 = g.W.Write.contents c.put_torn.new.out in
     let w2 = g.W.Write.contents c.put_steps.new.out in
-    IfErr-weaker c.put_steps.result (StopsPrefix c.in_ok-before.before (newest_steps c.args.steps image text c.args.steps.count c.args.found.now.marks.items) w1 w2) (StopsFound c.args.steps image text c.args.found.now w0 w2)
-    (λ f stop. stops_later 0 c.in_ok-before.before (torn_text c.args.found.now.torn) (newest_steps c.args.steps image text c.args.steps.count c.args.found.now.marks.items) w0 w1 w2 f
-    c.in_ok-before.ensures.line c.in_ok-before.ensures.counted stop)
-    (subst (λ n. IfErr c.put_steps.result (StopsPrefix n (newest_steps c.args.steps image text c.args.steps.count c.args.found.now.marks.items) w1 w2)) c.in_ok-writing.ensures
-    (subst (λ ms. IfErr c.put_steps.result (StopsPrefix c.in_ok-writing.writing.written (newest_steps c.args.steps image text c.args.steps.count ms) w1 w2)) c.as_slice.ensures.value (c.put_steps.ensures.stops h hd)))
+    stops_later 0 c.in_ok-before.before (torn_text c.args.found.now.torn) (steps c.args.found.now.marks.items) (g.W.Write.contents c.args.out.now) w1 w2 c.in-Err.fault
+    c.in_ok-before.ensures.line c.in_ok-before.ensures.counted
+    (subst (λ n. StopsPrefix n (steps c.args.found.now.marks.items) w1 w2 c.in-Err.fault) c.in_ok-writing.ensures
+    (subst (λ ms. StopsPrefix c.in_ok-writing.writing.written (steps ms) w1 w2 c.in-Err.fault) c.as_slice.ensures.value (c.in-Err.ensures.stops h hd)))

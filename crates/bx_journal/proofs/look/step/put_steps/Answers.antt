@@ -3,7 +3,8 @@ use Rattle.std.proofs.KnownBytes.{Appends-nil}
 use Rattle.std.specs.Io.KnownBytes.{Appends}
 use Rattle.std.proofs.lemmas.List.Elements.{All-get_or}
 use Rattle.bx_journal_format.specs.declared.read.marks.Mark.{Mark}
-use Rattle.bx_journal_read.specs.show.ShownSteps.{first_number, AreStepsPut}
+use Rattle.bx_journal_read.specs.show.ShownSteps.{first_number, AreStepsPut, newest_steps}
+use Rattle.bx_journal_read.specs.show.Stopping.{CountsBytes}
 use Rattle.bx_journal_read.specs.show.Showing.{LiesWithin}
 use Rattle.bx_journal_read.proofs.BesideLemmas.{stayed_none, stayed_on}
 use Rattle.bx_journal_read.proofs.StepTexts.{steps_none, steps_put}
@@ -58,6 +59,12 @@ returns-clause-steps g c h hd =
     let all : c.loop-i.i ≡ c.args.steps.count = omega (arith, c.loop-i-test.false, c.loop-i.auto.i-end) in
     subst (λ k. AreStepsPut c.args.steps (g.D.Device.image c.args.image.now) (g.T.TextStore.text c.args.journal.now) k c.args.marks.now (g.W.Write.contents c.args.out.now) (g.W.Write.contents c.loop-i.out)) all
     (c.loop-i.invariant.steps h hd)
+
+pub returns-clause-counted : goal.returns-clause-counted
+returns-clause-counted g c h hd =
+    let all : c.loop-i.i ≡ c.args.steps.count = omega (arith, c.loop-i-test.false, c.loop-i.auto.i-end) in
+    subst (λ k. CountsBytes c.args.writing.now.written (newest_steps c.args.steps (g.D.Device.image c.args.image.now) (g.T.TextStore.text c.args.journal.now) k c.args.marks.now) c.loop-i.writing.written) all
+    (c.loop-i.invariant.counted h hd)
 
 pub returns-in_err-put_step-clause-stops : goal.returns-in_err-put_step-clause-stops
 returns-in_err-put_step-clause-stops g c h hd =
