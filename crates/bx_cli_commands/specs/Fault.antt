@@ -8,9 +8,9 @@ use Rattle.bx_patch.specs.declared.other.Other.TheVariants as other
 use Rattle.bx_patch.specs.declared.read.fault.PatchFault.TheVariants as patch
 use Rattle.bx_journal.specs.SessionFault.TheVariants as session
 use Rattle.bx_cli_commands.specs.declared.fault.Fault.{Fault}
-use Rattle.bx_cli_commands.specs.declared.fault.Fault.TheVariants.{Io, Read, Dd, Patch, Disagrees, Session, ChangedSince, Usage, OpenFailed}
+use Rattle.bx_cli_commands.specs.declared.fault.Fault.TheVariants.{Io, Read, Dd, Patch, Disagrees, NotReversible, NothingToWrite, Session, ChangedSince, Usage, OpenFailed}
 
--- the number of a fault of a dump's text; 1 is want of memory
+-- the number of a fault of a dump's text
 abbrev pub read_number_of : ReadFault → ℕ
 read_number_of (read.BadAddress _) = 10
 read_number_of (read.MissingColon _) = 11
@@ -19,9 +19,9 @@ read_number_of (read.NoData _) = 13
 read_number_of (read.TooWide _) = 14
 read_number_of (read.AddressTooLarge _) = 15
 read_number_of (read.OddDigits _) = 16
-read_number_of _ = 1
+read_number_of read.NoMemory = 1
 
--- The number of a fault. What is left is want of memory, which each of the five crates has: it is 1.
+-- The number of a fault. Want of memory, which each of the five crates has, is 1.
 abbrev pub fault_number : Fault → ℕ
 fault_number (Io io.ReadFailed) = 2
 fault_number (Io (io.WriteFailed _)) = 3
@@ -42,6 +42,10 @@ fault_number (Patch (patch.Line fault)) = read_number_of fault
 fault_number (Patch (patch.OfNoKind _)) = 17
 fault_number (Patch (patch.BadLength _)) = 18
 fault_number (Patch (patch.PastLength _)) = 19
+fault_number (Patch patch.NoEnd) = 28
+fault_number (Patch (patch.BadCount _)) = 35
+fault_number NotReversible = 29
+fault_number NothingToWrite = 32
 fault_number (Disagrees (other.Bytes _)) = 34
 fault_number (Disagrees (other.Length _)) = 45
 fault_number (Session session.TooLarge) = 30
@@ -57,4 +61,7 @@ fault_number (Session (session.RedoDamaged _)) = 47
 fault_number ChangedSince = 48
 fault_number Usage = 50
 fault_number OpenFailed = 51
-fault_number _ = 1
+fault_number (Io io.NoMemory) = 1
+fault_number (Dd dd.NoMemory) = 1
+fault_number (Patch patch.NoMemory) = 1
+fault_number (Session session.NoMemory) = 1

@@ -31,6 +31,12 @@ pub enum Fault {
     /// What the image has otherwise than a patch expects.
     #[error(transparent)]
     Disagrees(Other),
+    /// The patch is read, and its other way round is none that makes the old image of the new one.
+    #[error("the patch can't be turned round")]
+    NotReversible,
+    /// A text was read whole that asks for a change, and has no byte for it.
+    #[error("nothing to write")]
+    NothingToWrite,
     /// What stopped a call of a session, or its opening.
     #[error(transparent)]
     Session(SessionFault),
@@ -56,6 +62,8 @@ impl Fault {
             Fault::Dd(fault) => dd_number(fault),
             Fault::Patch(fault) => patch_number(fault),
             Fault::Disagrees(other) => other_number(other),
+            Fault::NotReversible => 29,
+            Fault::NothingToWrite => 32,
             Fault::Session(fault) => session_number(fault),
             Fault::ChangedSince => 48,
             Fault::Usage => 50,
@@ -118,6 +126,8 @@ fn patch_number(fault: PatchFault) -> u8
         PatchFault::OfNoKind { .. } => 17,
         PatchFault::BadLength { .. } => 18,
         PatchFault::PastLength { .. } => 19,
+        PatchFault::NoEnd => 28,
+        PatchFault::BadCount { .. } => 35,
     }
 }
 

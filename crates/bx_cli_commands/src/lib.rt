@@ -1,5 +1,7 @@
 //! What command lines ask for, as jobs and commands, and their runs: dumps and copies, and commands on a session; with a fault that holds
 //! those of all crates. `bx_cli` exports all of it.
+//!
+//! `docs/DECISIONS.md` argues for it ("The program and runs of commands").
 #![tactic(auto)]
 
 mod changes;

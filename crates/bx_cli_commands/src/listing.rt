@@ -2,7 +2,7 @@
 ghost use Rattle.std.specs.Prelude.{◌≡◌, ◌<◌, ◌++◌, IfErr, IfOk, OnOk, IsOkUnless, IsTrue, string_bytes};
 ghost use Rattle.std.specs.List.{flat_map};
 ghost use Rattle.bx_journal.specs.Showing.{RangesOf, Stays};
-ghost use Rattle.bx_journal.specs.ShownSteps.{ShowsSteps};
+ghost use Rattle.bx_journal.specs.ShownText.{ShowsText};
 ghost use Rattle.bx_cli_commands.specs.Listing.{ListCounts, RefusesShowing, StopsListed, StopsListing, StopsShowing, StopsShownList, log_line};
 
 use crate::Fault;
@@ -59,7 +59,7 @@ pub fn list_ranges<T: TextStore, A: Allocator + Clone, W: Write>(
 }
 
 /// Writes what the next undos of a journal's text, or the next redos of a redo text, would do: for each step a heading, the saved
-/// lines, and an empty line. The text and the image stay.
+/// lines, and an empty line. One step that is compared is a patch, and ends as one. The text and the image stay.
 ///
 /// # Errors
 /// As of `bx_journal::show_steps`.
@@ -73,7 +73,7 @@ pub fn list_steps<D: Device, T: TextStore, A: Allocator + Clone, W: Write>(
     requires countable { D.failures image.old < u64.MAX }
     requires also_countable { T.failures journal.old < u64.MAX }
     ensures shows { T.honest journal.old → (IsTrue steps.compares → D.honest image.old) → OnOk result
-        (ShowsSteps (T.text journal.old) (D.image image.old) steps (W.contents out.old) (W.contents out.new)) }
+        (ShowsText (T.text journal.old) (D.image image.old) steps (W.contents out.old) (W.contents out.new)) }
     ensures fault { IfErr result (StopsShowing (T.honest journal.old) (T.text journal.old) steps) }
     ensures quiet { IfErr result (λ fault. RefusesShowing fault → W.contents out.new ≡ W.contents out.old) }
     ensures stops { T.honest journal.old → (IsTrue steps.compares → D.honest image.old) → IfErr result

@@ -86,8 +86,6 @@ pub struct StepsJob {
     pub count: u32,
     /// The image that is changed.
     pub target: Target,
-    /// Whether it is done where the image was changed since, too.
-    pub anyway: bool,
     ghost few: { count ≤ 65535 },
 }
 

@@ -29,6 +29,8 @@ pub struct Access {
     pub durability: Durability,
     /// Whether it changes a block device that is mounted.
     pub mounted: bool,
+    /// Whether it goes on where the image isn't the one that was left.
+    pub anyway: bool,
 }
 
 /// The image of a job, with its texts.
