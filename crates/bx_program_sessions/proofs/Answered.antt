@@ -1,6 +1,7 @@
 -- What an undo and a redo answer, from what their commands make of the files.
 use Rattle.std.proofs.Common.{◌≡◌, ◌⊎◌, ◌∙◌, ◌≤◌, ℕ, List, Option, Some, None, refl, sym, ap, subst, inl, inr, arith}
 use Rattle.std.specs.Prelude.{Result, Ok, Err, IfOk, IfErr, IfSome, OnErr}
+use Rattle.std.specs.Result.{MatchResult}
 use Rattle.bx_journal.specs.Fault.{DeviceFault}
 use Rattle.bx_journal.specs.Images.{Images, redo_of, undo_of}
 use Rattle.bx_journal.specs.Machine.{RedoStep, UndoStep}
@@ -17,15 +18,16 @@ use Rattle.bx_program_files.specs.declared.unopened.Unopened.{Unopened}
 use Rattle.bx_cli_commands.specs.Power.{images_of}
 use Rattle.bx_cli_commands.specs.Refusal.{IsWholeRefusal}
 use Rattle.bx_cli_commands.specs.Replies.{stands_by}
-use Rattle.bx_cli_commands.specs.Run.{CallStep, RedoesStep, UndoesStep, answered}
+use Rattle.bx_cli_commands.specs.Run.{CallStep, RedoesStep, Unfailed, UndoesStep, answered}
 use Rattle.bx_cli_commands.specs.Standing.{MovesUp, Standing}
 use Rattle.bx_cli_commands.specs.declared.command.Reply.{Reply}
 use Rattle.bx_cli_commands.specs.declared.command.Reply.TheVariants.{Changed, Copied, Redone, Refused, Undone}
 use Rattle.bx_cli_commands.specs.declared.fault.Fault.{Fault}
 use Rattle.bx_cli_commands.specs.declared.fault.Fault.TheVariants.{Io, OpenFailed, Session}
-use Rattle.bx_program_sessions.specs.Contents.{Contents, EndsAt, FindsIn, IsUnopened, StepsTo, Survives, recovered_as}
-use Rattle.bx_program_sessions.specs.Moves.{Course, HasMoved, IsMoved, MayNotMove, RefusesMove, SurvivesMove, again, back, command_by, stepped}
-use Rattle.bx_program_sessions.specs.Named.{MayRefuse, NothingDone, contents_of}
+use Rattle.bx_program_sessions.specs.Contents.{Contents, DoesFound, EndsAt, FindsIn, Holds, IsUnopened, StandsIn, StepsRead, StepsTo, Survives, SurvivesFound, recovered_as}
+use Rattle.bx_program_sessions.specs.Moves.{Course, HasMoved, IsMidway, IsMoved, MayNotMove, MovedFound, MovedRead, RefusesRecovered, RefusesMove, SparesMove, SurvivesMove, SurvivesMoved, again, back, command_by, stepped}
+use Rattle.bx_program_sessions.specs.Named.{LeavesRefused, MayRefuse, NothingDone, contents_of}
+use Rattle.bx_program_sessions.specs.Task.{TaskStep}
 use Rattle.bx_program_sessions.specs.declared.task.Task.TheVariants.{Run}
 
 abbrev number_or : ℕ → Result ℕ Fault → ℕ
@@ -41,6 +43,12 @@ pub reason : (Why : Type 0) (u : Option Unopened) (reply : Reply) (how : Option 
     → ((reply ≡ Refused OpenFailed) × (u ≡ None → ⊥)) ⊎ Why
 reason Why None reply how old new un why whole = inr (why refl whole)
 reason Why (Some x) reply how old new un why whole = inl (un.0, λ e. (let wrong : Some x ≡ None = e in cc))
+
+-- where changes were moved the files were opened
+pub opened_moved : (u : Option Unopened) (reply : Reply) (how : Option How) (old new : Sight) → IfSome u (λ _. NothingDone reply how old new)
+    → HasMoved (stands_by reply) → u ≡ None
+opened_moved None reply how old new un has = refl
+opened_moved (Some x) reply how old new un has = absurd (subst (λ p. HasMoved (stands_by p)) un.0 has)
 
 -- files that weren't opened
 pub nothing_moved : (u : Option Unopened) (reply : Reply) (how : Option How) (old new : Sight) → IfSome u (λ _. NothingDone reply how old new)
@@ -149,6 +157,55 @@ module _ (s : Images) (k : ℕ) (course : Course) (moved : ℕ → Images → Im
   answers_err names u old new (Refused OpenFailed) steps leaves why = (unopened_told u (why (λ wrong. cc)), leaves (λ wrong. cc))
   answers_err names u old new (Refused e) steps leaves why = (opened_may u e (λ wrong. cc) (why (λ wrong. cc)), leaves (λ wrong. cc))
 
+  -- a call that was refused, and not interrupted, leaves the images
+  stays_up : (f : SessionFault) (after : Standing) → (Session f ≡ Session Interrupted → ⊥) → MovesUp Step moved k s (Err f) after → after ≡ Standing.Up s
+  stays_up DeviceFailed after whole moves = moves
+  stays_up Interrupted after whole moves = absurd (whole refl)
+  stays_up f after whole moves = moves.0
+
+  holds_still : moved 0 s ≡ s → (e : Fault) (c : Contents) (r : Result ℕ SessionFault) (after : Standing) → (e ≡ Session Interrupted → ⊥)
+      → Refused e ≡ answered made r → MovesUp Step moved k s r after → EndsAt c after → Holds c (course.moved 0)
+  holds_still none e c (Ok m) after whole is moves ends = absurd (let wrong : Err e ≡ Ok m = ap stands_by is ∙ made_is m in cc)
+  holds_still none e c (Err f) after whole is moves ends =
+      let same : e ≡ Session f = cc in
+      let up = stays_up f after (λ wrong. whole (same ∙ wrong)) moves in
+      subst (λ t. Holds c t) (sym none ∙ course_is 0) (subst (λ a. EndsAt c a) up ends)
+
+  found_refused : moved 0 s ≡ s → (e : Fault) (c : Contents) → (e ≡ Session Interrupted → ⊥) → ((after : Standing) × Call (Refused e) after × EndsAt c after)
+      → MayNotMove k course e × Holds c (course.moved 0)
+  found_refused none e c whole step =
+      (call_may e step.1.0 step.0 step.1.1 step.1.2, holds_still none e c step.1.0 step.0 whole step.1.1 step.1.2 step.2)
+
+  pub answers_found : moved 0 s ≡ s → (reply : Reply) (c : Contents) → ((after : Standing) × Call reply after × EndsAt c after)
+      → MatchResult (stands_by reply) (λ left. IsMoved k course left c) (RefusesRecovered k course c)
+  answers_found none (Changed n) c step = told (Changed n) n c refl step
+  answers_found none (Copied n counts) c step = told (Copied n counts) n c refl step
+  answers_found none (Undone n) c step = told (Undone n) n c refl step
+  answers_found none (Redone n) c step = told (Redone n) n c refl step
+  answers_found none (Refused (Session Interrupted)) c step = down c step
+  answers_found none (Refused e) c step = found_refused none e c (λ wrong. cc) step
+
+  -- a reply that tells a number, from images for which the three stand
+  read_ok : (reply : Reply) (n : ℕ) (c : Contents) (r : Result ℕ SessionFault) (next : Images) → reply ≡ answered made r → stands_by reply ≡ Ok n
+      → MovesUp Step moved k s r (Standing.Up next) → StandsIn c next → (k ≤ course.most) × (n ≡ course.left k) × StandsIn c (course.moved k)
+  read_ok reply n c (Ok m) next is tells moves ends =
+      let step = enough m moves.0 moves.2 in
+      let same : n ≡ m = ok_injective n m (sym tells ∙ ap stands_by is ∙ made_is m) in
+      (step.0, same ∙ step.1, subst (StandsIn c) (ap images_of moves.1 ∙ moves.3 ∙ course_is k) ends)
+  read_ok reply n c (Err e) next is tells moves ends = absurd (let wrong : Ok n ≡ Err (Session e) = sym tells ∙ ap stands_by is in cc)
+
+  read_told : (reply : Reply) (n : ℕ) (c : Contents) → stands_by reply ≡ Ok n → ((next : Images) × Call reply (Standing.Up next) × StandsIn c next)
+      → (k ≤ course.most) × (n ≡ course.left k) × StandsIn c (course.moved k)
+  read_told reply n c tells step = read_ok reply n c step.1.0 step.0 step.1.1 tells step.1.2 step.2
+
+  pub answers_read : (reply : Reply) (c : Contents) → ((next : Images) × Call reply (Standing.Up next) × StandsIn c next)
+      → IfOk (stands_by reply) (λ left. (k ≤ course.most) × (left ≡ course.left k) × StandsIn c (course.moved k))
+  answers_read (Changed n) c step = read_told (Changed n) n c refl step
+  answers_read (Copied n counts) c step = read_told (Copied n counts) n c refl step
+  answers_read (Undone n) c step = read_told (Undone n) n c refl step
+  answers_read (Redone n) c step = read_told (Redone n) n c refl step
+  answers_read (Refused e) c step = tt
+
   pub survives_call : (image journal redo : List ℕ → Type 0) (reply : Reply) → (IsWholeRefusal reply → ⊥)
       → ((x text redo_text : List ℕ) → image x → journal text → redo redo_text
       → (after : Standing) × Call reply after × Found text x redo_text (images_of after))
@@ -196,6 +253,18 @@ module _ (s : Images) (k : ℕ) where
       answers_ok s k (back s) undo_of Undone (λ s k r t. UndoStep s.stack k r t.stack) (λ i. refl) (λ n. refl) (λ n new step. (step.0, step.1))
       (undo_refuses s k) reply c steps
 
+  pub undone_found : (reply : Reply) (c : Contents) → ((after : Standing) × Undoing reply after × EndsAt c after)
+      → MatchResult (stands_by reply) (λ left. IsMoved k (back s) left c) (RefusesRecovered k (back s) c)
+  undone_found reply c step =
+      answers_found s k (back s) undo_of Undone (λ s k r t. UndoStep s.stack k r t.stack) (λ i. refl) (λ n. refl) (λ n new step. (step.0, step.1))
+      (undo_refuses s k) refl reply c step
+
+  pub undone_read : (reply : Reply) (c : Contents) → ((next : Images) × Undoing reply (Standing.Up next) × StandsIn c next)
+      → IfOk (stands_by reply) (λ left. (k ≤ (back s).most) × (left ≡ (back s).left k) × StandsIn c ((back s).moved k))
+  undone_read reply c step =
+      answers_read s k (back s) undo_of Undone (λ s k r t. UndoStep s.stack k r t.stack) (λ i. refl) (λ n. refl) (λ n new step. (step.0, step.1))
+      (undo_refuses s k) reply c step
+
   pub undone_err : (names : Names) (u : Option Unopened) (old new : Sight) (reply : Reply)
       → ((IsWholeRefusal reply → ⊥) → (after : Standing) × Undoing reply after × EndsAt (contents_of names new) after)
       → (IsWholeRefusal reply → LeavesFiles old new)
@@ -221,6 +290,16 @@ module _ (s : Images) (k : ℕ) where
       → IfOk (stands_by reply) (λ left. IsMoved k (again s) left c)
   redone_ok reply c steps =
       answers_ok s k (again s) redo_of Redone RedoStep (λ i. refl) (λ n. refl) (λ n new step. (step.0, step.1)) (redo_refuses s k) reply c steps
+
+  pub redone_found : (reply : Reply) (c : Contents) → ((after : Standing) × Redoing reply after × EndsAt c after)
+      → MatchResult (stands_by reply) (λ left. IsMoved k (again s) left c) (RefusesRecovered k (again s) c)
+  redone_found reply c step =
+      answers_found s k (again s) redo_of Redone RedoStep (λ i. refl) (λ n. refl) (λ n new step. (step.0, step.1)) (redo_refuses s k) refl reply c step
+
+  pub redone_read : (reply : Reply) (c : Contents) → ((next : Images) × Redoing reply (Standing.Up next) × StandsIn c next)
+      → IfOk (stands_by reply) (λ left. (k ≤ (again s).most) × (left ≡ (again s).left k) × StandsIn c ((again s).moved k))
+  redone_read reply c step =
+      answers_read s k (again s) redo_of Redone RedoStep (λ i. refl) (λ n. refl) (λ n new step. (step.0, step.1)) (redo_refuses s k) reply c step
 
   pub redone_err : (names : Names) (u : Option Unopened) (old new : Sight) (reply : Reply)
       → ((IsWholeRefusal reply → ⊥) → (after : Standing) × Redoing reply after × EndsAt (contents_of names new) after)
@@ -249,6 +328,43 @@ begun_by names k course u old new (Redone n) has refuses whole = whole
 begun_by names k course u old new (Refused (Session Interrupted)) has refuses whole = whole refl
 begun_by names k course u old new (Refused (Io fault)) has refuses whole = refuses.0
 begun_by names k course u old new (Refused e) has refuses whole = has
+
+map_ok : (o : Result ℕ Fault) (P Q : ℕ → Type 0) → ((n : ℕ) → P n → Q n) → IfOk o P → IfOk o Q
+map_ok (Ok n) P Q f p = f n p
+map_ok (Err e) P Q f p = tt
+
+-- where none was moved, the command was refused whole
+pub whole_of : (reply : Reply) → (HasMoved (stands_by reply) → ⊥) → IsWholeRefusal reply
+whole_of (Changed n) unmoved = absurd (unmoved tt)
+whole_of (Copied n counts) unmoved = absurd (unmoved tt)
+whole_of (Undone n) unmoved = absurd (unmoved tt)
+whole_of (Redone n) unmoved = absurd (unmoved tt)
+whole_of (Refused e) unmoved = λ is. unmoved (subst IsMidway (sym is) tt)
+
+-- the same where opening found images
+begun_found : (k : ℕ) (course : Course) (c : Contents) (reply : Reply) → HasMoved (stands_by reply)
+    → MatchResult (stands_by reply) (λ left. IsMoved k course left c) (RefusesRecovered k course c) → IsWholeRefusal reply → ⊥
+begun_found k course c (Changed n) has found whole = whole
+begun_found k course c (Copied n counts) has found whole = whole
+begun_found k course c (Undone n) has found whole = whole
+begun_found k course c (Redone n) has found whole = whole
+begun_found k course c (Refused (Session Interrupted)) has found whole = whole refl
+begun_found k course c (Refused (Io fault)) has found whole = found.0
+begun_found k course c (Refused e) has found whole = has
+
+-- nor was an opening that was stopped in the middle
+begun_unfound : (e : SessionFault) (reply : Reply) → reply ≡ Refused (Session e) → HasMoved (stands_by reply) → IsWholeRefusal reply → ⊥
+begun_unfound Interrupted reply is has whole = (subst IsWholeRefusal is whole) refl
+begun_unfound e reply is has whole = subst (λ p. HasMoved (stands_by p)) is has
+
+-- a command that was refused, and not stopped in the middle, leaves all files
+pub spares_by : (names : Names) (u : Option Unopened) (how : Option How) (old new : Sight) (reply : Reply)
+    → (IsWholeRefusal reply → LeavesRefused names u how old new) → IfErr (stands_by reply) (SparesMove names u how old new)
+spares_by names u how old new (Changed n) leaves = tt
+spares_by names u how old new (Copied n counts) leaves = tt
+spares_by names u how old new (Undone n) leaves = tt
+spares_by names u how old new (Redone n) leaves = tt
+spares_by names u how old new (Refused e) leaves = λ whole. leaves (λ is. whole (subst IsMidway (sym is) tt))
 
 module _ {R : Type 0} (remaining : R → Option (List ℕ)) where
   abbrev Steps : Way → Images → ℕ → Reply → Contents → Type 0
@@ -282,11 +398,58 @@ module _ {R : Type 0} (remaining : R → Option (List ℕ)) where
       let begun = begun_by names k (again s) u old new reply has refuses in redone_survives s k image journal redo reply begun (finds begun)
 
   -- what is recovered, moved
+  steps_found : (way : Way) (s : Images) (k : ℕ) (reply : Reply) (c : Contents) → Steps way s k reply c
+      → MatchResult (stands_by reply) (λ left. IsMoved k (stepped way s) left c) (RefusesRecovered k (stepped way s) c)
+  steps_found Backward s k reply c step = undone_found s k reply c step
+  steps_found Onward s k reply c step = redone_found s k reply c step
+
   pub moved_found : (way : Way) (s : Images) (k : ℕ) (how : Option How) (reply : Reply) (c : Contents)
-      → ((h : How) → how ≡ Some h → Steps way (recovered_as h s) k reply c)
-      → IfSome how (λ h. IfOk (stands_by reply) (λ left. IsMoved k (stepped way (recovered_as h s)) left c))
-  moved_found way s k None reply c steps = tt
-  moved_found way s k (Some h) reply c steps = moved_ok way (recovered_as h s) k reply c (λ _. steps h refl)
+      → DoesFound remaining s (Run (command_by {R = R} way k)) how reply c → MovedFound k way s how (stands_by reply) c
+  moved_found way s k None reply c found = (found.0, ap stands_by found.1, found.2)
+  moved_found way s k (Some h) reply c found = steps_found way (recovered_as h s) k reply c found
+
+  -- what opening took, moved
+  read_way : (way : Way) (s : Images) (k : ℕ) (reply : Reply) (c : Contents)
+      → ((next : Images) × TaskStep remaining (Standing.Up s) (Run (command_by {R = R} way k)) reply (Standing.Up next) × StandsIn c next)
+      → IfOk (stands_by reply) (λ left. (k ≤ (stepped way s).most) × (left ≡ (stepped way s).left k) × StandsIn c ((stepped way s).moved k))
+  read_way Backward s k reply c step = undone_read s k reply c step
+  read_way Onward s k reply c step = redone_read s k reply c step
+
+  read_steps : (way : Way) (k : ℕ) (h : How) (reply : Reply) (old new : Contents) → StepsRead remaining (Run (command_by {R = R} way k)) h reply old new
+      → IfOk (stands_by reply) (λ left. MovedRead k way h left old new)
+  read_steps way k h reply old new steps = map_ok (stands_by reply)
+      (λ left. (k ≤ (stepped way steps.before).most) × (left ≡ (stepped way steps.before).left k) × StandsIn new ((stepped way steps.before).moved k))
+      (λ left. MovedRead k way h left old new)
+      (λ left p. record { before = steps.before; read = steps.read; enough = p.0; left_is = p.1; ends = p.2 })
+      (read_way way steps.before k reply new (steps.next, steps.step, steps.ends))
+
+  read_reply : (way : Way) (k : ℕ) (h : How) (reply : Reply) (old new : Contents)
+      → (Unfailed reply → StepsRead remaining (Run (command_by {R = R} way k)) h reply old new)
+      → IfOk (stands_by reply) (λ left. MovedRead k way h left old new)
+  read_reply way k h (Changed n) old new steps = read_steps way k h (Changed n) old new (steps refl)
+  read_reply way k h (Copied n counts) old new steps = read_steps way k h (Copied n counts) old new (steps refl)
+  read_reply way k h (Undone n) old new steps = read_steps way k h (Undone n) old new (steps refl)
+  read_reply way k h (Redone n) old new steps = read_steps way k h (Redone n) old new (steps refl)
+  read_reply way k h (Refused e) old new steps = tt
+
+  pub moved_read : (way : Way) (k : ℕ) (how : Option How) (reply : Reply) (old new : Contents)
+      → (Unfailed reply → IfSome how (λ h. StepsRead remaining (Run (command_by {R = R} way k)) h reply old new))
+      → IfSome how (λ h. IfOk (stands_by reply) (λ left. MovedRead k way h left old new))
+  moved_read way k None reply old new steps = tt
+  moved_read way k (Some h) reply old new steps = read_reply way k h reply old new steps
+
+  -- where a loss of power finds it
+  pub found_survives : (way : Way) (s : Images) (k : ℕ) (how : Option How) (c : Contents) (image journal redo : List ℕ → Type 0) (reply : Reply)
+      → HasMoved (stands_by reply) → DoesFound remaining s (Run (command_by {R = R} way k)) how reply c
+      → ((IsWholeRefusal reply → ⊥) → SurvivesFound remaining s (Run (command_by {R = R} way k)) how reply image journal redo)
+      → SurvivesMoved k way s how image journal redo
+  found_survives way s k None c image journal redo reply has found finds = finds (begun_unfound found.0 reply found.1 has)
+  found_survives Backward s k (Some h) c image journal redo reply has found finds =
+      let begun = begun_found k (back (recovered_as h s)) c reply has (undone_found (recovered_as h s) k reply c found) in
+      undone_survives (recovered_as h s) k image journal redo reply begun (finds begun)
+  found_survives Onward s k (Some h) c image journal redo reply has found finds =
+      let begun = begun_found k (again (recovered_as h s)) c reply has (redone_found (recovered_as h s) k reply c found) in
+      redone_survives (recovered_as h s) k image journal redo reply begun (finds begun)
 
 -- why files weren't opened, behind what was said of the rest
 pub why_kept : {V : Type 0} (u : Option Unopened) (standing : Result V Fault) (how : Option How) (left : Type 0) (noted told new : ℕ) (W : ℕ → Unopened → Type 0)

@@ -1,12 +1,13 @@
 -- What becomes of the files of these names, from the names to their bytes and back.
-use Rattle.std.proofs.Common.{◌≡◌, ◌∙◌, ◌<◌, ◌≤◌, ℕ, Bool, true, false, Some, None, List, [], refl, sym, ap, subst, inl, inr, arith}
+use Rattle.std.proofs.Common.{◌≡◌, ◌∙◌, ◌<◌, ◌≤◌, ℕ, Bool, true, false, Some, None, List, [], refl, sym, ap, subst, inl, inr, arith, ◌⊎◌}
 use Rattle.std.specs.Option.{unwrap_or}
 use Rattle.std.proofs.lemmas.Bool.{cases_eq}
-use Rattle.bx_program_world.specs.World.{ChangesOnly, Sight, Trio, held}
-use Rattle.bx_program_files.specs.Files.{AreAllThere, AreOpened, HasMade, IsOneOfMade, IsOpenUnder, LeavesFiles, TakesOnly}
+use Rattle.bx_image.specs.Power.{NoMore}
+use Rattle.bx_program_world.specs.World.{ChangesOnly, NothingNewBelow, NothingNewFound, NothingNewOf, Sight, Trio, held}
+use Rattle.bx_program_files.specs.Files.{AreAllThere, AreOpened, HasMade, IsOneOfMade, IsOpenUnder, LeadsToMade, LeavesFiles, TakesOnly}
 use Rattle.bx_program_files.specs.declared.made.Made.{Made}
 use Rattle.bx_program_files.specs.declared.names.Names.{Names}
-use Rattle.bx_program_sessions.specs.Named.{LeadTo, KeepsOthers, bytes_of_files, contents_of}
+use Rattle.bx_program_sessions.specs.Named.{IsNamedBy, LeadTo, KeepsOthers, bytes_of_files, contents_of}
 
 pub some_injective : {m n : ℕ} → Some m ≡ Some n → m ≡ n
 some_injective {m} {n} is = ap (λ o. unwrap_or o m) is
@@ -100,6 +101,27 @@ same_bytes t mid new only same i =
       ]
     ]
 
+-- where no more is found of the three, and of all others, none is found of any
+pub nothing_new : (t : Trio) (found left : ℕ → List ℕ → Type 0) → NothingNewOf t found left → NoMore (found t.image) (left t.image)
+    → NoMore (found t.journal) (left t.journal) → NoMore (found t.redo) (left t.redo) → NothingNewFound found left
+nothing_new t found left others image journal redo n =
+    let Less : ℕ → Type 0 = λ i. NoMore (found i) (left i) in
+    elim (cases_eq n t.image) [
+      | inl is ↦ subst Less (sym is) image
+      | inr no_image ↦ elim (cases_eq n t.journal) [
+        | inl is ↦ subst Less (sym is) journal
+        | inr no_journal ↦ elim (cases_eq n t.redo) [
+          | inl is ↦ subst Less (sym is) redo
+          | inr no_redo ↦ others n (no_image, no_journal, no_redo)
+        ]
+      ]
+    ]
+
+-- what is found behind three steps, of files that were there before the first
+pub before_all : (there : ℕ) (first second third last : ℕ → List ℕ → Type 0) → NothingNewBelow there first second
+    → NothingNewFound second third → NothingNewFound third last → NothingNewBelow there first last
+before_all there first second third last a b c n below x is = a n below x (b n x (c n x is))
+
 -- a file that was made is none of those that were there
 made_apart : (files : ℕ → Type 0) (n : ℕ) (old new : Sight) → HasMade files old new → n < old.there → files n → ⊥
 made_apart files n old new has below is = let fresh = (has.fresh n is).0 in omega (arith, fresh, below)
@@ -150,8 +172,27 @@ module _ (names : Names) (mounted makes : Bool) (t : Trio) (made : Made) (old mi
       let before = only.before ∙ opened.files.streams.before in
       omega (arith, fresh, before, begun)
 
-  pub others_of : (new : Sight) → TakesOnly (IsOneOfMade made t) last new → KeepsOthers names old new
-  others_of new most = record {
+  -- a name that was missing leads to one of the three, where it leads to a file
+  led : (m : List ℕ) → LeadsToMade (IsNamedBy names last) (old.named m) (last.named m)
+  led m = elim (opened.files.named m) [
+    | inl as_before ↦ inl (only.named m ∙ as_before)
+    | inr is_new ↦ inr (is_new.0, is_new.1, led_to is_new.0 is_new.2, only.named m ∙ is_new.3)
+  ]
+    where
+      at : (name : List ℕ) (file n : ℕ) → mid.named name ≡ Some file → n ≡ file → last.named name ≡ Some n
+      at name file n leads is = only.named name ∙ leads ∙ ap Some (sym is)
+
+      led_to : (n : ℕ) → IsOneOfMade made t n → IsNamedBy names last n
+      led_to n is = elim is [
+        | inl image ↦ inl (at names.image t.image n opened.image.named image.1)
+        | inr text ↦ elim text [
+          | inl journal ↦ inr (inl (at names.journal t.journal n opened.journal.named journal.1))
+          | inr redo ↦ inr (inr (at names.redo t.redo n opened.redo.named redo.1))
+        ]
+      ]
+
+  pub others_of : (new : Sight) → TakesOnly (IsOneOfMade made t) last new → LeavesFiles old new ⊎ (new ≡ last) → KeepsOthers names old new
+  others_of new most left = record {
     bytes = λ n below no_image no_journal no_redo. most.bytes n ∙ only.bytes n (
       no_other IsMade names.image made.image t.image n old mid opened.files opened.image (λ is. inl (is, refl)) below no_image,
       no_other IsMade names.journal made.journal t.journal n old mid opened.files opened.journal (λ is. inr (inl (is, refl))) below no_journal,
@@ -159,6 +200,15 @@ module _ (names : Names) (mounted makes : Bool) (t : Trio) (made : Made) (old mi
     ) ∙ opened.files.bytes n below;
     stat = λ n below. most.stat n (made_apart IsMade n old mid opened.files below) ∙ only.stat n ∙ opened.files.stat n below;
     named = λ m n named. still_behind new most m n named;
+    made = λ stuck m. elim left [
+      | inl leaves ↦ inl (leaves.named stuck m)
+      | inr is ↦ subst (λ (w : Sight). LeadsToMade (IsNamedBy names w) (old.named m) (w.named m)) (sym is) (led m)
+    ];
+    stuck = elim left [
+      | inl leaves ↦ leaves.stuck
+      | inr is ↦ let same : last.stuck ≡ old.stuck = only.stuck ∙ opened.files.stuck in
+          subst (λ (w : Sight). old.stuck ≤ w.stuck) (sym is) (omega (arith, same))
+    ];
   }
     where
       still_behind : (new : Sight) → TakesOnly (IsOneOfMade made t) last new → (m : List ℕ) (n : ℕ) → old.named m ≡ Some n → new.named m ≡ Some n
@@ -177,4 +227,6 @@ others_left names old new left = record {
   bytes = λ n below _ _ _. left.bytes n below;
   stat = left.stat;
   named = left.still;
+  made = λ stuck m. inl (left.named stuck m);
+  stuck = left.stuck;
 }

@@ -1,5 +1,11 @@
 pub mod Obeyed
 pub mod Refused
+pub mod NoteLemmas
+pub mod EndLemmas
+pub mod LookLemmas
+pub mod RanLemmas
+pub mod Begun
+pub mod Opened
 pub mod Files
 pub mod Answered
 pub mod Lines

@@ -1,8 +1,7 @@
 -- What a person sees of a change of files.
 use Rattle.std.specs.Prelude.{◌≡◌, ℕ, Option, None, List}
 use Rattle.bx_program_world.specs.World.{Sight}
-use Rattle.bx_program_files.specs.Files.{LeavesFiles}
-use Rattle.bx_program_files.specs.declared.unopened.Unopened.{Unopened}
+use Rattle.bx_program_files.specs.declared.names.Names.{Names}
 use Rattle.bx_journal.specs.How.{How}
 use Rattle.bx_journal.specs.Images.{Images}
 use Rattle.bx_journal.specs.Machine.{changes_of}
@@ -11,7 +10,8 @@ use Rattle.bx_cli_commands.specs.Standing.{Standing}
 use Rattle.bx_program_sessions.specs.declared.task.Task.{Task}
 use Rattle.bx_program_sessions.specs.Contents.{Contents, FindsIn, Holds}
 use Rattle.bx_program_sessions.specs.Moves.{TellsRecovered}
-use Rattle.bx_program_sessions.specs.Named.{MayRefuse}
+use Rattle.bx_program_sessions.specs.Named.{LeavesRefused, MayRefuse, contents_of}
+use Rattle.bx_program_sessions.specs.declared.named.Answer.{Answer}
 use Rattle.bx_program_sessions.specs.Task.{IsPartOfTask, TaskStep}
 
 -- A task was done: the contents hold the machine's next images, and the answer is how many changes stand
@@ -21,11 +21,11 @@ pub record Changes {R : Type 0} (remaining : R → Option (List ℕ)) (s : Image
   pub files : Holds new next
   pub standing : left ≡ changes_of next.stack
 
--- A task was refused: all files are as they were and nothing is written, and of files that were opened there is a reason
-pub record RefusesChange {R : Type 0} (remaining : R → Option (List ℕ)) (s : Images) (task : Task R) (reply : Reply) (unopened : Option Unopened)
-    (old new : Sight) : Type 0 where
-  pub why : unopened ≡ None → MayRefuse remaining s task reply
-  pub files : LeavesFiles old new
+-- A task was refused: all files are as they were, byte for byte, whatever they held, or, where something was recovered, the three hold what that left;
+-- and of files that were opened and hold images there is a reason
+pub record RefusesChange {R : Type 0} (remaining : R → Option (List ℕ)) (names : Names) (task : Task R) (answer : Answer) (old new : Sight) : Type 0 where
+  pub why : (s : Images) → Holds (contents_of names old) s → answer.unopened ≡ None → MayRefuse remaining s task answer.reply
+  pub left : LeavesRefused names answer.unopened answer.how old new
 
 -- A task was interrupted: opening finds the images before it, those behind it, or those behind some of the changes that it takes back or makes again
 pub record InterruptsChange {R : Type 0} (remaining : R → Option (List ℕ)) (s : Images) (task : Task R) (new : Contents) : Type 0 where

@@ -1,5 +1,7 @@
 pub mod Task
 pub mod Contents
+pub mod Guarded
+pub mod Ran
 pub mod Named
 pub mod Moves
 pub mod Changes

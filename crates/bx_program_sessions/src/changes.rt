@@ -2,34 +2,34 @@
 ghost use Rattle.std.specs.Prelude.{◌≡◌, ◌↔◌, ◌<◌, None, IfOk, IfSome, true};
 ghost use Rattle.bx_journal.specs.Images.{Images};
 ghost use Rattle.bx_journal.specs.SessionFault.TheVariants.{Interrupted};
-ghost use Rattle.bx_program_world.specs.World.{Trio};
 ghost use Rattle.bx_cli_commands.specs.Refusal.{IsWholeRefusal};
 ghost use Rattle.bx_cli_commands.specs.Replies.{stands_by};
+ghost use Rattle.bx_cli_commands.specs.Run.{Unfailed};
 ghost use Rattle.bx_cli_commands.specs.declared.command.Reply.TheVariants.{Refused};
 ghost use Rattle.bx_cli_commands.specs.declared.fault.Fault.TheVariants.{Session};
 ghost use Rattle.bx_program_files.specs.Fit.{AreFit};
-ghost use Rattle.bx_program_files.specs.Reasons.{MayRefuseOpening};
 ghost use Rattle.bx_program_sessions.specs.Changes.{Changes, InterruptsChange, RefusesChange, SaysRecovered};
-ghost use Rattle.bx_program_sessions.specs.Contents.{DoesFound, FoundIn, Holds, Survives};
-ghost use Rattle.bx_program_sessions.specs.Named.{IsUnrecovered, KeepsOthers, LeadTo, NothingDone, contents_of};
+ghost use Rattle.bx_program_sessions.specs.Contents.{DoesFound, FoundIn, Holds, StepsRead, TellsUnfinished};
+ghost use Rattle.bx_program_sessions.specs.Guarded.{WasJudged, WereOpened};
+ghost use Rattle.bx_program_sessions.specs.Named.{KeepsOthers, MayRefuseTask, NothingDone, SurvivesTask, contents_of, is_missing};
 ghost use Rattle.bx_program_sessions.specs.Task.{IsNearTask};
 
 use crate::moves::tell_recovered;
 use crate::named::{Answer, run_task};
 use crate::task::Task;
-use bx_program_files::Names;
+use bx_program_files::{Guard, Names};
 use bx_program_world::World;
 use std::alloc::Global;
 use std::io::Read;
 
 /// Opens the files of these names, does one task on them, closes them, and says on standard error what was recovered. An image, a
-/// journal and a redo text that are missing are made, and taken away again where the task is refused. `mounted` says whether the
-/// image may be a device that is mounted.
+/// journal and a redo text that are missing are made, and taken away again where the task is refused. `guard` says what it may do: on an
+/// image that is another one than the journal was written beside the task isn't begun.
 pub fn change_files<W: World, R: Read + Drop>(
     world: &mut W,
     alloc: Global,
     names: &Names,
-    mounted: bool,
+    guard: Guard,
     task: Task<R>,
 ) -> Answer
     requires near { IsNearTask task }
@@ -39,38 +39,47 @@ pub fn change_files<W: World, R: Read + Drop>(
     ensures done { W.honest world.old → (s : Images) → Holds (contents_of names.now (W.sight world.old)) s
         → IfOk (stands_by result.reply) (Changes R.remaining s task result.reply (contents_of names.now (W.sight world.new))) }
 
-    // One that is refused leaves all files as they were, byte for byte, and makes none.
-    ensures refused { W.honest world.old → (s : Images) → Holds (contents_of names.now (W.sight world.old)) s → IsWholeRefusal result.reply
-        → RefusesChange R.remaining s task result.reply result.unopened (W.sight world.old) (W.sight world.new) }
+    // One that is refused leaves all files as they were, byte for byte, whatever they held, and makes none, unless something was recovered.
+    ensures refused { W.honest world.old → IsWholeRefusal result.reply
+        → RefusesChange R.remaining names.now task result (W.sight world.old) (W.sight world.new) }
 
     // Behind one that was stopped in the middle opening finds the images before or behind it.
     ensures interrupted { W.honest world.old → (s : Images) → Holds (contents_of names.now (W.sight world.old)) s
         → result.reply ≡ Refused (Session Interrupted) → InterruptsChange R.remaining s task (contents_of names.now (W.sight world.new)) }
 
     // So it does behind a loss of power, of an end of the task.
-    ensures survives { W.honest world.old → (s : Images) → Holds (contents_of names.now (W.sight world.old)) s → (IsWholeRefusal result.reply → ⊥)
-        → (t : Trio) → LeadTo names.now t (W.sight world.new)
-        → Survives R.remaining s task result.reply
-        (W.survives world.new t.image) (W.survives world.new t.journal) (W.survives world.new t.redo) }
+    ensures survives { W.honest world.old
+        → SurvivesTask R.remaining names.now task result (W.sight world.old) (W.sight world.new)
+        (W.survives world.old) (W.survives world.new) }
 
     // Files that are not opened are as they were, and why they are not; others may be changed.
     ensures unopened { W.honest world.old
         → IfSome result.unopened (λ _. NothingDone result.reply result.how (W.sight world.old) (W.sight world.new)) }
     ensures why_unopened { W.honest world.old
-        → IfSome result.unopened (MayRefuseOpening names.now mounted true (W.refusals world.old < W.refusals world.new) (W.sight world.old)) }
-    ensures fit { W.honest world.old → result.unopened ≡ None → AreFit names.now mounted (W.sight world.old) }
+        → IfSome result.unopened (MayRefuseTask guard true (W.note world.old) task names.now
+        (W.refusals world.old < W.refusals world.new) (W.sight world.old)) }
+    ensures fit { W.honest world.old → WereOpened result.unopened → AreFit names.now guard.mounted (W.sight world.old) }
 
-    // After a crash the task is done on what opening recovers; of files that hold images nothing is recovered.
-    ensures how { W.honest world.old → (s : Images) → Holds (contents_of names.now (W.sight world.old)) s → IsUnrecovered result.how }
+    // The image was judged by the line that the note had, before anything was recovered onto it.
+    ensures judged { W.honest world.old → WasJudged guard (is_missing names.now.image (W.sight world.old)) (W.note world.old)
+        (contents_of names.now (W.sight world.old)) task result.unopened result.how }
+
+    // After a crash the task is done on what opening recovers, which is said; of files that hold images nothing is recovered.
+    ensures how { W.honest world.old
+        → TellsUnfinished (contents_of names.now (W.sight world.old)) result.how (stands_by result.reply) }
     ensures recovered { W.honest world.old → (s : Images) → FoundIn (contents_of names.now (W.sight world.old)) s → result.unopened ≡ None
         → DoesFound R.remaining s task result.how result.reply (contents_of names.now (W.sight world.new)) }
+
+    // Whatever the files hold that opening takes, it makes the machine's step on the images for which they stand, unless a device failed.
+    ensures stands { W.honest world.old → Unfailed result.reply → IfSome result.how (λ how. StepsRead R.remaining task how result.reply
+        (contents_of names.now (W.sight world.old)) (contents_of names.now (W.sight world.new))) }
 
     // No other file is changed, whatever the files hold and whatever becomes of the task, and nothing is written but what was recovered.
     ensures others { W.honest world.old → KeepsOthers names.now (W.sight world.old) (W.sight world.new) }
     ensures streams { W.honest world.old → SaysRecovered result.how (W.sight world.old) (W.sight world.new) }
     ensures honesty { W.honest world.new ↔ W.honest world.old }
 {
-    let answer = run_task(world, alloc, names, mounted, true, task);
+    let answer = run_task(world, alloc, names, guard, true, task);
     tell_recovered(world, answer.how);
     answer
 }

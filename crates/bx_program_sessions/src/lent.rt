@@ -1,18 +1,23 @@
 //! A task on three files, which are lent as devices and given back.
-ghost use Rattle.std.specs.Prelude.{◌≡◌, ◌↔◌, None};
+ghost use Rattle.std.specs.Prelude.{◌≡◌, ◌↔◌, None, IfSome};
 ghost use Rattle.bx_journal.specs.Images.{Images};
 ghost use Rattle.bx_cli_commands.specs.Refusal.{IsWholeRefusal};
+ghost use Rattle.bx_cli_commands.specs.Replies.{stands_by};
+ghost use Rattle.bx_cli_commands.specs.Run.{Unfailed};
+ghost use Rattle.bx_cli_commands.specs.declared.command.Reply.TheVariants.{Refused};
+ghost use Rattle.bx_cli_commands.specs.declared.fault.Fault.TheVariants.{OpenFailed};
 ghost use Rattle.bx_program_files.specs.Numbers.{numbers_of};
-ghost use Rattle.bx_program_world.specs.World.{AreThreeFiles, ChangesOnly};
-ghost use Rattle.bx_program_sessions.specs.Contents.{Does, DoesFound, FoundIn, Holds, Survives};
+ghost use Rattle.bx_program_world.specs.World.{AreThreeFiles, ChangesOnly, NothingNewFound};
+ghost use Rattle.bx_program_sessions.specs.Contents.{StayOnDisk, Does, DoesFound, FoundIn, Holds, Spared, Survives, StepsRead, SurvivesFound, TellsUnfinished};
+ghost use Rattle.bx_program_sessions.specs.Guarded.{WasJudged, another};
 ghost use Rattle.bx_program_sessions.specs.Named.{IsUnrecovered, bytes_of_files};
 ghost use Rattle.bx_program_sessions.specs.Task.{IsNearTask};
 
-use crate::devices::{Closed, run_on};
+use crate::guarded::{Ended, run_guarded};
 use crate::task::Task;
 use bx_cli_commands::Reply;
 use bx_journal::{Devices, How};
-use bx_program_files::Files;
+use bx_program_files::{Files, Guard, Unopened};
 use bx_program_world::World;
 use std::alloc::Global;
 use std::io::Read;
@@ -26,13 +31,17 @@ pub struct Done<F> {
     pub reply: Reply,
     /// What opening found unfinished; none where it was refused.
     pub how: Option<How>,
+    /// Why the task wasn't begun; none where it was.
+    pub unopened: Option<Unopened>,
 }
 
-/// Lends three files as devices, does a task on them, and takes them back.
+/// Lends three files as devices, does a task on them, behind what `guard` allows, and takes them back. One for which the image is another
+/// one than the note tells of isn't begun.
 pub fn run_lent<W: World, R: Read + Drop>(
     world: &mut W,
     alloc: Global,
     files: Files<W::File>,
+    guard: Guard,
     task: Task<R>,
 ) -> Done<W::File>
     requires near { IsNearTask task }
@@ -42,19 +51,34 @@ pub fn run_lent<W: World, R: Read + Drop>(
     ensures free { W.honest world.old → (W.sight world.new).lent ≡ None }
     ensures files { W.honest world.old → numbers_of W.number result.files ≡ numbers_of W.number files }
     ensures made { result.files.made ≡ files.made }
-    ensures how { W.honest world.old → (s : Images) → Holds (bytes_of_files (numbers_of W.number files) (W.sight world.old)) s
-        → IsUnrecovered result.how }
-    ensures does { W.honest world.old → (s : Images) → Holds (bytes_of_files (numbers_of W.number files) (W.sight world.old)) s
+    ensures how { W.honest world.old
+        → TellsUnfinished (bytes_of_files (numbers_of W.number files) (W.sight world.old)) result.how (stands_by result.reply) }
+    ensures does { W.honest world.old → result.unopened ≡ None → (s : Images) → Holds (bytes_of_files (numbers_of W.number files) (W.sight world.old)) s
         → Does R.remaining s task result.reply (bytes_of_files (numbers_of W.number files) (W.sight world.new)) }
-    ensures found { W.honest world.old → (s : Images) → FoundIn (bytes_of_files (numbers_of W.number files) (W.sight world.old)) s
+    ensures found { W.honest world.old → result.unopened ≡ None → (s : Images) → FoundIn (bytes_of_files (numbers_of W.number files) (W.sight world.old)) s
         → DoesFound R.remaining s task result.how result.reply (bytes_of_files (numbers_of W.number files) (W.sight world.new)) }
-    ensures whole { W.honest world.old → (s : Images) → Holds (bytes_of_files (numbers_of W.number files) (W.sight world.old)) s
-        → IsWholeRefusal result.reply
-        → bytes_of_files (numbers_of W.number files) (W.sight world.new) ≡ bytes_of_files (numbers_of W.number files) (W.sight world.old) }
+    ensures whole { W.honest world.old → IsWholeRefusal result.reply
+        → Spared result.how (bytes_of_files (numbers_of W.number files) (W.sight world.old))
+        (bytes_of_files (numbers_of W.number files) (W.sight world.new)) }
     ensures survives { W.honest world.old → (s : Images) → Holds (bytes_of_files (numbers_of W.number files) (W.sight world.old)) s
         → (IsWholeRefusal result.reply → ⊥)
         → Survives R.remaining s task result.reply (W.survives world.new (W.number files.image))
         (W.survives world.new (W.number files.journal)) (W.survives world.new (W.number files.redo)) }
+    ensures endures { W.honest world.old → (s : Images) → FoundIn (bytes_of_files (numbers_of W.number files) (W.sight world.old)) s
+        → (IsWholeRefusal result.reply → ⊥)
+        → SurvivesFound R.remaining s task result.how result.reply (W.survives world.new (W.number files.image))
+        (W.survives world.new (W.number files.journal)) (W.survives world.new (W.number files.redo)) }
+    ensures stands { W.honest world.old → Unfailed result.reply
+        → IfSome result.how (λ how. StepsRead R.remaining task how result.reply (bytes_of_files (numbers_of W.number files) (W.sight world.old))
+        (bytes_of_files (numbers_of W.number files) (W.sight world.new))) }
+    ensures before { W.honest world.old → IsWholeRefusal result.reply → IsUnrecovered result.how
+        → NothingNewFound (W.survives world.old) (W.survives world.new) }
+    ensures settled { W.honest world.old → IsWholeRefusal result.reply → (IsUnrecovered result.how → ⊥)
+        → StayOnDisk (bytes_of_files (numbers_of W.number files) (W.sight world.new)) (W.survives world.new (W.number files.image))
+        (W.survives world.new (W.number files.journal)) (W.survives world.new (W.number files.redo)) }
+    ensures unbegun { IfSome result.unopened (λ u. (u ≡ another) × (result.reply ≡ Refused OpenFailed) × (result.how ≡ None)) }
+    ensures judged { W.honest world.old → WasJudged guard files.made.image (W.note world.old)
+        (bytes_of_files (numbers_of W.number files) (W.sight world.old)) task result.unopened result.how }
     ensures honesty { W.honest world.new ↔ W.honest world.old }
 {
     let Files {
@@ -69,12 +93,13 @@ pub fn run_lent<W: World, R: Read + Drop>(
         journal,
         redo,
     };
-    let closed = run_on(alloc, devices, task);
-    let Closed {
+    let ended = run_guarded(world, alloc, devices, guard, made.image, task);
+    let Ended {
         devices,
         reply,
         how,
-    } = closed;
+        unopened,
+    } = ended;
     let Devices {
         image,
         journal,
@@ -87,5 +112,10 @@ pub fn run_lent<W: World, R: Read + Drop>(
         redo,
         made,
     };
-    Done { files, reply, how }
+    Done {
+        files,
+        reply,
+        how,
+        unopened,
+    }
 }

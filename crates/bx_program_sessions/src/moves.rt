@@ -1,20 +1,19 @@
 //! An undo and a redo on files, with the number that they write.
 ghost use Rattle.std.specs.Prelude.{◌≡◌, ◌↔◌, ◌++◌, ◌+◌, ◌<◌, ◌^◌, decimal, false, length, Err, None, IfOk, IfErr, IfSome, OnErr, OnOk};
 ghost use Rattle.bx_journal.specs.Images.{Images};
-ghost use Rattle.bx_program_world.specs.World.{KeepsFiles, KeepsStreams, NothingNewFound, Trio};
+ghost use Rattle.bx_program_world.specs.World.{KeepsFiles, KeepsStreams, NothingNewFound};
 ghost use Rattle.bx_program_files.specs.Fit.{AreFit};
-ghost use Rattle.bx_program_files.specs.Reasons.{MayRefuseOpening};
-ghost use Rattle.bx_program_sessions.specs.Contents.{FoundIn, Holds, recovered_as};
-ghost use Rattle.bx_program_sessions.specs.Named.{IsUnrecovered, KeepsOthers, LeadTo, contents_of};
-ghost use Rattle.bx_program_sessions.specs.Moves.{HasMoved, IsMoved, Moves, NothingMoved, RefusesMove, StopsLine, StopsMove, StopsPart, SurvivesMove, TellsRecovered, command_by, number_line, recovered_line, stepped};
+ghost use Rattle.bx_program_sessions.specs.Contents.{FoundIn, Holds, TellsUnfinished};
+ghost use Rattle.bx_program_sessions.specs.Guarded.{WasJudged, WereOpened};
+ghost use Rattle.bx_program_sessions.specs.Named.{KeepsOthers, MayRefuseTask, contents_of, is_missing};
+ghost use Rattle.bx_program_sessions.specs.Moves.{IsMoved, MovedFound, MovedRead, Moves, MovesFound, MovesRead, NothingMoved, RefusesMove, SparesMove, StopsLine, StopsMove, StopsPart, SurvivesMoving, TellsRecovered, number_line, recovered_line, stepped, task_of};
 ghost use Rattle.bx_program_sessions.specs.Task.{IsNearTask};
-ghost use Rattle.bx_program_sessions.specs.declared.task.Task.TheVariants.{Run};
 
 use crate::named::run_task;
 use crate::task::Task;
 use bx_cli_commands::{Command, Fault};
 use bx_journal::{How, Way};
-use bx_program_files::{Names, Unopened};
+use bx_program_files::{Guard, Names, Unopened};
 use bx_program_world::World;
 use bx_text::{Field, IoFault, ShortText, dec_field};
 use std::alloc::Global;
@@ -25,7 +24,7 @@ use std::io::Empty;
 pub struct Moved<V> {
     /// That it is done, or the fault that stopped it.
     pub outcome: Result<V, Fault>,
-    /// Why the files were not opened; none where they were.
+    /// Why the files were not opened, or that the image is another one than the journal was written beside; none where the moving was begun.
     pub unopened: Option<Unopened>,
     /// What opening the session found unfinished; none where it was refused, and where the files were not opened.
     pub how: Option<How>,
@@ -70,6 +69,8 @@ fn put_number<W: World>(world: &mut W, number: u32) -> Result<(), Fault>
     let digits = digits_of(number);
     match put(world, 0, digits.as_bytes()) {
         Ok(()) => {
+            // Two writes, and no joined text, which would take memory: the changes are moved by now. A field has at most 22
+            // bytes; the limit tells the proof that the sum fits.
             let written = digits.as_bytes().len().min(22) as u64;
             put(world, written, b"\n")
         }
@@ -131,7 +132,7 @@ pub fn tell_recovered<W: World>(world: &mut W, how: Option<How>)
 
 /// The task that moves as many changes one way.
 fn task_by(way: Way, count: u32) -> Task<Empty>
-    ensures is { result ≡ Run (command_by way count) }
+    ensures is { result ≡ task_of way count }
     ensures near { IsNearTask result }
 {
     match way {
@@ -145,7 +146,7 @@ fn moved_by<W: World>(
     world: &mut W,
     alloc: Global,
     names: &Names,
-    mounted: bool,
+    guard: Guard,
     way: Way,
     count: u32,
 ) -> Moved<u32>
@@ -154,24 +155,29 @@ fn moved_by<W: World>(
         → IfOk result.outcome (λ left. IsMoved count (stepped way s) left (contents_of names.now (W.sight world.new))) }
     ensures refused { W.honest world.old → (s : Images) → Holds (contents_of names.now (W.sight world.old)) s
         → IfErr result.outcome (RefusesMove names.now count (stepped way s) result.unopened (W.sight world.old) (W.sight world.new)) }
-    ensures survives { W.honest world.old → (s : Images) → Holds (contents_of names.now (W.sight world.old)) s → HasMoved result.outcome
-        → (t : Trio) → LeadTo names.now t (W.sight world.new)
-        → SurvivesMove count (stepped way s) (W.survives world.new t.image) (W.survives world.new t.journal) (W.survives world.new t.redo) }
+    ensures spares { W.honest world.old
+        → IfErr result.outcome (SparesMove names.now result.unopened result.how (W.sight world.old) (W.sight world.new)) }
+    ensures survives { W.honest world.old
+        → SurvivesMoving names.now count way result (W.sight world.old) (W.sight world.new)
+        (W.survives world.old) (W.survives world.new) }
     ensures unopened { W.honest world.old → IfSome result.unopened (λ _. NothingMoved result (W.sight world.old) (W.sight world.new)) }
     ensures why_unopened { W.honest world.old
-        → IfSome result.unopened (MayRefuseOpening names.now mounted false (W.refusals world.old < W.refusals world.new)
-        (W.sight world.old)) }
-    ensures fit { W.honest world.old → result.unopened ≡ None → AreFit names.now mounted (W.sight world.old) }
-    ensures how { W.honest world.old → (s : Images) → Holds (contents_of names.now (W.sight world.old)) s → IsUnrecovered result.how }
+        → IfSome result.unopened (MayRefuseTask guard false (W.note world.old) (task_of way count) names.now
+        (W.refusals world.old < W.refusals world.new) (W.sight world.old)) }
+    ensures fit { W.honest world.old → WereOpened result.unopened → AreFit names.now guard.mounted (W.sight world.old) }
+    ensures judged { W.honest world.old → WasJudged guard (is_missing names.now.image (W.sight world.old)) (W.note world.old)
+        (contents_of names.now (W.sight world.old)) (task_of way count) result.unopened result.how }
+    ensures how { W.honest world.old → TellsUnfinished (contents_of names.now (W.sight world.old)) result.how result.outcome }
     ensures recovered { W.honest world.old → (s : Images) → FoundIn (contents_of names.now (W.sight world.old)) s → result.unopened ≡ None
-        → IfSome result.how (λ how. IfOk result.outcome (λ left.
-        IsMoved count (stepped way (recovered_as how s)) left (contents_of names.now (W.sight world.new)))) }
+        → MovedFound count way s result.how result.outcome (contents_of names.now (W.sight world.new)) }
+    ensures stands { W.honest world.old → IfSome result.how (λ how. IfOk result.outcome (λ left.
+        MovedRead count way how left (contents_of names.now (W.sight world.old)) (contents_of names.now (W.sight world.new)))) }
     ensures others { W.honest world.old → KeepsOthers names.now (W.sight world.old) (W.sight world.new) }
     ensures silent { W.honest world.old → KeepsStreams (W.sight world.old) (W.sight world.new) }
     ensures honesty { W.honest world.new ↔ W.honest world.old }
 {
     let task = task_by(way, count);
-    let answer = run_task(world, alloc, names, mounted, false, task);
+    let answer = run_task(world, alloc, names, guard, false, task);
     Moved {
         outcome: answer.reply.standing(),
         unopened: answer.unopened,
@@ -188,7 +194,7 @@ pub fn move_changes<W: World>(
     world: &mut W,
     alloc: Global,
     names: &Names,
-    mounted: bool,
+    guard: Guard,
     way: Way,
     count: u32,
 ) -> Moved<()>
@@ -197,24 +203,30 @@ pub fn move_changes<W: World>(
         → OnOk result.outcome (Moves names.now count (stepped way s) (W.sight world.old) (W.sight world.new)) }
     ensures stopped { W.honest world.old → (s : Images) → Holds (contents_of names.now (W.sight world.old)) s
         → IfErr result.outcome (StopsMove names.now count (stepped way s) result.unopened (W.sight world.old) (W.sight world.new)) }
-    ensures survives { W.honest world.old → (s : Images) → Holds (contents_of names.now (W.sight world.old)) s → HasMoved result.outcome
-        → (t : Trio) → LeadTo names.now t (W.sight world.new)
-        → SurvivesMove count (stepped way s) (W.survives world.new t.image) (W.survives world.new t.journal) (W.survives world.new t.redo) }
+    ensures spares { W.honest world.old
+        → IfErr result.outcome (SparesMove names.now result.unopened result.how (W.sight world.old) (W.sight world.new)) }
+    ensures survives { W.honest world.old
+        → SurvivesMoving names.now count way result (W.sight world.old) (W.sight world.new)
+        (W.survives world.old) (W.survives world.new) }
     ensures unopened { W.honest world.old → IfSome result.unopened (λ _. NothingMoved result (W.sight world.old) (W.sight world.new)) }
     ensures why_unopened { W.honest world.old
-        → IfSome result.unopened (MayRefuseOpening names.now mounted false (W.refusals world.old < W.refusals world.new)
-        (W.sight world.old)) }
-    ensures fit { W.honest world.old → result.unopened ≡ None → AreFit names.now mounted (W.sight world.old) }
-    ensures how { W.honest world.old → (s : Images) → Holds (contents_of names.now (W.sight world.old)) s → IsUnrecovered result.how }
+        → IfSome result.unopened (MayRefuseTask guard false (W.note world.old) (task_of way count) names.now
+        (W.refusals world.old < W.refusals world.new) (W.sight world.old)) }
+    ensures fit { W.honest world.old → WereOpened result.unopened → AreFit names.now guard.mounted (W.sight world.old) }
+    ensures judged { W.honest world.old → WasJudged guard (is_missing names.now.image (W.sight world.old)) (W.note world.old)
+        (contents_of names.now (W.sight world.old)) (task_of way count) result.unopened result.how }
+    ensures how { W.honest world.old → TellsUnfinished (contents_of names.now (W.sight world.old)) result.how result.outcome }
     ensures recovered { W.honest world.old → (s : Images) → FoundIn (contents_of names.now (W.sight world.old)) s → result.unopened ≡ None
-        → IfSome result.how (λ how. OnOk result.outcome
-        (Moves names.now count (stepped way (recovered_as how s)) (W.sight world.old) (W.sight world.new))) }
+        → MovesFound names.now count way s result.how result.outcome (W.sight world.old) (W.sight world.new) }
+    ensures stands { W.honest world.old → IfSome result.how (λ how. OnOk result.outcome
+        (MovesRead names.now count way how (W.sight world.old) (W.sight world.new))) }
     ensures others { W.honest world.old → KeepsOthers names.now (W.sight world.old) (W.sight world.new) }
     ensures errors { W.honest world.old → TellsRecovered result.how (W.sight world.old).errors (W.sight world.new).errors }
     ensures free { W.honest world.old → (W.sight world.new).lent ≡ None }
     ensures honesty { W.honest world.new ↔ W.honest world.old }
 {
-    let moved = moved_by(world, alloc, names, mounted, way, count);
+    let moved = moved_by(world, alloc, names, guard, way, count);
+    // Also where the move was refused: what was recovered is done all the same.
     tell_recovered(world, moved.how);
     let outcome = tell_number(world, moved.outcome);
     Moved {

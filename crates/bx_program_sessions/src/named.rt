@@ -2,20 +2,22 @@
 ghost use Rattle.std.specs.Prelude.{◌≡◌, ◌↔◌, ◌<◌, ◌≤◌, ℕ, None, IfSome, true, false};
 ghost use Rattle.bx_journal.specs.Images.{Images};
 ghost use Rattle.bx_cli_commands.specs.Refusal.{IsWholeRefusal};
-ghost use Rattle.bx_program_world.specs.World.{AreThreeFiles, KeepsStreams, Sight, Trio};
+ghost use Rattle.bx_cli_commands.specs.Replies.{stands_by};
+ghost use Rattle.bx_cli_commands.specs.Run.{Unfailed};
+ghost use Rattle.bx_program_world.specs.World.{AreThreeFiles, KeepsStreams, NothingNewFound, Sight};
 ghost use Rattle.bx_program_files.specs.Files.{AreAllThere, HasMade, IsOneOfMade, LeavesFiles, TakesOnly};
 ghost use Rattle.bx_program_files.specs.Fit.{AreFit};
 ghost use Rattle.bx_program_files.specs.Numbers.{numbers_of};
-ghost use Rattle.bx_program_files.specs.Reasons.{MayRefuseOpening};
-ghost use Rattle.bx_program_sessions.specs.Contents.{DoesFound, FoundIn, Holds, StepsTo, Survives};
-ghost use Rattle.bx_program_sessions.specs.Named.{LeadTo, IsUnrecovered, KeepsOthers, MayRefuse, NothingDone, contents_of};
+ghost use Rattle.bx_program_sessions.specs.Contents.{DoesFound, FoundIn, Holds, StepsRead, StepsTo, TellsUnfinished};
+ghost use Rattle.bx_program_sessions.specs.Guarded.{WasJudged, WereOpened};
+ghost use Rattle.bx_program_sessions.specs.Named.{LeadTo, IsUnrecovered, KeepsOthers, LeavesRefused, MayRefuse, MayRefuseTask, NothingDone, SurvivesTask, contents_of, is_missing};
 ghost use Rattle.bx_program_sessions.specs.Task.{IsNearTask};
 
 use crate::lent::{Done, run_lent};
 use crate::task::Task;
 use bx_cli_commands::{Fault, Reply};
 use bx_journal::{How, SessionFault};
-use bx_program_files::{Names, Unopened, open_trio, unmake_all};
+use bx_program_files::{Guard, Names, Unopened, open_trio, unmake_all};
 use bx_program_world::World;
 use std::alloc::Global;
 use std::io::Read;
@@ -25,7 +27,7 @@ use std::io::Read;
 pub struct Answer {
     /// The reply.
     pub reply: Reply,
-    /// Why the files were not opened; none where they were.
+    /// Why the files were not opened, or that the image is another one than the journal was written beside; none where the task was begun.
     pub unopened: Option<Unopened>,
     /// What opening the session found unfinished; none where it was refused, and where the files were not opened.
     pub how: Option<How>,
@@ -64,10 +66,10 @@ fn clear<W: World>(world: &mut W, names: &Names, done: &Done<W::File>)
     ensures left { W.honest world.old → IsWholeRefusal done.now.reply → IsUnrecovered done.now.how → (first : Sight) → AreAllThere first
         → HasMade (IsOneOfMade done.now.files.made (numbers_of W.number done.now.files)) first (W.sight world.old)
         → LeavesFiles first (W.sight world.new) }
-    ensures stays { W.honest world.old → (IsWholeRefusal done.now.reply → ⊥) → W.sight world.new ≡ W.sight world.old }
-    ensures survives { W.honest world.old → (IsWholeRefusal done.now.reply → ⊥) → world.new ≡ world.old }
+    ensures stays { W.honest world.old → (IsWholeRefusal done.now.reply → IsUnrecovered done.now.how → ⊥) → world.new ≡ world.old }
     ensures most { W.honest world.old
         → TakesOnly (IsOneOfMade done.now.files.made (numbers_of W.number done.now.files)) (W.sight world.old) (W.sight world.new) }
+    ensures survives { W.honest world.old → NothingNewFound (W.survives world.old) (W.survives world.new) }
     ensures honesty { W.honest world.new ↔ W.honest world.old }
 {
     if is_whole_refusal(&done.reply) && is_unrecovered(done.how) {
@@ -76,13 +78,13 @@ fn clear<W: World>(world: &mut W, names: &Names, done: &Done<W::File>)
 }
 
 /// Opens the files of these names, does one task on them, and closes them. A redo text that is missing is made, and where `makes`
-/// says so an image and a journal too; they are taken away again where the task is refused. `mounted` says whether the image may be
-/// a device that is mounted.
+/// says so an image and a journal too; they are taken away again where the task is refused. `guard` says what it may do: a task for which
+/// the image is another one than the journal was written beside isn't begun.
 pub fn run_task<W: World, R: Read + Drop>(
     world: &mut W,
     alloc: Global,
     names: &Names,
-    mounted: bool,
+    guard: Guard,
     makes: bool,
     task: Task<R>,
 ) -> Answer
@@ -94,38 +96,47 @@ pub fn run_task<W: World, R: Read + Drop>(
         → StepsTo R.remaining s task result.reply (contents_of names.now (W.sight world.new)) }
 
     // So it is behind a loss of power.
-    ensures survives { W.honest world.old → (s : Images) → Holds (contents_of names.now (W.sight world.old)) s → (IsWholeRefusal result.reply → ⊥)
-        → (t : Trio) → LeadTo names.now t (W.sight world.new)
-        → Survives R.remaining s task result.reply
-        (W.survives world.new t.image) (W.survives world.new t.journal) (W.survives world.new t.redo) }
+    ensures survives { W.honest world.old
+        → SurvivesTask R.remaining names.now task result (W.sight world.old) (W.sight world.new)
+        (W.survives world.old) (W.survives world.new) }
 
-    // A task that is refused leaves all files as they were, byte for byte, and makes none; and so do files that are not opened.
-    ensures refused { W.honest world.old → (s : Images) → Holds (contents_of names.now (W.sight world.old)) s → IsWholeRefusal result.reply
-        → LeavesFiles (W.sight world.old) (W.sight world.new) }
+    // A task that is refused leaves all files as they were, byte for byte, whatever they held, and makes none, unless something was
+    // recovered; and so do files that are not opened.
+    ensures refused { W.honest world.old → IsWholeRefusal result.reply
+        → LeavesRefused names.now result.unopened result.how (W.sight world.old) (W.sight world.new) }
     ensures unopened { W.honest world.old
         → IfSome result.unopened (λ _. NothingDone result.reply result.how (W.sight world.old) (W.sight world.new)) }
 
-    // Why files were not opened.
+    // Why files were not opened, or the task not begun on another image.
     ensures why_unopened { W.honest world.old
-        → IfSome result.unopened (MayRefuseOpening names.now mounted makes (W.refusals world.old < W.refusals world.new)
+        → IfSome result.unopened (MayRefuseTask guard makes (W.note world.old) task names.now (W.refusals world.old < W.refusals world.new)
         (W.sight world.old)) }
 
     // Why it was refused, where the files were opened, which may be so only with files that may be changed.
     ensures why { W.honest world.old → (s : Images) → Holds (contents_of names.now (W.sight world.old)) s → result.unopened ≡ None
         → IsWholeRefusal result.reply → MayRefuse R.remaining s task result.reply }
-    ensures fit { W.honest world.old → result.unopened ≡ None → AreFit names.now mounted (W.sight world.old) }
+    ensures fit { W.honest world.old → WereOpened result.unopened → AreFit names.now guard.mounted (W.sight world.old) }
 
-    // After a crash it is done on what opening recovers; of files that hold images nothing is recovered.
-    ensures how { W.honest world.old → (s : Images) → Holds (contents_of names.now (W.sight world.old)) s → IsUnrecovered result.how }
+    // After a crash it is done on what opening recovers, which is said; of files that hold images nothing is recovered.
+    ensures how { W.honest world.old
+        → TellsUnfinished (contents_of names.now (W.sight world.old)) result.how (stands_by result.reply) }
     ensures recovered { W.honest world.old → (s : Images) → FoundIn (contents_of names.now (W.sight world.old)) s → result.unopened ≡ None
         → DoesFound R.remaining s task result.how result.reply (contents_of names.now (W.sight world.new)) }
+
+    // Whatever the files hold that opening takes, it makes the machine's step on the images for which they stand, unless a device failed.
+    ensures stands { W.honest world.old → Unfailed result.reply → IfSome result.how (λ how. StepsRead R.remaining task how result.reply
+        (contents_of names.now (W.sight world.old)) (contents_of names.now (W.sight world.new))) }
+
+    // The image was judged by the line that the note had, before anything was recovered onto it.
+    ensures judged { W.honest world.old → WasJudged guard (is_missing names.now.image (W.sight world.old)) (W.note world.old)
+        (contents_of names.now (W.sight world.old)) task result.unopened result.how }
 
     // No other file is changed, whatever the files hold and whatever becomes of the task, and nothing is written.
     ensures others { W.honest world.old → KeepsOthers names.now (W.sight world.old) (W.sight world.new) }
     ensures silent { W.honest world.old → KeepsStreams (W.sight world.old) (W.sight world.new) }
     ensures honesty { W.honest world.new ↔ W.honest world.old }
 {
-    let files = match open_trio(world, names, mounted, makes) {
+    let files = match open_trio(world, names, guard.mounted, makes) {
         Ok(files) => files,
         Err(unopened) => {
             return Answer {
@@ -135,11 +146,11 @@ pub fn run_task<W: World, R: Read + Drop>(
             };
         }
     };
-    let done = run_lent(world, alloc, files, task);
+    let done = run_lent(world, alloc, files, guard, task);
     clear(world, names, &done);
     Answer {
         reply: done.reply,
-        unopened: None,
+        unopened: done.unopened,
         how: done.how,
     }
 }

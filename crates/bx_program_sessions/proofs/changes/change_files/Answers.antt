@@ -1,7 +1,8 @@
 use Rattle.std.proofs.Common.{◌∙◌, refl, sym, subst}
 use Rattle.bx_program_sessions.specs.Contents.{DoesFound}
-use Rattle.bx_program_sessions.proofs.Lines.{contents_kept, leads_back, leaves_silent, nothing_kept, others_kept, tells_alone}
+use Rattle.bx_program_sessions.proofs.Lines.{contents_kept, leads_back, nothing_kept, others_kept, refused_kept, settled_kept, tells_alone}
 use Rattle.bx_program_sessions.proofs.Parts.{changed_by, interrupted_by}
+use Rattle.bx_program_sessions.proofs.Refused.{endures_less, read_between}
 use Rattle.bx_program_sessions.proofs.changes.change_files.Goals as goal
 
 pub returns-clause-done : goal.returns-clause-done
@@ -18,20 +19,32 @@ returns-clause-interrupted g c old s holds is =
     (interrupted_by g.R.Read.remaining _ s c.args.task c.run_task-answer.result.reply is (c.run_task-answer.ensures.done old s holds))
 
 pub returns-clause-refused : goal.returns-clause-refused
-returns-clause-refused g c old s holds whole =
+returns-clause-refused g c old whole =
     let behind = c.run_task-answer.ensures.honesty.1 old in
     record {
-      why = λ is_opened. c.run_task-answer.ensures.why old s holds is_opened whole;
-      files = leaves_silent _ _ _ _ (c.run_task-answer.ensures.how old s holds) (c.run_task-answer.ensures.refused old s holds whole)
+      why = λ s holds is_opened. c.run_task-answer.ensures.why old s holds is_opened whole;
+      left = refused_kept _ _ _ _ _ _ (c.run_task-answer.ensures.refused old whole)
           (c.tell_recovered.ensures.files behind) (c.tell_recovered.ensures.output behind) (c.tell_recovered.ensures.errors behind);
     }
 
 pub returns-clause-survives : goal.returns-clause-survives
-returns-clause-survives g c old s holds stopped t leads x text redo there text_there redo_there =
+returns-clause-survives g c old =
     let behind = c.run_task-answer.ensures.honesty.1 old in
     let nothing = c.tell_recovered.ensures.survives behind in
-    c.run_task-answer.ensures.survives old s holds stopped t (leads_back _ _ _ _ (c.tell_recovered.ensures.files behind) leads) x text redo
-    (nothing t.image x there) (nothing t.journal text text_there) (nothing t.redo redo redo_there)
+    let survives = c.run_task-answer.ensures.survives old in
+    let answer = c.run_task-answer.result in
+    record {
+      holds = λ s holds stopped t led x text redo there text_there redo_there.
+          survives.holds s holds stopped t (leads_back _ _ _ _ (c.tell_recovered.ensures.files behind) led) x text redo
+          (nothing t.image x there) (nothing t.journal text text_there) (nothing t.redo redo redo_there);
+      finds = λ s found stopped t led.
+          endures_less g.R.Read.remaining s c.args.task answer.how answer.reply _ _ _ _ _ _ (nothing t.image) (nothing t.journal) (nothing t.redo)
+          (survives.finds s found stopped t (leads_back _ _ _ _ (c.tell_recovered.ensures.files behind) led));
+      refused = λ whole is n below x there. survives.refused whole is n below x (nothing n x there);
+      settled = λ whole other t led.
+          settled_kept c.args.names.now _ _ _ _ _ _ _ _ (c.tell_recovered.ensures.files behind) (nothing t.image) (nothing t.journal) (nothing t.redo)
+          (survives.settled whole other t (leads_back _ _ _ _ (c.tell_recovered.ensures.files behind) led));
+    }
 
 pub returns-clause-unopened : goal.returns-clause-unopened
 returns-clause-unopened g c old =
@@ -51,6 +64,13 @@ returns-clause-recovered g c old s found is_opened =
     let answer = c.run_task-answer.result in
     subst (λ contents. DoesFound g.R.Read.remaining s c.args.task answer.how answer.reply contents)
     (sym (contents_kept c.args.names.now _ _ (c.tell_recovered.ensures.files behind))) (c.run_task-answer.ensures.recovered old s found is_opened)
+
+pub returns-clause-stands : goal.returns-clause-stands
+returns-clause-stands g c old unfailed =
+    let behind = c.run_task-answer.ensures.honesty.1 old in
+    let answer = c.run_task-answer.result in
+    read_between g.R.Read.remaining c.args.task answer.how answer.reply _ _ _ _ refl
+    (contents_kept c.args.names.now _ _ (c.tell_recovered.ensures.files behind)) (c.run_task-answer.ensures.stands old unfailed)
 
 pub returns-clause-others : goal.returns-clause-others
 returns-clause-others g c old =

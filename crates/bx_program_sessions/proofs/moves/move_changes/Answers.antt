@@ -1,10 +1,9 @@
 use Rattle.std.proofs.Common.{◌∙◌}
 use Rattle.std.specs.Prelude.{◌<◌, false}
-use Rattle.bx_program_files.specs.Reasons.{MayRefuseOpening}
-use Rattle.bx_program_sessions.specs.Contents.{recovered_as}
-use Rattle.bx_program_sessions.specs.Moves.{stepped}
+use Rattle.bx_program_sessions.specs.Moves.{task_of}
+use Rattle.bx_program_sessions.specs.Named.{MayRefuseTask}
 use Rattle.bx_program_sessions.proofs.Answered.{why_kept}
-use Rattle.bx_program_sessions.proofs.Lines.{done_behind, keeps_then, leads_back, moved_before, others_kept, recovered_behind, stopped_behind, tells_alone, unopened_kept}
+use Rattle.bx_program_sessions.proofs.Lines.{done_behind, found_behind, keeps_then, leads_back, moved_before, moved_behind, moved_less, others_kept, read_behind, settled_kept, spares_behind, stopped_behind, tells_alone, tells_behind, unopened_kept}
 use Rattle.bx_program_sessions.proofs.moves.move_changes.Goals as goal
 
 pub returns-clause-done : goal.returns-clause-done
@@ -22,12 +21,27 @@ returns-clause-stopped g c old s holds =
     let behind = moved.honesty.1 old in
     let told = c.tell_recovered.ensures.honesty.1 behind in
     let line = c.tell_number-outcome.ensures in
-    stopped_behind _ _ _ _ _ _ _ _ _ _ _ (moved.how old s holds) (moved.done old s holds) (moved.refused old s holds)
+    stopped_behind _ _ _ _ _ _ _ _ _ _ _ ((moved.how old).none s holds) (moved.done old s holds) (moved.refused old s holds)
     (c.tell_recovered.ensures.files behind) (line.files told) (moved.silent old).output (c.tell_recovered.ensures.output behind)
     (c.tell_recovered.ensures.errors behind) (line.lost told) (line.refused told)
 
+pub returns-clause-how : goal.returns-clause-how
+returns-clause-how g c old =
+    let moved = c.moved_by-moved.ensures in
+    let told = c.tell_recovered.ensures.honesty.1 (moved.honesty.1 old) in
+    tells_behind _ _ _ _ _ _ (c.tell_number-outcome.ensures.refused told) (moved.how old)
+
+pub returns-clause-spares : goal.returns-clause-spares
+returns-clause-spares g c old =
+    let moved = c.moved_by-moved.ensures in
+    let behind = moved.honesty.1 old in
+    let told = c.tell_recovered.ensures.honesty.1 behind in
+    let line = c.tell_number-outcome.ensures in
+    spares_behind _ _ _ _ _ _ _ _ _ (moved.spares old) (c.tell_recovered.ensures.files behind) (c.tell_recovered.ensures.output behind)
+    (c.tell_recovered.ensures.errors behind) (line.lost told) (line.refused told)
+
 pub returns-clause-survives : goal.returns-clause-survives
-returns-clause-survives g c old s holds has t leads x text redo there text_there redo_there =
+returns-clause-survives g c old =
     let moved = c.moved_by-moved.ensures in
     let behind = moved.honesty.1 old in
     let told = c.tell_recovered.ensures.honesty.1 behind in
@@ -35,9 +49,23 @@ returns-clause-survives g c old s holds has t leads x text redo there text_there
     let first = c.tell_recovered.ensures.survives behind in
     let second = line.survives told in
     let keeps = keeps_then _ _ _ (c.tell_recovered.ensures.files behind) (line.files told) in
-    moved.survives old s holds (moved_before _ _ _ _ (line.refused told) has) t (leads_back _ _ _ _ keeps leads) x text redo
-    (first t.image x (second t.image x there)) (first t.journal text (second t.journal text text_there))
-    (first t.redo redo (second t.redo redo redo_there))
+    record {
+      holds = λ s holds has t leads x text redo there text_there redo_there.
+          (moved.survives old).holds s holds (moved_before _ _ _ _ (line.refused told) has) t (leads_back _ _ _ _ keeps leads) x text redo
+          (first t.image x (second t.image x there)) (first t.journal text (second t.journal text text_there))
+          (first t.redo redo (second t.redo redo redo_there));
+      finds = λ s found has t leads.
+          moved_less c.args.count c.args.way s c.moved_by-moved.result.how _ _ _ _ _ _ (λ x there. first t.image x (second t.image x there))
+          (λ x there. first t.journal x (second t.journal x there)) (λ x there. first t.redo x (second t.redo x there))
+          ((moved.survives old).finds s found (moved_before _ _ _ _ (line.refused told) has) t (leads_back _ _ _ _ keeps leads));
+      refused = λ unmoved is n below x there. (moved.survives old).refused
+          (λ has. unmoved (moved_behind _ _ _ _ _ (line.lost told) (line.refused told) has)) is n below x (first n x (second n x there));
+      settled = λ unmoved other t leads.
+          settled_kept c.args.names.now _ _ _ _ _ _ _ _ keeps (λ x there. first t.image x (second t.image x there))
+          (λ x there. first t.journal x (second t.journal x there)) (λ x there. first t.redo x (second t.redo x there))
+          ((moved.survives old).settled (λ has. unmoved (moved_behind _ _ _ _ _ (line.lost told) (line.refused told) has)) other t
+          (leads_back _ _ _ _ keeps leads));
+    }
 
 pub returns-clause-unopened : goal.returns-clause-unopened
 returns-clause-unopened g c old =
@@ -52,8 +80,8 @@ returns-clause-why_unopened g c old =
     let moved = c.moved_by-moved.ensures in
     let behind = moved.honesty.1 old in
     let told = c.tell_recovered.ensures.honesty.1 behind in
-    why_kept _ _ _ _ _ _ _ (λ count u. MayRefuseOpening c.args.names.now c.args.mounted false (g.W.World.refusals c.args.world.now < count)
-    (g.W.World.sight c.args.world.now) u)
+    why_kept _ _ _ _ _ _ _ (λ count u. MayRefuseTask c.args.guard false (g.W.World.note c.args.world.now) (task_of c.args.way c.args.count) c.args.names.now
+    (g.W.World.refusals c.args.world.now < count) (g.W.World.sight c.args.world.now) u)
     (moved.unopened old) (c.tell_recovered.ensures.noted behind) (c.tell_number-outcome.ensures.noted told) (moved.why_unopened old)
 
 pub returns-clause-recovered : goal.returns-clause-recovered
@@ -62,9 +90,8 @@ returns-clause-recovered g c old s found is_opened =
     let behind = moved.honesty.1 old in
     let told = c.tell_recovered.ensures.honesty.1 behind in
     let line = c.tell_number-outcome.ensures in
-    recovered_behind _ _ (λ h. stepped c.args.way (recovered_as h s)) _ _ _ _ _ _ _ (moved.recovered old s found is_opened)
-    (c.tell_recovered.ensures.files behind) (line.files told) (moved.silent old).output (c.tell_recovered.ensures.output behind)
-    (line.done told) (line.refused told)
+    found_behind _ _ _ _ _ _ _ _ _ _ _ (moved.recovered old s found is_opened) (c.tell_recovered.ensures.files behind) (line.files told)
+    (moved.silent old).output (c.tell_recovered.ensures.output behind) (line.done told) (line.lost told) (line.refused told)
 
 pub returns-clause-others : goal.returns-clause-others
 returns-clause-others g c old =
@@ -86,3 +113,12 @@ returns-clause-free g c old =
     let behind = moved.honesty.1 old in
     let told = c.tell_recovered.ensures.honesty.1 behind in
     (c.tell_number-outcome.ensures.files told).lent ∙ (c.tell_recovered.ensures.files behind).lent ∙ (moved.silent old).lent ∙ c.requires.free old
+
+pub returns-clause-stands : goal.returns-clause-stands
+returns-clause-stands g c old =
+    let moved = c.moved_by-moved.ensures in
+    let behind = moved.honesty.1 old in
+    let told = c.tell_recovered.ensures.honesty.1 behind in
+    let line = c.tell_number-outcome.ensures in
+    read_behind _ _ _ _ _ _ _ _ _ _ (moved.stands old) (c.tell_recovered.ensures.files behind) (line.files told) (moved.silent old).output
+    (c.tell_recovered.ensures.output behind) (line.done told) (line.refused told)
