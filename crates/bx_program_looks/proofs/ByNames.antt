@@ -7,11 +7,11 @@ use Rattle.bx_journal.specs.SessionFault.TheVariants.{NoMemory, TooLarge, Device
 use Rattle.bx_cli_commands.specs.declared.fault.Fault.TheVariants.{Session}
 use Rattle.bx_program_world.specs.World.{IsNoText, NothingNewFound, ReadFiles, Sight, Spares, held}
 use Rattle.bx_program_files.specs.Reading.{LeadToRead}
+use Rattle.bx_program_files.specs.declared.guard.Guard.{Guard}
 use Rattle.bx_program_files.specs.declared.names.Names.{Names}
-use Rattle.bx_program_looks.specs.Forgetting.{Empties, ForgetsPart, HasForgotten, Held, IsNoTextNamed, LosesAll, LosesPart, MayForgetNamed, StopsForgetting, SurvivesEmptying, SurvivesForgetting, found_if, held_by_names, held_by_numbers}
-use Rattle.bx_program_looks.specs.Looks.{HidesChanges}
+use Rattle.bx_program_looks.specs.Forgetting.{Empties, ForgetsPart, HasForgotten, Held, IsNoTextNamed, KeepsHistory, LosesAll, LosesPart, MayForgetNamed, StopsForgetting, SurvivesEmptying, SurvivesForgetting, found_if, held_by_names, held_by_numbers}
 use Rattle.bx_program_looks.specs.declared.unseen.Unseen.{Unseen}
-use Rattle.bx_program_looks.specs.declared.unseen.Unseen.TheVariants.{Unopened, Unfinished, Stopped}
+use Rattle.bx_program_looks.specs.declared.unseen.Unseen.TheVariants.{Unopened, Unfinished, Another, Stopped}
 use Rattle.bx_program_looks.proofs.Apart.{same_files}
 use Rattle.bx_program_looks.proofs.Emptied.{by_number, spares_bytes}
 
@@ -43,21 +43,24 @@ untouched P old new same = rw same (record {
   errors = refl;
 })
 
--- what hides the changes stops the dropping, and all is as it was
-pub hidden_stops : (names : Names) (counted : Type 0) (old new : Sight) (u : Unseen) → new ≡ old
-    → HidesChanges (held_by_names names old).image (held_by_names names old).journal (held_by_names names old).redo u → StopsForgetting names counted old new u
-hidden_stops names counted old new (Unopened file) same is = absurd is
-hidden_stops names counted old new Unfinished same is = (is, untouched _ old new same)
-hidden_stops names counted old new (Stopped (Session Interrupted)) same is = absurd is
-hidden_stops names counted old new (Stopped fault) same is = (is, untouched _ old new same)
+-- what keeps the history stops the dropping, and all is as it was
+pub hidden_stops : (guard : Guard) (note : List ℕ) (names : Names) (counted : Type 0) (old new : Sight) (u : Unseen) → new ≡ old
+    → KeepsHistory guard note (held_by_names names old).image (held_by_names names old).journal (held_by_names names old).redo u
+    → StopsForgetting guard note names counted old new u
+hidden_stops guard note names counted old new (Unopened file) same is = absurd is
+hidden_stops guard note names counted old new Unfinished same is = (is, untouched _ old new same)
+hidden_stops guard note names counted old new Another same is = (is, untouched _ old new same)
+hidden_stops guard note names counted old new (Stopped (Session Interrupted)) same is = absurd is
+hidden_stops guard note names counted old new (Stopped fault) same is = (is, untouched _ old new same)
 
 -- nothing is found that wasn't before
-pub hidden_survives : (names : Names) (old : Sight) (found left : ℕ → List ℕ → Type 0) (u : Unseen) (image journal redo : List ℕ)
-    → HidesChanges image journal redo u → NothingNewFound found left → SurvivesForgetting names (Err u) old found left
-hidden_survives names old found left (Unopened file) image journal redo is none = none
-hidden_survives names old found left Unfinished image journal redo is none = none
-hidden_survives names old found left (Stopped (Session Interrupted)) image journal redo is none = absurd is
-hidden_survives names old found left (Stopped fault) image journal redo is none = none
+pub hidden_survives : (names : Names) (old : Sight) (found left : ℕ → List ℕ → Type 0) (u : Unseen) (guard : Guard) (note image journal redo : List ℕ)
+    → KeepsHistory guard note image journal redo u → NothingNewFound found left → SurvivesForgetting names (Err u) old found left
+hidden_survives names old found left (Unopened file) guard note image journal redo is none = none
+hidden_survives names old found left Unfinished guard note image journal redo is none = none
+hidden_survives names old found left Another guard note image journal redo is none = none
+hidden_survives names old found left (Stopped (Session Interrupted)) guard note image journal redo is none = absurd is
+hidden_survives names old found left (Stopped fault) guard note image journal redo is none = none
 
 -- Of files that these names lead to.
 module _ (names : Names) (f : ReadFiles) (old new : Sight) (leads : LeadToRead names f old) (only : Spares (IsNoText f) old new) where
@@ -81,19 +84,19 @@ module _ (names : Names) (f : ReadFiles) (old new : Sight) (leads : LeadToRead n
   pub forgotten_named : HasForgotten (held_by_numbers f old) (held_by_numbers f new) → HasForgotten (held_by_names names old) (held_by_names names new)
   forgotten_named p = as_names HasForgotten p
 
-  pub stopped_named : (counted : Type 0) (e : SessionFault) → MayForgetNamed names old → Empties f (Err e) old new
-      → StopsForgetting names counted old new (Stopped (Session e))
-  stopped_named counted NoMemory may p = absurd p
-  stopped_named counted TooLarge may p = absurd p
-  stopped_named counted DeviceFailed may p = (tt, p)
-  stopped_named counted (Damaged line) may p = absurd p
-  stopped_named counted (TooFew have) may p = absurd p
-  stopped_named counted JournalFull may p = absurd p
-  stopped_named counted Interrupted may p = (may, as_names ForgetsPart p)
-  stopped_named counted Broken may p = absurd p
-  stopped_named counted (LengthDiffers expected) may p = absurd p
-  stopped_named counted (NothingToRedo have) may p = absurd p
-  stopped_named counted (RedoDamaged line) may p = absurd p
+  pub stopped_named : (guard : Guard) (note : List ℕ) (counted : Type 0) (e : SessionFault) → MayForgetNamed guard note names old → Empties f (Err e) old new
+      → StopsForgetting guard note names counted old new (Stopped (Session e))
+  stopped_named guard note counted NoMemory may p = absurd p
+  stopped_named guard note counted TooLarge may p = absurd p
+  stopped_named guard note counted DeviceFailed may p = (tt, p)
+  stopped_named guard note counted (Damaged line) may p = absurd p
+  stopped_named guard note counted (TooFew have) may p = absurd p
+  stopped_named guard note counted JournalFull may p = absurd p
+  stopped_named guard note counted Interrupted may p = (may, as_names ForgetsPart p)
+  stopped_named guard note counted Broken may p = absurd p
+  stopped_named guard note counted (LengthDiffers expected) may p = absurd p
+  stopped_named guard note counted (NothingToRedo have) may p = absurd p
+  stopped_named guard note counted (RedoDamaged line) may p = absurd p
 
   -- what is found after a loss of power
   module _ (image : List ℕ → Type 0) (first found left : ℕ → List ℕ → Type 0) (image_first : NoMore (first f.image) image)

@@ -8,7 +8,8 @@ use Rattle.bx_journal_store.specs.declared.store.TextStore.{Ghosts as StoreViews
 use Rattle.bx_journal.specs.Devices.{Devices}
 use Rattle.bx_journal.specs.SessionView.{SessionView, devices_of}
 use Rattle.bx_journal.specs.Showing.{RangesOf}
-use Rattle.bx_journal.specs.ShownSteps.{HasEntries, ShowsSteps}
+use Rattle.bx_journal.specs.ShownSteps.{HasEntries}
+use Rattle.bx_journal.specs.ShownText.{ShowsText}
 use Rattle.bx_journal.specs.Steps.{Steps}
 use Rattle.bx_journal.specs.Undoing.{HasCount}
 use Rattle.bx_program_world.specs.World.{Sight, held}
@@ -55,7 +56,7 @@ module _ {D T : Type 0} (d : DeviceViews D) (t : StoreViews T) (image journal re
 
   -- the steps that are written are those of as many changes as the journal has
   pub next_shown : {S : Type 0} (n : ℕ) → n ≡ s.count → (steps : Steps) (r : Result S Unseen) (old new : Option (List ℕ))
-      → OnOk r (ShowsSteps (stepped_text steps.way journal redo) image (steps_from steps n) old new)
+      → OnOk r (ShowsText (stepped_text steps.way journal redo) image (steps_from steps n) old new)
       → OnOk r (IsNextShown image journal redo steps old new)
   next_shown n same steps r old new shows = on_ok_weaker r
       (λ shown. record { changes = n; standing = subst (HasEntries journal) (sym same) whole.entries; shows = shown }) shows

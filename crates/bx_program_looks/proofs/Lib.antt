@@ -10,3 +10,5 @@ pub mod Counted
 pub mod StepsRead
 pub mod StepsCut
 pub mod Refused
+pub mod NoteLemmas
+pub mod FrontRows

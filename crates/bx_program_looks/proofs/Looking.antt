@@ -27,14 +27,14 @@ use Rattle.bx_journal.specs.ShownSteps.{HasEntries}
 use Rattle.bx_journal.specs.Text.{Between, Entry, IsDamagedAt, Reading, Reads}
 use Rattle.bx_journal.specs.Undoing.{AgainFault, HasCount}
 use Rattle.bx_cli_commands.specs.Listing.{log_line}
-use Rattle.bx_cli_commands.specs.declared.fault.Fault.TheVariants.{Io, Read, Dd, Patch, Disagrees, Session, ChangedSince, Usage, OpenFailed}
+use Rattle.bx_cli_commands.specs.declared.fault.Fault.TheVariants.{Io, Read, Dd, Patch, Disagrees, NotReversible, NothingToWrite, Session, ChangedSince, Usage, OpenFailed}
 use Rattle.bx_program_world.specs.World.{ReadFiles, Sight, held}
 use Rattle.bx_program_files.specs.Reading.{LeadToRead}
 use Rattle.bx_program_files.specs.declared.names.Names.{Names}
 use Rattle.bx_program_looks.specs.Devices.{HoldBytes, HoldFiles, HoldNumbered, IsDeviceStop, IsOpenedWhole}
 use Rattle.bx_program_looks.specs.Looks.{HidesChanges, IsLogOf, MayNotLook, unseen_of}
 use Rattle.bx_program_looks.specs.declared.unseen.Unseen.{Unseen}
-use Rattle.bx_program_looks.specs.declared.unseen.Unseen.TheVariants.{Unopened, Unfinished, Stopped}
+use Rattle.bx_program_looks.specs.declared.unseen.Unseen.TheVariants.{Unopened, Unfinished, Another, Stopped}
 
 -- where something is recovered, the journal was not finished entries alone
 pub unclean : (text : List ℕ) (how : How) → ((r : Reading) → Reads (shown text) r → how ≡ how_of r (left_over text)) → (how ≡ Clean → ⊥)
@@ -98,12 +98,14 @@ pub not_seen : (names : Names) (counted : Type 0) (w : Sight) (u : Unseen)
     → HidesChanges (held w names.image) (held w names.journal) (held w names.redo) u → MayNotLook names counted w u
 not_seen names counted w (Unopened file) is = absurd is
 not_seen names counted w Unfinished is = is
+not_seen names counted w Another is = absurd is
 not_seen names counted w (Stopped fault) is = is
 
 -- what stops a log hides the changes
 pub stop_hides : (image journal redo : List ℕ) (u : Unseen) → IsDeviceStop u → HidesChanges image journal redo u
 stop_hides image journal redo (Unopened file) is = is
 stop_hides image journal redo Unfinished is = absurd is
+stop_hides image journal redo Another is = absurd is
 stop_hides image journal redo (Stopped (Session e)) is = stop_opens image journal redo e is
 stop_hides image journal redo (Stopped (Io LacksMemory)) is = tt
 stop_hides image journal redo (Stopped (Io ReadFailed)) is = is
@@ -114,6 +116,8 @@ stop_hides image journal redo (Stopped (Read fault)) is = is
 stop_hides image journal redo (Stopped (Dd fault)) is = is
 stop_hides image journal redo (Stopped (Patch fault)) is = is
 stop_hides image journal redo (Stopped (Disagrees other)) is = is
+stop_hides image journal redo (Stopped NotReversible) is = is
+stop_hides image journal redo (Stopped NothingToWrite) is = is
 stop_hides image journal redo (Stopped ChangedSince) is = is
 stop_hides image journal redo (Stopped Usage) is = is
 stop_hides image journal redo (Stopped OpenFailed) is = is

@@ -1,9 +1,14 @@
 -- What steps make of an image.
-use Rattle.std.proofs.Common.{◌≡◌, ◌+◌, ◌≤◌, ℕ, zero, suc, List, [], ◌∷◌, ◌++◌, length, drop, map, refl, sym, ap, subst, ◌∙◌, arith}
+use Rattle.std.proofs.Common.{◌≡◌, ◌⊎◌, ◌+◌, ◌<◌, ◌≤◌, ℕ, Option, inl, inr, zero, suc, List, [], ◌∷◌, ◌++◌, length, drop, map, refl, sym, ap, subst, ◌∙◌, arith}
+use Rattle.std.proofs.KnownBytes.{Appends-nil}
 use Rattle.std.proofs.lemmas.List.{length-append}
 use Rattle.bx_image.specs.declared.change.Change.{Change}
 use Rattle.bx_image.specs.declared.change.TheConstants.{MAX_LEN}
 use Rattle.bx_image.specs.Change.{AllWithin, effect, restore}
+use Rattle.bx_patch.specs.declared.diff.row.Extent.TheVariants.{Bytes}
+use Rattle.bx_patch.specs.declared.diff.fault.DiffFault.{DiffFault}
+use Rattle.bx_patch.specs.declared.diff.fault.DiffFault.TheVariants.{OldFailed, TooLarge}
+use Rattle.bx_patch.proofs.WritingLemmas.{text_some}
 use Rattle.bx_patch_preview.specs.Changed.{effects}
 use Rattle.bx_journal_format.specs.Finished.{IsFinished}
 use Rattle.bx_journal_format.specs.Kept.{kept_of, run_of}
@@ -16,10 +21,26 @@ use Rattle.bx_journal.specs.Machine.{changes_of, top}
 use Rattle.bx_journal.specs.Stack.{StandsFor, stack_of}
 use Rattle.bx_journal.specs.Text.{Between, Entry, Reading}
 use Rattle.bx_journal.specs.Undoing.{HasCount}
+use Rattle.bx_journal.specs.Way.{Way}
+use Rattle.bx_journal.specs.Way.TheVariants.{Undo, Redo}
 use Rattle.bx_journal_read.proofs.OpenLemmas.{some_same}
 use Rattle.bx_journal_read.proofs.Phases.{length-stack_of}
 use Rattle.bx_journal_read.proofs.UndoLoop.{drop_one, kept_next}
-use Rattle.bx_program_looks.specs.Stepped.{HoldImages}
+use Rattle.bx_program_looks.specs.Stepped.{HoldImages, IsPatchCut, patch_between, stopped_by}
+use Rattle.bx_program_looks.specs.declared.unseen.Unseen.{Unseen}
+
+-- a patch either way has its last line at least
+pub between_some : (way : Way) (there behind : List ℕ) → 0 < length (patch_between way there behind)
+between_some Undo there behind = text_some Bytes behind there
+between_some Redo there behind = text_some Bytes there behind
+
+-- where there is no image behind the changes nothing of a patch is written
+pub nothing_cut : (way : Way) (there behind : List ℕ) (old : Option (List ℕ)) (fault : DiffFault) (unseen : Unseen)
+    → (fault ≡ TooLarge) ⊎ (fault ≡ OldFailed) → unseen ≡ stopped_by fault → IsPatchCut (patch_between way there behind) old old unseen
+nothing_cut way there behind old fault unseen (inl is) said =
+    (fault, said, ([], patch_between way there behind, refl, between_some way there behind, Appends-nil old, rw is tt))
+nothing_cut way there behind old fault unseen (inr is) said =
+    (fault, said, ([], patch_between way there behind, refl, between_some way there behind, Appends-nil old, rw is tt))
 
 -- the newest image is the one that is there
 top_of : (es : List Entry) (x : List ℕ) → top (stack_of es x) ≡ x

@@ -1,5 +1,5 @@
 -- Forgetting the changes of an image, by the names of its files.
-use Rattle.std.specs.Prelude.{◌≡◌, ◌⊎◌, ◌<◌, ℕ, List, [], ◌∷◌, Option, None, Some, Result, Ok, Err}
+use Rattle.std.specs.Prelude.{◌≡◌, ◌⊎◌, ◌<◌, ℕ, Bool, true, false, not, ◌||◌, List, [], ◌∷◌, Option, None, Some, Result, Ok, Err}
 use Rattle.bx_image.specs.Power.{NoMore, Only}
 use Rattle.bx_journal.specs.Forgotten.{FadesInOrder, IsWhole, LeavesTexts, OfSome, only}
 use Rattle.bx_journal.specs.Images.{Images}
@@ -8,13 +8,21 @@ use Rattle.bx_journal.specs.Power.{Found}
 use Rattle.bx_journal.specs.Redo.{IsClean, IsRedoOf}
 use Rattle.bx_journal.specs.SessionFault.{SessionFault}
 use Rattle.bx_journal.specs.SessionFault.TheVariants.{Damaged, DeviceFailed, Interrupted, LengthDiffers, RedoDamaged}
+use Rattle.bx_journal_image.specs.Line.{FitsPlaces, image_line}
+use Rattle.bx_journal_image.specs.Ranges.{EndsIn}
+use Rattle.bx_journal_image.specs.Unfinished.{IsOpenJudged, WritesNothing}
+use Rattle.bx_journal_image.specs.declared.judge.Verdict.{Verdict}
+use Rattle.bx_journal_image.specs.declared.judge.Verdict.TheVariants.{Same, Other, Untold}
+use Rattle.bx_journal_image.specs.declared.line.ImageLine.{ImageLine}
 use Rattle.bx_cli_commands.specs.declared.fault.Fault.TheVariants.{Session}
 use Rattle.bx_program_world.specs.World.{IsNoText, NothingNewFound, ReadFiles, Sight, Spares, bytes_if, held}
 use Rattle.bx_program_files.specs.Reading.{AreReadable, LeadToRead, MayRefuseReading}
+use Rattle.bx_program_files.specs.declared.guard.Guard.{Guard}
 use Rattle.bx_program_files.specs.declared.names.Names.{Names}
-use Rattle.bx_program_looks.specs.Looks.{StopsLook, StopsOpening}
+use Rattle.bx_program_looks.specs.Looks.{HidesChanges, StopsOpening}
+use Rattle.bx_program_looks.specs.declared.noted.NoteLine.{NoteLine}
 use Rattle.bx_program_looks.specs.declared.unseen.Unseen.{Unseen}
-use Rattle.bx_program_looks.specs.declared.unseen.Unseen.TheVariants.{Unopened, Unfinished, Stopped}
+use Rattle.bx_program_looks.specs.declared.unseen.Unseen.TheVariants.{Unopened, Unfinished, Another, Stopped}
 
 -- the texts are an image's, but not those of what it has now, or damaged further on; one whose first line is none of a journal may be any file
 abbrev pub IsOfTexts : SessionFault → Type 0
@@ -23,13 +31,56 @@ IsOfTexts (Damaged line) = 1 < line
 IsOfTexts (RedoDamaged line) = 1 < line
 IsOfTexts fault = ⊥
 
--- a history may be dropped: nothing is unfinished, or opening is refused for texts that are an image's
-abbrev pub MayForget : List ℕ → List ℕ → List ℕ → Type 0
-MayForget image journal redo = IsClean journal ⊎ ((fault : SessionFault) × IsOfTexts fault × StopsOpening image journal redo fault)
+-- the line that a note is; none where it is no such line
+abbrev pub IsLineIn : List ℕ → Option ImageLine → Type 0
+IsLineIn note (Some line) = note ≡ image_line line
+IsLineIn note None = (line : ImageLine) → FitsPlaces line → note ≡ image_line line → ⊥
+
+-- what is known is what the note says, if it was read
+abbrev pub IsNoteLine : List ℕ → NoteLine → Type 0
+IsNoteLine note known = known.is_read ≡ true → IsLineIn note known.line
+
+-- A change is unfinished in the journal that recovery takes back, and this is what the image is by the note
+pub record IsNotedAs (note image journal : List ℕ) (verdict : Verdict) : Type 0 where
+  pub line : Option ImageLine
+  pub noted : IsLineIn note line
+  pub judged : IsOpenJudged line journal image verdict
+
+-- whether such a change is dropped with the history, by what the image is: another one than it was made on, unless the journal was named beside it
+abbrev pub drops : Guard → Verdict → Bool
+drops guard Same = false
+drops guard Other = guard.anyway || not guard.named
+drops guard Untold = guard.anyway
+
+-- a history may be dropped: nothing is unfinished, or opening is refused for texts that are an image's, or what is unfinished is dropped with it
+abbrev pub MayForget : Guard → List ℕ → List ℕ → List ℕ → List ℕ → Type 0
+MayForget guard note image journal redo = IsClean journal ⊎ ((fault : SessionFault) × IsOfTexts fault × StopsOpening image journal redo fault)
+    ⊎ ((verdict : Verdict) × IsNotedAs note image journal verdict × (drops guard verdict ≡ true))
 
 -- the same of files of these names
-abbrev pub MayForgetNamed : Names → Sight → Type 0
-MayForgetNamed names w = MayForget (held w names.image) (held w names.journal) (held w names.redo)
+abbrev pub MayForgetNamed : Guard → List ℕ → Names → Sight → Type 0
+MayForgetNamed guard note names w = MayForget guard note (held w names.image) (held w names.journal) (held w names.redo)
+
+-- the text ends in the line that ends an entry
+abbrev pub EndsWithEntry : List ℕ → Type 0
+EndsWithEntry text = (n : ℕ) × EndsIn text n
+
+-- what the image is by a line, beside a text in which a change is unfinished that recovery takes back; none where the text ends an entry, or
+-- recovery writes nothing to the image
+abbrev pub IsJudgedOpen : Option ImageLine → List ℕ → List ℕ → Option Verdict → Type 0
+IsJudgedOpen line text x None = EndsWithEntry text ⊎ WritesNothing text
+IsJudgedOpen line text x (Some verdict) = IsOpenJudged line text x verdict
+
+-- what is unfinished is recovered first: that writes nothing to the image, or the image is the one that it was made on
+abbrev pub IsRecoveredFirst : List ℕ → List ℕ → List ℕ → Type 0
+IsRecoveredFirst note image journal = EndsWithEntry journal ⊎ WritesNothing journal ⊎ IsNotedAs note image journal Same
+
+-- why the history of an image isn't dropped whose files are open
+abbrev pub KeepsHistory : Guard → List ℕ → List ℕ → List ℕ → List ℕ → Unseen → Type 0
+KeepsHistory guard note image journal redo Unfinished = (IsClean journal → ⊥) × IsRecoveredFirst note image journal
+KeepsHistory guard note image journal redo Another =
+    (verdict : Verdict) × IsNotedAs note image journal verdict × (verdict ≡ Same → ⊥) × (drops guard verdict ≡ false)
+KeepsHistory guard note image journal redo unseen = HidesChanges image journal redo unseen
 
 -- the file is none that the names of the texts lead to
 abbrev pub IsNoTextNamed : Names → Sight → ℕ → Type 0
@@ -73,14 +124,14 @@ pub record ForgetsPart (old new : Held) : Type 0 where
 abbrev pub IsUntouched : Sight → Sight → Type 0
 IsUntouched old new = Spares (λ n. Unit {0}) old new
 
--- Why a history is not dropped: a file may not be opened, something is unfinished, a text is damaged, or memory or a device fails, and all is as
--- it was; or the dropping was stopped in the middle
-abbrev pub StopsForgetting : Names → Type 0 → Sight → Sight → Unseen → Type 0
-StopsForgetting names counted old new (Unopened file) = MayRefuseReading names counted old file × IsUntouched old new
-StopsForgetting names counted old new Unfinished = (IsClean (held old names.journal) → ⊥) × IsUntouched old new
-StopsForgetting names counted old new (Stopped (Session Interrupted)) = MayForgetNamed names old × ForgetsPart (held_by_names names old) (held_by_names names new)
-StopsForgetting names counted old new (Stopped fault) =
-    StopsLook (held old names.image) (held old names.journal) (held old names.redo) fault × IsUntouched old new
+-- Why a history is not dropped: a file may not be opened, something is unfinished that is recovered first, it may be another image's, a text is
+-- damaged, or memory or a device fails, and all is as it was; or the dropping was stopped in the middle
+abbrev pub StopsForgetting : Guard → List ℕ → Names → Type 0 → Sight → Sight → Unseen → Type 0
+StopsForgetting guard note names counted old new (Unopened file) = MayRefuseReading names counted old file × IsUntouched old new
+StopsForgetting guard note names counted old new (Stopped (Session Interrupted)) =
+    MayForgetNamed guard note names old × ForgetsPart (held_by_names names old) (held_by_names names new)
+StopsForgetting guard note names counted old new unseen =
+    KeepsHistory guard note (held old names.image) (held old names.journal) (held old names.redo) unseen × IsUntouched old new
 
 -- what may be found of a file that may be missing; of one that is, nothing
 abbrev pub found_if : (ℕ → List ℕ → Type 0) → Option ℕ → List ℕ → Type 0

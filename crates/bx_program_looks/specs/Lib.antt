@@ -2,3 +2,4 @@ pub mod Looks
 pub mod Devices
 pub mod Forgetting
 pub mod Stepped
+pub mod Unfinished

@@ -7,7 +7,8 @@ use Rattle.bx_journal.specs.Fault.{DeviceFault}
 use Rattle.bx_journal.specs.Redo.{IsClean, RefusesRedoAt}
 use Rattle.bx_journal.specs.Showing.{StopsLog}
 use Rattle.bx_journal.specs.ShowFault.TheVariants as look
-use Rattle.bx_journal.specs.ShownSteps.{HasEntries, ShowsSteps}
+use Rattle.bx_journal.specs.ShownSteps.{HasEntries}
+use Rattle.bx_journal.specs.ShownText.{ShowsText}
 use Rattle.bx_journal.specs.Stack.{image_at}
 use Rattle.bx_journal.specs.Steps.{Steps}
 use Rattle.bx_journal.specs.SessionFault.{SessionFault}
@@ -22,7 +23,7 @@ use Rattle.bx_program_files.specs.Reading.{MayRefuseReading}
 use Rattle.bx_program_files.specs.declared.names.Names.{Names}
 use Rattle.bx_program_files.specs.declared.unopened.Unopened.{Unopened as UnopenedFile}
 use Rattle.bx_program_looks.specs.declared.unseen.Unseen.{Unseen}
-use Rattle.bx_program_looks.specs.declared.unseen.Unseen.TheVariants.{Unopened, Unfinished, Stopped}
+use Rattle.bx_program_looks.specs.declared.unseen.Unseen.TheVariants.{Unopened, Unfinished, Another, Stopped}
 
 -- the journal is finished entries alone, and the log is a line for each, the oldest first
 abbrev pub IsLogOf : List ℕ → List ℕ → Type 0
@@ -45,7 +46,7 @@ undos s = record { way = Undo; count = s.count; changes = s.changes; compares = 
 pub record IsNextShown (image journal redo : List ℕ) (s : Steps) (old new : Option (List ℕ)) : Type 0 where
   pub changes : ℕ
   pub standing : HasEntries journal changes
-  pub shows : ShowsSteps (stepped_text s.way journal redo) image (steps_from s changes) old new
+  pub shows : ShowsText (stepped_text s.way journal redo) image (steps_from s changes) old new
 
 -- what an opening that was refused says: something is unfinished, where it was interrupted
 abbrev pub unseen_of : SessionFault → Unseen
@@ -70,6 +71,7 @@ StopsLook image journal redo fault = ⊥
 abbrev pub HidesChanges : List ℕ → List ℕ → List ℕ → Unseen → Type 0
 HidesChanges image journal redo (Unopened file) = ⊥
 HidesChanges image journal redo Unfinished = IsClean journal → ⊥
+HidesChanges image journal redo Another = ⊥
 HidesChanges image journal redo (Stopped fault) = StopsLook image journal redo fault
 
 -- Why the changes of an image are not seen: a file may not be opened, something is unfinished, or a text is damaged, the image has another

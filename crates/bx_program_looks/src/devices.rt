@@ -2,7 +2,7 @@
 ghost use Rattle.std.specs.Prelude.{◌≡◌, ◌↔◌, ◌<◌, List, ℕ, IfErr, IfOk, OnOk, true, string_bytes};
 ghost use Rattle.bx_journal.specs.SessionView.{devices_of};
 ghost use Rattle.bx_journal.specs.Showing.{RangesOf};
-ghost use Rattle.bx_journal.specs.ShownSteps.{ShowsSteps};
+ghost use Rattle.bx_journal.specs.ShownText.{ShowsText};
 ghost use Rattle.bx_journal.specs.ThreeDevices.{AreBelow};
 ghost use Rattle.bx_journal.specs.Undoing.{HasCount};
 ghost use Rattle.bx_program_looks.specs.Devices.{HoldBytes, IsDeviceStop, IsOpenedWhole, IsUnbroken};
@@ -168,7 +168,7 @@ fn show_text<D: Device, T: TextStore, O: Write>(
     requires countable { D.failures image.old < u64.MAX }
     requires also_countable { T.failures text.old < u64.MAX }
     ensures shows { T.honest text.old → D.honest image.old → OnOk result
-        (ShowsSteps (T.text text.old) (D.image image.old) steps (O.contents out.old) (O.contents out.new)) }
+        (ShowsText (T.text text.old) (D.image image.old) steps (O.contents out.old) (O.contents out.new)) }
     ensures cut { T.honest text.old → D.honest image.old → IfErr result
         (AreStepsCut (T.text text.old) (D.image image.old) steps (O.contents out.old) (O.contents out.new)) }
 {
@@ -187,7 +187,7 @@ fn show_next<D: Device, T: TextStore, O: Write>(
 ) -> Result<(), Unseen>
     requires countable { AreBelow D.Device T.TextStore u64.MAX devices.old }
     ensures shows { (x text redo : List ℕ) → HoldBytes D.Device T.TextStore x text redo devices.old → OnOk result
-        (ShowsSteps (stepped_text steps.way text redo) x steps (O.contents out.old) (O.contents out.new)) }
+        (ShowsText (stepped_text steps.way text redo) x steps (O.contents out.old) (O.contents out.new)) }
     ensures cut { (x text redo : List ℕ) → HoldBytes D.Device T.TextStore x text redo devices.old → IfErr result
         (AreStepsCut (stepped_text steps.way text redo) x steps (O.contents out.old) (O.contents out.new)) }
 {
@@ -234,7 +234,7 @@ pub fn undos_on<D: Device, T: TextStore, O: Write>(
 ) -> Seen<D, T, ()>
     requires countable { AreBelow D.Device T.TextStore u64.MAX devices }
     ensures shows { (x text redo : List ℕ) → HoldBytes D.Device T.TextStore x text redo devices
-        → OnOk result.outcome (ShowsSteps text x (undos steps) (O.contents out.old) (O.contents out.new)) }
+        → OnOk result.outcome (ShowsText text x (undos steps) (O.contents out.old) (O.contents out.new)) }
     ensures cut { (x text redo : List ℕ) → HoldBytes D.Device T.TextStore x text redo devices
         → IfErr result.outcome (AreStepsCut text x (undos steps) (O.contents out.old) (O.contents out.new)) }
 {

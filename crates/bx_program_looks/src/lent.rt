@@ -92,6 +92,7 @@ pub fn close<W: World, V>(world: &mut W, seen: Seen<W::Image, W::Text, V>) -> Re
     ensures calm { W.honest world.old → W.refusals world.new ≡ W.refusals world.old }
     ensures same { W.honest world.old → W.sight world.new ≡ W.sight world.old }
     ensures survives { W.honest world.old → NothingNewFound (W.survives world.old) (W.survives world.new) }
+    ensures note { W.honest world.old → W.note world.new ≡ W.note world.old }
     ensures honesty { W.honest world.new ↔ W.honest world.old }
 {
     let Seen { devices, outcome } = seen;

@@ -1,6 +1,6 @@
 //! What the next undos or redos would do, by the names of the files.
 ghost use Rattle.std.specs.Prelude.{◌≡◌, ◌↔◌, ◌<◌, None, IfErr, OnOk};
-ghost use Rattle.bx_journal.specs.ShownSteps.{ShowsSteps};
+ghost use Rattle.bx_journal.specs.ShownText.{ShowsText};
 ghost use Rattle.bx_program_world.specs.World.{NothingNewFound, held};
 ghost use Rattle.bx_program_files.specs.Reading.{AreReadable};
 ghost use Rattle.bx_program_looks.specs.Looks.{IsNextShown, StopsNextSteps, StopsUndos, undos, unopened_in};
@@ -57,7 +57,7 @@ pub fn show_unfinished<W: World, O: Write>(
     steps: Steps,
     out: &mut O,
 ) -> Result<(), Unseen>
-    ensures shows { W.honest world.old → OnOk result (ShowsSteps (held (W.sight world.old) names.now.journal)
+    ensures shows { W.honest world.old → OnOk result (ShowsText (held (W.sight world.old) names.now.journal)
         (held (W.sight world.old) names.now.image) (undos steps) (O.contents out.old) (O.contents out.new)) }
     ensures stops { W.honest world.old → IfErr result (StopsUndos names.now (W.refusals world.old < W.refusals world.new)
         (W.sight world.old) steps (O.contents out.old) (O.contents out.new)) }

@@ -13,6 +13,8 @@ pub enum Unseen {
     Unopened(Unopened),
     /// A change is unfinished, and only a command that may write recovers it.
     Unfinished,
+    /// A change is unfinished that was made on another image, or may have been.
+    Another,
     /// Another fault stopped it.
     Stopped(Fault),
 }

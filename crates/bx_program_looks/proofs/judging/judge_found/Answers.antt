@@ -2,10 +2,10 @@ use Rattle.std.proofs.Common.{◌∙◌, inl, sym}
 use Rattle.std.proofs.lemmas.Bool.{false≢true}
 use Rattle.bx_program_looks.proofs.Judged.{of_texts_found, of_texts_image, of_texts_may, of_texts_unfailed}
 use Rattle.bx_program_looks.proofs.Looking.{opened_refused, opened_unclean, opened_whole}
-use Rattle.bx_program_looks.proofs.forgotten.judge.Goals as goal
+use Rattle.bx_program_looks.proofs.judging.judge_found.Goals as goal
 
 pub returns-then-is_whole-clause-may : goal.returns-then-is_whole-clause-may
-returns-then-is_whole-clause-may g c x text redo holds =
+returns-then-is_whole-clause-may g c x text redo note guard holds =
     let whole = opened_whole g.D.Device g.T.TextStore c.args.devices x text redo holds _ _ c.in-Ok.ensures (c.is_whole.ensures.0 c.if-is_whole.true) in
     inl (whole.counted.0, whole.counted.1)
 
@@ -20,8 +20,8 @@ returns-else-is_whole-clause-hides g c x text redo holds =
     (λ clean. absurd (false≢true (sym c.if-is_whole.false ∙ c.is_whole.ensures.1 clean)))
 
 pub returns-then-is_of_texts-clause-may : goal.returns-then-is_of_texts-clause-may
-returns-then-is_of_texts-clause-may g c x text redo holds =
-    of_texts_may g.D.Device g.T.TextStore c.args.devices _ _ (c.is_of_texts.ensures.0 c.if-is_of_texts.true) c.in-Err.ensures x text redo holds
+returns-then-is_of_texts-clause-may g c x text redo note guard holds =
+    of_texts_may g.D.Device g.T.TextStore c.args.devices _ _ (c.is_of_texts.ensures.0 c.if-is_of_texts.true) c.in-Err.ensures x text redo holds note guard
 
 pub returns-then-is_of_texts-clause-image : goal.returns-then-is_of_texts-clause-image
 returns-then-is_of_texts-clause-image g c x text redo holds =
