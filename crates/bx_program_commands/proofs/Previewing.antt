@@ -11,6 +11,7 @@ use Rattle.bx_image.specs.declared.device.ImageFault.{ImageFault}
 use Rattle.bx_image.specs.declared.device.ImageFault.TheVariants as image
 use Rattle.bx_image.specs.declared.change.Change.{Change}
 use Rattle.bx_dd.specs.declared.counts.Counts.{Counts}
+use Rattle.bx_patch.proofs.WritingLemmas.{text_some}
 use Rattle.bx_patch.specs.Diff.{AreShort, IsFaultFor, TellsWritten, WritesPrefix}
 use Rattle.bx_patch.specs.Text.{patch_text}
 use Rattle.bx_patch.specs.declared.diff.fault.DiffFault.{DiffFault}
@@ -34,8 +35,8 @@ unfolding FitInTurn
 fits_alone change x fits = (fits, tt)
 
 -- nothing is a prefix of a text
-nothing_of : (old : Option (List ℕ)) (text : List ℕ) (fault : DiffFault) → TellsWritten 0 (length text) fault → WritesPrefix old old text fault
-nothing_of old text fault tells = ([], text, refl, Appends-nil old, tells)
+nothing_of : (old : Option (List ℕ)) (x y : List ℕ) (fault : DiffFault) → TellsWritten 0 fault → WritesPrefix old old (patch_text Bytes x y) fault
+nothing_of old x y fault tells = ([], patch_text Bytes x y, refl, text_some Bytes x y, Appends-nil old, tells)
 
 -- Of two devices that have an image, the second one behind a change.
 module _ {A : Type 0} (change : Change A) (x : List ℕ) where
@@ -43,10 +44,10 @@ module _ {A : Type 0} (change : Change A) (x : List ℕ) where
   pub unchanged : (old : Option (List ℕ)) (again : List ℕ) (changes : List (Change A)) → again ≡ x → changes ≡ change ∷ [] → (fault : ImageFault)
       → (fault ≡ image.DeviceFailed) ⊎ ((fault ≡ image.TooLarge) × (FitInTurn changes again MAX_LEN → ⊥))
       → IsCompared change x (Err (unchanged_for fault)) old old
-  unchanged old again changes again_is changes_are fault (inl is) = rw is (nothing_of old (patch_text Bytes x (effect change x)) NewFailed tt, λ _. tt)
+  unchanged old again changes again_is changes_are fault (inl is) = rw is (nothing_of old x (effect change x) NewFailed tt, λ _. tt)
   unchanged old again changes again_is changes_are fault (inr is) =
       rw is.0 (
-        nothing_of old (patch_text Bytes x (effect change x)) TooLarge tt,
+        nothing_of old x (effect change x) TooLarge tt,
         λ makeable. absurd (is.1 (rw (changes_are, again_is) (fits_alone change x makeable.0))),
       )
 

@@ -1,6 +1,6 @@
 -- What an opening leaves to a history that is dropped behind it, and that to a change.
 use Rattle.std.proofs.Common.{◌≡◌, ◌∙◌, ◌<◌, ◌≤◌, ◌++◌, ℕ, zero, suc, Option, Some, None, List, [], ◌∷◌, take, refl, sym, ap, subst, inl, inr, append-nil, arith, Result, Ok, Err}
-use Rattle.std.specs.Prelude.{IfOk, IfSome, OnOk}
+use Rattle.std.specs.Prelude.{true, IfOk, IfSome, OnOk}
 use Rattle.std.specs.Option.{option_map_or}
 use Rattle.bx_journal.specs.Fault.{DeviceFault}
 use Rattle.bx_journal.specs.Forgotten.{only}
@@ -22,21 +22,25 @@ use Rattle.bx_cli_commands.specs.declared.command.Reply.TheVariants.{Changed, Co
 use Rattle.bx_cli_commands.specs.declared.fault.Fault.{Fault}
 use Rattle.bx_cli_commands.specs.declared.fault.Fault.TheVariants.{OpenFailed, Session}
 use Rattle.bx_program_world.specs.World.{Sight, Spares, Trio, held}
-use Rattle.bx_program_files.specs.Files.{AreAllThere}
+use Rattle.bx_program_files.specs.Files.{AreAllThere, LeadsToMade}
+use Rattle.bx_program_files.specs.declared.guard.Guard.{Guard}
 use Rattle.bx_program_files.specs.declared.names.Names.{Names}
 use Rattle.bx_program_files.specs.declared.unopened.Unopened.{Unopened}
 use Rattle.bx_program_sessions.specs.Changes.{Changes, SaysRecovered}
-use Rattle.bx_program_sessions.specs.Contents.{Contents, DoesFound, EndsAt, FoundIn, Holds, Survives, recovered_as}
+use Rattle.bx_program_sessions.specs.Contents.{Contents, DoesFound, EndsAt, FoundIn, Holds, Survives, SurvivesFound, recovered_as}
 use Rattle.bx_program_sessions.specs.Moves.{TellsRecovered, recovered_line}
-use Rattle.bx_program_sessions.specs.Named.{IsUnrecovered, KeepsOthers, LeadTo, MayRefuse, NothingDone, contents_of}
+use Rattle.bx_program_sessions.specs.Guarded.{WereOpened, another}
+use Rattle.bx_program_sessions.specs.Named.{IsNamedBy, IsUnrecovered, KeepsOthers, LeadTo, MayRefuse, MayRefuseTask, NothingDone, contents_of}
 use Rattle.bx_program_sessions.specs.Task.{TaskStep}
 use Rattle.bx_program_sessions.specs.declared.named.Answer.{Answer}
 use Rattle.bx_program_sessions.specs.declared.task.Task.{Task}
+use Rattle.bx_program_sessions.proofs.Begun.{none_other}
+use Rattle.bx_program_sessions.proofs.Refused.{same_spared}
 use Rattle.bx_program_looks.specs.Forgetting.{HasForgotten, IsNoTextNamed, IsOfTexts, IsUntouched, StopsForgetting, SurvivesForgetting, held_by_names}
 use Rattle.bx_program_looks.specs.declared.unseen.Unseen.{Unseen}
-use Rattle.bx_program_looks.specs.declared.unseen.Unseen.TheVariants.{Unopened as UnopenedFile, Unfinished, Stopped}
+use Rattle.bx_program_looks.specs.declared.unseen.Unseen.TheVariants.{Another as OtherImage, Unopened as UnopenedFile, Unfinished, Stopped}
 use Rattle.bx_program_commands.specs.Changing.{DoesChange}
-use Rattle.bx_program_commands.specs.Renewal.{ChangesAlone, KeepsNamed, LosesUndropped, MayDrop, no_change}
+use Rattle.bx_program_commands.specs.Renewal.{ChangesAlone, IsDroppable, IsOfAnother, JudgesOpening, KeepsNamed, LosesUndropped, MayDrop, MayNotOpen, no_change, only_told}
 
 -- an undo of no change leaves the images
 undone_none : (s : Images) (i : ℕ) → i ≤ 0 → undo_of i s ≡ s
@@ -95,12 +99,45 @@ on_ok (Err e) P p = tt
 
 -- files that were opened by such a reply
 pub all_opened : (u : Option Unopened) (reply : Reply) (how : Option How) (old new : Sight) → IfSome u (λ _. NothingDone reply how old new)
-    → MayDrop reply → u ≡ None
+    → IsDroppable reply → u ≡ None
 all_opened None reply how old new none may = refl
-all_opened (Some u) reply how old new none may = absurd (let wrong : MayDrop (Refused OpenFailed) = subst MayDrop none.0 may in wrong)
+all_opened (Some u) reply how old new none may = absurd (let wrong : IsDroppable (Refused OpenFailed) = subst IsDroppable none.0 may in wrong)
+
+-- files that were opened, or whose image is another one
+pub were_opened : (answer : Answer) (old new : Sight) → IfSome answer.unopened (λ _. NothingDone answer.reply answer.how old new) → MayDrop answer
+    → WereOpened answer.unopened
+were_opened answer old new none may = elim may [
+  | inl drop ↦ rw (all_opened answer.unopened answer.reply answer.how old new none drop) tt
+  | inr other ↦ by answer.unopened other
+]
+  where
+    by : (u : Option Unopened) → IsOfAnother u → WereOpened u
+    by None other = tt
+    by (Some u) other = other
+
+other_reply : (u : Option Unopened) (reply : Reply) (how : Option How) (old new : Sight) → IfSome u (λ _. NothingDone reply how old new) → IsOfAnother u
+    → reply ≡ Refused OpenFailed
+other_reply None reply how old new none other = absurd other
+other_reply (Some u) reply how old new none other = none.0
+
+-- an opening isn't refused for another image where the files hold images
+pub never_other : {R : Type 0} (remaining : R → Option (List ℕ)) (guard : Guard) (note : List ℕ) (names : Names) (w : Sight) (answer : Answer) (s : Images)
+    → JudgesOpening remaining guard note names w answer → Holds (contents_of names w) s → IsOfAnother answer.unopened → ⊥
+never_other remaining guard note names w answer s judged holds other = none_other (only_told guard) _ note (contents_of names w) answer.unopened answer.how s judged
+    holds (by answer.unopened other)
+  where
+    by : (u : Option Unopened) → IsOfAnother u → u ≡ Some another
+    by None other = absurd other
+    by (Some u) other = ap Some other
+
+-- why an opening isn't begun
+pub why_told : {R : Type 0} (remaining : R → Option (List ℕ)) (guard told : Guard) (note : List ℕ) (names : Names) (counted : Type 0) (w : Sight) (u : Option Unopened)
+    → told ≡ only_told guard → IfSome u (MayRefuseTask told true note (no_change {R = R}) names counted w) → IfSome u (MayNotOpen remaining guard note names counted w)
+why_told {R = R} remaining guard told note names counted w u is why =
+    subst (λ (k : Guard). IfSome u (MayRefuseTask k true note (no_change {R = R}) names counted w)) is why
 
 -- an answer that lets the history be dropped, and is not refused in whole, tells how many changes stand
-made_by : (reply : Reply) (P : ℕ → Type 0) → MayDrop reply → (IsWholeRefusal reply → ⊥) → IfOk (stands_by reply) P → (n : ℕ) × P n
+made_by : (reply : Reply) (P : ℕ → Type 0) → IsDroppable reply → (IsWholeRefusal reply → ⊥) → IfOk (stands_by reply) P → (n : ℕ) × P n
 made_by (Changed n) P may stopped ok = (n, ok)
 made_by (Copied n counts) P may stopped ok = (n, ok)
 made_by (Undone n) P may stopped ok = (n, ok)
@@ -114,7 +151,7 @@ module _ {R : Type 0} (remaining : R → Option (List ℕ)) where
   leads_same s reply after step = none_moved s step.0 after step.2
 
   -- of files that hold images it is not refused for their texts
-  unrefused : (s : Images) (reply : Reply) → MayRefuse remaining s no_change reply → MayDrop reply → IsWholeRefusal reply → ⊥
+  unrefused : (s : Images) (reply : Reply) → MayRefuse remaining s no_change reply → IsDroppable reply → IsWholeRefusal reply → ⊥
   unrefused s (Refused (Session e)) why may whole = elim why [
     | inl un ↦ texts_device e may (subst DeviceFault (sym (one_fault e un.0 un.1)) un.2)
     | inr step ↦ texts_unanswered s e step.1.0 step.0 may step.1.1 step.1.2
@@ -122,17 +159,32 @@ module _ {R : Type 0} (remaining : R → Option (List ℕ)) where
   unrefused s (Refused e) why may whole = may
   unrefused s reply why may whole = whole
 
-  module _ (names : Names) (answer : Answer) (old new : Sight) (does : DoesChange remaining names no_change answer old new) (may : MayDrop answer.reply)
-      (unopened : IfSome answer.unopened (λ _. NothingDone answer.reply answer.how old new)) where
+  module _ (names : Names) (answer : Answer) (old new : Sight) (does : DoesChange remaining names no_change answer old new) (may : MayDrop answer)
+      (unopened : IfSome answer.unopened (λ _. NothingDone answer.reply answer.how old new))
+      (alone : (s : Images) → Holds (contents_of names old) s → IsOfAnother answer.unopened → ⊥) where
+    made_drop : IsDroppable answer.reply → (s : Images) → Holds (contents_of names old) s → IsWholeRefusal answer.reply → ⊥
+    made_drop drop s holds whole = unrefused s answer.reply
+        ((does.refused whole).why s holds (all_opened answer.unopened answer.reply answer.how old new unopened drop)) drop whole
+
     pub made : (s : Images) → Holds (contents_of names old) s → IsWholeRefusal answer.reply → ⊥
-    made s holds whole = unrefused s answer.reply
-        ((does.refused s holds whole).why (all_opened answer.unopened answer.reply answer.how old new unopened may)) may whole
+    made s holds whole = elim may [
+      | inl drop ↦ made_drop drop s holds whole
+      | inr other ↦ alone s holds other
+    ]
+
+    -- whatever they held, an opening that was refused leaves the image
+    pub image_spared : IsWholeRefusal answer.reply → IsUnrecovered answer.how → held new names.image ≡ held old names.image
+    image_spared whole is = ap (λ (c : Contents). c.image) (same_spared answer.how (contents_of names old) (contents_of names new) is
+        ((does.refused whole).left.contents (were_opened answer old new unopened may)))
 
     -- they hold the images that they held
     pub same : (s : Images) → Holds (contents_of names old) s → Holds (contents_of names new) s
-    same s holds =
-        let done = made_by answer.reply (Changes remaining s no_change answer.reply (contents_of names new)) may (made s holds) (does.done s holds) in
-        subst (Holds (contents_of names new)) (leads_same s answer.reply (Standing.Up done.1.next) done.1.step) done.1.files
+    same s holds = elim may [
+      | inl drop ↦
+          let done = made_by answer.reply (Changes remaining s no_change answer.reply (contents_of names new)) drop (made_drop drop s holds) (does.done s holds) in
+          subst (Holds (contents_of names new)) (leads_same s answer.reply (Standing.Up done.1.next) done.1.step) done.1.files
+      | inr other ↦ absurd (alone s holds other)
+    ]
 
     found_ended : (s : Images) (after : Standing) (r : Result ℕ SessionFault) → answer.reply ≡ answered Undone r → UndoesNone s r after
         → EndsAt (contents_of names new) after → OnOk (stands_by answer.reply) (held new names.image ≡ top s.stack)
@@ -149,7 +201,10 @@ module _ {R : Type 0} (remaining : R → Option (List ℕ)) where
 
     -- and of files in which opening found images the image is then the newest of these
     pub found : (s : Images) → FoundIn (contents_of names old) s → OnOk (stands_by answer.reply) (held new names.image ≡ top s.stack)
-    found s there = found_by s answer.how (does.recovered s there (all_opened answer.unopened answer.reply answer.how old new unopened may))
+    found s there = elim may [
+      | inl drop ↦ found_by s answer.how (does.recovered s there (all_opened answer.unopened answer.reply answer.how old new unopened drop))
+      | inr other ↦ rw (other_reply answer.unopened answer.reply answer.how old new unopened other) tt
+    ]
 
   -- the change that is asked for on the image alone
   pub changes_alone : (names : Names) (image : List ℕ) (task : Task R) (answer : Answer) (dropped new : Sight)
@@ -157,9 +212,9 @@ module _ {R : Type 0} (remaining : R → Option (List ℕ)) where
       → ChangesAlone remaining names image task answer new
   changes_alone names image task answer dropped new alone does = record {
     done = does.done (only image) alone;
-    refused = λ whole. record { dropped = dropped; alone = alone; refuses = does.refused (only image) alone whole };
+    refused = λ whole. record { dropped = dropped; alone = alone; refuses = does.refused whole };
     interrupted = does.interrupted (only image) alone;
-    whole = does.whole (only image) alone;
+    whole = does.how.none (only image) alone;
   }
 
 -- files whose history was dropped hold the image alone
@@ -178,19 +233,20 @@ untouched : (names : Names) (old new : Sight) → IsUntouched old new → conten
 untouched names old new keeps =
     rw (held_untouched old new names.image keeps, held_untouched old new names.journal keeps, held_untouched old new names.redo keeps) refl
 
-stops_untouched : (names : Names) (counted : Type 0) (old new : Sight) (unseen : Unseen) → StopsForgetting names counted old new unseen
+stops_untouched : (guard : Guard) (note : List ℕ) (names : Names) (counted : Type 0) (old new : Sight) (unseen : Unseen) → StopsForgetting guard note names counted old new unseen
     → (unseen ≡ Stopped (Session Interrupted) → ⊥) → IsUntouched old new
-stops_untouched names counted old new (UnopenedFile file) stops other = stops.1
-stops_untouched names counted old new Unfinished stops other = stops.1
-stops_untouched names counted old new (Stopped (Session Interrupted)) stops other = absurd (other refl)
-stops_untouched names counted old new (Stopped fault) stops other = stops.1
+stops_untouched guard note names counted old new (UnopenedFile file) stops other = stops.1
+stops_untouched guard note names counted old new Unfinished stops other = stops.1
+stops_untouched guard note names counted old new OtherImage stops other = stops.1
+stops_untouched guard note names counted old new (Stopped (Session Interrupted)) stops other = absurd (other refl)
+stops_untouched guard note names counted old new (Stopped fault) stops other = stops.1
 
 -- files whose history wasn't dropped hold what they held
-pub holds_undropped : (names : Names) (counted : Type 0) (old new : Sight) (unseen : Unseen) (s : Images)
-    → StopsForgetting names counted old new unseen → (unseen ≡ Stopped (Session Interrupted) → ⊥) → Holds (contents_of names old) s
+pub holds_undropped : (guard : Guard) (note : List ℕ) (names : Names) (counted : Type 0) (old new : Sight) (unseen : Unseen) (s : Images)
+    → StopsForgetting guard note names counted old new unseen → (unseen ≡ Stopped (Session Interrupted) → ⊥) → Holds (contents_of names old) s
     → Holds (contents_of names new) s
-holds_undropped names counted old new unseen s stops other holds =
-    subst (λ c. Holds c s) (sym (untouched names old new (stops_untouched names counted old new unseen stops other))) holds
+holds_undropped guard note names counted old new unseen s stops other holds =
+    subst (λ c. Holds c s) (sym (untouched names old new (stops_untouched guard note names counted old new unseen stops other))) holds
 
 -- the names lead to the files that they led to before texts were changed
 leads_before : (names : Names) (spared : ℕ → Type 0) (t : Trio) (old new : Sight) → Spares spared old new → LeadTo names t new → LeadTo names t old
@@ -223,6 +279,19 @@ found_undropped remaining names unseen reply spared first new was left s t spare
     let end = finds before x text redo_text there text_there redo_there in
     subst (Found text x redo_text) (leads_same remaining s reply end.0 end.1) end.2)
 
+-- the same of what was recovered
+pub recovered_undropped : {R : Type 0} (remaining : R → Option (List ℕ)) (names : Names) (unseen : Unseen) (answer : Answer) (spared : ℕ → Type 0)
+    (first new : Sight) (was left : ℕ → List ℕ → Type 0) (s : Images) (t : Trio) → Spares spared first new → LeadTo names t new
+    → SurvivesForgetting names (Err unseen) first was left
+    → (LeadTo names t first → SurvivesFound remaining s no_change answer.how answer.reply (was t.image) (was t.journal) (was t.redo))
+    → IfSome answer.how (λ h. LosesUndropped unseen (held_by_names names first) (recovered_as h s) (left t.image) (left t.journal) (left t.redo))
+recovered_undropped remaining names unseen answer spared first new was left s t spares leads survives finds = at answer.how finds
+  where
+    at : (how : Option How) → (LeadTo names t first → SurvivesFound remaining s no_change how answer.reply (was t.image) (was t.journal) (was t.redo))
+        → IfSome how (λ h. LosesUndropped unseen (held_by_names names first) (recovered_as h s) (left t.image) (left t.journal) (left t.redo))
+    at None finds = tt
+    at (Some h) finds = found_undropped remaining names unseen answer.reply spared first new was left (recovered_as h s) t spares leads survives finds
+
 -- what no name of the three leads to by now is as it was
 pub keeps_named : (names : Names) (old first second new : Sight) → AreAllThere old → AreAllThere first → KeepsOthers names old first
     → Spares (IsNoTextNamed names first) first second → KeepsOthers names second new → KeepsNamed names old new
@@ -234,10 +303,31 @@ keeps_named names old first second new there first_there a b c = record {
       (λ e. redo (on names.redo n (a.named names.redo n e)));
   stat = λ m n is. c.stat n (below m n is) ∙ b.stat n ∙ a.stat n (there m n is);
   named = λ m n is. on m n (a.named m n is);
+  made = λ stuck m.
+      let before = a.stuck in
+      let between = b.stuck in
+      let behind = c.stuck in
+      made_on m (c.made (omega (arith, before, between, behind, stuck)) m) (a.made (omega (arith, before, between, behind, stuck)) m);
 }
   where
     on : (m : List ℕ) (n : ℕ) → first.named m ≡ Some n → new.named m ≡ Some n
     on m n is = c.named m n (b.named m ∙ is)
+
+    led : (n : ℕ) → IsNamedBy names first n → IsNamedBy names new n
+    led n is = elim is [
+      | inl image ↦ inl (on names.image n image)
+      | inr text ↦ elim text [
+        | inl journal ↦ inr (inl (on names.journal n journal))
+        | inr redo ↦ inr (inr (on names.redo n redo))
+      ]
+    ]
+
+    made_on : (m : List ℕ) → LeadsToMade (IsNamedBy names new) (second.named m) (new.named m) → LeadsToMade (IsNamedBy names first) (old.named m) (first.named m)
+        → LeadsToMade (IsNamedBy names new) (old.named m) (new.named m)
+    made_on m (inl same) (inl was) = inl (same ∙ b.named m ∙ was)
+    made_on m (inl same) (inr is_new) = inr (is_new.0, is_new.1, led is_new.0 is_new.2, on m is_new.0 is_new.3)
+    made_on m (inr is_new) (inl was) = inr (is_new.0, sym was ∙ sym (b.named m) ∙ is_new.1, is_new.2, is_new.3)
+    made_on m (inr is_new) (inr other) = absurd (let wrong : Some other.0 ≡ None = sym other.3 ∙ sym (b.named m) ∙ is_new.1 in cc)
 
     below : (m : List ℕ) (n : ℕ) → old.named m ≡ Some n → n < second.there
     below m n is = let led = first_there m n (a.named m n is) in let same = b.there in omega (arith, led, same)
@@ -248,6 +338,8 @@ keeps_itself names w = record {
   bytes = λ n below image journal redo. refl;
   stat = λ n below. refl;
   named = λ m n is. is;
+  made = λ stuck m. inl refl;
+  stuck = omega arith;
 }
 
 -- the same, where one step changed them
@@ -257,6 +349,7 @@ keeps_one names old new there others = record {
       (λ e. journal (others.named names.journal n e)) (λ e. redo (others.named names.redo n e));
   stat = λ m n is. others.stat n (there m n is);
   named = others.named;
+  made = others.made;
 }
 
 -- texts were dropped, and nothing is written of it

@@ -1,21 +1,22 @@
 -- The steps of a change with which a history begins anew, and what they say of the files before the first.
 use Rattle.std.proofs.Common.{◌<◌, ℕ, List, Err}
-use Rattle.std.specs.Prelude.{Bool, Option}
+use Rattle.std.specs.Prelude.{Option}
 use Rattle.bx_program_world.specs.World.{held}
+use Rattle.bx_program_files.specs.declared.guard.Guard.{Guard}
 use Rattle.bx_program_files.specs.declared.names.Names.{Names}
 use Rattle.bx_program_sessions.specs.Named.{contents_of}
 use Rattle.bx_program_sessions.specs.declared.named.Answer.{Answer}
 use Rattle.bx_program_sessions.specs.declared.task.Task.{Task}
 use Rattle.bx_program_looks.specs.declared.unseen.Unseen.{Unseen}
-use Rattle.bx_program_commands.specs.Renewal.{DropsTexts, OpensToDrop, Renews, StaysUndropped, TakesSteps}
+use Rattle.bx_program_commands.specs.Renewal.{DropsTexts, JudgesOpening, OpensToDrop, Renews, StaysUndropped, TakesSteps}
 use Rattle.bx_program_commands.specs.Scene.{Scene}
 use Rattle.bx_program_commands.proofs.Renewing.{changes_alone, holds_alone, holds_undropped, newest}
 
 module _ {R : Type 0} (remaining : R → Option (List ℕ)) (names : Names) where
   -- the change is asked for on the newest image alone
-  pub renews : (mounted : Bool) (task : Task R) (answer : Answer) (old new : Scene) → TakesSteps remaining names mounted task answer old new
-      → Renews remaining names mounted task answer old new
-  renews mounted task answer old new steps =
+  pub renews : (guard : Guard) (task : Task R) (answer : Answer) (old new : Scene) → TakesSteps remaining names guard task answer old new
+      → Renews remaining names guard task answer old new
+  renews guard task answer old new steps =
       let first = steps.first.sight in
       let second = steps.second.sight in
       let image = held first names.image in
@@ -24,17 +25,20 @@ module _ {R : Type 0} (remaining : R → Option (List ℕ)) (names : Names) wher
         image = image;
         newest = λ s holds. newest (contents_of names first) s (steps.opens.same s holds);
         found = steps.opens.found;
+        spared = steps.opens.image;
         alone = changes_alone remaining names image task answer second new.sight (holds_alone names first second steps.drops.does.done) steps.changes;
       }
 
   -- the history was not dropped
-  pub stays : (unseen : Unseen) (opened : Answer) (old first new : Scene) → OpensToDrop remaining names opened old.sight first.sight
-      → DropsTexts names (Err unseen) first new → StaysUndropped remaining names unseen old new
-  stays unseen opened old first new opens stops = record {
+  pub stays : (guard : Guard) (unseen : Unseen) (opened : Answer) (old first new : Scene) → OpensToDrop remaining names opened old.sight first.sight
+      → JudgesOpening remaining guard old.note names old.sight opened
+      → DropsTexts guard names (Err unseen) first new → StaysUndropped remaining names guard unseen old new
+  stays guard unseen opened old first new opens judged stops = record {
     opened = opened;
     first = first;
     opens = opens;
+    judged = judged;
     stops = stops;
-    same = λ s holds other. holds_undropped names (first.refusals < new.refusals) first.sight new.sight unseen s stops.does.stopped other
+    same = λ s holds other. holds_undropped guard first.note names (first.refusals < new.refusals) first.sight new.sight unseen s stops.does.stopped other
         (opens.same s holds);
   }

@@ -5,11 +5,10 @@ use Rattle.bx_dd.specs.declared.counts.Counts.{Counts}
 use Rattle.bx_patch.specs.declared.diff.row.Extent.{Extent}
 use Rattle.bx_journal.specs.Images.{Images}
 use Rattle.bx_journal.specs.Way.{Way}
-use Rattle.bx_cli_commands.specs.Refusal.{IsWholeRefusal}
 use Rattle.bx_cli_commands.specs.declared.fault.Fault.TheVariants.{OpenFailed}
 use Rattle.bx_cli_commands.specs.declared.jobs.dump.Done.{Done}
 use Rattle.bx_cli_commands.specs.declared.jobs.dumps.DumpJob.{DumpJob}
-use Rattle.bx_program_world.specs.World.{NothingNewFound, Sight, Spares, Trio}
+use Rattle.bx_program_world.specs.World.{NothingNewFound, Sight, Spares}
 use Rattle.bx_program_files.specs.Files.{LeavesFiles}
 use Rattle.bx_program_files.specs.Fit.{AreFit}
 use Rattle.bx_program_files.specs.Reading.{AreReadable, MayRefuseReading}
@@ -17,9 +16,10 @@ use Rattle.bx_program_files.specs.Reasons.{MayRefuseOpening}
 use Rattle.bx_program_files.specs.declared.names.Names.{Names}
 use Rattle.bx_program_files.specs.declared.unopened.Unopened.{Unopened}
 use Rattle.bx_program_sessions.specs.Changes.{SaysRecovered}
-use Rattle.bx_program_sessions.specs.Contents.{FoundIn, Holds, Survives, recovered_as}
-use Rattle.bx_program_sessions.specs.Moves.{HasMoved, Moves, StopsMove, SurvivesMove, TellsRecovered, stepped}
-use Rattle.bx_program_sessions.specs.Named.{IsUnrecovered, KeepsOthers, LeadTo, contents_of}
+use Rattle.bx_program_sessions.specs.Contents.{FoundIn, Holds, TellsUnfinished}
+use Rattle.bx_program_sessions.specs.Moves.{Moves, MovesFound, MovesRead, SparesMove, StopsMove, SurvivesMoving, TellsRecovered, stepped, task_of}
+use Rattle.bx_program_sessions.specs.Guarded.{WasJudged}
+use Rattle.bx_program_sessions.specs.Named.{KeepsOthers, MayRefuseTask, SurvivesTask, contents_of, is_missing}
 use Rattle.bx_program_sessions.specs.Task.{IsNearTask}
 use Rattle.bx_program_sessions.specs.declared.moves.Moved.{Moved}
 use Rattle.bx_program_dumps.specs.Dumps.{CountsUndumped, DumpsInput, DumpsNamed, IsStopped, StopsInput, StopsNamed}
@@ -41,13 +41,16 @@ use Rattle.bx_program_commands.specs.declared.request.Request.{Request}
 use Rattle.bx_program_commands.specs.declared.request.Request.TheVariants.{Move, Change, Dump, DumpInput, Diff, Preview, Look, Forget, Renew}
 
 -- Of files that hold images an undo or a redo leaves those with `count` changes moved and writes how many stand, or it stops and says why; of
--- files in which opening finds images, as after a crash, it does so on what is recovered
+-- files in which opening finds images, as after a crash, it does so on what is recovered. One that is refused leaves all files as they were, whatever
+-- they held, or what was recovered; what was unfinished is said; and one that is done moves the images for which the files stand, sound or not
 pub record DoesMove (names : Names) (way : Way) (count : ℕ) (moved : Moved (Unit {0})) (old new : Sight) : Type 0 where
   pub done : (s : Images) → Holds (contents_of names old) s → OnOk moved.outcome (Moves names count (stepped way s) old new)
   pub stopped : (s : Images) → Holds (contents_of names old) s → IfErr moved.outcome (StopsMove names count (stepped way s) moved.unopened old new)
-  pub whole : (s : Images) → Holds (contents_of names old) s → IsUnrecovered moved.how
+  pub spares : IfErr moved.outcome (SparesMove names moved.unopened moved.how old new)
+  pub stands : IfSome moved.how (λ how. OnOk moved.outcome (MovesRead names count way how old new))
+  pub how : TellsUnfinished (contents_of names old) moved.how moved.outcome
   pub recovered : (s : Images) → FoundIn (contents_of names old) s → moved.unopened ≡ None
-      → IfSome moved.how (λ how. OnOk moved.outcome (Moves names count (stepped way (recovered_as how s)) old new))
+      → MovesFound names count way s moved.how moved.outcome old new
 
 -- A dump writes the job's text of all bytes of the file, or a front of it and says why; a file that isn't opened is missing, or the system counted
 -- a call that it refused
@@ -77,34 +80,34 @@ DoesPreview remaining name proposal outcome old new =
 
 -- each command has an answer of its own; an input is open, and no seek places it
 abbrev pub Answers : {R : Type 0} → Request R → Outcome → Type 0
-Answers (Move names mounted way count) (of.Moved moved) = Unit {0}
-Answers (Change names mounted task) (of.Changed answer) = Unit {0}
+Answers (Move names guard way count) (of.Moved moved) = Unit {0}
+Answers (Change names guard task) (of.Changed answer) = Unit {0}
 Answers (Dump job name) (of.Dumped outcome) = Unit {0}
 Answers (DumpInput job input) (of.Dumped outcome) = IfErr outcome IsStopped
 Answers (Diff old_name new_name extent) (of.Compared outcome) = Unit {0}
 Answers (Preview name proposal) (of.Previewed outcome) = Unit {0}
 Answers (Look names report) (of.Looked outcome) = Unit {0}
-Answers (Forget names) (of.Forgotten outcome) = Unit {0}
-Answers (Renew names mounted task) (of.Renewed renewed) = Unit {0}
+Answers (Forget names guard) (of.Forgotten outcome) = Unit {0}
+Answers (Renew names guard task) (of.Renewed renewed) = Unit {0}
 Answers request outcome = ⊥
 
 -- what each command does
 abbrev pub Fulfills : {R : Type 0} → (R → Option (List ℕ)) → Request R → Outcome → Scene → Scene → Type 0
-Fulfills remaining (Move names mounted way count) (of.Moved moved) old new = DoesMove names.now way count moved old.sight new.sight
-Fulfills remaining (Change names mounted task) (of.Changed answer) old new = DoesChange remaining names.now task answer old.sight new.sight
+Fulfills remaining (Move names guard way count) (of.Moved moved) old new = DoesMove names.now way count moved old.sight new.sight
+Fulfills remaining (Change names guard task) (of.Changed answer) old new = DoesChange remaining names.now task answer old.sight new.sight
 Fulfills remaining (Dump job name) (of.Dumped outcome) old new = DoesDump job.now name.now outcome old new
 Fulfills remaining (DumpInput job input) (of.Dumped outcome) old new = DoesDumpInput job.now (remaining input) outcome old new
 Fulfills remaining (Diff old_name new_name extent) (of.Compared outcome) old new = DoesDiff extent old_name.now new_name.now outcome old new
 Fulfills remaining (Preview name proposal) (of.Previewed outcome) old new = DoesPreview remaining name.now proposal outcome old new
 Fulfills remaining (Look names report) (of.Looked outcome) old new = Reports names.now report outcome old new
-Fulfills remaining (Forget names) (of.Forgotten outcome) old new = DoesForget names.now outcome old new
-Fulfills remaining (Renew names mounted task) (of.Renewed renewed) old new = DoesRenew remaining names.now mounted task renewed old new
+Fulfills remaining (Forget names guard) (of.Forgotten outcome) old new = DoesForget guard names.now outcome old new
+Fulfills remaining (Renew names guard task) (of.Renewed renewed) old new = DoesRenew remaining names.now guard task renewed old new
 Fulfills remaining request outcome old new = ⊥
 
 -- a change's offset or place is at most 2 ^ 62
 abbrev pub IsNearRequest : {R : Type 0} → Request R → Type 0
-IsNearRequest (Change names mounted task) = IsNearTask task
-IsNearRequest (Renew names mounted task) = IsNearTask task
+IsNearRequest (Change names guard task) = IsNearTask task
+IsNearRequest (Renew names guard task) = IsNearTask task
 IsNearRequest request = Unit {0}
 
 -- whatever is found of the files after a loss of power: behind an undo, a redo and a change opening finds the images behind some of its steps, or
@@ -112,62 +115,68 @@ IsNearRequest request = Unit {0}
 -- is found that wasn't before
 abbrev pub SurvivesLoss : {R : Type 0} → (R → Option (List ℕ)) → Request R → Outcome → Sight → Sight
     → (ℕ → List ℕ → Type 0) → (ℕ → List ℕ → Type 0) → Type 0
-SurvivesLoss remaining (Move names mounted way count) (of.Moved moved) old new found left =
-    (s : Images) → Holds (contents_of names.now old) s → HasMoved moved.outcome → (t : Trio) → LeadTo names.now t new
-    → SurvivesMove count (stepped way s) (left t.image) (left t.journal) (left t.redo)
-SurvivesLoss remaining (Change names mounted task) (of.Changed answer) old new found left =
-    (s : Images) → Holds (contents_of names.now old) s → (IsWholeRefusal answer.reply → ⊥) → (t : Trio) → LeadTo names.now t new
-    → Survives remaining s task answer.reply (left t.image) (left t.journal) (left t.redo)
-SurvivesLoss remaining (Forget names) (of.Forgotten outcome) old new found left = SurvivesForgetting names.now outcome old found left
-SurvivesLoss remaining (Renew names mounted task) (of.Renewed renewed) old new found left =
-    SurvivesRenewal remaining names.now task renewed old new left
+SurvivesLoss remaining (Move names guard way count) (of.Moved moved) old new found left =
+    SurvivesMoving names.now count way moved old new found left
+SurvivesLoss remaining (Change names guard task) (of.Changed answer) old new found left =
+    SurvivesTask remaining names.now task answer old new found left
+SurvivesLoss remaining (Forget names guard) (of.Forgotten outcome) old new found left = SurvivesForgetting names.now outcome old found left
+SurvivesLoss remaining (Renew names guard task) (of.Renewed renewed) old new found left =
+    SurvivesRenewal remaining names.now task renewed old new found left
 SurvivesLoss remaining request outcome old new found left = NothingNewFound found left
 
 -- no file is changed but the three of an undo, a redo or a change, and the texts of a history that is dropped; each name leads where it led
 -- (behind a change with which the history begins anew this is said of files that a name led to)
 abbrev pub LeavesOthers : {R : Type 0} → Request R → Sight → Sight → Type 0
-LeavesOthers (Move names mounted way count) old new = KeepsOthers names.now old new
-LeavesOthers (Change names mounted task) old new = KeepsOthers names.now old new
-LeavesOthers (Forget names) old new = Spares (IsNoTextNamed names.now old) old new
-LeavesOthers (Renew names mounted task) old new = KeepsNamed names.now old new
+LeavesOthers (Move names guard way count) old new = KeepsOthers names.now old new
+LeavesOthers (Change names guard task) old new = KeepsOthers names.now old new
+LeavesOthers (Forget names guard) old new = Spares (IsNoTextNamed names.now old) old new
+LeavesOthers (Renew names guard task) old new = KeepsNamed names.now old new
 LeavesOthers request old new = new ≡ old
 
 -- what stands under the names may be opened, by the rule: to be changed, or to be read; a dump is of any file, and a comparison and a preview say themselves which
 -- they are of
 abbrev pub MayOpen : {R : Type 0} → Request R → Sight → Type 0
-MayOpen (Move names mounted way count) w = AreFit names.now mounted w
-MayOpen (Change names mounted task) w = AreFit names.now mounted w
+MayOpen (Move names guard way count) w = AreFit names.now guard.mounted w
+MayOpen (Change names guard task) w = AreFit names.now guard.mounted w
 MayOpen (Dump job name) w = Unit {0}
 MayOpen (DumpInput job input) w = Unit {0}
 MayOpen (Diff old_name new_name extent) w = Unit {0}
 MayOpen (Preview name proposal) w = Unit {0}
 MayOpen (Look names report) w = AreReadable names.now w
-MayOpen (Forget names) w = AreReadable names.now w
-MayOpen (Renew names mounted task) w = AreFit names.now mounted w
+MayOpen (Forget names guard) w = AreReadable names.now w
+MayOpen (Renew names guard task) w = AreFit names.now guard.mounted w
 
--- why a file of an image may not be opened
-abbrev pub MayRefuseFile : {R : Type 0} → Request R → Type 0 → Sight → Unopened → Type 0
-MayRefuseFile (Move names mounted way count) counted w file = MayRefuseOpening names.now mounted false counted w file
-MayRefuseFile (Change names mounted task) counted w file = MayRefuseOpening names.now mounted true counted w file
-MayRefuseFile (Dump job name) counted w file = ⊥
-MayRefuseFile (DumpInput job input) counted w file = ⊥
-MayRefuseFile (Diff old_name new_name extent) counted w file = ⊥
-MayRefuseFile (Preview name proposal) counted w file = ⊥
-MayRefuseFile (Look names report) counted w file = MayRefuseReading names.now counted w file
-MayRefuseFile (Forget names) counted w file = MayRefuseReading names.now counted w file
-MayRefuseFile (Renew names mounted task) counted w file = MayRefuseOpening names.now mounted true counted w file
+-- why a file of an image may not be opened, or a task not begun on another image
+abbrev pub MayRefuseFile : {R : Type 0} → Request R → Type 0 → List ℕ → Sight → Unopened → Type 0
+MayRefuseFile (Move names guard way count) counted note w file = MayRefuseTask guard false note (task_of way count) names.now counted w file
+MayRefuseFile (Change names guard task) counted note w file = MayRefuseTask guard true note task names.now counted w file
+MayRefuseFile (Dump job name) counted note w file = ⊥
+MayRefuseFile (DumpInput job input) counted note w file = ⊥
+MayRefuseFile (Diff old_name new_name extent) counted note w file = ⊥
+MayRefuseFile (Preview name proposal) counted note w file = ⊥
+MayRefuseFile (Look names report) counted note w file = MayRefuseReading names.now counted w file
+MayRefuseFile (Forget names guard) counted note w file = MayRefuseReading names.now counted w file
+MayRefuseFile (Renew names guard task) counted note w file = MayRefuseOpening names.now guard.mounted true counted w file
+
+-- what an undo, a redo and a change did they did behind a judgement of the image, by the line that the note had
+abbrev pub WereJudged : {R : Type 0} → Request R → Outcome → Scene → Type 0
+WereJudged (Move names guard way count) (of.Moved moved) old = WasJudged guard (is_missing names.now.image old.sight) old.note
+    (contents_of names.now old.sight) (task_of way count) moved.unopened moved.how
+WereJudged (Change names guard task) (of.Changed answer) old = WasJudged guard (is_missing names.now.image old.sight) old.note
+    (contents_of names.now old.sight) task answer.unopened answer.how
+WereJudged request outcome old = Unit {0}
 
 -- A file of an image wasn't opened: the fault says so, all files are as they were, nothing is written, and there is a reason
 pub record StopsUnopened {R : Type 0} (request : Request R) (outcome : Outcome) (old new : Scene) (file : Unopened) : Type 0 where
   pub fault : ended_by outcome ≡ Err OpenFailed
   pub files : LeavesFiles old.sight new.sight
-  pub why : MayRefuseFile request (old.refusals < new.refusals) old.sight file
+  pub why : MayRefuseFile request (old.refusals < new.refusals) old.note old.sight file
 
 -- What is written: what was recovered on standard error; of an undo and a redo a number on standard output; of a dump, a comparison, a preview and a report
 -- what stands in the output that they are given
 abbrev pub Writes : {R : Type 0} → Request R → Outcome → Scene → Scene → Type 0
-Writes (Move names mounted way count) (of.Moved moved) old new =
+Writes (Move names guard way count) (of.Moved moved) old new =
     TellsRecovered moved.how old.sight.errors new.sight.errors × (new.written ≡ old.written)
-Writes (Change names mounted task) (of.Changed answer) old new = SaysRecovered answer.how old.sight new.sight × (new.written ≡ old.written)
-Writes (Renew names mounted task) (of.Renewed renewed) old new = TellsOpening renewed old.sight new.sight × (new.written ≡ old.written)
+Writes (Change names guard task) (of.Changed answer) old new = SaysRecovered answer.how old.sight new.sight × (new.written ≡ old.written)
+Writes (Renew names guard task) (of.Renewed renewed) old new = TellsOpening renewed old.sight new.sight × (new.written ≡ old.written)
 Writes request outcome old new = (new.sight.output ≡ old.sight.output) × (new.sight.errors ≡ old.sight.errors)

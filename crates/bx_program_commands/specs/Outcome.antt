@@ -6,7 +6,7 @@ use Rattle.bx_patch.specs.declared.diff.fault.DiffFault.TheVariants.{NoMemory, T
 use Rattle.bx_journal.specs.SessionFault.TheVariants as session
 use Rattle.bx_cli_commands.specs.Replies.{stands_by}
 use Rattle.bx_cli_commands.specs.declared.fault.Fault.{Fault}
-use Rattle.bx_cli_commands.specs.declared.fault.Fault.TheVariants.{Io, OpenFailed, Session}
+use Rattle.bx_cli_commands.specs.declared.fault.Fault.TheVariants.{ChangedSince, Io, OpenFailed, Session}
 use Rattle.bx_program_dumps.specs.declared.undumped.Undumped.{Undumped}
 use Rattle.bx_program_dumps.specs.declared.undumped.Undumped.TheVariants as dump
 use Rattle.bx_program_files.specs.declared.unopened.Unopened.{Unopened}
@@ -32,6 +32,7 @@ dump_fault (dump.Stopped fault) = fault
 abbrev pub look_fault : Unseen → Fault
 look_fault (look.Unopened file) = OpenFailed
 look_fault look.Unfinished = Session session.Interrupted
+look_fault look.Another = ChangedSince
 look_fault (look.Stopped fault) = fault
 
 -- the fault of a patch that is not whole

@@ -91,6 +91,7 @@ module _ {R : Type 0} (remaining : R → Option (List ℕ)) (proposal : Proposal
   abbrev pub StopsChange : Bool → List ℕ → Option (List ℕ) → Option (List ℕ) → Unpreviewed → Type 0
   StopsChange keeps x old new unpreviewed = (StopsBefore keeps x unpreviewed × (new ≡ old)) ⊎ CutsPatch keeps x old new unpreviewed
 
+-- whether a file is a block device
 abbrev pub is_block : Kind → Bool
 is_block Regular = false
 is_block Block = true

@@ -4,17 +4,18 @@ use Rattle.std.specs.Result.{MatchResult}
 use Rattle.std.specs.Io.KnownBytes.{Appends}
 use Rattle.bx_text.specs.Writing.{WritesFront}
 use Rattle.bx_journal.specs.Showing.{RangesOf}
-use Rattle.bx_journal.specs.ShownSteps.{ShowsSteps}
+use Rattle.bx_journal.specs.ShownText.{ShowsText}
 use Rattle.bx_cli_commands.specs.declared.fault.Fault.TheVariants.{Io}
 use Rattle.bx_program_world.specs.World.{Sight, held}
 use Rattle.bx_program_files.specs.declared.names.Names.{Names}
 use Rattle.bx_program_looks.specs.Looks.{IsLogOf, IsNextShown, IsUnseenOr, MayNotLook, StopsNextSteps, StopsRangesOf, StopsUndos, undos}
 use Rattle.bx_program_looks.specs.Stepped.{OfNamed, StopsPatch, WritesSteps}
+use Rattle.bx_program_looks.specs.Unfinished.{ListsFront, StopsFrontOf}
 use Rattle.bx_program_looks.specs.declared.unseen.Unseen.{Unseen}
 use Rattle.bx_program_looks.specs.declared.unseen.Unseen.TheVariants.{Stopped}
 use Rattle.bx_program_commands.specs.Scene.{Scene}
 use Rattle.bx_program_commands.specs.declared.request.Report.{Report}
-use Rattle.bx_program_commands.specs.declared.request.Report.TheVariants.{Log, LogWithRanges, Patch, Show, ShowUnfinished}
+use Rattle.bx_program_commands.specs.declared.request.Report.TheVariants.{Log, LogUnfinished, LogWithRanges, Patch, Show, ShowUnfinished}
 
 -- the log of a journal that is finished entries alone was written
 abbrev pub WritesLog : List ℕ → Option (List ℕ) → Option (List ℕ) → Type 0
@@ -33,14 +34,16 @@ StopsLogOf names counted w old new unseen = IsUnseenOr (MayNotLook names counted
 abbrev pub WritesReport : Names → Report → Sight → Option (List ℕ) → Option (List ℕ) → Type 0
 WritesReport names Log w old new = WritesLog (held w names.journal) old new
 WritesReport names LogWithRanges w old new = RangesOf (held w names.journal) old new
+WritesReport names (LogUnfinished verbose) w old new = ListsFront verbose (held w names.journal) old new
 WritesReport names (Show steps) w old new = IsNextShown (held w names.image) (held w names.journal) (held w names.redo) steps old new
-WritesReport names (ShowUnfinished steps) w old new = ShowsSteps (held w names.journal) (held w names.image) (undos steps) old new
+WritesReport names (ShowUnfinished steps) w old new = ShowsText (held w names.journal) (held w names.image) (undos steps) old new
 WritesReport names (Patch way count) w old new = OfNamed names w (λ s. WritesSteps way count s old new)
 
 -- why a report is not whole: nothing is seen, and nothing is written; or a front of it is
 abbrev pub StopsReport : Names → Report → Type 0 → Sight → Option (List ℕ) → Option (List ℕ) → Unseen → Type 0
 StopsReport names Log counted w old new unseen = StopsLogOf names counted w old new unseen
 StopsReport names LogWithRanges counted w old new unseen = StopsRangesOf names counted w old new unseen
+StopsReport names (LogUnfinished verbose) counted w old new unseen = StopsFrontOf names counted w verbose old new unseen
 StopsReport names (Show steps) counted w old new unseen = StopsNextSteps names counted w steps old new unseen
 StopsReport names (ShowUnfinished steps) counted w old new unseen = StopsUndos names counted w steps old new unseen
 StopsReport names (Patch way count) counted w old new unseen = StopsPatch names counted w way count old new unseen

@@ -1,4 +1,6 @@
 //! One call for every command on named files, and for dumps of an input, whose contract has all of them. An inner part of `bx_program`.
+//!
+//! `docs/HEADLINE.md` begins with its contract.
 #![tactic(auto)]
 
 mod diff;

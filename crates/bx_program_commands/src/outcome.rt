@@ -94,6 +94,7 @@ fn fault_of_look(unseen: Unseen) -> Fault
     match unseen {
         Unseen::Unopened(_) => Fault::OpenFailed,
         Unseen::Unfinished => Fault::Session(SessionFault::Interrupted),
+        Unseen::Another => Fault::ChangedSince,
         Unseen::Stopped(fault) => fault,
     }
 }
@@ -112,7 +113,8 @@ fn end_of_renewal(renewed: Renewed) -> Result<(), Fault>
 }
 
 impl Outcome {
-    /// That the command is done, or the fault that it ended in, which the exit status tells.
+    /// That the command is done, or the fault that it ended in. The program makes its status of the
+    /// answer by other code; the cases hold both against what they expect.
     pub fn ended(&self) -> Result<(), Fault>
         ensures { result ≡ ended_by self.now }
     {

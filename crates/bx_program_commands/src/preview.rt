@@ -160,6 +160,7 @@ fn close_pair<W: World>(
     ensures seen { W.honest world.old → StaysSeen W.sight W.survives world.old world.new }
     ensures honesty { W.honest world.new ↔ W.honest world.old }
 {
+    // The failed one last: its failure is then the one that a hint names.
     let (first, last) = in_order(pair.image, pair.again, &comparison_of(outcome));
     close_alone(world, first);
     close_alone(world, last);

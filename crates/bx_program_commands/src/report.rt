@@ -9,7 +9,9 @@ ghost use Rattle.bx_program_commands.specs.Scene.{scene};
 use crate::request::Report;
 use bx_cli_commands::Fault;
 use bx_program_files::Names;
-use bx_program_looks::{Unseen, log, log_with_ranges, show, show_patch, show_unfinished};
+use bx_program_looks::{
+    Unseen, log, log_unfinished, log_with_ranges, show, show_patch, show_unfinished,
+};
 use bx_program_world::World;
 use bx_text::emit;
 use std::alloc::Global;
@@ -50,7 +52,7 @@ pub fn write_report<W: World, O: Write>(
     out: &mut O,
 ) -> Result<(), Unseen>
     ensures reports { W.honest world.old → Reports names.now report result
-        (scene W.sight W.refusals O.contents world.old out.old) (scene W.sight W.refusals O.contents world.new out.new) }
+        (scene W.sight W.refusals W.note O.contents world.old out.old) (scene W.sight W.refusals W.note O.contents world.new out.new) }
     ensures why { W.honest world.old
         → IfSome (unopened_in result) (MayRefuseReading names.now (W.refusals world.old < W.refusals world.new) (W.sight world.old)) }
     ensures fit { W.honest world.old → unopened_in result ≡ None → AreReadable names.now (W.sight world.old) }
@@ -61,6 +63,7 @@ pub fn write_report<W: World, O: Write>(
     match report {
         Report::Log => write_log(world, alloc, names, out),
         Report::LogWithRanges => log_with_ranges(world, alloc, names, out),
+        Report::LogUnfinished { verbose } => log_unfinished(world, alloc, names, verbose, out),
         Report::Show(steps) => show(world, alloc, names, steps, out),
         Report::ShowUnfinished(steps) => show_unfinished(world, alloc, names, steps, out),
         Report::Patch { way, count } => show_patch(world, alloc, names, way, count, out),

@@ -3,7 +3,7 @@ use crate::proposal::Proposal;
 use bx_cli_commands::DumpJob;
 use bx_journal::{Steps, Way};
 use bx_patch::Extent;
-use bx_program_files::Names;
+use bx_program_files::{Guard, Names};
 use bx_program_sessions::Task;
 use std::io::Empty;
 
@@ -14,6 +14,11 @@ pub enum Report {
     Log,
     /// A line with ranges for each change that stands, the oldest first.
     LogWithRanges,
+    /// What is unfinished, and a line for each change that stands.
+    LogUnfinished {
+        /// Whether the lines have ranges.
+        verbose: bool,
+    },
     /// What the next undos or redos would do.
     Show(Steps),
     /// What is unfinished, and what the next undos would do once it is recovered.
@@ -33,8 +38,8 @@ pub enum Request<'a, R = Empty> {
     Move {
         /// The files of the image.
         names: &'a Names,
-        /// Whether the image may be a device that is mounted.
-        mounted: bool,
+        /// What it may do.
+        guard: Guard,
         /// Back or again.
         way: Way,
         /// How many changes are moved.
@@ -44,8 +49,8 @@ pub enum Request<'a, R = Empty> {
     Change {
         /// The files of the image.
         names: &'a Names,
-        /// Whether the image may be a device that is mounted.
-        mounted: bool,
+        /// What it may do.
+        guard: Guard,
         /// The change.
         task: Task<R>,
     },
@@ -90,14 +95,16 @@ pub enum Request<'a, R = Empty> {
     Forget {
         /// The files of the image.
         names: &'a Names,
+        /// What it may do.
+        guard: Guard,
     },
-    /// Changes an image with whose change the history begins anew: what is unfinished is recovered, the history is dropped, and the
-    /// change is made on the image alone: `--fresh`.
+    /// Changes an image with whose change the history begins anew: what is unfinished is recovered onto an image that the note tells to be
+    /// the one, the history is dropped, and the change is made on the image alone: `--fresh`.
     Renew {
         /// The files of the image.
         names: &'a Names,
-        /// Whether the image may be a device that is mounted.
-        mounted: bool,
+        /// What it may do.
+        guard: Guard,
         /// The change.
         task: Task<R>,
     },

@@ -1,6 +1,6 @@
 //! The one call.
 ghost use Rattle.std.specs.Prelude.{◌≡◌, ◌↔◌, None, IfSome};
-ghost use Rattle.bx_program_commands.specs.Commands.{Answers, Fulfills, IsNearRequest, LeavesOthers, MayOpen, StopsUnopened, SurvivesLoss, Writes};
+ghost use Rattle.bx_program_commands.specs.Commands.{Answers, Fulfills, IsNearRequest, LeavesOthers, MayOpen, StopsUnopened, SurvivesLoss, WereJudged, Writes};
 ghost use Rattle.bx_program_commands.specs.Outcome.{unopened_by};
 ghost use Rattle.bx_program_commands.specs.Scene.{scene};
 
@@ -32,7 +32,11 @@ pub fn run_request<W: World, R: Read + Drop, O: Write>(
 
     // Each command does what it is to, or is refused and says why; after a crash it does so on what is recovered.
     ensures does { W.honest world.old → Fulfills R.remaining request.entry result
-        (scene W.sight W.refusals O.contents world.old out.old) (scene W.sight W.refusals O.contents world.new out.new) }
+        (scene W.sight W.refusals W.note O.contents world.old out.old) (scene W.sight W.refusals W.note O.contents world.new out.new) }
+
+    // Nothing is recovered onto another image, nor is one undone or changed: it is judged before, by the line that the note had.
+    ensures judged { W.honest world.old → WereJudged request.entry result
+        (scene W.sight W.refusals W.note O.contents world.old out.old) }
 
     // After a loss of power, too, opening finds an end of it, or the images behind some of its steps.
     ensures survives { W.honest world.old → SurvivesLoss R.remaining request.entry result
@@ -44,26 +48,24 @@ pub fn run_request<W: World, R: Read + Drop, O: Write>(
     // No file is opened to be changed, and no text to be read, that the rule refuses; where one isn't opened, all are as they were.
     ensures fit { W.honest world.old → unopened_by result ≡ None → MayOpen request.entry (W.sight world.old) }
     ensures unopened { W.honest world.old → IfSome (unopened_by result) (StopsUnopened request.entry result
-        (scene W.sight W.refusals O.contents world.old out.old) (scene W.sight W.refusals O.contents world.new out.new)) }
+        (scene W.sight W.refusals W.note O.contents world.old out.old) (scene W.sight W.refusals W.note O.contents world.new out.new)) }
 
     // What is written stands where it is to.
     ensures streams { W.honest world.old → Writes request.entry result
-        (scene W.sight W.refusals O.contents world.old out.old) (scene W.sight W.refusals O.contents world.new out.new) }
+        (scene W.sight W.refusals W.note O.contents world.old out.old) (scene W.sight W.refusals W.note O.contents world.new out.new) }
     ensures free { W.honest world.old → (W.sight world.new).lent ≡ None }
     ensures honesty { W.honest world.new ↔ W.honest world.old }
 {
     match request {
         Request::Move {
             names,
-            mounted,
+            guard,
             way,
             count,
-        } => Outcome::Moved(move_changes(world, alloc, names, mounted, way, count)),
-        Request::Change {
-            names,
-            mounted,
-            task,
-        } => Outcome::Changed(change_files(world, alloc, names, mounted, task)),
+        } => Outcome::Moved(move_changes(world, alloc, names, guard, way, count)),
+        Request::Change { names, guard, task } => Outcome::Changed(change_files(
+            world, alloc, names, guard, task,
+        )),
         Request::Dump { job, name } => Outcome::Dumped(dump_file(world, alloc, job, name, out)),
         Request::DumpInput { job, input } => Outcome::Dumped(dump_input(alloc, job, input, out)),
         Request::Diff { old, new, extent } => {
@@ -75,11 +77,11 @@ pub fn run_request<W: World, R: Read + Drop, O: Write>(
         Request::Look { names, report } => {
             Outcome::Looked(write_report(world, alloc, names, report, out))
         }
-        Request::Forget { names } => Outcome::Forgotten(forget_files(world, alloc, names)),
-        Request::Renew {
-            names,
-            mounted,
-            task,
-        } => Outcome::Renewed(renew_files(world, alloc, names, mounted, task)),
+        Request::Forget { names, guard } => {
+            Outcome::Forgotten(forget_files(world, alloc, names, guard))
+        }
+        Request::Renew { names, guard, task } => Outcome::Renewed(renew_files(
+            world, alloc, names, guard, task,
+        )),
     }
 }

@@ -6,13 +6,13 @@ use Rattle.bx_program_files.specs.Files.{AreAllThere}
 use Rattle.bx_program_looks.specs.Forgetting.{IsNoTextNamed}
 use Rattle.bx_program_sessions.specs.Named.{contents_of}
 use Rattle.bx_program_commands.specs.Scene.{scene_beside}
-use Rattle.bx_program_commands.proofs.Renewing.{found_undropped, holds_alone, keeps_itself, keeps_named, keeps_one, newest, says_changed, says_dropped}
+use Rattle.bx_program_commands.proofs.Renewing.{found_undropped, holds_alone, keeps_itself, keeps_named, keeps_one, newest, recovered_undropped, says_changed, says_dropped}
 use Rattle.bx_program_commands.proofs.ThreeSteps.{renews, stays}
 use Rattle.bx_program_commands.proofs.renewed.renew_files.Goals as goal
 
 pub returns-then-not-may_drop-clause-does : goal.returns-then-not-may_drop-clause-does
 returns-then-not-may_drop-clause-does g c old written =
-    ((λ may. absurd (false≢true (sym c.if-not-may_drop.true ∙ c.may_drop.ensures.1 may))), c.open_to_drop-opened.ensures.does old)
+    ((λ may. absurd (false≢true (sym c.if-not-may_drop.true ∙ c.may_drop.ensures.1 may))), c.open_to_drop-opened.ensures.does old, c.open_to_drop-opened.ensures.judged old)
 
 pub returns-then-not-may_drop-clause-others : goal.returns-then-not-may_drop-clause-others
 returns-then-not-may_drop-clause-others g c old =
@@ -24,11 +24,12 @@ returns-in-Ok-clause-does g c old written =
     let mid = c.open_to_drop-opened.ensures.honesty.1 old in
     let behind = c.forget_files.ensures.honesty.1 mid in
     let did = c.change_files.ensures in
-    renews g.R.Read.remaining c.args.names.now c.args.mounted c.args.task c.change_files.result _ _ (record {
+    renews g.R.Read.remaining c.args.names.now c.args.guard c.args.task c.change_files.result _ _ (record {
       opened = c.open_to_drop-opened.result;
-      first = scene_beside g.W.World.sight g.W.World.refusals written c.open_to_drop-opened.new.world;
-      second = scene_beside g.W.World.sight g.W.World.refusals written c.forget_files.new.world;
+      first = scene_beside g.W.World.sight g.W.World.refusals g.W.World.note written c.open_to_drop-opened.new.world;
+      second = scene_beside g.W.World.sight g.W.World.refusals g.W.World.note written c.forget_files.new.world;
       opens = c.open_to_drop-opened.ensures.opens old may;
+      judged = c.open_to_drop-opened.ensures.judged old;
       drops = record {
         does = record { may = c.in-Ok.ensures.may mid; done = c.in-Ok.ensures.done mid; stopped = tt };
         others = c.forget_files.ensures.others mid;
@@ -37,7 +38,8 @@ returns-in-Ok-clause-does g c old written =
         done = did.done behind;
         refused = did.refused behind;
         interrupted = did.interrupted behind;
-        whole = did.how behind;
+        stands = did.stands behind;
+        how = did.how behind;
         recovered = did.recovered behind;
       };
       others = did.others behind;
@@ -55,9 +57,11 @@ returns-in-Ok-clause-survives g c old =
     let second = g.W.World.sight c.forget_files.new.world in
     let image = held first names.image in
     record {
-      image = image;
+      opened = c.open_to_drop-opened.result;
+      first = first;
+      opens = opens;
       newest = λ s holds. newest (contents_of names first) s (opens.same s holds);
-      found = c.change_files.ensures.survives behind (only image) (holds_alone names first second (c.in-Ok.ensures.done mid));
+      found = (c.change_files.ensures.survives behind).holds (only image) (holds_alone names first second (c.in-Ok.ensures.done mid));
     }
 
 pub returns-in-Ok-clause-others : goal.returns-in-Ok-clause-others
@@ -83,16 +87,16 @@ returns-in-Ok-clause-streams g c old =
       how,
       says_changed how c.change_files.result.how (g.W.World.sight c.args.world.now) second (g.W.World.sight c.change_files.new.world)
           (says_dropped (IsNoTextNamed names first) how (g.W.World.sight c.args.world.now) first second (c.open_to_drop-opened.ensures.streams old) (c.forget_files.ensures.others mid))
-          (c.change_files.ensures.how behind (only (held first names.image)) alone) (c.change_files.ensures.streams behind),
+          ((c.change_files.ensures.how behind).none (only (held first names.image)) alone) (c.change_files.ensures.streams behind),
     )
 
 pub returns-in-Err-clause-does : goal.returns-in-Err-clause-does
 returns-in-Err-clause-does g c old written =
     let may = c.may_drop.ensures.0 c.if-not-may_drop.false in
     let mid = c.open_to_drop-opened.ensures.honesty.1 old in
-    stays g.R.Read.remaining c.args.names.now c.in-Err.unseen c.open_to_drop-opened.result _
-    (scene_beside g.W.World.sight g.W.World.refusals written c.open_to_drop-opened.new.world) _ (c.open_to_drop-opened.ensures.opens old may)
-    (record {
+    stays g.R.Read.remaining c.args.names.now c.args.guard c.in-Err.unseen c.open_to_drop-opened.result _
+    (scene_beside g.W.World.sight g.W.World.refusals g.W.World.note written c.open_to_drop-opened.new.world) _ (c.open_to_drop-opened.ensures.opens old may)
+    (c.open_to_drop-opened.ensures.judged old) (record {
       does = record { may = tt; done = tt; stopped = c.in-Err.ensures.stopped mid };
       others = c.forget_files.ensures.others mid;
     })
@@ -106,11 +110,15 @@ returns-in-Err-clause-survives g c old =
     let names = c.args.names.now in
     let first = g.W.World.sight c.open_to_drop-opened.new.world in
     record {
+      opened = c.open_to_drop-opened.result;
       first = first;
-      same = opens.same;
+      opens = opens;
       found = λ s holds t leads. found_undropped g.R.Read.remaining names c.in-Err.unseen c.open_to_drop-opened.result.reply (IsNoTextNamed names first)
           first _ (g.W.World.survives c.open_to_drop-opened.new.world) _ s t (c.forget_files.ensures.others mid) leads (c.in-Err.ensures.survives mid)
-          (λ before. opened.survives old s holds (opened.made old may s holds) t before);
+          (λ before. (opened.survives old).holds s holds (opened.made old may s holds) t before);
+      finds = λ s found stopped t leads. recovered_undropped g.R.Read.remaining names c.in-Err.unseen c.open_to_drop-opened.result
+          (IsNoTextNamed names first) first _ (g.W.World.survives c.open_to_drop-opened.new.world) _ s t (c.forget_files.ensures.others mid) leads
+          (c.in-Err.ensures.survives mid) (λ before. (opened.survives old).finds s found stopped t before);
     }
 
 pub returns-in-Err-clause-others : goal.returns-in-Err-clause-others
