@@ -22,6 +22,8 @@ fn status(outcome: Result<(), Fault>) -> u8
             | Fault::Dd(_)
             | Fault::Patch(_)
             | Fault::Disagrees(_)
+            | Fault::NotReversible
+            | Fault::NothingToWrite
             | Fault::Session(_)
             | Fault::ChangedSince
             | Fault::OpenFailed,

@@ -6,7 +6,7 @@ use Rattle.bx_dd.specs.declared.fault.DdFault.TheVariants as dd
 use Rattle.bx_patch.specs.declared.read.fault.PatchFault.TheVariants as patch
 use Rattle.bx_journal.specs.SessionFault.TheVariants as session
 use Rattle.bx_cli_commands.specs.declared.fault.Fault.{Fault}
-use Rattle.bx_cli_commands.specs.declared.fault.Fault.TheVariants.{Io, Read, Dd, Patch, Disagrees, Session, ChangedSince}
+use Rattle.bx_cli_commands.specs.declared.fault.Fault.TheVariants.{Io, Read, Dd, Patch, Disagrees, NotReversible, NothingToWrite, Session, ChangedSince}
 use Rattle.bx_cli.specs.declared.hint.Known.{Known}
 
 -- two parts with a text between them, where neither is empty
@@ -42,6 +42,10 @@ advice_of (Patch (patch.Line (read.AddressTooLarge _))) = codes "addresses are b
 advice_of (Patch (patch.OfNoKind _)) = codes "bx patch reads what bx diff writes: 'length 8 to 10' before all other lines, and lines like '+00000002: 7879'"
 advice_of (Patch (patch.BadLength _)) = codes "it is like 'length 8 to 10', in decimal"
 advice_of (Patch (patch.PastLength _)) = codes "the first line says how long the image is before and after"
+advice_of (Patch patch.NoEnd) = codes "bx diff writes 'end N' last: what stops before that isn't whole; by hand a line 'end' will do"
+advice_of (Patch (patch.BadCount _)) = codes "the last line counts those before it: one was lost or put in; by hand 'end' alone will do"
+advice_of NotReversible = codes "each byte that it writes or cuts off has to stand in a '-' line too, and lines in the order of addresses"
+advice_of NothingToWrite = codes "the input was read to its end, and has no byte"
 advice_of (Disagrees _) = codes "the patch is of another image, or was applied before"
 advice_of (Session session.NoMemory) = codes "a change, and what an undo or a redo takes back, are held in memory: CAVEATS in man bx has a way without"
 advice_of (Session session.TooLarge) = codes "an image has at most 281474976710655 bytes"

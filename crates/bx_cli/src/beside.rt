@@ -71,6 +71,7 @@ fn agreeing(shown: &[u8], text: &[u8]) -> usize
     if shown.is_empty() || text.is_empty() {
         return 0;
     }
+    // At most 256 deep, as many bytes as a line has; the lemmas are its equations, and a loop would need an invariant.
     let behind = agreeing(&shown[1..], &text[1..]);
     if shown[0] == text[0] {
         behind + 1

@@ -20,6 +20,7 @@ pub enum Given<'m, 'a> {
 impl<'m> Given<'m, 'm> {
     /// What a subcommand and one word behind it give, where that is its operand.
     pub fn alone(words: &'m Words) -> Option<(Verb, Given<'m, 'm>)> {
+        // The parser's options would cost more page faults than a small dump.
         if words.len() != 2 {
             return None;
         }

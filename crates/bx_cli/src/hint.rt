@@ -44,6 +44,10 @@ fn advice(fault: Fault) -> &'static str
         Fault::Dd(fault) => dd_advice(fault),
         Fault::Patch(fault) => patch_advice(fault),
         Fault::Disagrees(_) => "the patch is of another image, or was applied before",
+        Fault::NotReversible => {
+            "each byte that it writes or cuts off has to stand in a '-' line too, and lines in the order of addresses"
+        }
+        Fault::NothingToWrite => "the input was read to its end, and has no byte",
         Fault::Session(fault) => session_advice(fault),
         Fault::ChangedSince => {
             "--anyway goes on all the same, and --fresh of the command that writes it begins a new history; see bx show -d"
@@ -103,6 +107,12 @@ fn patch_advice(fault: PatchFault) -> &'static str
         PatchFault::Line(fault) => patch_line_advice(fault),
         PatchFault::OfNoKind { .. } => {
             "bx patch reads what bx diff writes: 'length 8 to 10' before all other lines, and lines like '+00000002: 7879'"
+        }
+        PatchFault::NoEnd => {
+            "bx diff writes 'end N' last: what stops before that isn't whole; by hand a line 'end' will do"
+        }
+        PatchFault::BadCount { .. } => {
+            "the last line counts those before it: one was lost or put in; by hand 'end' alone will do"
         }
         PatchFault::BadLength { .. } => "it is like 'length 8 to 10', in decimal",
         PatchFault::PastLength { .. } =>
@@ -375,7 +385,10 @@ fn operand<'a>(m: &ArgMatches<'a>, place: u64) -> Option<&'a str> {
 fn missing(name: &str) -> (&'static str, &'static str) {
     match name {
         "hexdump" => ("-C", "it has to be given, since there is no other form"),
-        _ => ("-J", "image, journal and redo file are three files"),
+        _ => (
+            "-J",
+            "the journal is a file of its own: neither the image nor another text beside it",
+        ),
     }
 }
 

@@ -8,6 +8,8 @@
 //! ```
 //!
 //! `docs/CALLING.md` has the whole caller, which the gate proves and runs.
+//!
+//! `docs/FORMATS.md` has the words ("Numbers on the command line"), and `docs/DECISIONS.md` why.
 #![tactic(auto)]
 
 mod beside;

@@ -296,12 +296,22 @@ static SHOW: [Row; 5] = [
 
 static SHOW_FORMS: [&str; 2] = ["difference", "patch"];
 
-static DIFF: [Row; 1] = [Row {
-    id: "rows",
-    short: 'v',
-    value: None,
-    help: "Write whole rows of 16 bytes where a byte differs",
-}];
+static DIFF: [Row; 2] = [
+    Row {
+        id: "quiet",
+        short: 'q',
+        value: None,
+        help: "Write nothing; the exit status is 1 where the files differ",
+    },
+    Row {
+        id: "rows",
+        short: 'v',
+        value: None,
+        help: "Write whole rows of 16 bytes where a byte differs",
+    },
+];
+
+static DIFF_FORMS: [&str; 2] = ["quiet", "rows"];
 
 static PATCH: [Row; 4] = [
     JOURNAL,
@@ -393,14 +403,16 @@ fn changer<'a>(
     .arg(image(alloc))
 }
 
-/// A command with the rows, and the option for devices that are mounted.
+/// A command with the rows, and the options for another image and for devices that are mounted.
 fn with_mounted<'a>(
     alloc: Global,
     command: Command<'a>,
     rows: &[Row],
     help: &'static str,
 ) -> Result<Command<'a>, AllocError> {
-    with_rows(alloc, command, rows)?.arg(mounted(alloc, help))
+    with_rows(alloc, command, rows)?
+        .arg(anyway(alloc))?
+        .arg(mounted(alloc, help))
 }
 
 /// For build scripts, which write the image anew.
@@ -416,7 +428,7 @@ fn anyway<'a>(alloc: Global) -> Arg<'a> {
     Arg::new(alloc, "anyway")
         .long("anyway")
         .action(ArgAction::SetTrue)
-        .help("Go on where the image was changed since")
+        .help("Go on where the image isn't the one that was left")
 }
 
 /// For a look at what a change would be.
@@ -544,7 +556,7 @@ fn undo<'a>(alloc: Global) -> Result<Command<'a>, AllocError> {
         .after_help(
             "COUNT: decimal.\n\nEXAMPLES:\n  bx undo disk.img         the last change\n  bx undo -k 3 disk.img    the last three changes",
         );
-    changer(alloc, command, &UNDO)?.arg(anyway(alloc))
+    changer(alloc, command, &UNDO)
 }
 
 fn redo<'a>(alloc: Global) -> Result<Command<'a>, AllocError> {
@@ -553,7 +565,7 @@ fn redo<'a>(alloc: Global) -> Result<Command<'a>, AllocError> {
         .after_help(
             "COUNT: decimal. A change that another command makes gives up what was undone.\n\nEXAMPLES:\n  bx redo disk.img         the change that was undone last\n  bx redo -k 3 disk.img    the last three undone changes",
         );
-    changer(alloc, command, &REDO)?.arg(anyway(alloc))
+    changer(alloc, command, &REDO)
 }
 
 fn log<'a>(alloc: Global) -> Result<Command<'a>, AllocError> {
@@ -586,13 +598,19 @@ fn one_form<'a>(alloc: Global, command: Command<'a>) -> Result<Command<'a>, Allo
     with_group(alloc, command, "form", &SHOW_FORMS)
 }
 
+/// Rows, or nothing.
+fn one_difference<'a>(alloc: Global, command: Command<'a>) -> Result<Command<'a>, AllocError> {
+    with_group(alloc, command, "difference", &DIFF_FORMS)
+}
+
 fn diff<'a>(alloc: Global) -> Result<Command<'a>, AllocError> {
     let command = Command::new(alloc, "diff")
         .about("Write what differs between two files, as a patch")
         .after_help(
             "The first line tells both lengths. Each other line is bytes as xxd writes them,\nbehind - those of OLD and behind + those of NEW. Nothing is written where the\nfiles are equal; the exit status is 0 in either case.\n\nEXAMPLES:\n  bx diff old.bin new.bin       the bytes that differ, and no others\n  bx diff -v old.bin new.bin    the rows in which they stand",
         );
-    with_rows(alloc, command, &DIFF)?
+    let formed = one_difference(alloc, command)?;
+    with_rows(alloc, formed, &DIFF)?
         .arg(compared(alloc, "old", "OLD"))?
         .arg(compared(alloc, "new", "NEW"))
 }
@@ -738,15 +756,25 @@ pub fn program_behind<'a>(alloc: Global, first: &str) -> Result<Command<'a>, All
     }
 }
 
+/// For a script, whose standard error is no terminal. The program takes it from the words before they are read here.
+fn verbose<'a>(alloc: Global) -> Arg<'a> {
+    Arg::new(alloc, "verbose")
+        .short('v')
+        .long("verbose")
+        .action(ArgAction::SetTrue)
+        .help("Write hints wherever standard error leads, not only to a terminal")
+}
+
 /// The program with these subcommands.
 fn program_of<'a>(alloc: Global, verbs: &[Verb]) -> Result<Command<'a>, AllocError> {
     let mut program = Command::new(alloc, "bx")
         .version("1.2.0")
         .about("A byte toolkit with undo: dumps files, patches them, and takes changes back")
         .after_help(
-            "EXAMPLES:\n  bx xxd -l 64 disk.img\n  echo '00000002: 7879' | bx revert disk.img\n  bx undo disk.img\n  bx redo disk.img\n\nThe exit status is 0, 1 for a fault, and 2 for wrong words.\nSee 'bx COMMAND --help' for its options, and 'man bx' for formats and faults.",
+            "EXAMPLES:\n  bx xxd -l 64 disk.img\n  echo '00000002: 7879' | bx revert disk.img\n  bx undo disk.img\n  bx redo disk.img\n  bx -v undo disk.img    as on a terminal, with hints, in a script too\n\nThe exit status is 0, 1 for a fault, and 2 for wrong words.\nSee 'bx COMMAND --help' for its options, and 'man bx' for formats and faults.",
         )
-        .subcommand_required(true);
+        .subcommand_required(true)
+        .arg(verbose(alloc))?;
     for verb in verbs {
         program = taking(program, verb.command(alloc))?;
     }

@@ -116,11 +116,22 @@ fn target_of(alloc: Global, m: &Given<'_, '_>, image: &str, access: Access) -> R
     ensures { IfOk result (λ t. t.image ≡ image.now) }
 {
     let texts = texts_of(alloc, m.get_str("journal"), image)?;
+    if is_beside(image, texts.journal.as_str()) {
+        return Err(Fault::Usage);
+    }
     Ok(Target {
         image: name_of(alloc, image)?,
         texts,
         access,
     })
+}
+
+/// Whether a journal has the name of another text that the image has without `-J`.
+fn is_beside(image: &str, journal: &str) -> bool {
+    matches!(
+        journal.strip_prefix(image),
+        Some(".bxj.redo" | ".bxj.image")
+    )
 }
 
 fn access(m: &Given<'_, '_>) -> Access {
@@ -132,6 +143,7 @@ fn access(m: &Given<'_, '_>) -> Access {
     Access {
         durability,
         mounted: m.get_flag("mounted"),
+        anyway: m.get_flag("anyway"),
     }
 }
 
@@ -281,11 +293,7 @@ fn forget(alloc: Global, m: &Given<'_, '_>) -> Result<ForgetJob, Fault> {
 fn steps(alloc: Global, m: &Given<'_, '_>) -> Result<StepsJob, Fault> {
     let count = count_or(m.get_str("count"), 1, MOST_STEPS)? as u32;
     let target = target(alloc, m, access(m))?;
-    Ok(StepsJob {
-        count,
-        target,
-        anyway: m.get_flag("anyway"),
-    })
+    Ok(StepsJob { count, target })
 }
 
 fn log(alloc: Global, m: &Given<'_, '_>) -> Result<LogJob, Fault> {
@@ -302,6 +310,7 @@ fn show(alloc: Global, m: &Given<'_, '_>) -> Result<ShowJob, Fault> {
     let access = Access {
         durability: Durability::Unsynced,
         mounted: false,
+        anyway: false,
     };
     let target = target(alloc, m, access)?;
     let way = if m.get_flag("redo") {
@@ -324,6 +333,7 @@ fn diff(alloc: Global, m: &Given<'_, '_>) -> Result<DiffJob, Fault> {
     };
     Ok(DiffJob {
         rows: m.get_flag("rows"),
+        quiet: m.get_flag("quiet"),
         old: name_of(alloc, old)?,
         new: name_of(alloc, new)?,
     })

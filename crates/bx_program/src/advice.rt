@@ -1,17 +1,15 @@
-//! What a journal knows of its image, in a third text beside it: advice and no more. A text that is missing, or anything else
-//! than the line of these files, says nothing, and nothing that fails here stops a command.
-mod finding;
-mod ranges;
-mod text;
-
-use crate::advice::finding::find;
-use crate::advice::text::{empty, line_in, put};
-use crate::files::read::open_to_read;
+//! What a journal knows of its image, in a third text beside it, as far as it is shown: nothing is decided by it here. A text that is
+//! missing, or anything else than the line of these files, says nothing, and nothing that fails here stops a command.
+use crate::files::names::{names_of, world_of};
 use bx_cli::Target;
 use bx_journal::Way;
 use bx_journal_image::{
-    ImageLine, Standing, is_changed, is_redo_refused, is_undo_refused, others_after,
+    ImageLine, LINE, Standing, Verdict, is_changed, is_redo_refused, is_undo_refused,
+    judge_unfinished, others_after, read_line, stand,
 };
+use bx_program_files::{Looked, open_to_look};
+use bx_program_system::{OpenFile, Progress, SystemWorld};
+use bx_program_world::World;
 use bx_text::{IoFault, emit};
 use std::alloc::Global;
 use std::fs::File;
@@ -22,17 +20,24 @@ use std::time::Clock;
 /// What is shown of an image that isn't the one that the last command on it left.
 const OTHER: &str = "# the image was changed since\n";
 
+/// What is shown of an image that isn't the one on which what is unfinished was begun.
+pub const ANOTHER: &str = "# the image isn't the one that it was made on\n";
+
+/// What the line says of an image.
+#[derive(Clone, Copy)]
+enum Known {
+    /// Nothing.
+    Nothing,
+    /// What it says, and what is found beside finished texts.
+    AtRest(ImageLine, Standing),
+    /// Something is unfinished whose change may have begun, and the image is this by the line.
+    Unfinished(Verdict),
+}
+
 /// The line, and what a command finds before its first write.
 #[derive(Clone, Copy)]
 pub struct Advice {
-    known: Option<Known>,
-}
-
-/// A line on these files.
-#[derive(Clone, Copy)]
-struct Known {
-    line: ImageLine,
-    now: Standing,
+    known: Known,
 }
 
 impl Advice {
@@ -42,40 +47,31 @@ impl Advice {
         R: Files<File = File> + Print + Eprint + Clock + AllocGlobal,
     {
         Advice {
-            known: look_up(rt, target),
+            known: look_up(rt, target).unwrap_or(Known::Nothing),
         }
     }
 
     /// That nothing is known.
     pub fn none() -> Advice {
-        Advice { known: None }
-    }
-
-    /// The same before a change; nothing where it begins a new history.
-    pub fn before<R>(rt: &R, target: &Target, fresh: bool) -> Advice
-    where
-        R: Files<File = File> + Print + Eprint + Clock + AllocGlobal,
-    {
-        if fresh {
-            return Advice::none();
+        Advice {
+            known: Known::Nothing,
         }
-        Advice::of(rt, target)
     }
 
     /// Whether an undo or a redo of `count` changes is refused.
-    pub fn refuses(&self, way: Way, count: u32) -> bool {
+    fn refuses(&self, way: Way, count: u32) -> bool {
         match (&self.known, way) {
-            (None, _) => false,
-            (Some(known), Way::Undo) => is_undo_refused(&known.line, &known.now, count),
-            (Some(known), Way::Redo) => is_redo_refused(&known.line, &known.now, count),
+            (Known::Nothing | Known::Unfinished(_), _) => false,
+            (Known::AtRest(line, now), Way::Undo) => is_undo_refused(line, now, count),
+            (Known::AtRest(line, now), Way::Redo) => is_redo_refused(line, now, count),
         }
     }
 
     /// Whether the image isn't the one that the last command left.
     pub fn is_changed(&self) -> bool {
         match &self.known {
-            Some(known) => is_changed(&known.line, &known.now),
-            None => false,
+            Known::AtRest(line, now) => is_changed(line, now),
+            Known::Nothing | Known::Unfinished(_) => false,
         }
     }
 
@@ -92,11 +88,28 @@ impl Advice {
         self.refuses(way, count.max(1))
     }
 
+    /// Whether something is unfinished that was begun on another image, or none where nothing is, or nothing tells it.
+    pub fn is_another(&self) -> Option<bool> {
+        match &self.known {
+            Known::Unfinished(Verdict::Other) => Some(true),
+            Known::Unfinished(Verdict::Same) => Some(false),
+            Known::Unfinished(Verdict::Untold) | Known::Nothing | Known::AtRest(_, _) => None,
+        }
+    }
+
+    /// Whether nothing is unfinished, and the line says something.
+    pub fn is_at_rest(&self) -> bool {
+        match &self.known {
+            Known::AtRest(_, _) => true,
+            Known::Nothing | Known::Unfinished(_) => false,
+        }
+    }
+
     /// How many of the oldest changes stand for another image, all where it isn't the one that the last command left.
     fn others(&self) -> u32 {
         match &self.known {
-            Some(known) => others_after(&known.line, &known.now),
-            None => 0,
+            Known::AtRest(line, now) => others_after(line, now),
+            Known::Nothing | Known::Unfinished(_) => 0,
         }
     }
 
@@ -114,53 +127,57 @@ impl Advice {
             Err(_) => Err(IoFault::NoMemory),
         }
     }
-
-    /// Writes the line behind a command that changed something.
-    pub fn keep<R>(&self, rt: &R, target: &Target)
-    where
-        R: Files<File = File> + Print + Eprint + Clock + AllocGlobal,
-    {
-        write_anew(rt, target, self.others());
-    }
 }
 
-/// The line, where it is no older than the journal, beside what is found.
+/// What is known of an image; none where a file isn't opened or read.
 fn look_up<R>(rt: &R, target: &Target) -> Option<Known>
 where
     R: Files<File = File> + Print + Eprint + Clock + AllocGlobal,
 {
-    let line = line_in(rt, target)?;
-    let found = find(rt, target)?;
-    Some(Known {
-        line,
-        now: found.standing,
-    })
+    let silent = Progress::new(rt, false, None);
+    let names = names_of(rt.alloc(), target).ok()?;
+    let mut world = world_of(rt, target, &silent).ok()?;
+    let looked = open_to_look(&mut world, &names).ok()?;
+    let line = line_in(&mut world)?;
+    look_at(&mut world, rt.alloc(), looked, line)
 }
 
-/// Makes the line anew, while the files are locked. `others` of the oldest changes stand for another image.
-fn write_anew<R>(rt: &R, target: &Target, others: u32)
+/// The line, where the third text is one.
+fn line_in<R>(world: &mut SystemWorld<'_, '_, R>) -> Option<ImageLine>
 where
     R: Files<File = File> + Print + Eprint + Clock + AllocGlobal,
 {
-    let Some(found) = find(rt, target) else {
-        return;
-    };
-    let line = found.standing.line(others.min(found.standing.changes));
-    let _ = put(rt, target, &found.image, &line);
+    let mut room = [0u8; LINE + 1];
+    let count = world.read_note(&mut room).ok()?;
+    read_line(room.get(..count)?)
 }
 
-/// Empties the line's text, where there is one and the journal is empty. The files are locked meanwhile, so that no line of a later
-/// command is emptied.
-pub fn forget_line<R>(rt: &R, target: &Target)
+/// What is known of an image by its line, whose files are open; they are closed behind it.
+fn look_at<'p, 'r, R>(
+    world: &mut SystemWorld<'p, 'r, R>,
+    alloc: Global,
+    looked: Looked<OpenFile<'p, 'r, R>>,
+    line: ImageLine,
+) -> Option<Known>
 where
     R: Files<File = File> + Print + Eprint + Clock + AllocGlobal,
 {
-    let Ok(files) = open_to_read(rt, target) else {
-        return;
+    let mut image = world.lend_image_to_read(looked.image).ok()?;
+    let mut journal = world.lend_text_to_read(looked.journal).ok()?;
+    let mut redo = match looked.redo {
+        Some(redo) => world.lend_text_to_read(redo).ok()?,
+        None => world.lend_no_text(),
     };
-    if files.journal.metadata().is_ok_and(|found| found.len() == 0) {
-        let _ = empty(rt, target);
-    }
+    let known = match judge_unfinished(&alloc, &mut image, &mut journal, Some(line)) {
+        Ok(Some(verdict)) => Some(Known::Unfinished(verdict)),
+        Ok(None) => match stand(&alloc, &mut image, &mut journal, &mut redo) {
+            Ok(Some(found)) => Some(Known::AtRest(line, found.standing)),
+            Ok(None) | Err(_) => None,
+        },
+        Err(_) => None,
+    };
+    world.close_read(image, journal, redo);
+    known
 }
 
 /// Says that the image isn't the one that the last command left, where it isn't.

@@ -1,42 +1,62 @@
 //! What the program writes of a fault, and for a person of a success.
+pub mod audience;
 mod commands;
+mod cost;
 mod effect;
 mod names;
 mod products;
 mod quoted;
 pub mod remarks;
 pub mod seen;
+mod steps;
+mod tail;
+mod typed;
 
-use crate::hints::commands::{operands_of, push_word, words_of};
+use crate::hints::commands::{is_named, operands_of, push_word, words_of};
 use crate::hints::names::{name_hint, subject};
-use crate::hints::quoted::printed;
+use crate::hints::quoted::{printed, quoted};
+use crate::hints::steps::stopped_text;
 use crate::stopped::{Reason, Row, Stopped};
-use bx_cli::{Fault, Job, Known, hint_text, misuse_of};
+use bx_cli::{ChangeJob, Fault, Job, Known, Target, hint_text, misuse_of};
 use bx_image::FailedCall;
 use bx_text::Words;
 use std::alloc::{AllocError, Global};
 use std::fmt::Write as _;
+use std::fs::{self, File};
 use std::io;
+use std::rt::Files;
 
-/// Writes the text of the fault, and behind it for a person the hint. A hint that can't be made or written is left out. Where
-/// the reader of standard output has gone nothing is written, as by other programs. The job is none where the words ask for
-/// none.
+/// What is said of an image that is missing beside its journal.
+const GONE: &str =
+    "it is missing, and its journal keeps changes of it; put it back, or begin a new history by --fresh of the command that writes it";
+
+/// What is said of an image that has what a patch writes.
+const APPLIED: &str =
+    "it has what the patch writes, so the patch is applied already; bx patch -R takes it back";
+
+/// The same of a patch that is turned round.
+const TAKEN_BACK: &str =
+    "it has what stood before the patch, so that is taken back already; bx patch without -R applies it";
+
+/// Writes the text of the fault, and behind it where hints are written the hint. A hint that can't be made or written is left
+/// out. Where the reader of standard output has gone nothing is written, as by other programs. The job is none where the words
+/// ask for none.
 pub fn show_fault<R>(
     rt: &R,
-    person: bool,
+    hints: bool,
     words: &Words,
     job: Option<&Job>,
     stopped: Stopped<'_>,
 ) -> Fault
 where
-    R: Eprint + AllocGlobal,
+    R: Files<File = File> + Eprint + AllocGlobal,
 {
     let fault = stopped.fault;
-    if stopped.is_unread() {
+    if stopped.is_silent() {
         return fault;
     }
     let _ = eprintln!(rt; "bx: {fault}");
-    if person {
+    if hints {
         let _ = show_hint(rt, words, job, stopped);
     }
     fault
@@ -45,7 +65,7 @@ where
 /// The hint on a line of its own.
 fn show_hint<R>(rt: &R, words: &Words, job: Option<&Job>, stopped: Stopped<'_>) -> Result<(), Fault>
 where
-    R: Eprint + AllocGlobal,
+    R: Files<File = File> + Eprint + AllocGlobal,
 {
     if is_of_words(stopped) {
         let misuse = misuse_of(rt.alloc(), words, stopped.fault)?;
@@ -65,13 +85,17 @@ where
 /// The file that stopped the job, why it did, and what can be done.
 fn show_cause<R>(rt: &R, job: Option<&Job>, stopped: Stopped<'_>) -> Result<(), Fault>
 where
-    R: Eprint + AllocGlobal,
+    R: Files<File = File> + Eprint + AllocGlobal,
 {
     let file = stopped.file.unwrap_or("");
     let name = subject(rt.alloc(), file)?;
-    let reason = reason_text(rt.alloc(), job, stopped)?;
+    let reason = reason_text(rt, job, stopped)?;
     if stopped.reason.is_all() {
         let _ = eprintln!(rt; "hint: {name}: {reason}");
+        return Ok(());
+    }
+    if let Some(text) = steps_text(rt, job, stopped.fault)? {
+        show_steps(rt, name.as_str(), reason.as_str(), text.as_str());
         return Ok(());
     }
     let words = match job {
@@ -92,6 +116,28 @@ where
     Ok(())
 }
 
+/// What is said of an undo or a redo that was stopped in the middle; none of another job.
+fn steps_text<R>(rt: &R, job: Option<&Job>, fault: Fault) -> Result<Option<String>, AllocError>
+where
+    R: Files<File = File> + AllocGlobal,
+{
+    match job {
+        Some(job) => stopped_text(rt, job, fault),
+        None => Ok(None),
+    }
+}
+
+/// The same with what stopped it, as far as that is known.
+fn show_steps<R: Eprint>(rt: &R, name: &str, reason: &str, text: &str) {
+    if name.is_empty() {
+        let _ = eprintln!(rt; "hint: {text}");
+    } else if reason.is_empty() {
+        let _ = eprintln!(rt; "hint: {name}; {text}");
+    } else {
+        let _ = eprintln!(rt; "hint: {name}: {reason}; {text}");
+    }
+}
+
 fn show_known<R>(rt: &R, fault: Fault, known: &Known<'_>)
 where
     R: Eprint + AllocGlobal,
@@ -109,19 +155,24 @@ fn is_of_words(stopped: Stopped<'_>) -> bool {
 }
 
 /// The reason in words, as the system says it.
-fn reason_text(
-    alloc: Global,
-    job: Option<&Job>,
-    stopped: Stopped<'_>,
-) -> Result<String, AllocError> {
+fn reason_text<R>(rt: &R, job: Option<&Job>, stopped: Stopped<'_>) -> Result<String, AllocError>
+where
+    R: Files<File = File> + AllocGlobal,
+{
+    let alloc = rt.alloc();
     match stopped.reason {
         Reason::Unknown => Ok(String::new(alloc)),
         Reason::System(code) => system_text(alloc, code),
         Reason::Call(call) => call_text(alloc, call),
         Reason::Told(why) => String::from_str(alloc, why),
-        Reason::Wide { bits } => wide_text(alloc, stopped.file.unwrap_or(""), bits),
+        Reason::Wide { bits } => wide_text(rt, job, stopped.file.unwrap_or(""), bits),
         Reason::Unfinished => unfinished_text(alloc, job),
         Reason::Begun => begun_text(alloc, job),
+        Reason::Gone => String::from_str(alloc, GONE),
+        Reason::Applied { reverse: false } => String::from_str(alloc, APPLIED),
+        Reason::Applied { reverse: true } => String::from_str(alloc, TAKEN_BACK),
+        Reason::Silent => Ok(String::new(alloc)),
+        Reason::Another { is_told } => another_text(alloc, job, is_told),
         Reason::Fixed { has, wanted } => {
             format!(in alloc; "it has {has} bytes and can't grow to {wanted}")
         }
@@ -138,14 +189,36 @@ fn reason_text(
     }
 }
 
-/// What is said of a text that more people may read or write than the image, and the command that narrows it to these bits.
-fn wide_text(alloc: Global, name: &str, bits: u32) -> Result<String, AllocError> {
-    let mut text = format!(in alloc;
+/// What is said of a text that more people may read or write than the image, and the command that narrows it and the other texts that
+/// are there to these bits.
+fn wide_text<R>(rt: &R, job: Option<&Job>, name: &str, bits: u32) -> Result<String, AllocError>
+where
+    R: Files<File = File> + AllocGlobal,
+{
+    let mut text = format!(in rt.alloc();
         "somebody may read or write it who may not do so with the image; chmod {bits:03o}"
     )?;
     push_word(&mut text, name)?;
+    if let Some(target) = job.and_then(Job::target) {
+        push_others(rt, &mut text, target, name)?;
+    }
     text.push_str(" narrows it, and -J names a journal elsewhere")?;
     Ok(text)
+}
+
+/// Puts the names of those texts of an image that are there, but for this one.
+fn push_others<R>(rt: &R, text: &mut String, target: &Target, name: &str) -> Result<(), AllocError>
+where
+    R: Files<File = File> + AllocGlobal,
+{
+    let (journal, redo) = (target.texts.journal.as_str(), target.texts.redo.as_str());
+    let note = format!(in rt.alloc(); "{journal}.image")?;
+    for other in [journal, redo, note.as_str()] {
+        if other != name && fs::symlink_metadata(rt, other).is_ok_and(|found| found.is_file()) {
+            push_word(text, other)?;
+        }
+    }
+    Ok(())
 }
 
 /// What an image has where a patch has other bytes, as xxd writes it.
@@ -195,6 +268,47 @@ fn begun_text(alloc: Global, job: Option<&Job>) -> Result<String, AllocError> {
     format!(in alloc;
         "a change is unfinished, and isn't counted; bx log{operands} takes it back or drops it, as each command but bx show does, and lists the changes"
     )
+}
+
+/// What is said of an image where what is unfinished wasn't begun on it, or nothing says whether it was.
+fn another_text(alloc: Global, job: Option<&Job>, is_told: bool) -> Result<String, AllocError> {
+    let Some(job) = job else {
+        return Ok(String::new(alloc));
+    };
+    let Some(target) = job.target() else {
+        return Ok(String::new(alloc));
+    };
+    let operands = operands_of(alloc, target)?;
+    let journal = quoted(alloc, target.texts.journal.as_str())?;
+    if !drops_history(job) {
+        let anyway = if is_named(target) { " --anyway" } else { "" };
+        return format!(in alloc;
+            "{journal} has a change that is unfinished, and wasn't begun on this image; put the right one back, or bx forget{anyway}{operands} drops the changes and leaves this one as it is; --anyway goes on all the same"
+        );
+    }
+    if is_told {
+        return format!(in alloc;
+            "{journal} has a change that is unfinished, and wasn't begun on this image: it may be the journal of another one; --anyway drops it all the same"
+        );
+    }
+    format!(in alloc;
+        "{journal} has a change that is unfinished, and nothing tells whether it was begun on this image; bx undo -k 0{operands} takes it back first, and --anyway drops it without"
+    )
+}
+
+/// Whether a job drops the history of its image.
+fn drops_history(job: &Job) -> bool {
+    match job {
+        Job::Change(ChangeJob::Forget(_)) => true,
+        Job::Change(ChangeJob::Revert(job)) => job.fresh,
+        Job::Change(ChangeJob::Patch(job)) => job.fresh,
+        Job::Change(ChangeJob::Dd(job)) => job.fresh,
+        Job::Change(ChangeJob::Undo(_) | ChangeJob::Redo(_))
+        | Job::Dump(_)
+        | Job::Look(_)
+        | Job::Diff(_)
+        | Job::Help { .. } => false,
+    }
 }
 
 /// The system's text, without the number that std puts behind it.

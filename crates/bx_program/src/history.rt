@@ -1,13 +1,14 @@
 //! The history of an image: what is unfinished is recovered, and all of it is dropped.
 pub mod changes;
 pub mod forget;
+pub mod told;
 
 use crate::devices::left::stopped;
 use crate::files::look::is_missing;
-use crate::files::names::{names_of, world_of};
+use crate::files::names::{guard_to_recover, names_of, world_of};
 use crate::requests::{request_change, request_report};
 use crate::stopped::Stopped;
-use bx_cli::{Command, Target};
+use bx_cli::{Command, Fault, Target};
 use bx_journal::{Steps, Way};
 use bx_program_commands::Report;
 use bx_program_looks::Unseen;
@@ -18,14 +19,15 @@ use std::io::{self, Empty};
 use std::rt::Files;
 use std::time::Clock;
 
-/// Recovers what is unfinished of an image, by an undo of no change, and says on standard error what it was. A redo text that is
-/// missing stays so.
+/// Recovers what is unfinished of an image, by an undo of no change, where the third text tells that the image is the one, or
+/// it goes on anyway; and says on standard error what it was. A redo text that is missing stays so.
 ///
 /// # Errors
-/// As of an undo.
+/// As of an undo; `ChangedSince` unless the note says that the image is the one.
 pub fn recover_image<'a, R>(
     rt: &R,
     target: &'a Target,
+    anyway: bool,
     progress: &Progress<'_, R>,
 ) -> Result<(), Stopped<'a>>
 where
@@ -34,9 +36,10 @@ where
     let redo = target.texts.redo.as_str();
     let is_made = is_missing(rt, redo);
     let names = names_of(rt.alloc(), target)?;
-    let mut world = world_of(rt, target, progress);
+    let mut world = world_of(rt, target, progress)?;
     let none: Task<Empty> = Task::Run(Command::Undo { k: 0 });
-    let answer = request_change(&mut world, rt.alloc(), &names, target.access.mounted, none);
+    let guard = guard_to_recover(target, anyway);
+    let answer = request_change(&mut world, rt.alloc(), &names, guard, none);
     if is_made {
         take_empty(rt, redo);
     }
@@ -46,7 +49,8 @@ where
     }
 }
 
-/// Recovers what is unfinished of an image, if something is. What else hinders that is said by the command behind it.
+/// Recovers what is unfinished of an image, if something is, and the note says that it is the one. What else hinders that is said
+/// by the command behind it.
 ///
 /// # Errors
 /// As of an undo.
@@ -65,10 +69,13 @@ where
         compares: false,
     });
     let names = names_of(rt.alloc(), target)?;
-    let mut world = world_of(rt, target, progress);
+    let mut world = world_of(rt, target, progress)?;
     match request_report(&mut world, rt.alloc(), &names, nothing, &mut io::sink()) {
-        Err(Unseen::Unfinished) => recover_image(rt, target, progress),
-        Ok(()) | Err(Unseen::Unopened(_) | Unseen::Stopped(_)) => Ok(()),
+        Err(Unseen::Unfinished) => match recover_image(rt, target, false, progress) {
+            Err(stopped) if stopped.fault == Fault::ChangedSince => Ok(()),
+            outcome => outcome,
+        },
+        Ok(()) | Err(Unseen::Unopened(_) | Unseen::Another | Unseen::Stopped(_)) => Ok(()),
     }
 }
 

@@ -7,13 +7,14 @@ mod previews;
 mod ready;
 mod steps;
 
-use crate::advice::Advice;
 use crate::files::unopened::number_of;
+use crate::hints::audience::{Audience, asks_for_hints};
 use crate::hints::remarks::Remarks;
 use crate::hints::seen::{Seen, Watched};
 use crate::hints::show_fault;
 use crate::history::changes::{change_anew, change_image};
 use crate::history::forget::forget;
+use crate::history::told::look_for_others;
 use crate::jobs::copies::{copy_onto, tell};
 use crate::jobs::looks::look;
 use crate::jobs::previews::{preview_copy, preview_read};
@@ -45,48 +46,54 @@ use std::time::Clock;
 const NOT_UTF_8: &str = "a word is not UTF-8; a file of such a name can be given by a link to it";
 
 /// Does what the words of the command line ask for, and writes the text of the fault that stopped it, with a hint behind it
-/// where a person looks at standard error. A standard stream that is closed keeps its number to the end, so that no file gets
+/// where a person looks at standard error, or the first word asks for hints. A standard stream that is closed keeps its number to the end, so that no file gets
 /// it.
 pub fn run<R>(rt: &R, terminals: Terminals) -> Result<(), Fault>
 where
     R: Files<File = File> + Env + Input + Print + Eprint + Clock + AllocGlobal,
 {
     let mut words = Words::new(rt.alloc());
+    let mut audience = Audience::new(terminals);
     match Held::new(rt) {
-        Ok(_held) => run_words(rt, terminals, &mut words),
-        Err(fault) => Err(show_fault(rt, terminals.errors, &words, None, Stopped::from(fault))),
+        // Held to the end: a file that is opened takes the least number that is free.
+        Ok(_held) => run_words(rt, &mut audience, &mut words),
+        Err(fault) => Err(show_fault(rt, audience.hints, &words, None, Stopped::from(fault))),
     }
 }
 
 /// Does what the words ask for, which are read first.
-fn run_words<R>(rt: &R, terminals: Terminals, words: &mut Words) -> Result<(), Fault>
+fn run_words<R>(rt: &R, audience: &mut Audience, words: &mut Words) -> Result<(), Fault>
 where
     R: Files<File = File> + Env + Input + Print + Eprint + Clock + AllocGlobal,
 {
-    match planned(rt, words) {
+    match planned(rt, audience, words) {
         Ok(job) => {
-            let outcome = run_planned(rt, terminals, words, &job);
+            let outcome = run_planned(rt, *audience, words, &job);
             drop(job);
             outcome
         }
-        Err(stopped) => Err(show_fault(rt, terminals.errors, words, None, stopped)),
+        Err(stopped) => Err(show_fault(rt, audience.hints, words, None, stopped)),
     }
 }
 
 /// Does what a job asks for that these words gave.
-fn run_planned<R>(rt: &R, terminals: Terminals, words: &Words, job: &Job) -> Result<(), Fault>
+fn run_planned<R>(rt: &R, audience: Audience, words: &Words, job: &Job) -> Result<(), Fault>
 where
     R: Files<File = File> + Input + Print + Eprint + Clock + AllocGlobal,
 {
-    match perform_for(rt, terminals, job) {
+    match perform_for(rt, audience, job) {
         Ok(()) => Ok(()),
-        Err(stopped) => Err(show_fault(rt, terminals.errors, words, Some(job), stopped)),
+        Err(stopped) => Err(show_fault(rt, audience.hints, words, Some(job), stopped)),
     }
 }
 
 /// The job that the words ask for, which are read first.
-fn planned<R: Env + AllocGlobal>(rt: &R, words: &mut Words) -> Result<Job, Stopped<'static>> {
-    read_words(rt, words)?;
+fn planned<R: Env + AllocGlobal>(
+    rt: &R,
+    audience: &mut Audience,
+    words: &mut Words,
+) -> Result<Job, Stopped<'static>> {
+    read_words(rt, audience, words)?;
     Ok(plan_words(rt.alloc(), words)?)
 }
 
@@ -98,23 +105,29 @@ fn unread(error: io::Error) -> Stopped<'static> {
     }
 }
 
-/// Reads the words behind the program's name.
-fn read_words<R: Env + AllocGlobal>(rt: &R, words: &mut Words) -> Result<(), Stopped<'static>> {
+/// Reads the words behind the program's name. A first one that asks for hints is none of the command's.
+fn read_words<R: Env + AllocGlobal>(
+    rt: &R,
+    audience: &mut Audience,
+    words: &mut Words,
+) -> Result<(), Stopped<'static>> {
     let args = env::args(rt).map_err(unread)?;
-    for arg in args.skip(1) {
-        if words.push(arg.as_str()).is_err() {
+    for (place, arg) in args.skip(1).enumerate() {
+        if place == 0 && asks_for_hints(arg.as_str()) {
+            audience.hints = true;
+        } else if words.push(arg.as_str()).is_err() {
             return Err(Stopped::from(Fault::Io(IoFault::NoMemory)));
         }
     }
     Ok(())
 }
 
-/// Runs a job and writes what it shows; for a person then the hints on what was done.
-fn perform_for<'a, R>(rt: &R, terminals: Terminals, job: &'a Job) -> Result<(), Stopped<'a>>
+/// Runs a job and writes what it shows, and then the hints on what was done, where they are written.
+fn perform_for<'a, R>(rt: &R, audience: Audience, job: &'a Job) -> Result<(), Stopped<'a>>
 where
     R: Files<File = File> + Input + Print + Eprint + Clock + AllocGlobal,
 {
-    let mut remarks = Remarks::new(terminals);
+    let mut remarks = Remarks::new(audience);
     remarks.look_before(rt, job);
     perform_seen(rt, job, &mut remarks)?;
     remarks.tell(rt, job);
@@ -131,7 +144,7 @@ where
         output: false,
         errors: false,
     };
-    perform_seen(rt, job, &mut Remarks::new(terminals))
+    perform_seen(rt, job, &mut Remarks::new(Audience::new(terminals)))
 }
 
 /// Runs a job, and writes what it shows; `remarks` see it.
@@ -312,7 +325,7 @@ where
         return preview_read(rt, &job.target, read, remarks, out);
     }
     let progress = remarks.progress_of_input(rt, None);
-    let advice = Advice::before(rt, &job.target, job.fresh);
+    look_for_others(rt, &job.target, job.fresh, remarks);
     let mut fresh = false;
     if let Ok(change) = &read {
         remarks.look_at_change(rt, &job.target, change);
@@ -324,8 +337,6 @@ where
     } else {
         change_image(rt, &job.target, task, &progress, remarks)?;
     }
-    advice.keep(rt, &job.target);
-    remarks.look_at_advice(advice.is_changed());
     Ok(())
 }
 
@@ -345,7 +356,7 @@ fn change_of<'a, R: Eprint + Clock, I: Read + Drop>(
     let mut source = Source::new(watched, MOST_INPUT);
     match change_from(&alloc, &mut source, form, job.at, expected) {
         Ok(read) => Ok(read),
-        Err(fault) => Err(Stopped::from(Fault::from(fault)).on_input(name, reader.error)),
+        Err(fault) => Err(Stopped::from(fault).on_input(name, reader.error)),
     }
 }
 

@@ -1,4 +1,6 @@
 //! What the program does with files and the standard streams. The crate `bx` is its start and its exit status.
+//!
+//! `docs/DECISIONS.md` argues for it ("The program and runs of commands"); `docs/CASES.md` names its tests.
 #![tactic(auto)]
 
 mod advice;

@@ -1,4 +1,5 @@
-//! Commands on named files: each is a request of the one call whose contract has all of them, and has an answer of its own.
+//! Commands on named files: each is a request of the one call whose contract has all of them, and has an answer of its own. The last
+//! arm of each match can't occur, by that contract's clause `answers`.
 ghost use Rattle.bx_program_sessions.specs.Task.{IsNearTask};
 
 use bx_cli::{Done, DumpJob, Fault};
@@ -9,7 +10,7 @@ use bx_program_commands::{
     Outcome, Proposal, Renewed, Report, Request, Undiffed, Unpreviewed, run_request,
 };
 use bx_program_dumps::Undumped;
-use bx_program_files::Names;
+use bx_program_files::{Guard, Names};
 use bx_program_looks::Unseen;
 use bx_program_sessions::{Answer, Moved, Task};
 use bx_program_system::SystemWorld;
@@ -24,7 +25,7 @@ pub fn request_move<R>(
     world: &mut SystemWorld<'_, '_, R>,
     alloc: Global,
     names: &Names,
-    mounted: bool,
+    guard: Guard,
     way: Way,
     count: u32,
 ) -> Moved<()>
@@ -33,7 +34,7 @@ where
 {
     let request: Request<'_, Empty> = Request::Move {
         names,
-        mounted,
+        guard,
         way,
         count,
     };
@@ -48,18 +49,14 @@ pub fn request_change<R, I: Read + Drop>(
     world: &mut SystemWorld<'_, '_, R>,
     alloc: Global,
     names: &Names,
-    mounted: bool,
+    guard: Guard,
     task: Task<I>,
 ) -> Answer
 where
     R: Files<File = File> + Print + Eprint + Clock + AllocGlobal,
     requires near { IsNearTask task }
 {
-    let request = Request::Change {
-        names,
-        mounted,
-        task,
-    };
+    let request = Request::Change { names, guard, task };
     match run_request(world, alloc, request, &mut io::sink()) {
         Outcome::Changed(answer) => answer,
         _ => unreachable!(),
@@ -71,18 +68,14 @@ pub fn request_renewal<R, I: Read + Drop>(
     world: &mut SystemWorld<'_, '_, R>,
     alloc: Global,
     names: &Names,
-    mounted: bool,
+    guard: Guard,
     task: Task<I>,
 ) -> Renewed
 where
     R: Files<File = File> + Print + Eprint + Clock + AllocGlobal,
     requires near { IsNearTask task }
 {
-    let request = Request::Renew {
-        names,
-        mounted,
-        task,
-    };
+    let request = Request::Renew { names, guard, task };
     match run_request(world, alloc, request, &mut io::sink()) {
         Outcome::Renewed(renewed) => renewed,
         _ => unreachable!(),
@@ -186,11 +179,12 @@ pub fn request_forget<R>(
     world: &mut SystemWorld<'_, '_, R>,
     alloc: Global,
     names: &Names,
+    guard: Guard,
 ) -> Result<(), Unseen>
 where
     R: Files<File = File> + Print + Eprint + Clock + AllocGlobal,
 {
-    let request: Request<'_, Empty> = Request::Forget { names };
+    let request: Request<'_, Empty> = Request::Forget { names, guard };
     match run_request(world, alloc, request, &mut io::sink()) {
         Outcome::Forgotten(outcome) => outcome,
         _ => unreachable!(),

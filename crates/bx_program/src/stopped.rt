@@ -44,6 +44,13 @@ pub enum Reason<'a> {
     Unfinished,
     /// A change is unfinished behind those that can be shown.
     Begun,
+    /// The image is missing, and changes of it are kept.
+    Gone,
+    /// Something is unfinished, and the image isn't the one that it was begun on, or nothing tells whether it is.
+    Another {
+        /// Whether something tells it.
+        is_told: bool,
+    },
     /// The file has `has` bytes and can't grow, and the change wants it to have `wanted`.
     Fixed {
         /// How many it has.
@@ -58,6 +65,13 @@ pub enum Reason<'a> {
         /// How many it has.
         has: u64,
     },
+    /// The image has all that the patch writes.
+    Applied {
+        /// Whether that is what stood before the patch.
+        reverse: bool,
+    },
+    /// Nothing is said: the exit status is all that was asked for.
+    Silent,
     /// The image has these bytes in a row, the first of them where a patch has another one.
     There(Row),
     /// The file has `has` bytes, and should have as many as `expected`.
@@ -81,11 +95,18 @@ pub struct Row {
 }
 
 impl<'a> Reason<'a> {
-    /// Whether it says all that a person needs, and what is advised at the fault wouldn't help.
+    /// Whether it says all that is wanted, and what is advised at the fault wouldn't help.
     pub fn is_all(&self) -> bool {
         matches!(
             self,
-            Reason::Begun | Reason::Fixed { .. } | Reason::Stays | Reason::Full { .. }
+            Reason::Begun
+                | Reason::Gone
+                | Reason::Applied { .. }
+                | Reason::Silent
+                | Reason::Another { .. }
+                | Reason::Fixed { .. }
+                | Reason::Stays
+                | Reason::Full { .. }
         )
     }
 
@@ -155,6 +176,24 @@ impl<'a> Stopped<'a> {
         }
     }
 
+    /// By an image on which what is unfinished wasn't begun.
+    pub fn another(image: &'a str) -> Stopped<'a> {
+        Stopped {
+            fault: Fault::ChangedSince,
+            file: Some(image),
+            reason: Reason::Another { is_told: true },
+        }
+    }
+
+    /// By an image that is missing, where changes are kept.
+    pub fn gone(fault: Fault, image: &'a str) -> Stopped<'a> {
+        Stopped {
+            fault,
+            file: Some(image),
+            reason: Reason::Gone,
+        }
+    }
+
     /// By a text that has more permission bits than these, which are those of the image.
     pub fn too_wide(file: &'a str, bits: u32) -> Stopped<'a> {
         Stopped {
@@ -192,7 +231,11 @@ impl<'a> Stopped<'a> {
     /// The same, or that the lines of a dump or a patch end as in a text of another system, where that is what isn't read.
     pub fn on_returns(self, file: &'a str) -> Stopped<'a> {
         match self.fault {
-            Fault::Patch(PatchFault::BadLength { .. } | PatchFault::OfNoKind { .. })
+            Fault::Patch(
+                PatchFault::BadLength { .. }
+                | PatchFault::BadCount { .. }
+                | PatchFault::OfNoKind { .. },
+            )
             | Fault::Read(
                 ReadFault::BadAddress { .. }
                 | ReadFault::MissingColon { .. }
@@ -253,6 +296,27 @@ impl<'a> Stopped<'a> {
         }
     }
 
+    /// The same, or, where the image isn't what a patch expects, that it has what the patch writes already.
+    pub fn on_applied(self, image: &'a str, reverse: bool) -> Stopped<'a> {
+        match self.fault {
+            Fault::Disagrees(_) => Stopped {
+                file: Some(image),
+                reason: Reason::Applied { reverse },
+                ..self
+            },
+            _ => self,
+        }
+    }
+
+    /// By two files that aren't equal, where no more was asked of them.
+    pub fn differing() -> Stopped<'a> {
+        Stopped {
+            fault: Fault::Io(IoFault::WriteFailed { written: 0 }),
+            file: None,
+            reason: Reason::Silent,
+        }
+    }
+
     /// The same, where the input was read no further than shows that it doesn't fit: how long it is isn't known.
     pub fn on_more_input(self) -> Stopped<'a> {
         match self.reason {
@@ -266,17 +330,19 @@ impl<'a> Stopped<'a> {
 
     /// The same, or that standard output was not written, where it is that and isn't said yet.
     pub fn on_output(self, error: Option<i32>) -> Stopped<'a> {
-        match self.fault {
-            Fault::Io(IoFault::WriteFailed { .. }) if self.file.is_none() => {
+        match (self.fault, self.reason) {
+            (_, Reason::Silent) => self,
+            (Fault::Io(IoFault::WriteFailed { .. }), _) if self.file.is_none() => {
                 Stopped::by(self.fault, STANDARD_OUTPUT, error)
             }
             _ => self,
         }
     }
 
-    /// Whether standard output was not written because nobody reads it any more.
-    pub fn is_unread(&self) -> bool {
+    /// Whether nothing is written of it: it was asked so, or standard output was not written because nobody reads it any more.
+    pub fn is_silent(&self) -> bool {
         match (self.fault, self.reason) {
+            (_, Reason::Silent) => true,
             (Fault::Io(IoFault::WriteFailed { .. }), Reason::System(code)) => {
                 io::Error::from_raw_os_error(code).kind() == ErrorKind::BrokenPipe
             }

@@ -4,12 +4,12 @@ use crate::stopped::{Reason, Row, STANDARD_OUTPUT, Stopped};
 use bx_cli::{Fault, Target};
 use bx_journal::SessionFault;
 use bx_patch::Other;
-use bx_program_files::Unopened;
+use bx_program_files::{Unopened, Why};
 use bx_program_looks::Unseen;
-use bx_program_system::{Left, SystemWorld, open_there};
+use bx_program_system::{Left, SystemWorld, open_to_read};
 use bx_text::IoFault;
 use std::fs::File;
-use std::io::{self, Seek, SeekFrom};
+use std::io::{self, ErrorKind, Seek, SeekFrom};
 use std::os::unix::fs::FileExt;
 use std::rt::Files;
 use std::time::Clock;
@@ -25,10 +25,15 @@ pub fn stopped<'a, R>(
 where
     R: Files<File = File> + Print + Eprint + Clock + AllocGlobal,
 {
-    if let Some(unopened) = unopened {
-        return not_opened(rt, target, unopened, world);
-    }
     let image = target.image.as_str();
+    if let Some(unopened) = unopened {
+        return match unopened.why {
+            Why::Another => Stopped::another(image),
+            Why::System(_) | Why::Unfit(_) | Why::Alias => {
+                not_opened(rt, target, unopened, world)
+            }
+        };
+    }
     match fault {
         Fault::Io(IoFault::WriteFailed { .. }) => {
             Stopped::by(fault, STANDARD_OUTPUT, world.unwritten)
@@ -59,6 +64,7 @@ where
             let fault = Fault::Session(SessionFault::Interrupted);
             return Stopped::by(fault, target.image.as_str(), None);
         }
+        Unseen::Another => return Stopped::another(target.image.as_str()),
         Unseen::Stopped(fault) => fault,
     };
     if let Some(unwritten) = unwritten {
@@ -121,10 +127,18 @@ fn differs_by_name<'a, R>(rt: &R, name: &'a str, fault: Fault, expected: u64) ->
 where
     R: Files<File = File>,
 {
-    match open_there(rt, name, false) {
+    match open_to_read(rt, name) {
         Ok(file) => differs(name, length_of(&file), fault, expected),
+        Err(error) if is_of_journal(fault) && error.kind() == ErrorKind::NotFound => {
+            Stopped::gone(fault, name)
+        }
         Err(error) => Stopped::by(fault, name, error.raw_os_error()),
     }
+}
+
+/// Whether it is a journal that tells the length, and no patch.
+fn is_of_journal(fault: Fault) -> bool {
+    matches!(fault, Fault::Session(SessionFault::LengthDiffers { .. }))
 }
 
 /// The image of this name, which has other bytes than a patch expects.
@@ -132,7 +146,7 @@ fn has_others_by_name<'a, R>(rt: &R, name: &'a str, fault: Fault, at: u64) -> St
 where
     R: Files<File = File>,
 {
-    match open_there(rt, name, false) {
+    match open_to_read(rt, name) {
         Ok(file) => has_others(name, &file, fault, at),
         Err(error) => Stopped::by(fault, name, error.raw_os_error()),
     }

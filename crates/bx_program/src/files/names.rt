@@ -1,8 +1,8 @@
 //! The names of an image and its texts, and the world that their files are used in.
 ghost use Rattle.std.specs.Prelude.{◌≡◌, IfOk};
 
-use bx_cli::{Durability, Fault, Target};
-use bx_program_files::Names;
+use bx_cli::{Access, Durability, Fault, Target};
+use bx_program_files::{Guard, Names};
 use bx_program_system::{Progress, SystemWorld};
 use bx_text::Name;
 use std::alloc::{AllocError, Global};
@@ -35,10 +35,41 @@ pub fn world_of<'p, 'r, R>(
     rt: &'r R,
     target: &Target,
     progress: &'p Progress<'r, R>,
-) -> SystemWorld<'p, 'r, R>
+) -> Result<SystemWorld<'p, 'r, R>, Fault>
 where
     R: Files<File = File> + Print + Eprint + Clock + AllocGlobal,
 {
     let waits = target.access.durability == Durability::Synced;
-    SystemWorld::new(rt, progress, waits)
+    let texts = &target.texts;
+    let (image, journal) = (target.image.as_str(), texts.journal.as_str());
+    Ok(SystemWorld::new(rt, progress, waits).with_note(image, journal, texts.redo.as_str())?)
+}
+
+/// What a command on a target may do: whatever its third text tells where it is to go on anyway.
+pub fn guard_of(target: &Target) -> Guard {
+    let Access {
+        mounted,
+        anyway,
+        ..
+    } = target.access;
+    Guard {
+        mounted,
+        anyway,
+        told: false,
+        named: target
+            .texts
+            .journal
+            .as_str()
+            .strip_prefix(target.image.as_str())
+            != Some(".bxj"),
+    }
+}
+
+/// The same, where what is unfinished is recovered only onto the image that it was begun on.
+pub fn guard_to_recover(target: &Target, anyway: bool) -> Guard {
+    Guard {
+        anyway,
+        told: true,
+        ..guard_of(target)
+    }
 }

@@ -58,6 +58,9 @@ where
         Which::Redo => target.texts.redo.as_str(),
     };
     match unopened.why {
+        Why::System(Refusal::Missing) if is_gone(rt, target, unopened.which) => {
+            Stopped::gone(Fault::OpenFailed, name)
+        }
         Why::System(Refusal::Other(code)) if world.is_unkept => {
             Stopped::by(Fault::OpenFailed, folder_of(name), code)
         }
@@ -65,7 +68,14 @@ where
         Why::System(refusal) => refused(rt, name, unopened.which, refusal),
         Why::Unfit(unfit) => unfit_file(rt, target.image.as_str(), name, unopened.which, unfit),
         Why::Alias => Stopped::refused(name, IS_ALIAS),
+        Why::Another => Stopped::another(name),
     }
+}
+
+/// Whether the file is the image, and changes of it are kept in its journal.
+fn is_gone<R: Files<File = File>>(rt: &R, target: &Target, which: Which) -> bool {
+    let journal = target.texts.journal.as_str();
+    which == Which::Image && fs::metadata(rt, journal).is_ok_and(|found| found.len() > 0)
 }
 
 /// What stopped a command whose file wasn't opened, which is only read and no file of a session.
@@ -77,6 +87,7 @@ where
         Why::System(refusal) => refused(rt, name, Which::Image, refusal),
         Why::Unfit(unfit) => unfit_image(name, unfit),
         Why::Alias => Stopped::refused(name, IS_ALIAS),
+        Why::Another => Stopped::another(name),
     }
 }
 

@@ -12,12 +12,22 @@ pub fn operands_of(alloc: Global, target: &Target) -> Result<String, AllocError>
     if target.access.mounted {
         text.push_str(" --mounted")?;
     }
-    if journal.strip_prefix(image) != Some(".bxj") {
+    if is_named(target) {
         text.push_str(" -J")?;
         push_word(&mut text, journal)?;
     }
     push_word(&mut text, image)?;
     Ok(text)
+}
+
+/// Whether a target's journal has another name than the one beside its image.
+pub fn is_named(target: &Target) -> bool {
+    target
+        .texts
+        .journal
+        .as_str()
+        .strip_prefix(target.image.as_str())
+        != Some(".bxj")
 }
 
 /// What stands behind the name of the command that is advised at a fault of a job: of `truncate -s` the length and the image,

@@ -1,5 +1,6 @@
 //! What a revert makes of its image: a gap, a much longer image, or no other byte.
 use bx_image::Change;
+use bx_program_system::open_to_read;
 use bx_text::Piece;
 use std::alloc::Global;
 use std::fs::{self, File};
@@ -22,6 +23,8 @@ pub struct Effect {
     pub after: u64,
     /// How many bytes behind the old end the change doesn't give.
     pub gap: u64,
+    /// How many bytes of the image the change overwrites.
+    pub saved: u64,
     /// Whether no byte is another one.
     pub is_same: bool,
 }
@@ -36,15 +39,18 @@ impl Effect {
         let before = length_of(&file).ok()?;
         let mut after = before;
         let mut given = 0u64;
+        let mut saved = 0u64;
         for write in change.writes.as_slice() {
             let end = end_of(write);
             after = after.max(end);
             given = given.saturating_add(end.saturating_sub(write.at.max(before)));
+            saved = saved.saturating_add(end.min(before).saturating_sub(write.at));
         }
         Some(Effect {
             before,
             after,
             gap: after.saturating_sub(before).saturating_sub(given),
+            saved,
             is_same: after == before && are_there(rt.alloc(), &file, change),
         })
     }
@@ -60,12 +66,18 @@ impl Effect {
 fn opened<R: Files<File = File>>(rt: &R, image: &str) -> io::Result<Option<File>> {
     match fs::metadata(rt, image) {
         Ok(found) if found.is_file() || found.file_type().is_block_device() => {
-            Ok(Some(File::open(rt, image)?))
+            Ok(Some(open_to_read(rt, image)?))
         }
         Ok(_) => Err(io::Error::from(ErrorKind::Unsupported)),
         Err(error) if error.kind() == ErrorKind::NotFound => Ok(None),
         Err(error) => Err(error),
     }
+}
+
+/// How many bytes the image of this name has; one that is missing has none.
+pub fn length_by_name<R: Files<File = File>>(rt: &R, image: &str) -> Option<u64> {
+    let file = opened(rt, image).ok()?;
+    length_of(&file).ok()
 }
 
 /// How many bytes it has.

@@ -4,14 +4,15 @@ use bx_cli::{ChangeJob, DumpJob, Job};
 use bx_text::Words;
 use std::alloc::{AllocError, Global};
 
-/// Says of each operand whose number is a product with the factor 0 that it is 0, before anything is opened.
-pub fn tell_of_products<R: Eprint + AllocGlobal>(rt: &R, job: &Job) {
+/// Says of each operand whose number is a product with the factor 0 that it is 0, before anything is opened: in the words of dd,
+/// and as a hint with the number that may be meant.
+pub fn tell_of_products<R: Eprint + AllocGlobal>(rt: &R, job: &Job, hints: bool) {
     let Some(operands) = operands_of_dd(job) else {
         return;
     };
     for i in 0..operands.len() {
         if let Some(word) = operands.get(i) {
-            tell_of_product(rt, word);
+            tell_of_product(rt, word, hints);
         }
     }
 }
@@ -26,13 +27,21 @@ fn operands_of_dd(job: &Job) -> Option<&Words> {
 }
 
 /// Says it of one operand, where it is so.
-fn tell_of_product<R: Eprint + AllocGlobal>(rt: &R, word: &str) {
+fn tell_of_product<R: Eprint + AllocGlobal>(rt: &R, word: &str, hints: bool) {
     let Some((name, value)) = word.split_once('=') else {
         return;
     };
     if !matches!(name, "skip" | "seek" | "count") || !has_zero(value) {
         return;
     }
+    let _ = eprintln!(rt; "bx: warning: '0x' is a zero multiplier; use '00x' if that is intended");
+    if hints {
+        tell_of_number(rt, name, value);
+    }
+}
+
+/// The hint on it.
+fn tell_of_number<R: Eprint + AllocGlobal>(rt: &R, name: &str, value: &str) {
     if let Ok(text) = product_text(rt.alloc(), name, value) {
         let _ = eprintln!(rt; "hint: {text}");
     }

@@ -1,14 +1,19 @@
 //! What a person may want to know after a success.
+use crate::hints::audience::Audience;
 use crate::hints::commands::operands_of;
-use crate::hints::effect::Effect;
+use crate::hints::cost::{saved_by_dd, saved_by_patch, tell_of_cost};
+use crate::hints::effect::{Effect, length_by_name};
 use crate::hints::names::is_of_text;
 use crate::hints::products::tell_of_products;
 use crate::hints::quoted::quoted;
 use crate::hints::seen::Seen;
-use bx_cli::{ChangeJob, Job, Target};
+use crate::hints::steps::{Standing, tell_of_begun, tell_of_dropped, tell_of_steps};
+use crate::hints::typed::tell_of_typing;
+use bx_cli::{ChangeJob, DdImageJob, Job, StepsJob, Target};
 use bx_dd::{Counts, Plan};
 use bx_image::Change;
-use bx_journal::How;
+use bx_journal::{How, Way};
+use bx_patch::Patch;
 use bx_program_system::{Progress, Terminals};
 use std::alloc::Global;
 use std::fs::{self, File};
@@ -16,14 +21,12 @@ use std::io::ErrorKind;
 use std::rt::Files;
 use std::time::Clock;
 
-/// What was seen of a job while it ran. Nothing is looked at where no person looks at standard error.
+/// What was seen of a job while it ran. Nothing is looked at where no hints are written.
 #[derive(Drop)]
 pub struct Remarks {
-    person: bool,
-    // a person looks at standard output too
-    on_output: bool,
-    // a person types standard input
-    is_typed: bool,
+    audience: Audience,
+    // what stood before
+    standing: Option<Standing>,
     // the image was missing before
     is_new: bool,
     // something was undone before, and could be made again
@@ -32,6 +35,8 @@ pub struct Remarks {
     is_later: bool,
     // the image wasn't the one that the last command on it left
     is_other: bool,
+    // what is known of the image couldn't be put beside its journal
+    is_unnoted: bool,
     // the dump or dd's output has no byte
     is_empty: bool,
     // the image's length before, where it has one
@@ -43,16 +48,16 @@ pub struct Remarks {
 }
 
 impl Remarks {
-    /// Nothing was seen yet, and a person looks at these streams.
-    pub fn new(terminals: Terminals) -> Remarks {
+    /// Nothing was seen yet, and this is who reads what is written.
+    pub fn new(audience: Audience) -> Remarks {
         Remarks {
-            person: terminals.errors,
-            on_output: terminals.output,
-            is_typed: terminals.input,
+            audience,
+            standing: None,
             is_new: false,
             was_undone: false,
             is_later: false,
             is_other: false,
+            is_unnoted: false,
             is_empty: false,
             length: None,
             unlike: None,
@@ -60,12 +65,23 @@ impl Remarks {
         }
     }
 
+    /// Whether hints are written.
+    pub fn are_wanted(&self) -> bool {
+        self.audience.hints
+    }
+
+    /// Whether a line on how far work is has a place on standard error, beside an output that may be a terminal.
+    fn has_place(&self) -> bool {
+        let Terminals { output, errors, .. } = self.audience.terminals;
+        errors && !output
+    }
+
     /// A line on how much of `total` bytes is read, for work whose output may be a terminal, where it has no place.
     pub fn progress_of_dump<'r, R>(&self, rt: &'r R, total: Option<u64>) -> Progress<'r, R>
     where
         R: Clock + Eprint,
     {
-        Progress::new(rt, self.person && !self.on_output, total)
+        Progress::new(rt, self.has_place(), total)
     }
 
     /// The same of standard input, where a line has no place in what a person types.
@@ -73,7 +89,7 @@ impl Remarks {
     where
         R: Clock + Eprint,
     {
-        let shows = self.person && !self.on_output && !self.is_typed;
+        let shows = self.has_place() && !self.audience.terminals.input;
         Progress::new(rt, shows, total)
     }
 
@@ -82,12 +98,13 @@ impl Remarks {
     where
         R: Clock + Eprint,
     {
-        Progress::new(rt, self.person, total)
+        Progress::new(rt, self.audience.terminals.errors, total)
     }
 
     /// The same of standard input, where nobody types it.
     pub fn progress_of_standard<'r, R: Clock + Eprint>(&self, rt: &'r R) -> Progress<'r, R> {
-        Progress::new(rt, self.person && !self.is_typed, None)
+        let Terminals { input, errors, .. } = self.audience.terminals;
+        Progress::new(rt, errors && !input, None)
     }
 
     /// The same of what dd reads, and of what it makes of it.
@@ -101,18 +118,22 @@ impl Remarks {
         }
     }
 
-    /// Looks whether the job's image is missing, how long it is, and whether something is undone, before the job opens a file.
-    /// What may be wrong with numbers of dd is said here.
+    /// Looks whether the job's image is missing, how long it is, and what stands and is undone, before the job opens a file.
+    /// What may be wrong with numbers of dd is said here, wherever standard error leads, and that a job reads what is typed.
     pub fn look_before<R>(&mut self, rt: &R, job: &Job)
     where
         R: Files<File = File> + Eprint + AllocGlobal,
     {
-        if !self.person {
+        tell_of_products(rt, job, self.audience.hints);
+        if !self.audience.hints {
             return;
         }
-        tell_of_products(rt, job);
+        if self.audience.terminals.input {
+            tell_of_typing(rt, job);
+        }
         if let Some(target) = job.target() {
             let image = target.image.as_str();
+            self.standing = Some(Standing::of(rt, target));
             self.is_new = is_missing(rt, image);
             self.length = length_of(rt, image);
             self.was_undone = is_filled(rt, target.texts.redo.as_str());
@@ -121,9 +142,19 @@ impl Remarks {
 
     /// Looks which of image and journal was modified later, before the files are opened. A block device has no such time.
     pub fn look_at_times<R: Files<File = File>>(&mut self, rt: &R, target: &Target) {
-        if self.person {
+        if self.audience.hints {
             let (image, journal) = (target.image.as_str(), target.texts.journal.as_str());
             self.is_later = is_later(rt, image, journal) == Some(true);
+        }
+    }
+
+    /// Says, before an undo or a redo, that it first takes back what is unfinished, and what it then does.
+    pub fn tell_before_steps<R>(&self, rt: &R, way: Way, job: &StepsJob)
+    where
+        R: Eprint + AllocGlobal,
+    {
+        if let Some(standing) = &self.standing {
+            tell_of_begun(rt, standing, way, job);
         }
     }
 
@@ -138,6 +169,11 @@ impl Remarks {
         }
     }
 
+    /// Takes whether what is known of the image couldn't be put beside its journal.
+    pub fn look_at_note(&mut self, is_without_note: bool) {
+        self.is_unnoted = is_without_note;
+    }
+
     /// Takes whether the image was another one before a change.
     pub fn look_at_advice(&mut self, is_other: bool) {
         self.is_other = is_other;
@@ -145,30 +181,58 @@ impl Remarks {
 
     /// What is to be seen of a dump while it is read.
     pub fn seen_of(&self, alloc: Global, plain: bool) -> Seen {
-        Seen::new(alloc, self.person, plain)
+        Seen::new(alloc, self.audience.hints, plain)
     }
 
     /// Takes what was seen of a dump that was read: whether it gives a byte, and, where it isn't plain, whether the characters
     /// beside the digits are those of the bytes.
     pub fn look_at_dump(&mut self, seen: Seen) {
-        if self.person {
-            self.is_empty = !seen.has_digit;
+        if self.audience.hints {
             self.unlike = seen.unlike();
         }
     }
 
-    /// Takes whether a patch that was read writes a byte, or brings another length.
-    pub fn look_at_patch(&mut self, changes: bool) {
-        self.is_empty = !changes;
+    /// Takes that a patch changes nothing: no file is made, and nothing that stands is dropped.
+    pub fn look_at_no_change(&mut self) {
+        self.is_empty = true;
+        self.is_new = false;
+        self.standing = None;
     }
 
-    /// Looks what the change of a dump will make of the image, which is not yet written.
+    /// Looks what the change of a dump will make of the image, which is not yet written, and says what it will cost.
     pub fn look_at_change<R>(&mut self, rt: &R, target: &Target, change: &Change)
     where
-        R: Files<File = File> + AllocGlobal,
+        R: Files<File = File> + Eprint + AllocGlobal,
     {
-        if self.person {
+        if self.audience.hints {
             self.effect = Effect::new(rt, target.image.as_str(), change);
+            if let Some(effect) = &self.effect {
+                tell_of_cost(rt, target, effect.saved);
+            }
+        }
+    }
+
+    /// Says what a patch will cost.
+    pub fn tell_before_patch<R>(&self, rt: &R, target: &Target, patch: &Patch)
+    where
+        R: Files<File = File> + Eprint + AllocGlobal,
+    {
+        if self.audience.hints {
+            if let Some(length) = length_by_name(rt, target.image.as_str()) {
+                tell_of_cost(rt, target, saved_by_patch(patch, length));
+            }
+        }
+    }
+
+    /// Says what dd will cost, whose input has at most as many bytes as are left, where that is known.
+    pub fn tell_before_copy<R>(&self, rt: &R, job: &DdImageJob, left: Option<u64>)
+    where
+        R: Files<File = File> + Eprint + AllocGlobal,
+    {
+        if self.audience.hints {
+            if let Some(length) = length_by_name(rt, job.target.image.as_str()) {
+                tell_of_cost(rt, &job.target, saved_by_dd(&job.plan, length, left));
+            }
         }
     }
 
@@ -182,7 +246,7 @@ impl Remarks {
     where
         R: Files<File = File> + Eprint + AllocGlobal,
     {
-        if !self.person || is_dry_run(job) {
+        if !self.audience.hints || is_dry_run(job) {
             return;
         }
         let Some(target) = job.target() else {
@@ -211,15 +275,37 @@ impl Remarks {
         let name = name.as_str();
         self.tell_of_others(rt, name);
         match job {
-            ChangeJob::Revert(_) => {
+            ChangeJob::Revert(job) => {
                 self.tell_of_dump(rt, operands);
                 self.tell_of_effect(rt, name, operands);
+                self.tell_of_history(rt, name, job.fresh);
             }
-            ChangeJob::Patch(_) => self.tell_of_patch(rt),
-            ChangeJob::Dd(_) => self.tell_of_nothing(rt, target),
-            ChangeJob::Forget(_) => {}
-            ChangeJob::Undo(steps) => self.tell_of_times(rt, name, steps.count, "redo", operands),
-            ChangeJob::Redo(steps) => self.tell_of_times(rt, name, steps.count, "undo", operands),
+            ChangeJob::Patch(job) => {
+                self.tell_of_patch(rt);
+                self.tell_of_history(rt, name, job.fresh);
+            }
+            ChangeJob::Dd(job) => {
+                self.tell_of_nothing(rt, target);
+                self.tell_of_history(rt, name, job.fresh);
+            }
+            ChangeJob::Forget(_) => self.tell_of_history(rt, name, true),
+            ChangeJob::Undo(steps) => {
+                tell_of_steps(rt, name, Way::Undo, steps);
+                self.tell_of_times(rt, name, steps.count, "redo", operands);
+            }
+            ChangeJob::Redo(steps) => {
+                tell_of_steps(rt, name, Way::Redo, steps);
+                self.tell_of_times(rt, name, steps.count, "undo", operands);
+            }
+        }
+    }
+
+    /// How much of a history was dropped.
+    fn tell_of_history<R: Eprint>(&self, rt: &R, name: &str, is_dropped: bool) {
+        if let Some(standing) = &self.standing {
+            if is_dropped {
+                tell_of_dropped(rt, name, standing);
+            }
         }
     }
 
@@ -230,6 +316,11 @@ impl Remarks {
         let (Ok(name), Ok(journal)) = (quoted(alloc, image), quoted(alloc, journal)) else {
             return;
         };
+        if self.is_unnoted {
+            let _ = eprintln!(rt;
+                "hint: {journal}: no text beside it keeps what is known of the image, as one can't be made there, or another file has its name with .image behind"
+            );
+        }
         if self.is_new {
             let _ = eprintln!(rt;
                 "hint: {name}: it was missing, so it was made; its journal is {journal}"
@@ -252,21 +343,12 @@ impl Remarks {
                 "hint: the characters beside the digits aren't those of the bytes in line {line}; bx undo{operands} takes this back, and bx revert --help shows the form of a line"
             );
         }
-        if self.is_empty && self.was_undone {
-            let _ = eprintln!(rt; "hint: the dump has no bytes, but what was undone is given up");
-        } else if self.is_empty {
-            let _ = eprintln!(rt; "hint: the dump has no bytes, so no byte was changed");
-        }
     }
 
     /// That a patch changed nothing.
     fn tell_of_patch<R: Eprint>(&self, rt: &R) {
-        if self.is_empty && self.was_undone {
-            let _ = eprintln!(rt;
-                "hint: the patch changes nothing, but what was undone is given up"
-            );
-        } else if self.is_empty {
-            let _ = eprintln!(rt; "hint: the patch changes nothing, so no byte was changed");
+        if self.is_empty {
+            let _ = eprintln!(rt; "hint: the patch changes nothing, so nothing was done");
         }
     }
 
@@ -289,7 +371,7 @@ impl Remarks {
             let _ = eprintln!(rt;
                 "hint: {name}: it had {before} bytes and has {after} now; bx undo{operands} takes this back"
             );
-        } else if effect.is_same && !self.is_empty {
+        } else if effect.is_same {
             let given_up = if self.was_undone {
                 ", but what was undone is given up"
             } else {

@@ -6,10 +6,10 @@ use std::io::{self, Read};
 /// The most bytes of a line that are looked at: an address, 256 pairs and the characters beside them have fewer.
 const MOST_LINE: usize = 4096;
 
-/// What was seen of a dump so far. Nothing is looked at where no person looks at standard error.
+/// What was seen of a dump so far. Nothing is looked at where no hints are written.
 #[derive(Drop)]
 pub struct Seen {
-    person: bool,
+    hints: bool,
     plain: bool,
     // the line that isn't whole yet, and how many stand before it
     line: Vec<u8>,
@@ -19,34 +19,30 @@ pub struct Seen {
     // the last byte of the first line so far, and whether that line is whole
     last: u8,
     has_newline: bool,
-    /// Whether there is a digit.
-    pub has_digit: bool,
     /// Whether the first line ends in CR LF.
     pub has_returns: bool,
 }
 
 impl Seen {
     /// Nothing was seen yet.
-    pub fn new(alloc: Global, person: bool, plain: bool) -> Seen {
+    pub fn new(alloc: Global, hints: bool, plain: bool) -> Seen {
         Seen {
-            person,
+            hints,
             plain,
             line: Vec::new(alloc),
             passed: 0,
             unlike: None,
             last: 0,
             has_newline: false,
-            has_digit: false,
             has_returns: false,
         }
     }
 
     /// Looks at the bytes that come next.
     fn look(&mut self, bytes: &[u8]) {
-        if !self.person {
+        if !self.hints {
             return;
         }
-        self.has_digit = self.has_digit || bytes.iter().any(|byte| byte.is_ascii_hexdigit());
         self.look_at_returns(bytes);
         if !self.plain && self.unlike.is_none() {
             self.look_at_lines(bytes);

@@ -1,25 +1,26 @@
 //! Changes of an image by the names of its files.
 ghost use Rattle.bx_program_sessions.specs.Task.{IsNearTask};
 
-use crate::advice::forget_line;
 use crate::devices::left::{not_seen, stopped};
 use crate::files::look::{is_missing, refuse_without_journal};
-use crate::files::names::{names_of, world_of};
+use crate::files::names::{guard_of, names_of, world_of};
 use crate::files::unopened::not_opened;
 use crate::hints::remarks::Remarks;
+use crate::history::forget::forget_line;
 use crate::history::take_empty;
+use crate::history::told::told;
 use crate::requests::{request_change, request_renewal};
 use crate::stopped::Stopped;
 use bx_cli::{Fault, Reply, Target};
-use bx_journal::SessionFault;
+use bx_journal::{How, SessionFault, Way};
 use bx_program_commands::Renewed;
 use bx_program_files::Which;
 use bx_program_looks::Unseen;
-use bx_program_sessions::Task;
+use bx_program_sessions::{Answer, Task};
 use bx_program_system::{OpenFile, Progress, SystemWorld};
 use bx_program_world::World;
-use std::fs::File;
-use std::io::{Empty, Read};
+use std::fs::{self, File};
+use std::io::{Empty, ErrorKind, Read};
 use std::rt::Files;
 use std::time::Clock;
 
@@ -36,14 +37,66 @@ where
     requires near { IsNearTask task }
 {
     refuse_without_journal(rt, target)?;
+    let was_noted = is_noted(rt, target);
     let names = names_of(rt.alloc(), target)?;
-    let mut world = world_of(rt, target, progress);
-    let answer = request_change(&mut world, rt.alloc(), &names, target.access.mounted, task);
+    let mut world = world_of(rt, target, progress)?;
+    let answer = request_change(&mut world, rt.alloc(), &names, guard_of(target), task);
     drop(names);
+    if !was_noted && is_refused(&answer) {
+        let _ = world.put_note(&[], false);
+    }
+    answered(rt, target, &mut world, answer, remarks)
+}
+
+/// Whether a file has the name of the third text; it counts as one where that isn't known.
+fn is_noted<R>(rt: &R, target: &Target) -> bool
+where
+    R: Files<File = File> + AllocGlobal,
+{
+    let journal = target.texts.journal.as_str();
+    match format!(in rt.alloc(); "{journal}.image") {
+        Ok(name) => match fs::symlink_metadata(rt, name.as_str()) {
+            Ok(_) => true,
+            Err(error) => error.kind() != ErrorKind::NotFound,
+        },
+        Err(_) => true,
+    }
+}
+
+/// Whether a change was refused, and nothing was recovered before it: no file that was missing is there then.
+fn is_refused(answer: &Answer) -> bool {
+    let is_clean = match answer.how {
+        None | Some(How::Clean) => true,
+        Some(How::Dropped | How::Restored { .. }) => false,
+    };
+    match answer.reply.standing() {
+        Ok(_) => false,
+        Err(fault) => is_clean && !is_interrupted(fault),
+    }
+}
+
+/// What became of a change, by what the world answered. Where it was refused and no journal is there, no third text is left.
+fn answered<'a, R>(
+    rt: &R,
+    target: &'a Target,
+    world: &mut SystemWorld<'_, '_, R>,
+    answer: Answer,
+    remarks: &mut Remarks,
+) -> Result<Reply, Stopped<'a>>
+where
+    R: Files<File = File> + Print + Eprint + Clock + AllocGlobal,
+{
     remarks.look_at_recovered(answer.how);
+    remarks.look_at_note(world.is_without_note);
     match answer.reply.standing() {
         Ok(_) => Ok(answer.reply),
-        Err(fault) => Err(stopped(rt, target, &world, answer.unopened, fault)),
+        Err(fault) => {
+            if is_missing(rt, target.texts.journal.as_str()) {
+                let _ = world.put_note(&[], false);
+            }
+            let stopped = stopped(rt, target, world, answer.unopened, fault);
+            Err(told(rt, target, Way::Undo, stopped))
+        }
     }
 }
 
@@ -66,7 +119,9 @@ where
     let outcome = renew_image(rt, target, task, progress, remarks);
     if let (Some(file), Err(stopped)) = (made, &outcome) {
         if !is_interrupted(stopped.fault) {
-            world_of(rt, target, progress).take_away(target.image.as_str(), &file);
+            if let Ok(mut world) = world_of(rt, target, progress) {
+                world.take_away(target.image.as_str(), &file);
+            }
         }
     }
     outcome
@@ -87,11 +142,15 @@ where
     let redo = target.texts.redo.as_str();
     let is_made = is_missing(rt, redo);
     let names = names_of(rt.alloc(), target)?;
+    // So that nobody comes between the drop of the history and the change.
     world.keep_locks();
-    let renewed = request_renewal(world, rt.alloc(), &names, target.access.mounted, task);
+    let renewed = request_renewal(world, rt.alloc(), &names, guard_of(target), task);
     world.pass_locks();
     if is_made && !is_done(&renewed) {
         take_empty(rt, redo);
+    }
+    if is_refused_behind(&renewed) {
+        forget_line(world, &names);
     }
     Ok(renewed)
 }
@@ -109,21 +168,23 @@ where
     requires near { IsNearTask task }
 {
     refuse_without_journal(rt, target)?;
-    let mut world = world_of(rt, target, progress);
-    let answer = match renew(rt, &mut world, target, task)? {
-        Renewed::Kept(answer) => answer,
-        Renewed::Changed(answer) => {
-            if answer.reply.standing().is_err() {
-                forget_line(rt, target);
-            }
-            answer
+    let mut world = world_of(rt, target, progress)?;
+    match renew(rt, &mut world, target, task)? {
+        Renewed::Kept(answer) | Renewed::Changed(answer) => {
+            answered(rt, target, &mut world, answer, remarks)
         }
-        Renewed::Undropped(unseen) => return Err(not_seen(rt, target, &world, unseen, None)),
-    };
-    remarks.look_at_recovered(answer.how);
-    match answer.reply.standing() {
-        Ok(_) => Ok(answer.reply),
-        Err(fault) => Err(stopped(rt, target, &world, answer.unopened, fault)),
+        Renewed::Undropped(unseen) => {
+            let stopped = not_seen(rt, target, &world, unseen, None);
+            Err(told(rt, target, Way::Undo, stopped))
+        }
+    }
+}
+
+/// Whether the history was dropped, and the change then refused.
+fn is_refused_behind(renewed: &Renewed) -> bool {
+    match renewed {
+        Renewed::Changed(answer) => answer.reply.standing().is_err(),
+        Renewed::Kept(_) | Renewed::Undropped(_) => false,
     }
 }
 
@@ -135,7 +196,7 @@ fn is_done(renewed: &Renewed) -> bool {
             Err(fault) => is_interrupted(fault),
         },
         Renewed::Undropped(Unseen::Stopped(fault)) => is_interrupted(*fault),
-        Renewed::Undropped(Unseen::Unopened(_) | Unseen::Unfinished) => false,
+        Renewed::Undropped(Unseen::Unopened(_) | Unseen::Unfinished | Unseen::Another) => false,
     }
 }
 
@@ -157,7 +218,7 @@ where
     if !is_missing(rt, image) {
         return Ok(None);
     }
-    let mut world = world_of(rt, target, progress);
+    let mut world = world_of(rt, target, progress)?;
     match world.make_image(image) {
         Ok(file) => Ok(Some(file)),
         Err(refusal) => Err(not_opened(rt, target, Which::Image.refused(refusal), &world)),

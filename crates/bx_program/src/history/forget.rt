@@ -1,14 +1,17 @@
 //! An image whose history is dropped: all changes are accepted, and nothing can be undone then.
-use crate::advice::forget_line;
 use crate::devices::left::not_seen;
 use crate::files::look::refuse_without_journal;
-use crate::files::names::{names_of, world_of};
+use crate::files::names::{guard_of, names_of, world_of};
 use crate::history::recover_image;
+use crate::history::told::told;
 use crate::requests::request_forget;
 use crate::stopped::Stopped;
 use bx_cli::Target;
+use bx_journal::Way;
+use bx_program_files::{Names, open_to_look};
 use bx_program_looks::Unseen;
-use bx_program_system::Progress;
+use bx_program_system::{Progress, SystemWorld};
+use bx_program_world::World;
 use std::fs::File;
 use std::rt::Files;
 use std::time::Clock;
@@ -23,10 +26,11 @@ enum Dropped {
 }
 
 /// Drops the history of an image, whose texts are there. None of the three is made, and the image is opened to be read alone; only
-/// where something is unfinished it is recovered before.
+/// where something is unfinished that was begun on it, it is recovered before.
 ///
 /// # Errors
-/// As of a look at the changes, but for texts that are damaged behind their first line or don't fit the image.
+/// As of a look at the changes, but for texts that are damaged behind their first line or don't fit the image; `ChangedSince` where
+/// something is unfinished and nothing tells whether it was begun on this image, or another one is named by `-J`.
 pub fn forget<'a, R>(
     rt: &R,
     target: &'a Target,
@@ -39,7 +43,7 @@ where
     match drop_history(rt, target, progress, true)? {
         Dropped::Whole => Ok(()),
         Dropped::Unfinished => {
-            recover_image(rt, target, progress)?;
+            recover_image(rt, target, false, progress)?;
             empty_texts(rt, target, progress)
         }
     }
@@ -69,13 +73,33 @@ where
     R: Files<File = File> + Print + Eprint + Clock + AllocGlobal,
 {
     let names = names_of(rt.alloc(), target)?;
-    let mut world = world_of(rt, target, progress);
-    match request_forget(&mut world, rt.alloc(), &names) {
+    let mut world = world_of(rt, target, progress)?;
+    match request_forget(&mut world, rt.alloc(), &names, guard_of(target)) {
         Ok(()) => {
-            forget_line(rt, target);
+            forget_line(&mut world, &names);
             Ok(Dropped::Whole)
         }
         Err(Unseen::Unfinished) if may_recover => Ok(Dropped::Unfinished),
-        Err(unseen) => Err(not_seen(rt, target, &world, unseen, None)),
+        Err(unseen) => {
+            let stopped = not_seen(rt, target, &world, unseen, None);
+            Err(told(rt, target, Way::Undo, stopped))
+        }
+    }
+}
+
+/// Takes the third text away, where the journal is empty. The files are locked meanwhile, so that no line of a later command is
+/// taken.
+pub fn forget_line<R>(world: &mut SystemWorld<'_, '_, R>, names: &Names)
+where
+    R: Files<File = File> + Print + Eprint + Clock + AllocGlobal,
+{
+    if let Ok(looked) = open_to_look(world, names) {
+        if looked
+            .journal
+            .metadata()
+            .is_ok_and(|found| found.len() == 0)
+        {
+            let _ = world.put_note(&[], true);
+        }
     }
 }

@@ -1,10 +1,10 @@
 //! dd onto an image, and its report.
 ghost use Rattle.bx_cli_commands.specs.jobs.Passing.{CanPass, plan_skip};
 
-use crate::advice::Advice;
 use crate::hints::remarks::Remarks;
 use crate::history::changes::{change_anew, change_image};
-use crate::jobs::ready::{Ready, plan_behind};
+use crate::history::told::look_for_others;
+use crate::jobs::ready::{Ready, most_of_dd, plan_behind};
 use crate::stopped::Stopped;
 use crate::streams::input::{Placed, file, standard};
 use bx_cli::{Command, DdImageJob, Fault, change_of_plan};
@@ -28,10 +28,8 @@ where
     R: Files<File = File> + Input + Print + Eprint + Clock + AllocGlobal,
 {
     let progress = remarks.progress_of_copy(rt, &job.plan);
-    let advice = Advice::before(rt, &job.target, job.fresh);
+    look_for_others(rt, &job.target, job.fresh, remarks);
     let counts = copy_input(rt, job, &progress, remarks)?;
-    advice.keep(rt, &job.target);
-    remarks.look_at_advice(advice.is_changed());
     if let Some(counts) = counts {
         remarks.look_at_counts(&counts);
         // One that can't be made or written is no fault: what it tells of is done.
@@ -69,6 +67,7 @@ where
     R: Files<File = File> + Print + Eprint + Clock + AllocGlobal,
     requires { CanPass input.passed (plan_skip job.now.plan) }
 {
+    remarks.tell_before_copy(rt, job, input.most(most_of_dd(&job.plan)));
     if job.fresh {
         return copy_anew(rt, job, input, progress, remarks);
     }

@@ -11,7 +11,7 @@ use bx_program_commands::Undiffed;
 use bx_program_system::SystemWorld;
 use bx_text::IoFault;
 use std::fs::File;
-use std::io::Write;
+use std::io::{self, ErrorKind, Write};
 use std::rt::Files;
 use std::time::Clock;
 
@@ -29,7 +29,45 @@ fn stopped<'a>(fault: DiffFault, job: &'a DiffJob, call: Option<FailedCall>) -> 
     }
 }
 
-/// Writes the patch from one file to another.
+/// What a patch is written to: an output, or nothing, which stops at the first line that tells a difference.
+#[derive(Drop)]
+struct Asked<'o, W> {
+    out: &'o mut W,
+    is_quiet: bool,
+    // whether a byte of a difference came
+    is_differing: bool,
+}
+
+impl<'o, W: Write> Asked<'o, W> {
+    /// An output that had nothing.
+    fn new(out: &'o mut W, is_quiet: bool) -> Asked<'o, W> {
+        Asked {
+            out,
+            is_quiet,
+            is_differing: false,
+        }
+    }
+}
+
+impl<W: Write> Write for Asked<'_, W> {
+    fn write(&mut self, buf: &[u8]) -> io::Result<usize> {
+        if !self.is_quiet {
+            return self.out.write(buf);
+        }
+        // The patch of equal files is its last line alone, and any other begins with the line on the lengths.
+        if buf.first() == Some(&b'l') {
+            self.is_differing = true;
+            return Err(io::Error::from(ErrorKind::Other));
+        }
+        Ok(buf.len())
+    }
+
+    fn flush(&mut self) -> io::Result<()> {
+        self.out.flush()
+    }
+}
+
+/// Writes the patch from one file to another, or answers whether they are equal.
 pub fn diff<'a, R, W: Write>(
     rt: &R,
     job: &'a DiffJob,
@@ -47,7 +85,12 @@ where
         Extent::Bytes
     };
     let (old, new) = (job.old.as_str(), job.new.as_str());
-    match request_diff(&mut world, rt.alloc(), old, new, extent, out) {
+    let mut asked = Asked::new(out, job.quiet);
+    let outcome = request_diff(&mut world, rt.alloc(), old, new, extent, &mut asked);
+    if asked.is_differing {
+        return Err(Stopped::differing());
+    }
+    match outcome {
         Ok(()) => Ok(()),
         Err(Undiffed::OldUnopened(why)) => Err(not_opened_alone(rt, old, why)),
         Err(Undiffed::NewUnopened(why)) => Err(not_opened_alone(rt, new, why)),

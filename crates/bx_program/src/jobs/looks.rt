@@ -1,5 +1,5 @@
 //! The jobs that show the changes of an image. Its files are only read; for a log, what is unfinished is recovered before.
-use crate::advice::{Advice, put_other};
+use crate::advice::{ANOTHER, Advice, put_other};
 use crate::devices::left::not_seen;
 use crate::files::look::refuse_without_journal;
 use crate::files::names::{names_of, world_of};
@@ -8,7 +8,7 @@ use crate::history::recover_image;
 use crate::requests::request_report;
 use crate::stopped::Stopped;
 use crate::streams::paged::Paged;
-use bx_cli::{Fault, LogJob, LookJob, ShowJob};
+use bx_cli::{Fault, LogJob, LookJob, ShowJob, Target};
 use bx_journal::{SessionFault, Steps, Way};
 use bx_program_commands::Report;
 use bx_program_files::Names;
@@ -36,7 +36,8 @@ where
     }
 }
 
-/// Shows the changes that stand, a line each; what is unfinished is recovered before.
+/// Shows the changes that stand, a line each; what is unfinished is recovered before, where the note says that it was begun on this
+/// image, or it goes on anyway. Else that is said, and no file is written.
 fn show_log<'a, R, W: Write>(
     rt: &R,
     job: &'a LogJob,
@@ -54,7 +55,7 @@ where
         Advice::none()
     };
     let names = names_of(rt.alloc(), target)?;
-    let mut world = world_of(rt, target, progress);
+    let mut world = world_of(rt, target, progress)?;
     let mut page = Paged::new(rt.alloc(), out);
     advice.put_in_log(rt.alloc(), &mut page).map_err(Fault::Io)?;
     let asked = if job.verbose {
@@ -64,12 +65,33 @@ where
     };
     let mut outcome = request_report(&mut world, rt.alloc(), &names, asked, &mut page);
     if outcome == Err(Unseen::Unfinished) {
-        recover_image(rt, target, progress)?;
-        outcome = request_report(&mut world, rt.alloc(), &names, asked, &mut page);
+        let report = match recover_image(rt, target, target.access.anyway, progress) {
+            Ok(()) => asked,
+            Err(stopped) if stopped.fault == Fault::ChangedSince => {
+                page.put_behind_line(another_line(rt, target));
+                Report::LogUnfinished {
+                    verbose: job.verbose,
+                }
+            }
+            Err(stopped) => return Err(stopped),
+        };
+        outcome = request_report(&mut world, rt.alloc(), &names, report, &mut page);
     }
     match outcome {
         Ok(()) => Ok(page.put()?),
         Err(unseen) => Err(not_seen(rt, target, &world, unseen, page.stopped)),
+    }
+}
+
+/// What stands behind the line on what is unfinished: that the image isn't the one that it was begun on, where it isn't.
+fn another_line<R>(rt: &R, target: &Target) -> &'static str
+where
+    R: Files<File = File> + Print + Eprint + Clock + AllocGlobal,
+{
+    if Advice::of(rt, target).is_another() == Some(true) {
+        ANOTHER
+    } else {
+        ""
     }
 }
 
@@ -89,7 +111,7 @@ where
     let mut page = Paged::new(rt.alloc(), out);
     put_other(is_other, &mut page).map_err(Fault::Io)?;
     let names = names_of(rt.alloc(), target)?;
-    let mut world = world_of(rt, target, progress);
+    let mut world = world_of(rt, target, progress)?;
     let asked = asked_of(job);
     match request_report(&mut world, rt.alloc(), &names, asked, &mut page) {
         Ok(()) => Ok(page.put()?),
@@ -134,6 +156,7 @@ where
     R: Files<File = File> + Print + Eprint + Clock + AllocGlobal,
 {
     let mut page = page;
+    page.put_behind_line(another_line(rt, &job.target));
     let steps = steps_of(job);
     let mut outcome = if steps.way == Way::Redo && steps.count > 0 {
         let fault = SessionFault::NothingToRedo { have: 0 };
@@ -148,6 +171,7 @@ where
         )
     };
     if are_too_few(&outcome) {
+        page.put_behind_line(another_line(rt, &job.target));
         let none = Report::ShowUnfinished(Steps { count: 0, ..steps });
         if let Err(unseen) = request_report(world, rt.alloc(), names, none, &mut page) {
             outcome = Err(unseen);

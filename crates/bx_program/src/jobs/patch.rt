@@ -1,12 +1,12 @@
 //! A patch, read and applied to an image.
 ghost use Rattle.bx_cli_commands.specs.Command.{IsNear};
 
-use crate::advice::Advice;
 use crate::devices::agreement::agree;
 use crate::files::look::is_device;
 use crate::hints::remarks::Remarks;
 use crate::history::changes::{change_anew, change_image};
 use crate::history::settle_image;
+use crate::history::told::look_for_others;
 use crate::jobs::previews::preview_patch;
 use crate::stopped::{Noted, STANDARD_INPUT, Stopped};
 use crate::streams::input::{MOST_INPUT, Placed, whole};
@@ -18,6 +18,7 @@ use bx_text::Source;
 use std::alloc::Global;
 use std::fs::File;
 use std::io::{Empty, Read, Write};
+use std::mem::swap;
 use std::rt::Files;
 use std::time::Clock;
 
@@ -32,28 +33,86 @@ where
     R: Files<File = File> + Input + Print + Eprint + Clock + AllocGlobal,
 {
     let patch = read_named(rt, job, remarks)?;
-    let resizes = changes_length(&patch);
-    remarks.look_at_patch(resizes || !patch.written.is_empty());
     let image = job.target.image.as_str();
-    if resizes && is_device(rt, image) {
+    if changes_length(&patch) && is_device(rt, image) {
         return Err(Stopped::fixed(image));
     }
     let progress = remarks.progress_of_input(rt, None);
     if job.dry_run {
         return preview_patch(rt, &job.target, patch, &progress, out);
     }
-    let advice = Advice::before(rt, &job.target, job.fresh);
+    if patch.changes_nothing() {
+        remarks.look_at_no_change();
+        return agree(rt, image, &patch, &progress);
+    }
+    apply(rt, job, patch, &progress, remarks)
+}
+
+/// Applies a patch that was read, and changes something.
+fn apply<'a, R>(
+    rt: &R,
+    job: &'a PatchJob,
+    patch: Patch,
+    progress: &Progress<'_, R>,
+    remarks: &mut Remarks,
+) -> Result<(), Stopped<'a>>
+where
+    R: Files<File = File> + Print + Eprint + Clock + AllocGlobal,
+{
+    let image = job.target.image.as_str();
+    let mut patch = patch;
+    let is_applied = remarks.are_wanted() && is_applied(rt, image, &mut patch, progress);
+    match change_by(rt, job, patch, progress, remarks) {
+        Err(stopped) if is_applied => Err(stopped.on_applied(image, job.reverse)),
+        outcome => outcome,
+    }
+}
+
+/// Whether an image isn't what a patch expects, and has what it writes.
+fn is_applied<R>(rt: &R, image: &str, patch: &mut Patch, progress: &Progress<'_, R>) -> bool
+where
+    R: Files<File = File> + Eprint + Clock + AllocGlobal,
+{
+    if agree(rt, image, patch, progress).is_ok() {
+        return false;
+    }
+    turn(patch);
+    let is_there = agree(rt, image, patch, progress).is_ok();
+    turn(patch);
+    is_there
+}
+
+/// Exchanges what a patch expects and what it writes.
+fn turn(patch: &mut Patch) {
+    swap(&mut patch.expected, &mut patch.written);
+    if let Some(lengths) = &mut patch.lengths {
+        swap(&mut lengths.old, &mut lengths.new);
+    }
+}
+
+/// Applies a patch, with whose change the history may begin anew.
+fn change_by<'a, R>(
+    rt: &R,
+    job: &'a PatchJob,
+    patch: Patch,
+    progress: &Progress<'_, R>,
+    remarks: &mut Remarks,
+) -> Result<(), Stopped<'a>>
+where
+    R: Files<File = File> + Print + Eprint + Clock + AllocGlobal,
+{
+    let image = job.target.image.as_str();
+    remarks.tell_before_patch(rt, &job.target, &patch);
+    look_for_others(rt, &job.target, job.fresh, remarks);
     let target = &job.target;
     if job.fresh {
         // Nothing is dropped for a patch with which the image doesn't agree, once it is recovered.
-        settle_image(rt, target, &progress)?;
-        agree(rt, image, &patch, &progress)?;
-        change_anew(rt, target, Task::Run(asking(patch)), &progress, remarks)?;
+        settle_image(rt, target, progress)?;
+        agree(rt, image, &patch, progress)?;
+        change_anew(rt, target, Task::Run(asking(patch)), progress, remarks)?;
     } else {
-        change_image(rt, target, Task::Run(asking(patch)), &progress, remarks)?;
+        change_image(rt, target, Task::Run(asking(patch)), progress, remarks)?;
     }
-    advice.keep(rt, &job.target);
-    remarks.look_at_advice(advice.is_changed());
     Ok(())
 }
 
@@ -119,7 +178,10 @@ fn asked_of<'a>(
     text: Vec<u8>,
 ) -> Result<Patch, Stopped<'a>> {
     match read_patch(alloc, text.as_slice()) {
-        Ok(patch) if job.reverse => Ok(patch.reversed()),
+        Ok(patch) if job.reverse => match patch.reversed() {
+            Some(turned) => Ok(turned),
+            None => Err(Stopped::from(Fault::NotReversible)),
+        },
         Ok(patch) => Ok(patch),
         Err(fault) => {
             let stopped = Stopped::from(Fault::Patch(fault));

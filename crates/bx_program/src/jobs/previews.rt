@@ -76,7 +76,7 @@ where
     R: Files<File = File> + Print + Eprint + Clock + AllocGlobal,
 {
     let name = target.image.as_str();
-    let mut world = world_of(rt, target, progress);
+    let mut world = world_of(rt, target, progress)?;
     match request_preview(&mut world, rt.alloc(), name, proposal, out) {
         Ok(counts) => Ok(counts),
         Err(Unpreviewed::Unopened(why)) => Err(not_opened_alone(rt, name, why)),

@@ -107,6 +107,7 @@ where
     R: Input,
     ensures { CanPass result.passed skip }
 {
+    // The kit has no seek for it, a file there too; `/dev/stdin` opened anew would begin at its first byte.
     Placed {
         name: STANDARD_INPUT,
         reader: rt.reader(),

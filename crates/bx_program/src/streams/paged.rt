@@ -1,7 +1,7 @@
 //! Output that is gathered.
 use bx_cli::Fault;
 use bx_text::{IoFault, emit_after};
-use std::alloc::Global;
+use std::alloc::{AllocError, Global};
 use std::io::{self, ErrorKind, Write};
 
 /// How many bytes are gathered before they are written.
@@ -13,6 +13,8 @@ pub struct Paged<'a, W> {
     out: &'a mut W,
     page: Vec<u8>,
     written: u64,
+    // what is put behind the next line
+    behind: &'static str,
     /// What stopped it.
     pub stopped: Option<IoFault>,
 }
@@ -24,7 +26,30 @@ impl<'a, W: Write> Paged<'a, W> {
             out,
             page: Vec::new(alloc),
             written: 0,
+            behind: "",
             stopped: None,
+        }
+    }
+
+    /// Has this text put behind the line that is written next; nothing where it is empty.
+    pub fn put_behind_line(&mut self, text: &'static str) {
+        self.behind = text;
+    }
+
+    /// Gathers bytes, and behind their first newline what is to be put there.
+    fn gather(&mut self, bytes: &[u8]) -> Result<(), AllocError> {
+        if self.behind.is_empty() {
+            return self.page.extend_from_slice(bytes);
+        }
+        match bytes.iter().position(|byte| *byte == b'\n') {
+            Some(end) => {
+                let (line, rest) = bytes.split_at(end.saturating_add(1).min(bytes.len()));
+                self.page.extend_from_slice(line)?;
+                self.page.extend_from_slice(self.behind.as_bytes())?;
+                self.behind = "";
+                self.page.extend_from_slice(rest)
+            }
+            None => self.page.extend_from_slice(bytes),
         }
     }
 
@@ -54,7 +79,7 @@ impl<W: Write> Write for Paged<'_, W> {
         if self.page.len() >= PAGE && self.put().is_err() {
             return Err(io::Error::from(ErrorKind::Other));
         }
-        match self.page.extend_from_slice(buf) {
+        match self.gather(buf) {
             Ok(()) => Ok(buf.len()),
             Err(_) => {
                 self.stopped = Some(IoFault::NoMemory);

@@ -1,0 +1,159 @@
+//! How many changes stand and are undone: before a command, behind it, and where it was stopped.
+use crate::hints::commands::operands_of;
+use crate::hints::quoted::quoted;
+use crate::hints::tail::{Tail, tail_of};
+use bx_cli::{ChangeJob, Fault, Job, StepsJob, Target};
+use bx_journal::{SessionFault, Way};
+use std::alloc::{AllocError, Global};
+use std::fs::File;
+use std::rt::Files;
+
+/// The ends of a journal and its redo file.
+#[derive(Clone, Copy)]
+pub struct Standing {
+    journal: Tail,
+    redo: Tail,
+}
+
+impl Standing {
+    /// What stands now.
+    pub fn of<R: Files<File = File>>(rt: &R, target: &Target) -> Standing {
+        Standing {
+            journal: tail_of(rt, target.texts.journal.as_str()),
+            redo: tail_of(rt, target.texts.redo.as_str()),
+        }
+    }
+
+    /// How many changes a history has that is dropped, and how many that are undone; what is unfinished is recovered before,
+    /// and nothing is undone then.
+    fn dropped(self) -> Option<(u32, u32)> {
+        let changes = self.journal.finished()?;
+        let undone = match self.journal {
+            Tail::Finished(_) => self.redo.finished()?,
+            Tail::Begun(_) | Tail::Unknown => 0,
+        };
+        Some((changes, undone))
+    }
+}
+
+/// Says, before an undo or a redo, that it first takes back what is unfinished, and what it then does.
+pub fn tell_of_begun<R: Eprint + AllocGlobal>(
+    rt: &R,
+    standing: &Standing,
+    way: Way,
+    job: &StepsJob,
+) {
+    let Tail::Begun(number) = standing.journal else {
+        return;
+    };
+    if job.count == 0 {
+        return;
+    }
+    if let Ok(text) = begun_text(rt.alloc(), &job.target, way, number) {
+        let _ = eprintln!(rt; "hint: {text}");
+    }
+}
+
+/// What is said of it.
+fn begun_text(alloc: Global, target: &Target, way: Way, number: u32) -> Result<String, AllocError> {
+    let name = quoted(alloc, target.image.as_str())?;
+    match way {
+        Way::Undo => {
+            let operands = operands_of(alloc, target)?;
+            format!(in alloc;
+                "{name}: change {number} is unfinished and is taken back first, and then the undo is made too; where it was an undo that was stopped, bx undo -k 0{operands} would have finished it alone"
+            )
+        }
+        Way::Redo => {
+            format!(in alloc;
+                "{name}: change {number} is unfinished and is taken back first, and then nothing can be made again"
+            )
+        }
+    }
+}
+
+/// Says which changes were taken back or made again, and how many are left.
+pub fn tell_of_steps<R>(rt: &R, name: &str, way: Way, job: &StepsJob)
+where
+    R: Files<File = File> + Eprint + AllocGlobal,
+{
+    let now = Standing::of(rt, &job.target);
+    let (Some(changes), Some(undone)) = (now.journal.finished(), now.redo.finished()) else {
+        return;
+    };
+    if job.count == 0 {
+        return;
+    }
+    let text = match way {
+        Way::Undo => undone_text(rt.alloc(), changes, job.count),
+        Way::Redo => redone_text(rt.alloc(), changes, job.count, undone),
+    };
+    if let Ok(text) = text {
+        let _ = eprintln!(rt; "hint: {name}: {text}");
+    }
+}
+
+/// What is said of as many changes that were taken back, before which this many stand.
+fn undone_text(alloc: Global, left: u32, count: u32) -> Result<String, AllocError> {
+    let last = left.saturating_add(1);
+    let first = left.saturating_add(count);
+    if count == 1 {
+        return format!(in alloc; "change {first} is taken back; left to undo: {left}");
+    }
+    format!(in alloc; "changes {first} to {last} are taken back; left to undo: {left}")
+}
+
+/// The same of changes that were made again; the last has this number.
+fn redone_text(alloc: Global, last: u32, count: u32, left: u32) -> Result<String, AllocError> {
+    let first = last.saturating_sub(count).saturating_add(1);
+    if count == 1 {
+        return format!(in alloc; "change {last} is made again; left to redo: {left}");
+    }
+    format!(in alloc; "changes {first} to {last} are made again; left to redo: {left}")
+}
+
+/// Says how much of a history was dropped.
+pub fn tell_of_dropped<R: Eprint>(rt: &R, name: &str, standing: &Standing) {
+    match standing.dropped() {
+        Some((changes, undone)) if changes > 0 || undone > 0 => {
+            let _ = eprintln!(rt;
+                "hint: {name}: its history is dropped; changes: {changes}, undone: {undone}"
+            );
+        }
+        Some(_) | None => {}
+    }
+}
+
+/// What is said of an undo or a redo that was stopped in the middle: which change it was, and what the next command makes of it.
+/// None of another job, and where the journal's end doesn't tell the change.
+pub fn stopped_text<R>(rt: &R, job: &Job, fault: Fault) -> Result<Option<String>, AllocError>
+where
+    R: Files<File = File> + AllocGlobal,
+{
+    let (way, target) = match (job, fault) {
+        (Job::Change(ChangeJob::Undo(job)), Fault::Session(SessionFault::Interrupted)) => {
+            (Way::Undo, &job.target)
+        }
+        (Job::Change(ChangeJob::Redo(job)), Fault::Session(SessionFault::Interrupted)) => {
+            (Way::Redo, &job.target)
+        }
+        _ => return Ok(None),
+    };
+    match tail_of(rt, target.texts.journal.as_str()) {
+        Tail::Begun(number) => Ok(Some(stopped_at(rt.alloc(), target, way, number)?)),
+        Tail::Finished(_) | Tail::Unknown => Ok(None),
+    }
+}
+
+/// What is said of one that was stopped at this change.
+fn stopped_at(alloc: Global, target: &Target, way: Way, number: u32) -> Result<String, AllocError> {
+    let operands = operands_of(alloc, target)?;
+    match way {
+        Way::Undo => format!(in alloc;
+            "the undo of change {number} was stopped, and the next command of any kind but bx show finishes it; a second bx undo then takes back one change more, and bx undo -k 0{operands} none"
+        ),
+        Way::Redo => format!(in alloc;
+            "the redo of change {number} was stopped, and the next command of any kind but bx show takes it back and gives up what was undone; look by bx show{operands}, which writes nothing"
+        ),
+    }
+}

@@ -1,0 +1,77 @@
+//! What stands at the end of a journal or a redo file, as far as a hint tells it: nothing else rests on it.
+use bx_journal_image::end_of;
+use bx_program_system::open_to_read;
+use std::fs::{self, File};
+use std::io::{ErrorKind, Seek, SeekFrom};
+use std::os::unix::fs::FileExt;
+use std::rt::Files;
+
+/// How many bytes are read: an end line, and the `save` line before it.
+const LAST: usize = 128;
+
+/// The last entry of a text.
+#[derive(Clone, Copy)]
+pub enum Tail {
+    /// It is finished, and has this number; 0 where there is none, and where the text is missing.
+    Finished(u32),
+    /// It is unfinished behind its `save` line, and has this number.
+    Begun(u32),
+    /// What it is isn't known.
+    Unknown,
+}
+
+impl Tail {
+    /// How many finished entries stand in the text, where that is known.
+    pub fn finished(self) -> Option<u32> {
+        match self {
+            Tail::Finished(number) => Some(number),
+            Tail::Begun(number) => Some(number.saturating_sub(1)),
+            Tail::Unknown => None,
+        }
+    }
+}
+
+/// What stands at the end of the text of this name.
+pub fn tail_of<R: Files<File = File>>(rt: &R, name: &str) -> Tail {
+    match fs::symlink_metadata(rt, name) {
+        Ok(found) if found.is_file() && found.len() == 0 => Tail::Finished(0),
+        Ok(found) if found.is_file() => read_tail(rt, name).unwrap_or(Tail::Unknown),
+        Ok(_) => Tail::Unknown,
+        Err(error) if error.kind() == ErrorKind::NotFound => Tail::Finished(0),
+        Err(_) => Tail::Unknown,
+    }
+}
+
+/// The same of a regular file that isn't empty; none where it isn't read.
+fn read_tail<R: Files<File = File>>(rt: &R, name: &str) -> Option<Tail> {
+    let file = open_to_read(rt, name).ok()?;
+    let length = (&file).seek(SeekFrom::End(0)).ok()?;
+    let mut bytes = [0u8; LAST];
+    let count = length.min(LAST as u64) as usize;
+    let read = file
+        .read_at(&mut bytes[..count], length - count as u64)
+        .ok()?;
+    Some(judged(&bytes[..read.min(count)]))
+}
+
+/// What the last bytes of a text tell.
+fn judged(bytes: &[u8]) -> Tail {
+    match end_of(bytes) {
+        Some(number) => Tail::Finished(number),
+        None => match saved(bytes) {
+            Some(number) => Tail::Begun(number),
+            None => Tail::Unknown,
+        },
+    }
+}
+
+/// The number of a `save` line behind which no whole line stands.
+fn saved(bytes: &[u8]) -> Option<u32> {
+    let mut lines = bytes.rsplit(|byte| *byte == b'\n');
+    let _behind = lines.next();
+    let digits = lines.next()?.strip_prefix(b"save ")?;
+    if digits.len() != 8 {
+        return None;
+    }
+    u32::from_str_radix(str::from_utf8(digits).ok()?, 16).ok()
+}

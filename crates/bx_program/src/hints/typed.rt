@@ -1,0 +1,24 @@
+//! Standard input that a person types.
+use bx_cli::{ChangeJob, Job};
+
+/// Says that a job that changes an image reads what is typed, before it does.
+pub fn tell_of_typing<R: Eprint>(rt: &R, job: &Job) {
+    let Some((what, other)) = typed(job) else {
+        return;
+    };
+    let _ = eprintln!(rt;
+        "hint: {what} is read from the terminal, up to control-D at the start of a line; {other} names a file"
+    );
+}
+
+/// What a job reads from standard input before it changes an image, and how a file is named in its place.
+fn typed(job: &Job) -> Option<(&'static str, &'static str)> {
+    match job {
+        Job::Change(ChangeJob::Revert(job)) if job.dump.is_none() => Some(("a dump", "-f DUMP")),
+        Job::Change(ChangeJob::Patch(job)) if job.patch.is_none() => Some(("a patch", "-f PATCH")),
+        Job::Change(ChangeJob::Dd(job)) if job.plan.input.is_none() => {
+            Some(("the input", "if=FILE"))
+        }
+        Job::Change(_) | Job::Dump(_) | Job::Look(_) | Job::Diff(_) | Job::Help { .. } => None,
+    }
+}

@@ -1,0 +1,44 @@
+//! What is said of an image that isn't the one that was left, or on which what is unfinished was begun.
+use crate::advice::Advice;
+use crate::files::look::is_missing;
+use crate::hints::remarks::Remarks;
+use crate::stopped::{Reason, Stopped};
+use bx_cli::{Fault, Target};
+use bx_journal::Way;
+use std::fs::File;
+use std::rt::Files;
+use std::time::Clock;
+
+/// The same of what stopped a command that goes this way, with what is known of the image, where that is another one.
+pub fn told<'a, R>(rt: &R, target: &'a Target, way: Way, stopped: Stopped<'a>) -> Stopped<'a>
+where
+    R: Files<File = File> + Print + Eprint + Clock + AllocGlobal,
+{
+    if stopped.fault != Fault::ChangedSince {
+        return stopped;
+    }
+    let image = target.image.as_str();
+    if is_missing(rt, image) {
+        return Stopped::gone(stopped.fault, image);
+    }
+    let advice = Advice::of(rt, target);
+    if advice.is_at_rest() {
+        return Stopped::since(image, advice.is_other(way));
+    }
+    Stopped {
+        reason: Reason::Another {
+            is_told: advice.is_another().is_some(),
+        },
+        ..stopped
+    }
+}
+
+/// Looks, for the hint behind a change that begins no new history, whether the image isn't the one that the last command left.
+pub fn look_for_others<R>(rt: &R, target: &Target, fresh: bool, remarks: &mut Remarks)
+where
+    R: Files<File = File> + Print + Eprint + Clock + AllocGlobal,
+{
+    if !fresh && remarks.are_wanted() {
+        remarks.look_at_advice(Advice::of(rt, target).is_changed());
+    }
+}
