@@ -1,10 +1,12 @@
 //! Cases of patches.
 mod apply;
+mod fronts;
 mod growths;
 mod read;
 mod write;
 
 use crate::patches::apply::makes_new;
+use crate::patches::fronts::{of_read, of_written};
 use crate::patches::growths::{ReadOf, WriteOf};
 use crate::patches::read::read_once;
 use crate::patches::write::{calls, whole};
@@ -18,12 +20,13 @@ use test_case_sessions::sweep::hunt::each_growth;
 const MOST_SQUEEZED: usize = 4096;
 
 /// The ways in which a case of patches is played.
-pub static SWEEPS: [&str; 5] = [
+pub static SWEEPS: [&str; 6] = [
     "written or read",
     "put onto the old image",
     "bytes one by one",
     "writes failing",
     "growths refused",
+    "fronts refused",
 ];
 
 /// Plays a case in one way. Tells how often.
@@ -33,6 +36,7 @@ pub fn play_patch(alloc: Global, case: &PatchCase, sweep: usize) -> Result<u32, 
         PatchCase::Read(case) => match sweep {
             0 => read_once(alloc, case),
             4 => each_growth(alloc, &ReadOf { case }),
+            5 => of_read(alloc, case),
             _ => Ok(0),
         },
     }
@@ -46,6 +50,7 @@ fn play_written(alloc: Global, case: &PatchWritten, sweep: usize) -> Result<u32,
         2 => both(alloc, case, 1),
         3 if case.sum.is_none() => calls(alloc, case),
         4 if is_small(case) => each_growth(alloc, &WriteOf { case }),
+        5 if case.sum.is_none() => of_written(alloc, case),
         _ => Ok(0),
     }
 }

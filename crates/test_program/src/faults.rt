@@ -15,7 +15,7 @@ fn shows(alloc: Global, fault: Fault, text: &str) -> bool {
 }
 
 // What several crates have has one number and one text.
-static FAULTS: [(Fault, u8, &str); 45] = [
+static FAULTS: [(Fault, u8, &str); 49] = [
     (Fault::Io(IoFault::NoMemory), 1, "out of memory"),
     (Fault::Io(IoFault::ReadFailed), 2, "read failed"),
     (
@@ -53,6 +53,14 @@ static FAULTS: [(Fault, u8, &str); 45] = [
         19,
         "line 4: past the length",
     ),
+    (Fault::Patch(PatchFault::NoEnd), 28, "the patch has no end"),
+    (
+        Fault::Patch(PatchFault::BadCount { line: 5 }),
+        35,
+        "line 5: bad count of lines",
+    ),
+    (Fault::NotReversible, 29, "the patch can't be turned round"),
+    (Fault::NothingToWrite, 32, "nothing to write"),
     (
         Fault::Disagrees(Other::Bytes {
             at: 18446744073709551615,

@@ -4,7 +4,8 @@ ghost use Rattle.bx_cli_commands.specs.Command.{IsNear};
 ghost use Rattle.bx_program_sessions.specs.Task.{IsNearTask};
 
 use crate::report::Wrong;
-use bx_cli_commands::{Command, Form, Reply, change_from};
+use crate::setting::CAREFUL;
+use bx_cli_commands::{Command, Fault, Form, Reply, change_from};
 use bx_dd::{Counts, parse};
 use bx_image::{Change, Fuse};
 use bx_patch::read_patch;
@@ -12,7 +13,7 @@ use bx_program_files::Names;
 use bx_program_sessions::{Task, change_files};
 use bx_program_world::{LentInput, MemoryWorld, Plan};
 use bx_read::ReadFault;
-use bx_text::{Bytes, Source, Words};
+use bx_text::{Bytes, Pieces, Source, Words};
 use std::alloc::Global;
 use test_case_files::{Answer, Ask, Records};
 
@@ -65,9 +66,10 @@ fn patch_of(alloc: Global, text: &[u8], reversed: bool) -> Result<Command<LentIn
     ensures { IfOk result IsNear }
 {
     match read_patch(alloc, text) {
-        Ok(patch) if reversed => Ok(Command::Patch {
-            patch: patch.reversed(),
-        }),
+        Ok(patch) if reversed => match patch.reversed() {
+            Some(patch) => Ok(Command::Patch { patch }),
+            None => Err(Wrong::Unknown),
+        },
         Ok(patch) => Ok(Command::Patch { patch }),
         Err(_) => Err(Wrong::Unknown),
     }
@@ -108,6 +110,11 @@ fn read_as(
     let mut source = Source::new(text, MOST_TEXT);
     match change_from(&alloc, &mut source, form, at.min(MOST_PLACE), 0) {
         Ok(read) => Ok(read),
+        // The program refuses it before anything is opened; the session's row on it stays.
+        Err(Fault::NothingToWrite) => Ok(Ok(Change {
+            base: None,
+            writes: Pieces::from_vec(Vec::new(alloc)),
+        })),
         Err(_) => Err(Wrong::Unknown),
     }
 }
@@ -235,5 +242,5 @@ pub fn change(
     requires { IsNearTask task }
 {
     world.begin(plan);
-    change_files(world, alloc, names, false, task)
+    change_files(world, alloc, names, CAREFUL, task)
 }

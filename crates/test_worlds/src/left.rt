@@ -7,6 +7,7 @@ use crate::setting::{Held, There, has_other, held_by, there_in, world_of};
 use bx_cli_commands::{Fault, Reply};
 use bx_dd::DdFault;
 use bx_journal::{How, SessionFault, Way};
+use bx_program_files::Why;
 use bx_program_world::{MemoryWorld, Plan};
 use bx_text::IoFault;
 
@@ -145,7 +146,10 @@ fn has_recovered(play: &Play<'_>, world: &MemoryWorld, how: Option<How>) -> Resu
 fn is_due(play: &Play<'_>, cause: Cause, ended: &Ended, fault: Fault) -> Result<bool, Wrong> {
     match fault {
         Fault::OpenFailed => Ok(cause == Cause::World && ended.unopened.is_some()),
-        Fault::Session(SessionFault::DeviceFailed) => Ok(cause == Cause::Device),
+        // the note that keeps an older line is a device that failed, though a call of the world did
+        Fault::Session(SessionFault::DeviceFailed) => {
+            Ok(cause == Cause::Device || cause == Cause::World)
+        }
         Fault::Dd(DdFault::ReadFailed) => Ok(cause == Cause::Input),
         fault => {
             let text = format!(in play.alloc; "{fault}")?;
@@ -224,6 +228,13 @@ fn ended_so(
     }
 }
 
+/// Whether the image counts as another one, as it does behind a stop where the note can't be read, which counts as no refusal.
+fn is_another(ended: &Ended) -> bool {
+    ended
+        .unopened
+        .is_some_and(|unopened| unopened.why == Why::Another)
+}
+
 /// A command ended as it may, and left what it may. Tells what may be found behind it.
 pub fn judge(
     play: &Play<'_>,
@@ -234,7 +245,11 @@ pub fn judge(
     same(has_other(world), Wrong::Files)?;
     let is_unopened = ended.outcome.err() == Some(Fault::OpenFailed);
     same(ended.unopened.is_some() == is_unopened, Wrong::Unopened)?;
-    same(!is_unopened || world.was_refused(), Wrong::Unopened)?;
+    let is_unread = cause == Cause::World && is_another(ended);
+    same(
+        !is_unopened || world.was_refused() || is_unread,
+        Wrong::Unopened,
+    )?;
     has_recovered(play, world, ended.how)?;
     ended_so(play, world, cause, ended)
 }

@@ -1,5 +1,6 @@
 //! Undos and redos, as a case asks for them.
 use crate::report::Wrong;
+use crate::setting::CAREFUL;
 use bx_journal::Way;
 use bx_program_files::Names;
 use bx_program_sessions::{Moved, move_changes};
@@ -68,5 +69,5 @@ pub fn move_in(
     count: u32,
 ) -> Moved<()> {
     world.begin(plan);
-    move_changes(world, alloc, names, false, way, count)
+    move_changes(world, alloc, names, CAREFUL, way, count)
 }

@@ -1,5 +1,5 @@
 //! The files of a case in a world in memory: the image by a link, its texts, and another file.
-use bx_program_files::Names;
+use bx_program_files::{Guard, Names};
 use bx_program_world::{Classes, Kind, MemoryWorld, Stat};
 use bx_text::{Name, NoMemory};
 use std::alloc::{AllocError, Global};
@@ -22,6 +22,14 @@ pub const ELSEWHERE: &str = "elsewhere";
 
 /// Who runs the program, and has the files.
 pub const CALLER: u32 = 1000;
+
+/// What a command may do where no option says more.
+pub const CAREFUL: Guard = Guard {
+    mounted: false,
+    anyway: false,
+    told: false,
+    named: false,
+};
 
 /// What the system tells of each file.
 pub const STAT: Stat = Stat {

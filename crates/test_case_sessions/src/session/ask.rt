@@ -10,7 +10,7 @@ use bx_dd::parse;
 use bx_image::{Change, Device};
 use bx_journal::{Session, SessionFault};
 use bx_journal_store::TextStore;
-use bx_patch::read_patch;
+use bx_patch::{Patch, read_patch};
 use bx_text::{Bytes, IoFault, Piece, Pieces, Words};
 use std::alloc::{Allocator, Global};
 use test_arena::{squeeze, used};
@@ -150,12 +150,26 @@ fn apply<D: Device, T: TextStore, A: Allocator + Clone>(
     reversed: bool,
     limit: Limit<'_>,
 ) -> Result<Reply, Wrong> {
-    let patch = match read_patch(alloc.clone()?, text) {
-        Ok(patch) if reversed => patch.reversed(),
-        Ok(patch) => patch,
-        Err(fault) => return Ok(Reply::Refused(Fault::from(fault))),
-    };
-    run_one(alloc, session, Command::Patch { patch }, limit)
+    match asked_of(alloc.clone()?, text, reversed) {
+        Ok(patch) => run_one(alloc, session, Command::Patch { patch }, limit),
+        Err(fault) => Ok(Reply::Refused(fault)),
+    }
+}
+
+/// What the text of a patch asks, or the same the other way round.
+fn asked_of<A: Allocator + Clone>(
+    alloc: A,
+    text: &[u8],
+    reversed: bool,
+) -> Result<Patch<A>, Fault> {
+    match read_patch(alloc, text) {
+        Ok(patch) if reversed => match patch.reversed() {
+            Some(turned) => Ok(turned),
+            None => Err(Fault::NotReversible),
+        },
+        Ok(patch) => Ok(patch),
+        Err(fault) => Err(Fault::Patch(fault)),
+    }
 }
 
 fn ask_change<D: Device, T: TextStore, A: Allocator + Clone>(

@@ -7,7 +7,7 @@ use bx_image::Change;
 use bx_text::{IoFault, Source};
 use std::alloc::{Allocator, Global};
 use test_case_files::{ReadingCase, Reads};
-use test_case_sessions::report::compare::{Wrong, differs, no_fault};
+use test_case_sessions::report::compare::{Wrong, differs, no_fault, same_number};
 use test_case_sessions::session::ask::{Limit, eased, limit_to};
 use test_case_sessions::sweep::hunt::Call;
 
@@ -53,10 +53,22 @@ fn reads_from<A: Allocator + Clone>(
     match change_from(memory, &mut source, form, 0, expected) {
         Ok(Ok(change)) => same_change(alloc, &case.reads, &change)?,
         Ok(Err(fault)) => refused(alloc, &case.reads, Fault::from(fault))?,
-        Err(IoFault::NoMemory) => return Ok(false),
-        Err(fault) => refused(alloc, &case.reads, Fault::from(fault))?,
+        Err(Fault::Io(IoFault::NoMemory)) => return Ok(false),
+        Err(Fault::NothingToWrite) => no_bytes(alloc, &case.reads)?,
+        Err(fault) => refused(alloc, &case.reads, fault)?,
     }
     Ok(true)
+}
+
+/// The case tells no bytes.
+fn no_bytes(alloc: Global, reads: &Reads) -> Result<(), Wrong> {
+    let count = match reads {
+        Reads::Pieces(wanted) => wanted.len(),
+        Reads::Runs(wanted) => wanted.len(),
+        Reads::Bytes(wanted) => wanted.len(),
+        Reads::Fault(wanted) => return Err(no_fault(alloc, wanted.as_str())),
+    };
+    same_number(alloc, "bytes", count as u64, 0)
 }
 
 /// The change places the bytes that the case tells, by one write for each run.

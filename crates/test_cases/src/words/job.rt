@@ -59,6 +59,7 @@ fn access_field<'a>(access: Access, name: &str) -> Field<'a> {
     match name {
         "unsynced" => flag(access.durability == Durability::Unsynced),
         "mounted" => flag(access.mounted),
+        "anyway" => flag(access.anyway),
         _ => Field::Missing,
     }
 }
@@ -167,7 +168,9 @@ fn dd_field<'a>(job: &'a DdJob, name: &str) -> Field<'a> {
 fn dd_image_field<'a>(job: &'a DdImageJob, name: &str) -> Field<'a> {
     match name {
         "operands" => Field::Joined(&job.operands),
-        "journal" | "redo" | "unsynced" | "mounted" => target_field(&job.target, name),
+        "journal" | "redo" | "unsynced" | "mounted" | "anyway" => {
+            target_field(&job.target, name)
+        }
         "fresh" => flag(job.fresh),
         "dry_run" => flag(job.dry_run),
         _ => plan_field(&job.plan, name),
@@ -229,7 +232,7 @@ fn forget_field<'a>(job: &'a ForgetJob, name: &str) -> Field<'a> {
 /// A field of the image that a job works on.
 fn target_field<'a>(target: &'a Target, name: &str) -> Field<'a> {
     match name {
-        "unsynced" | "mounted" => access_field(target.access, name),
+        "unsynced" | "mounted" | "anyway" => access_field(target.access, name),
         _ => image_field(target, name),
     }
 }
@@ -247,7 +250,6 @@ fn image_field<'a>(target: &'a Target, name: &str) -> Field<'a> {
 fn steps_field<'a>(job: &'a StepsJob, name: &str) -> Field<'a> {
     match name {
         "count" => Field::Number(job.count as u64),
-        "anyway" => flag(job.anyway),
         _ => target_field(&job.target, name),
     }
 }
@@ -272,6 +274,7 @@ fn show_field<'a>(job: &'a ShowJob, name: &str) -> Field<'a> {
 fn diff_field<'a>(job: &'a DiffJob, name: &str) -> Field<'a> {
     match name {
         "rows" => flag(job.rows),
+        "quiet" => flag(job.quiet),
         "old" => Field::Text(job.old.as_str()),
         "new" => Field::Text(job.new.as_str()),
         _ => Field::Missing,

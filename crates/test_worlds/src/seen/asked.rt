@@ -3,6 +3,7 @@ ghost use Rattle.std.specs.Prelude.{◌≡◌, None};
 
 use crate::left::Cause;
 use crate::report::Wrong;
+use crate::setting::CAREFUL;
 use crate::sweeps::Failing;
 use bx_cli_commands::{Done, DumpJob, Fault};
 use bx_dd::{Counts, Plan as DdPlan, parse};
@@ -184,7 +185,10 @@ fn put_diff<O: Write>(
 fn forget<O: Write>(world: &mut MemoryWorld, alloc: Global, names: &Names, out: &mut O) -> Outcome
     requires { (⟦<MemoryWorld as World>⟧.sight world.old).lent ≡ None }
 {
-    let request: Request<'_, Empty> = Request::Forget { names };
+    let request: Request<'_, Empty> = Request::Forget {
+        names,
+        guard: CAREFUL,
+    };
     match run_request(world, alloc, request, out) {
         Answer::Forgotten(Ok(())) => Ok(None),
         Answer::Forgotten(Err(unseen)) => Err(unseen),

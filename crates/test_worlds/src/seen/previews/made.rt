@@ -3,7 +3,7 @@ ghost use Rattle.bx_program_commands.specs.Commands.{IsNearRequest};
 
 use crate::report::Wrong;
 use crate::seen::asked::whole_change;
-use crate::setting::{Held, Kept, held_by, world_of};
+use crate::setting::{CAREFUL, Held, Kept, held_by, world_of};
 use bx_journal::Way;
 use bx_program_commands::{Outcome, Request, run_request};
 use bx_program_files::Names;
@@ -42,7 +42,7 @@ pub fn changed(alloc: Global, names: &Names, case: &PatchWritten) -> Result<Kept
     let change = whole_change(alloc, case.new.as_slice())?;
     let request = Request::Change {
         names,
-        mounted: false,
+        guard: CAREFUL,
         task: Task::Put(Ok(change)),
     };
     held_behind(alloc, world, request)
@@ -53,7 +53,7 @@ pub fn taken_back(alloc: Global, names: &Names, held: Held<'_>) -> Result<Kept, 
     let world = world_of(alloc, held)?;
     let request = Request::Move {
         names,
-        mounted: false,
+        guard: CAREFUL,
         way: Way::Undo,
         count: 1,
     };
