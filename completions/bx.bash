@@ -19,7 +19,7 @@ _bx_images() {
 
 # The names of dd's operands that weren't given, each with its '='.
 _bx_operands() {
-    local names='if= of= ibs= obs= bs= cbs= skip= seek= count= conv=' line=" ${COMP_WORDS[*]:2}" name left=''
+    local names='if= of= ibs= obs= bs= cbs= skip= seek= count= conv=' line=" ${COMP_WORDS[*]:first+1}" name left=''
     line=${line// =/=}
     for name in $names; do
         [[ $line == *" $name"* ]] || left+=" $name"
@@ -57,11 +57,17 @@ _bx_dd() {
 }
 
 _bx() {
-    local cur=${COMP_WORDS[COMP_CWORD]} prev=${COMP_WORDS[COMP_CWORD - 1]} command=${COMP_WORDS[1]} lead=''
+    local cur=${COMP_WORDS[COMP_CWORD]} prev=${COMP_WORDS[COMP_CWORD - 1]} first=1 lead='' command
     local commands='xxd od hexdump strings dd revert undo redo log show diff patch forget' options
     COMPREPLY=()
-    if ((COMP_CWORD == 1)); then
-        _bx_words "$commands help -h --help -V --version"
+    # -v may stand in front of the command.
+    [[ $COMP_CWORD -gt 1 && (${COMP_WORDS[1]} == -v || ${COMP_WORDS[1]} == --verbose) ]] && first=2
+    command=${COMP_WORDS[first]}
+    if ((COMP_CWORD == first)); then
+        case $cur in
+        -*) _bx_words '-h --help -V --version -v --verbose' ;;
+        *) _bx_words "$commands help" ;;
+        esac
         return
     fi
     case $command in
@@ -73,14 +79,14 @@ _bx() {
     od) options='-A -N -b -c -d -j -o -s -t -v -x' ;;
     hexdump) options='-C -n -s -v' ;;
     strings) options='-a -n -t' ;;
-    dd) options='-J -U -n --dry-run --fresh --mounted' ;;
-    revert) options='-J -U -f -n -p -s --dry-run --fresh --mounted' ;;
+    dd) options='-J -U -n --anyway --dry-run --fresh --mounted' ;;
+    revert) options='-J -U -f -n -p -s --anyway --dry-run --fresh --mounted' ;;
     undo | redo) options='-J -U -k --anyway --mounted' ;;
-    log) options='-J -U -v --mounted' ;;
+    log) options='-J -U -v --anyway --mounted' ;;
     show) options='-J -d -k -p -r' ;;
-    diff) options='-v' ;;
-    patch) options='-J -R -U -f -n --dry-run --fresh --mounted' ;;
-    forget) options='-J -U --mounted' ;;
+    diff) options='-q -v' ;;
+    patch) options='-J -R -U -f -n --anyway --dry-run --fresh --mounted' ;;
+    forget) options='-J -U --anyway --mounted' ;;
     *) return ;;
     esac
     case $command:$prev in

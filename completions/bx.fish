@@ -36,6 +36,7 @@ set -l none "not __fish_seen_subcommand_from $commands help"
 complete -c bx -f
 complete -c bx -s h -l help -d 'Show help'
 complete -c bx -n $none -s V -l version -d 'Show the version'
+complete -c bx -n $none -s v -l verbose -d 'Write hints wherever standard error leads'
 
 complete -c bx -n $none -a xxd -d 'Dump bytes in hexadecimal'
 complete -c bx -n $none -a od -d 'Dump bytes as numbers or characters'
@@ -91,6 +92,7 @@ complete -c bx -n '__fish_seen_subcommand_from dd' -s J -r -F -d 'Journal of the
 complete -c bx -n '__fish_seen_subcommand_from dd' -s U -d 'Do not wait for the disk'
 complete -c bx -n '__fish_seen_subcommand_from dd' -s n -l dry-run -d 'Change nothing, write the patch of it'
 complete -c bx -n '__fish_seen_subcommand_from dd' -l fresh -d 'Drop the history of the image first'
+complete -c bx -n '__fish_seen_subcommand_from dd' -l anyway -d 'Go on where the image is another one'
 complete -c bx -n '__fish_seen_subcommand_from dd' -l mounted -d 'Change a device that is mounted'
 complete -c bx -n '__fish_seen_subcommand_from dd' -a '(__bx_operand)'
 
@@ -98,6 +100,7 @@ complete -c bx -n '__fish_seen_subcommand_from revert' -s J -r -F -d 'Journal of
 complete -c bx -n '__fish_seen_subcommand_from revert' -s U -d 'Do not wait for the disk'
 complete -c bx -n '__fish_seen_subcommand_from revert' -s n -l dry-run -d 'Change nothing, write the patch of it'
 complete -c bx -n '__fish_seen_subcommand_from revert' -l fresh -d 'Drop the history of the image first'
+complete -c bx -n '__fish_seen_subcommand_from revert' -l anyway -d 'Go on where the image is another one'
 complete -c bx -n '__fish_seen_subcommand_from revert' -l mounted -d 'Change a device that is mounted'
 complete -c bx -n '__fish_seen_subcommand_from revert' -s f -r -F -d 'File to read the dump from'
 complete -c bx -n '__fish_seen_subcommand_from revert' -s p -d 'The dump is digits alone'
@@ -105,18 +108,19 @@ complete -c bx -n '__fish_seen_subcommand_from revert' -s s -x -d 'Bytes to add 
 
 complete -c bx -n '__fish_seen_subcommand_from undo' -s J -r -F -d 'Journal of the image'
 complete -c bx -n '__fish_seen_subcommand_from undo' -s U -d 'Do not wait for the disk'
-complete -c bx -n '__fish_seen_subcommand_from undo' -l anyway -d 'Go on where the image was changed since'
+complete -c bx -n '__fish_seen_subcommand_from undo' -l anyway -d 'Go on where the image is another one'
 complete -c bx -n '__fish_seen_subcommand_from undo' -l mounted -d 'Change a device that is mounted'
 complete -c bx -n '__fish_seen_subcommand_from undo' -s k -x -d 'Changes to take back, 0 to 65535'
 complete -c bx -n '__fish_seen_subcommand_from redo' -s J -r -F -d 'Journal of the image'
 complete -c bx -n '__fish_seen_subcommand_from redo' -s U -d 'Do not wait for the disk'
-complete -c bx -n '__fish_seen_subcommand_from redo' -l anyway -d 'Go on where the image was changed since'
+complete -c bx -n '__fish_seen_subcommand_from redo' -l anyway -d 'Go on where the image is another one'
 complete -c bx -n '__fish_seen_subcommand_from redo' -l mounted -d 'Change a device that is mounted'
 complete -c bx -n '__fish_seen_subcommand_from redo' -s k -x -d 'Changes to make again, 0 to 65535'
 
 complete -c bx -n '__fish_seen_subcommand_from log' -s J -r -F -d 'Journal of the image'
 complete -c bx -n '__fish_seen_subcommand_from log' -s U -d 'Do not wait where a change is taken back'
 complete -c bx -n '__fish_seen_subcommand_from log' -s v -d 'Show lengths and ranges too'
+complete -c bx -n '__fish_seen_subcommand_from log' -l anyway -d 'Go on where the image is another one'
 complete -c bx -n '__fish_seen_subcommand_from log' -l mounted -d 'Take a change of a mounted device back'
 
 complete -c bx -n '__fish_seen_subcommand_from show' -s J -r -F -d 'Journal of the image'
@@ -125,6 +129,7 @@ complete -c bx -n '__fish_seen_subcommand_from show' -s k -x -d 'Changes to show
 complete -c bx -n '__fish_seen_subcommand_from show' -s p -d 'Show the changes as one patch'
 complete -c bx -n '__fish_seen_subcommand_from show' -s r -d 'Show what a redo would do'
 
+complete -c bx -n '__fish_seen_subcommand_from diff' -s q -d 'Write nothing, answer by the exit status'
 complete -c bx -n '__fish_seen_subcommand_from diff' -s v -d 'Write whole rows where a byte differs'
 
 complete -c bx -n '__fish_seen_subcommand_from patch' -s J -r -F -d 'Journal of the image'
@@ -132,9 +137,11 @@ complete -c bx -n '__fish_seen_subcommand_from patch' -s R -d 'Apply the patch t
 complete -c bx -n '__fish_seen_subcommand_from patch' -s U -d 'Do not wait for the disk'
 complete -c bx -n '__fish_seen_subcommand_from patch' -s n -l dry-run -d 'Change nothing, write the patch of it'
 complete -c bx -n '__fish_seen_subcommand_from patch' -l fresh -d 'Drop the history of the image first'
+complete -c bx -n '__fish_seen_subcommand_from patch' -l anyway -d 'Go on where the image is another one'
 complete -c bx -n '__fish_seen_subcommand_from patch' -l mounted -d 'Change a device that is mounted'
 complete -c bx -n '__fish_seen_subcommand_from patch' -s f -r -F -d 'File to read the patch from'
 
 complete -c bx -n '__fish_seen_subcommand_from forget' -s J -r -F -d 'Journal of the image'
 complete -c bx -n '__fish_seen_subcommand_from forget' -s U -d 'Do not wait for the disk'
+complete -c bx -n '__fish_seen_subcommand_from forget' -l anyway -d 'Go on where the image is another one'
 complete -c bx -n '__fish_seen_subcommand_from forget' -l mounted -d 'Take a change of a mounted device back'

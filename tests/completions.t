@@ -59,6 +59,12 @@ What the completion of zsh adds, at a terminal of its own, is written down by a 
   dd diff forget help hexdump log od patch redo revert show strings undo xxd
   $ bx re<TAB>
   redo revert
+  $ bx -v re<TAB>
+  redo revert
+  $ bx --verbose od -A <TAB>
+  d n o x
+  $ bx --verb<TAB>
+  --verbose
   $ bx help <TAB>
   dd diff forget hexdump log od patch redo revert show strings undo xxd
   $ bx od -A <TAB>

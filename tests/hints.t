@@ -1,21 +1,30 @@
 What standard error gets at each fault, and after a success. On a terminal it is all that stands below a command, in a pipe the lines
-that don't begin with `hint: `; standard output goes nowhere. Each command of bx has a copy of the folder to itself. `(re)` stands
-behind a line that is a regular expression.
+that don't begin with `hint: `, and with `bx -v` in a pipe all but what a person types is told; standard output goes nowhere. Each command of bx has a copy of the
+folder to itself. `(re)` stands behind a line that is a regular expression.
 
 What standard error gets of a line on a terminal. It says so where a pipe gets something else than that without hints and without what
 says how far work is. Each runs in a copy of this folder; standard output goes nowhere.
 
   $ hint() { # LINE
-  >   local terminal pipe status
+  >   local terminal pipe asked status
   >   terminal=$(set -o pipefail; copied; SHELL=$BASH script -qec "($1) > /dev/null" /dev/null < /dev/null | tr -d '\r')
   >   status=$?
   >   pipe=$(copied; bash -c "($1) > /dev/null" 2>&1 < /dev/null)
   >   [ $? = $status ] || echo 'another status in a pipe'
+  >   asked=$(copied; PATH=$verbose:$PATH bash -c "($1) > /dev/null" 2>&1 < /dev/null)
+  >   [ $? = $status ] || echo 'another status with -v'
   >   [ -z "$terminal" ] || echo "$terminal"
-  >   [ "$pipe" = "$(sed -e '/^hint: /d' -e 's/.*\x1b\[K//' -e '/^$/d' <<< "$terminal")" ] || echo "in a pipe: $pipe"
+  >   terminal=$(sed -e 's/.*\x1b\[K//' -e '/^$/d' <<< "$terminal")
+  >   [ "$pipe" = "$(sed '/^hint: /d' <<< "$terminal")" ] || echo "in a pipe: $pipe"
+  >   [ "$asked" = "$(sed '/ is read from the terminal, /d' <<< "$terminal")" ] || echo "with -v: $asked"
   >   return $status
   > }
   > copied() { rm -rf ../copy && cp -a . ../copy && cd ../copy || exit; }
+
+`bx -v` writes in a pipe what stands on a terminal:
+
+  $ mkdir ../verbose; verbose=$(cd ../verbose && pwd); real=$(command -v bx)
+  $ printf '#!/bin/bash\nexec %q -v "$@"\n' "$real" > $verbose/bx; chmod +x $verbose/bx
 
 # Standard error on a terminal and in a pipe (by hint)
 
@@ -34,14 +43,20 @@ Texts that are damaged, twice there, begun, and of an image that something else 
   $ printf "$change"'what is this\n' > bad.bxj; : > bad.redo.bxj; echo 'what is this' > bad.redo.bxj.redo
   $ printf "$change" > twin.bxj; : > twin.bxj.bxj; ln -s twin.bxj soft; ln second.bxj second.too; mkdir dir; mkfifo pipe
   $ printf ABxyEFGH > begun; printf "${change%done2*}" > begun.bxj; printf abcdefgh > other; printf "$change" > other.bxj
-  $ line='image2 00000001 00000000 0000000000000008 3e44107170a520582ade522fa73c1d15 d41d8cd98f00b204e9800998ecf8427e'
-  $ echo "$line 00000000" > other.bxj.image; echo "$line 00000001" > older.bxj.image
+  $ line='image3 00000001 00000000 0000000000000008 3e44107170a520582ade522fa73c1d15 d41d8cd98f00b204e9800998ecf8427e'
+  $ marks=' 0000000000000008 0000000000000008'; for n in $(seq 32); do marks+=' --------'; done
+  $ echo "$line 00000000$marks" > other.bxj.image; echo "$line 00000001$marks" > older.bxj.image
+
+The journal of an image that is missing, and one whose undo was stopped:
+
+  $ printf "$change" > gone.bxj; printf ABxzEFGH > twice
+  $ printf "$change${change//0000000[1]/00000002}" | sed '6s/.*/00000003: 79                                       y/' | head -n 7 > twice.bxj
 
 Dumps and a patch:
 
   $ echo '0: 4g' > words; echo x > address; echo '0 41' > colon; echo '0:  41' > nothing; echo 'ffffffffffffffff: 41' > far
   $ (printf '0: '; printf '41 %.0s' $(seq 257); echo) > wide; echo '3fffffffffffffff: 41' > high; printf 414 > digits; printf '0: 41\r\n' > returns
-  $ printf 'length 8 to 8\n-00000002: 4344\n+00000002: 7879\n' > patch
+  $ printf 'length 8 to 8\n-00000002: 4344\n+00000002: 7879\nend\n' > patch
   $ chmod 644 -- [^d]* digits; chmod 600 private; touch -d @1000000000 -- *; touch -d @1000000001 later
 
 ## Faults
@@ -239,11 +254,20 @@ Dumps and a patch:
   [2]
   $ bx undo -J img img
   bx: bad arguments
-  hint: -J: image, journal and redo file are three files; Usage: bx undo [OPTIONS] <IMAGE>
+  hint: -J: the journal is a file of its own: neither the image nor another text beside it; Usage: bx undo [OPTIONS] <IMAGE>
+  [2]
+  $ bx undo -J img.bxj.redo img
+  bx: bad arguments
+  hint: -J: the journal is a file of its own: neither the image nor another text beside it; Usage: bx undo [OPTIONS] <IMAGE>
+  [2]
+  $ bx log -J img.bxj.image img
+  bx: bad arguments
+  hint: -J: the journal is a file of its own: neither the image nor another text beside it; Usage: bx log [OPTIONS] <IMAGE>
   [2]
   $ bx xxd $'\xff'
   bx: bad arguments
   hint: a word is not UTF-8; a file of such a name can be given by a link to it
+  with -v: bx: bad arguments
   [2]
   $ bx undo
   bx: bad arguments
@@ -251,7 +275,7 @@ Dumps and a patch:
   [2]
   $ bx frobnicate
   bx: bad arguments
-  hint: unrecognized subcommand 'frobnicate'; Usage: bx <COMMAND>
+  hint: unrecognized subcommand 'frobnicate'; Usage: bx [OPTIONS] <COMMAND>
   [2]
   $ bx log new
   bx: cannot open file
@@ -260,6 +284,18 @@ Dumps and a patch:
   $ bx log none
   bx: cannot open file
   hint: none: No such file or directory
+  [1]
+  $ bx log gone
+  bx: cannot open file
+  hint: gone: it is missing, and its journal keeps changes of it; put it back, or begin a new history by --fresh of the command that writes it
+  [1]
+  $ bx undo gone
+  bx: cannot open file
+  hint: gone: it is missing, and its journal keeps changes of it; put it back, or begin a new history by --fresh of the command that writes it
+  [1]
+  $ bx revert gone <<< '0: 41'
+  bx: image should have 8 bytes
+  hint: gone: it is missing, and its journal keeps changes of it; put it back, or begin a new history by --fresh of the command that writes it
   [1]
   $ bx revert dir <<< '0: 41'
   bx: cannot open file
@@ -363,7 +399,7 @@ Dumps and a patch:
   [2]
   $ bx $'\e[2J'
   bx: bad arguments
-  hint: unrecognized subcommand '\033[2J'; Usage: bx <COMMAND>
+  hint: unrecognized subcommand '\033[2J'; Usage: bx [OPTIONS] <COMMAND>
   [2]
   $ bx revert -f returns img
   bx: line 1: bad pair
@@ -383,7 +419,7 @@ Dumps and a patch:
   [1]
   $ bx undoo img
   bx: bad arguments
-  hint: unrecognized subcommand 'undoo': did you mean 'undo'; Usage: bx <COMMAND>
+  hint: unrecognized subcommand 'undoo': did you mean 'undo'; Usage: bx [OPTIONS] <COMMAND>
   [2]
   $ bx xxd -r words
   bx: bad arguments
@@ -447,13 +483,17 @@ Dumps and a patch:
   [1]
   $ bx patch -f patch img
   bx: the image has other bytes at 2
-  hint: img: it has '00000002: 7879 4546 4748' there; the patch is of another image, or was applied before
+  hint: img: it has what the patch writes, so the patch is applied already; bx patch -R takes it back
   [1]
-  $ bx patch img <<< '-6: 4748 49'
+  $ bx patch -f patch other
+  bx: the image has other bytes at 2
+  hint: other: it has '00000002: 6364 6566 6768' there; the patch is of another image, or was applied before
+  [1]
+  $ bx patch img <<< $'-6: 4748 49\nend'
   bx: the image has other bytes at 8
   hint: img: it ends before; the patch is of another image, or was applied before
   [1]
-  $ bx patch img <<< '-1: 41'
+  $ bx patch img <<< $'-1: 41\nend'
   bx: the image has other bytes at 1
   hint: img: it has '00000001: 4278 7945 4647 48' there; the patch is of another image, or was applied before
   [1]
@@ -461,7 +501,7 @@ Dumps and a patch:
   bx: image should have 8 bytes
   hint: long: it has 9 bytes and not 8; it may have another journal; where its length alone was changed, truncate -s 8 long gives that back; or bx forget accepts it as it is (the undo history is lost)
   [1]
-  $ bx patch img <<< 'length 7 to 8'
+  $ bx patch img <<< $'length 7 to 9\nend'
   bx: image should have 7 bytes
   hint: img: it has 8 bytes and not 7; the patch is of another image, or was applied before
   [1]
@@ -473,7 +513,7 @@ Dumps and a patch:
   bx: line 1: bad length
   hint: it is like 'length 8 to 10', in decimal
   [1]
-  $ printf 'length 8 to 8\n+8: 41\n' | bx patch img
+  $ printf 'length 8 to 8\n+8: 41\nend\n' | bx patch img
   bx: line 2: past the length
   hint: the first line says how long the image is before and after
   [1]
@@ -538,8 +578,60 @@ A limit on the size of files, a full device, and pipes that nobody reads:
   $ (sleep 0.2; bx log img) | :
   $ (sleep 0.2; bx show img) | :
 
+Nothing to write, and what is typed:
+
+  $ bx revert imgae
+  hint: a dump is read from the terminal, up to control-D at the start of a line; -f DUMP names a file
+  bx: nothing to write
+  hint: the input was read to its end, and has no byte
+  [1]
+  $ printf '\n*\n' | bx revert undone
+  bx: nothing to write
+  hint: the input was read to its end, and has no byte
+  [1]
+  $ bx patch img
+  hint: a patch is read from the terminal, up to control-D at the start of a line; -f PATCH names a file
+  bx: the patch has no end
+  hint: bx diff writes 'end N' last: what stops before that isn't whole; by hand a line 'end' will do
+  [1]
+  $ head -c 40 patch | bx patch img
+  bx: the patch has no end
+  hint: bx diff writes 'end N' last: what stops before that isn't whole; by hand a line 'end' will do
+  [1]
+  $ printf 'length 8 to 8\nend 3\n' | bx patch img
+  bx: line 2: bad count of lines
+  hint: the last line counts those before it: one was lost or put in; by hand 'end' alone will do
+  [1]
+  $ printf 'length 8 to 8\nend 1\r\n' | bx patch img
+  bx: line 2: bad count of lines
+  hint: the last line counts those before it: one was lost or put in; by hand 'end' alone will do
+  [1]
+  $ printf 'length 8 to 4\nend\n' | bx patch -R img
+  bx: the patch can't be turned round
+  hint: each byte that it writes or cuts off has to stand in a '-' line too, and lines in the order of addresses
+  [1]
+  $ bx patch -R -f patch undone
+  bx: the image has other bytes at 2
+  hint: undone: it has what stood before the patch, so that is taken back already; bx patch without -R applies it
+  [1]
+
+What is unfinished, and nothing tells on which image it was begun:
+
+  $ bx forget begun
+  bx: the image was changed since
+  hint: begun: begun.bxj has a change that is unfinished, and nothing tells whether it was begun on this image; bx undo -k 0 begun takes it back first, and --anyway drops it without
+  [1]
+  $ bx revert --fresh begun <<< '0: 41'
+  bx: the image was changed since
+  hint: begun: begun.bxj has a change that is unfinished, and nothing tells whether it was begun on this image; bx undo -k 0 begun takes it back first, and --anyway drops it without
+  [1]
+
 ## After a success
 
+  $ bx undo twice
+  bx: recovered: change 2 was taken back
+  hint: twice: change 2 is unfinished and is taken back first, and then the undo is made too; where it was an undo that was stopped, bx undo -k 0 twice would have finished it alone
+  hint: twice: change 1 is taken back; left to undo: 0
   $ bx show -k 0 begun
   $ bx show -r -k 0 begun
   $ printf '41\r\n42\r\n' | bx revert -p img
@@ -567,9 +659,6 @@ A limit on the size of files, a full device, and pipes that nobody reads:
   $ bx revert img <<< '00000000: 4142 4344                                ABxy'
   $ bx revert img <<< '2: 7879'
   hint: img: it had these bytes already, so no byte was changed
-  $ bx revert imgae
-  hint: imgae: it was missing, so it was made; its journal is imgae.bxj
-  hint: the dump has no bytes, so no byte was changed
   $ bx revert img <<< '8: 4142434445464748'
   $ bx revert img <<< '8: 414243444546474849'
   hint: img: it had 8 bytes and has 17 now; bx undo img takes this back
@@ -595,10 +684,6 @@ A limit on the size of files, a full device, and pipes that nobody reads:
   $ bx revert img <<< '00000000: 41 42 43 44  45 46 47 48                           ABCDEFGH'
   hint: the characters beside the digits aren't those of the bytes in line 1; bx undo img takes this back, and bx revert --help shows the form of a line
   $ bx revert -p img <<< '41 42  43'
-  $ printf '\n*\n' | bx revert undone
-  hint: the dump has no bytes, but what was undone is given up
-  $ bx revert -p undone
-  hint: the dump has no bytes, but what was undone is given up
   $ bx revert undone <<< '0: 41'
   hint: undone: it had these bytes already, so no byte was changed, but what was undone is given up
   $ bx revert undone <<< '0: 42'
@@ -616,49 +701,56 @@ A limit on the size of files, a full device, and pipes that nobody reads:
   $ bx dd if=/dev/null of=img conv=notrunc
   0+0 records in
   0+0 records out
-  $ bx revert img
-  hint: the dump has no bytes, so no byte was changed
   $ bx patch -R -f patch img
   $ bx forget img
-  $ bx patch img
-  hint: the patch changes nothing, so no byte was changed
-  $ bx patch undone <<< '# nothing'
-  hint: the patch changes nothing, but what was undone is given up
-  $ bx patch imgae <<< 'length 0 to 0'
-  hint: imgae: it was missing, so it was made; its journal is imgae.bxj
-  hint: the patch changes nothing, so no byte was changed
+  hint: img: its history is dropped; changes: 1, undone: 0
+  $ bx patch undone <<< end
+  hint: the patch changes nothing, so nothing was done
+  $ bx patch imgae <<< $'length 0 to 0\nend'
+  hint: the patch changes nothing, so nothing was done
   $ bx undo later
+  hint: later: change 1 is taken back; left to undo: 0
   hint: later: it was modified later than its journal, perhaps by another program; bx redo -k 1 later goes back
   $ bx redo later
+  hint: later: change 2 is made again; left to redo: 0
   hint: later: it was modified later than its journal, perhaps by another program; bx undo -k 1 later goes back
   $ bx undo -J ./later.bxj later
+  hint: later: change 1 is taken back; left to undo: 0
   hint: later: it was modified later than its journal, perhaps by another program; bx redo -k 1 -J ./later.bxj later goes back
   $ bx undo -k 0 later
   $ bx redo -k 0 later
   $ bx log later
   $ bx undo img
+  hint: img: change 1 is taken back; left to undo: 0
   $ bx redo undone
+  hint: undone: change 1 is made again; left to redo: 0
   $ bx undo --anyway other
+  hint: other: change 1 is taken back; left to undo: 0
   $ bx revert other <<< '0: 41'
   hint: other: it was changed since, so the older changes stand for another image; --fresh begins a new history
   $ bx revert older <<< '0: 42'
   $ bx revert --fresh other <<< '0: 41'
+  hint: other: its history is dropped; changes: 1, undone: 0
 
 ## Before dd's report of an empty input
 
   $ bx dd if=/dev/null skip=0x10
+  bx: warning: '0x' is a zero multiplier; use '00x' if that is intended
   hint: skip=0x10: x multiplies, so this is 0; for 0x10 in hexadecimal give skip=16
   0+0 records in
   0+0 records out
   $ bx dd if=/dev/null count=0x10
+  bx: warning: '0x' is a zero multiplier; use '00x' if that is intended
   hint: count=0x10: x multiplies, so this is 0; for 0x10 in hexadecimal give count=16
   0+0 records in
   0+0 records out
   $ bx dd if=/dev/null of=new conv=notrunc seek=0x200
+  bx: warning: '0x' is a zero multiplier; use '00x' if that is intended
   hint: seek=0x200: x multiplies, so this is 0; for 0x200 in hexadecimal give seek=512
   0+0 records in
   0+0 records out
   $ bx dd if=/dev/null skip=2x0x10
+  bx: warning: '0x' is a zero multiplier; use '00x' if that is intended
   hint: skip=2x0x10: x multiplies, so this is 0
   0+0 records in
   0+0 records out

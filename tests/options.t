@@ -15,6 +15,17 @@ What bx takes is found by trying: each letter as an option, and the names of GNU
   $ sed -n 's/^\.Ss bx \([a-z]*\)$/\1/p' $man | same 'sections of the man page'; grep -oP -- '-a \K\w+(?= -d)' $fish | same bx.fish
   $ for name in '' $commands; do bx $name --help; done | grep -E '.{81}'
   [1]
+  $ bx --help | grep -oP '^ +\K-\w, --[a-z]+' | sed 's/, /\n/' | sort > bx; for words in '-v xxd' '--verbose xxd'; do bx $words image; done
+  bx: cannot open file
+  hint: image: No such file or directory
+  bx: cannot open file
+  hint: image: No such file or directory
+  [1]
+  $ front() { sort -u | diff - bx | sed -n "s/^>/bx has, and not $1:/p; s/^</bx hasn't, but $1:/p"; }
+  $ sed '/^\.Sh DESCRIPTION/q' $man | sed -n '/^\.Nm bx$/,/^\.\(Nm bx Cm\|Sh\)/p' | sed -nE 's/^\.Fl (-\w+) \| Fl (\w)$/-\1\n-\2/p' | front 'the synopsis of the man page'
+  $ bash -c '. "$0"; COMP_WORDS=(bx -) COMP_CWORD=1; _bx; printf "%s\n" "${COMPREPLY[@]}"' $bash | front bx.bash
+  $ { sed -nE "s/.*\{(-[a-zA-Z]),(--[a-z]+)\}.*/\1\n\2/p" $zsh; } | front _bx
+  $ grep -oP "^complete -c bx( -n .none)? -s \K\w -l \w+" $fish | sed -E 's/(.) -l (.*)/-\1\n--\2/' | front bx.fish
   $ takes() { # WORDS ..
   >   echo ABCDEFGH | tee image > other; : > image.bxj; : > 1; : > x; : > x1
   >   bx "$@" > out 2> said < /dev/null; [ $? != 2 ] && ! grep -q unknown said

@@ -15,7 +15,7 @@ Builds shim.c, by which a call of a command fails.
 One that has no such sync, or is not to be synced by this user, is passed by, and any other error refuses the command and changes
 nothing. With -U nothing is synced, and `log` syncs nothing.
 
-  $ shim; echo '2: 7879' > dump; printf '78 7\n9' > plain; printf 'length 8 to 8\n-2: 7879\n+2: 4344\n' > same
+  $ shim; echo '2: 7879' > dump; printf '78 7\n9' > plain; printf 'length 8 to 8\n-2: 7879\n+2: 4344\nend\n' > same
   $ commands='revert -f dump img
   > dd if=plain of=img conv=notrunc
   > patch -f same img
@@ -42,7 +42,7 @@ nothing. With -U nothing is synced, and `log` syncs nothing.
 One takes the redo file's, which a recovery made: it stays, and so does the empty file that it leads to.
 
   $ shim; mkdir system; : > system/empty; fresh ABxyEFGH "$stopped"
-  $ SHIM_RUN='mv img.bxj.redo away; ln -s system/empty img.bxj.redo' failing p 1 bx log img
+  $ SHIM_RUN='mv img.bxj.redo away; ln -s system/empty img.bxj.redo' failing p 1 bx log --anyway img
   bx: recovered: change 1 was taken back
   bx: cannot open file
   [1]
@@ -102,7 +102,7 @@ A new image by a link as its own journal, with locks and without:
 Each command begins `before` a change or `after` it:
 
   $ shim; printf '2: 7879\n20: 41\n' > dump; printf '78 7\n9' > plain
-  $ printf 'length 8 to 9\n-2: 4344\n+2: 7879\n+8: 41\n' > fix; printf 'length 3 to 8\n+2: 7879\n-1: 4142\n' > back
+  $ printf 'length 8 to 9\n-2: 4344\n+2: 7879\n+8: 41\nend\n' > fix; printf 'length 3 to 8\n+2: 7879\n-1: 4142\nend\n' > back
   $ before() { fresh ABCDEFGH '' "$unpatched"; }; after() { fresh ABxyEFGH "$patched" "$unpatched"; }
   $ each() { # MODE LEAST CHECK: each line is a start and words; CHECK looks at `status`, `out` and `err`, and LEAST have to stop
   >   local start words number status was begun made stopped

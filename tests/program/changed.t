@@ -3,15 +3,28 @@ An image that something else changed: when `undo` and `redo` refuse it by the te
 # The text beside the journal
 
 Each command that changes something writes its line: how many changes stand and are undone, the image's length, the MD5 of what
-the last change wrote ("xy", and nothing) and of what the last undo did ("CD").
+the last change wrote ("xy", and nothing) and of what the last undo did ("CD"), the lengths between which a stop leaves the image, and
+the first four bytes of the MD5 of each of 32 blocks.
 
-  $ changes '2: 7879'; cat img.bxj.image
-  image2 00000001 00000000 0000000000000008 3e44107170a520582ade522fa73c1d15 d41d8cd98f00b204e9800998ecf8427e 00000000
-  $ bx undo img; cat img.bxj.image
+  $ changes '2: 7879'; wc -c < img.bxj.image; cut -c 1-150 img.bxj.image; cut -c 152- img.bxj.image | tr ' ' '\n' | uniq -c
+  439
+  image3 00000001 00000000 0000000000000008 3e44107170a520582ade522fa73c1d15 d41d8cd98f00b204e9800998ecf8427e 00000000 0000000000000008 0000000000000008
+        5 7fc56270
+        4 9d5ed678
+        5 9dd4e461
+        4 41529076
+        5 3a3ea00c
+        4 80061894
+        4 dfcf28d0
+        1 c1d9f50f
+  $ for byte in A B x y E F G H; do printf $byte | md5sum | cut -c 1-8; done | paste -sd' '
+  7fc56270 9d5ed678 9dd4e461 41529076 3a3ea00c 80061894 dfcf28d0 c1d9f50f
+  $ bx undo img; cut -c 1-150 img.bxj.image
   0
-  image2 00000000 00000001 0000000000000008 d41d8cd98f00b204e9800998ecf8427e 4170acd6af571e8d0d59fdad999cc605 00000000
-  $ bx forget img; wc -c < img.bxj.image
-  0
+  image3 00000000 00000001 0000000000000008 d41d8cd98f00b204e9800998ecf8427e 4170acd6af571e8d0d59fdad999cc605 00000000 0000000000000008 0000000000000008
+  $ bx forget img; ls img.bxj.image
+  ls: cannot access 'img.bxj.image': No such file or directory
+  [2]
 
 # A new build of the same length
 
@@ -24,8 +37,7 @@ the last change wrote ("xy", and nothing) and of what the last undo did ("CD").
   $ kept bx undo -k 3 img
   bx: only 2 changes to undo
   [1]
-  $ bx log -v img | head -1; bx show img | head -1
-  # the image was changed since
+  $ bx show img | head -1
   # the image was changed since
   $ bx log img
   1 8 2
@@ -105,7 +117,7 @@ What a redo would cut off, and what counts of more:
 
 # A change on an image that something else changed, and the undo past it
 
-  $ echo '+6: 7a7a' > fix; echo '6: 7a7a' > dump; printf zz > zz
+  $ printf '+6: 7a7a\nend\n' > fix; echo '6: 7a7a' > dump; printf zz > zz
   $ for words in 'revert -f dump img' 'patch -f fix img' 'dd if=zz of=img seek=6 obs=1 conv=notrunc'; do
   >   changes '2: 7879'; printf abcdefgh > img; bx $words 2> /dev/null; cat img; cut -c 109-116 img.bxj.image
   >   refused 'the image was changed since' <<< 'undo -k 2 img'
@@ -166,22 +178,22 @@ image is refused.
   0
   abCDefgh
   $ bx log -v img > /dev/null; cut -c 1-25 img.bxj.image
-  image2 00000000 00000001 
+  image3 00000000 00000001 
 
 # A build script that runs a hundred times
 
   $ echo '2: 7879' > dump; : > img
   $ for n in $(seq 100); do mega $((n % 10)) 8 > img; bx revert -U --fresh -f dump img || echo "$n: $?"; done; bx log img; cut -c 1-25 img.bxj.image
   1 8 2
-  image2 00000001 00000000 
+  image3 00000001 00000000 
   $ bx undo img; cat img
   0
   00000000
 
 # Texts that say nothing
 
-One that isn't longer than a line, and begins as one does, is a front of its first word, or is zeros alone, is made anew by an undo; any
-other stays.
+One that isn't longer than a line, has a line's first word and no byte behind it that a line hasn't, or is zeros alone or empty, is written
+anew by an undo; any other stays.
 
   $ zeros=$(mega 0 32)
   $ undone() { # TEXT: the undo goes on, and the text is written anew or stays
@@ -192,12 +204,12 @@ other stays.
   0 ABCDEFGH anew
   $ undone '\0'
   0 ABCDEFGH anew
-  $ undone "$(mega '0' 117 | sed 's/0/\\0/g')"
+  $ undone "$(mega '0' 439 | sed 's/0/\\0/g')"
   0 ABCDEFGH anew
-  $ undone "$(mega '0' 118 | sed 's/0/\\0/g')"
+  $ undone "$(mega '0' 440 | sed 's/0/\\0/g')"
   0 ABCDEFGH stays
   $ undone im
-  0 ABCDEFGH anew
+  0 ABCDEFGH stays
   $ undone imagine
   0 ABCDEFGH stays
   $ undone "$(mega x 117)"
@@ -215,15 +227,39 @@ other stays.
   $ undone "image2 00000001 00000000 0000000000000008 $zeros $zeros 00000000"
   0 ABCDEFGH anew
   $ undone "image2 00000001 00000000 0000000000000008 ${zeros//0/g} $zeros 00000000\n"
-  0 ABCDEFGH anew
+  0 ABCDEFGH stays
   $ undone "image2 00000001 00000000 0000000000000008 ${zeros//0/A} $zeros 00000000\n"
-  0 ABCDEFGH anew
+  0 ABCDEFGH stays
   $ undone "image2 00000002 00000000 0000000000000008 $zeros $zeros 00000000\n"
   0 ABCDEFGH anew
   $ undone "image2 00000001 00000000 0000000000000009 $zeros $zeros 00000000\n"
   0 ABCDEFGH anew
   $ undone "image2 ffffffff ffffffff ffffffffffffffff $zeros $zeros ffffffff\n"
   0 ABCDEFGH anew
+
+So one of this form:
+
+  $ undone 'image3 '
+  0 ABCDEFGH anew
+  $ undone 'image3 disk\n'
+  0 ABCDEFGH stays
+  $ changes '2: 7879'; cp img.bxj.image line
+  $ undone "$(head -c 300 line)"
+  0 ABCDEFGH anew
+  $ undone "$(cat line; echo x)"
+  0 ABCDEFGH stays
+  $ undone "$(sed 's/ 7fc56270/ --------/g' line)\n"
+  0 ABCDEFGH anew
+  $ undone "$(head -c 300 line)$(mega '0' 139 | sed 's/0/\\0/g')"
+  0 ABCDEFGH anew
+
+Beside a journal that -J names an empty file of the user's stays:
+
+  $ fresh ABCDEFGH; : > disk.image; echo '2: 7879' | bx revert -J disk img; wc -c < disk.image; bx undo -J disk img; wc -c < disk.image
+  0
+  0
+  0
+  $ rm disk*
 
 The line of another image, on as many changes of as many bytes, and a line that may only be read:
 
@@ -233,7 +269,7 @@ The line of another image, on as many changes of as many bytes, and a line that 
   ABCDEFGH
   $ changes '2: 7879'; chmod 444 img.bxj.image; bx undo img; cut -c 1-25 img.bxj.image
   0
-  image2 00000000 00000001 
+  image3 00000000 00000001 
 
 # Files in its place that aren't touched
 
@@ -263,11 +299,14 @@ An image that has the text's name, and begins as a line does:
   $ printf 'image2 AB' > a.image; bx forget -J a a.image; echo '2: 7879' | bx revert -J a a.image; cat a.image
   imxye2 AB
 
-A line beside files of another history, whose journal is newer:
+A line beside files of another history, whose journal is newer than it:
 
   $ changes '2: 7879'; cp -p img.bxj.image line; fresh ABCDzzGH "${patched/00000002: 4344/00000004: 4546}"
   $ sed -i 's/CD$/EF/' img.bxj; cp -p line img.bxj.image; touch -d '+1 second' img.bxj
-  $ bx undo img; cat img; cmp -s line img.bxj.image
+  $ kept bx undo img
+  bx: the image was changed since
+  [1]
+  $ bx undo --anyway img; cat img; cmp -s line img.bxj.image
   0
   ABCDEFGH
   [1]

@@ -29,9 +29,15 @@ An image of another length, and texts that are damaged:
 
 A change that was stopped, and an entry that isn't whole:
 
-  $ fresh ABxyEFGH "$stopped"; forgotten ABCDEFGH
-  bx: recovered: change 1 was taken back
+  $ fresh ABxyEFGH "$stopped"; forgotten ABxyEFGH
+  bx: the image was changed since
+  [1]
+  img.bxj:
+  change2 00000001 0000000000000008
+  00000002: 4344                                     CD
+  save 00000001
   img img.bxj
+  bx: recovered: change 1 was taken back
   bx: only 0 changes to undo
   [1]
   $ fresh ABCDEFGH "${stopped%save*}"; forgotten ABCDEFGH
@@ -48,7 +54,7 @@ No journal:
 
 # A history that begins anew
 
-  $ echo '0: 41' > dump; echo '+0: 41' > fix
+  $ echo '0: 41' > dump; printf '+0: 41\nend\n' > fix
   $ fresh ABxyEFGHIJ "$patched" "$unpatched"; bx revert --fresh -f dump img; bx log img; wc -c < img.bxj.redo
   1 10 1
   0
@@ -68,8 +74,8 @@ No journal:
 
 # A file that begins as no journal, and inputs that are refused
 
-  $ echo '0: 41' > dump; echo '+0: 41' > fix; echo '0: 4g' > bad
-  $ printf -- '-0: 42\n+0: 41\n' > other; printf 'length 3 to 3\n' > short
+  $ echo '0: 41' > dump; printf '+0: 41\nend\n' > fix; echo '0: 4g' > bad
+  $ printf -- '-0: 42\n+0: 41\nend\n' > other; printf 'length 3 to 3\nend\n' > short
   $ for file in journal redo; do
   >   [ $file = journal ] && fresh ABxyEFGH 'a letter\nthat is no journal\n' || fresh ABxyEFGH "$patched" 'a letter\nthat is no journal\n'
   >   refused "$file line 1 is damaged" << .
@@ -131,18 +137,31 @@ Where the history is kept, so is what is known of the image that a redo is for:
 
 # A patch behind a change that was stopped
 
-The image has to agree with it once it is recovered.
+Where nothing tells that it was begun on this image, the history isn't dropped. With the line that stood before the change, the image is
+recovered, and then has to agree with the patch.
 
-  $ second='change2 00000002 0000000000000008\n00000000: 4142                                     AB\nsave 00000002\n'
-  $ printf -- '-0: 6162\n+0: 5a5a\n' > torn; printf -- '-0: 4142\n+0: 5a5a\n' > whole
-  $ fresh abxyEFGH "$patched$second"; bx patch --fresh -f torn img
+  $ printf -- '-0: 6162\n+0: 5a5a\nend\n' > torn; printf -- '-0: 4142\n+0: 5a5a\nend\n' > whole
+  $ begun() { # an image whose second change was stopped, with its line
+  >   changes '2: 7879'; printf 'change2 00000002 0000000000000008\n00000000: 4142                                     AB\nsave 00000002\n' >> img.bxj
+  >   printf abxyEFGH > img
+  > }
+  $ begun; rm img.bxj.image; kept bx patch --fresh -f torn img
+  bx: the image was changed since
+  [1]
+  $ bx log img; bx log --anyway img; cat img
+  # change 2: unfinished, the next command takes it back
+  1 8 2
+  bx: recovered: change 2 was taken back
+  1 8 2
+  ABxyEFGH
+  $ begun; bx patch --fresh -f torn img
   bx: recovered: change 2 was taken back
   bx: the image has other bytes at 0
   [1]
   $ bx log img; cat img
   1 8 2
   ABxyEFGH
-  $ fresh abxyEFGH "$patched$second"; bx patch --fresh -f whole img; bx log img; cat img
+  $ begun; bx patch --fresh -f whole img; bx log img; cat img
   bx: recovered: change 2 was taken back
   1 8 2
   ZZxyEFGH

@@ -40,11 +40,11 @@ trio() {
 }
 
 # Every file below: kind, bits, owner, names, where a link leads, time, and what is in it; and what is on the device
-# $dev.
+# $dev. A refused command may leave another line on the image.
 state() {
   [ -z "${dev-}" ] || sha256sum "$dev"
-  find . \( -type d -printf '%p %y %m %U:%G\n' \) -o -printf '%p %y %m %U:%G %n %l %T@\n' | sort
-  find . -type f -size +0 -exec sha256sum {} +
+  find . -name '*.bxj.image' -o \( -type d -printf '%p %y %m %U:%G\n' \) -o -printf '%p %y %m %U:%G %n %l %T@\n' | sort
+  find . -type f -size +0 ! -name '*.bxj.image' -exec sha256sum {} +
 }
 
 left_out() {

@@ -62,7 +62,10 @@ It is refused as an image, as a journal, as what is compared, and as a redo file
   > diff img /dev/stdin
   > .
   $ kept bx diff img img
-  $ kept bx diff img hard
+  end 0
+  $ kept bx diff -q img hard
+  $ kept bx diff -q img img.bxj
+  [1]
   $ kept bx diff img img.bxj | head -3
   length 8 to 134
   -00000000: 4142 7879 4546 4748                      ABxyEFGH
@@ -180,5 +183,5 @@ On one of the three, and on a text of a new image, which is taken away again.
   $ kept flock new.bxj.redo bx dd if=dump of=new -J new.bxj
   bx: cannot open file
   [1]
-  $ bx log img
+  $ bx log --anyway img
   bx: recovered: change 1 was taken back

@@ -8,6 +8,7 @@ random pairs.
   -00000002: 4344                                     CD
   +00000002: 7879                                     xy
   +00000008: 005a                                     .Z
+  end 4
   $ bx patch -f fix img; cmp img new
   $ kept bx patch -f fix img
   bx: image should have 8 bytes
@@ -25,7 +26,7 @@ random pairs.
 
 Nothing is made or recovered: of an image with its texts, of one whose last change was stopped, and of one that is missing.
 
-  $ echo '00000002: 7879' > dump; printf 'length 8 to 8\n+00000007: 4142\n' > past; printf -- '-00000002: 7879\nlength 8 to 8\n' > late
+  $ echo '00000002: 7879' > dump; printf 'length 8 to 8\n+00000007: 4142\nend\n' > past; printf -- '-00000002: 7879\nlength 8 to 8\nend\n' > late
   $ echo 'length 8 to' > one; printf -- '--- old\n+++ new\n' > unified
   $ (yes '+00000000: 4142 4344 4546 4748' | head -1000000; echo x) > million
   $ for journal in patched stopped; do fresh ABxyEFGH "${!journal}" "$unpatched"
@@ -47,28 +48,63 @@ Nothing is made or recovered: of an image with its texts, of one whose last chan
   $ kept bx patch -f missing new
   bx: cannot open file
   [1]
-  $ echo '-0: 41' > text; kept bx patch -f text new
+  $ printf -- '-0: 41\nend\n' > text; kept bx patch -f text new
   bx: the image has other bytes at 0
   [1]
+
+# Patches without an end
+
+Every front of one is refused, and every one with a line less in the middle, with image and history byte for byte as before; and of
+`-R` one that can't be turned round.
+
+  $ fresh ABCDEFGH '' "$unpatched"; printf 'ABxyEFGH\0Z' > new; bx diff img new > whole
+  $ for n in $(seq 0 $(($(wc -c < whole) - 1))); do
+  >   head -c $n whole > ../front; for option in '' --fresh; do refused 'the patch has no end' <<< "patch $option -f ../front img"; done
+  > done
+  $ for n in 1 2 3 4; do sed ${n}d whole > part; refused 'line 4: bad count of lines' <<< 'patch -f part img'; done
+  $ printf 'length 8 to 4\nend\n' > cut; refused "the patch can't be turned round" <<< 'patch -R -f cut img'
+  $ for text in '' ' end\n' 'end \n' 'end' 'end 0' 'end 01\n' 'END\n' 'end\r\n' 'end 0\r\n' 'end\nend\n' 'end\n\n' 'end 1\n' '\0' '\0\n'; do
+  >   printf "$text" > text; for option in '' --fresh; do refused '*' <<< "patch $option -f text img"; done
+  > done
+
+A whole one that writes nothing is none: no entry, what is undone stays, no history is dropped, and no file is made.
+
+  $ for text in 'end\n' 'end 0\n' 'length 8 to 8\nend 1\n' '# nothing\n-0: 41\nend\n'; do
+  >   printf "$text" > text; for option in '' --fresh; do kept bx patch $option -f text img || echo "$text"; done
+  > done
+  $ printf 'end\n' > text; kept bx patch -f text new.img; printf 'length 8 to 8\nend\n' > text; refused 'image should have 8 bytes' <<< 'patch -f text new.img'
+  $ refused 'the image has other bytes at 0' <<< "patch img <<< \$'-0: 42\nend'"
+  $ kept bx diff img img | kept bx patch img; kept bx diff -q img img; kept bx diff -q img new
+  [1]
+
+# Nothing is no change
+
+  $ fresh ABxyEFGH "$patched" "$unpatched"; : > none; printf '*\n\n' > stars
+  $ for image in img new.img; do for option in '' --fresh -n; do refused 'nothing to write' << .
+  > revert $option -f none $image
+  > revert $option -f stars $image
+  > revert $option -p -f none $image
+  > .
+  > done; done
 
 # Patches of other images
 
 One that was applied before, one that goes on behind the image, of a shorter image, and of one of 18 digits; and one that makes
 it too large.
 
-  $ fresh ABxyEFGH "$patched" "$unpatched"; printf 'length 8 to 8\n-00000002: 4344\n+00000002: 7879\n' > fix; kept bx patch -f fix img
+  $ fresh ABxyEFGH "$patched" "$unpatched"; printf 'length 8 to 8\n-00000002: 4344\n+00000002: 7879\nend\n' > fix; kept bx patch -f fix img
   bx: the image has other bytes at 2
   [1]
-  $ echo '-00000006: 4748 49' > behind; kept bx patch -f behind img
+  $ printf -- '-00000006: 4748 49\nend\n' > behind; kept bx patch -f behind img
   bx: the image has other bytes at 8
   [1]
-  $ printf 'length 7 to 8\n-00000000: 41\n+00000000: 42\n' > shorter; kept bx patch -f shorter img
+  $ printf 'length 7 to 8\n-00000000: 41\n+00000000: 42\nend\n' > shorter; kept bx patch -f shorter img
   bx: image should have 7 bytes
   [1]
-  $ echo 'length 999999999999999999 to 0' > digits; kept bx patch -f digits img
+  $ printf 'length 999999999999999999 to 0\nend\n' > digits; kept bx patch -f digits img
   bx: image should have 999999999999999999 bytes
   [1]
-  $ echo 'length 8 to 281474976710656' > large; kept bx patch -f large img
+  $ printf 'length 8 to 281474976710656\nend\n' > large; kept bx patch -f large img
   bx: image too large
   [1]
 
@@ -79,7 +115,8 @@ The other way round the first fits:
 
 # What refuses a change refuses it under -n, with the same words
 
-  $ printf 'length 8 to 8\n-00000002: 4344\n+00000002: 7879\n' > fix
+  $ printf 'length 8 to 8\n-00000002: 4344\n+00000002: 7879\nend\n' > fix
+  $ printf 'length 7 to 8\nend\n' > seven; printf -- '-00000006: 4748 49\nend\n' > behind; printf 'length 8 to 281474976710656\nend\n' > large
   $ for image in ABCDEFGH AB; do for option in '' -n; do
   >   fresh $image; refused 'line 1: bad pair' <<< "revert $option img <<< '00000002: 787'"
   >   refused 'image too large' <<< "revert $option img <<< 'ffffffffffff: 78'"
@@ -87,13 +124,15 @@ The other way round the first fits:
   >   refused 'cannot open file' <<< "dd $option if=missing of=img"
   >   refused 'operand 2: unknown' <<< "dd $option of=img off=1"
   >   refused 'line 1: not a line of a patch' <<< "patch $option img <<< x"
-  >   refused 'image should have 7 bytes' <<< "patch $option img <<< 'length 7 to 8'"
+  >   refused 'image should have 7 bytes' <<< "patch $option -f seven img"
   >   [ $image = AB ] && fault='image should have 8 bytes' || fault='the image has other bytes at 2'
   >   refused "$fault" <<< "patch $option -R -f fix img"
   >   [ $image = AB ] && fault='the image has other bytes at 6' || fault='the image has other bytes at 8'
-  >   refused "$fault" <<< "patch $option img <<< '-00000006: 4748 49'"
+  >   refused "$fault" <<< "patch $option -f behind img"
   >   [ $image = AB ] && fault='image should have 8 bytes' || fault='image too large'
-  >   refused "$fault" <<< "patch $option img <<< 'length 8 to 281474976710656'"
+  >   refused "$fault" <<< "patch $option -f large img"
+  >   refused 'nothing to write' <<< "revert $option img <<< '*'"
+  >   refused 'the patch has no end' <<< "patch $option -f /dev/null img"
   > done; done
 
 A missing image that should have bytes, a folder, and one that may only be read, in a folder that may:
@@ -114,12 +153,13 @@ One that another program changes, and one that others read:
   $ fresh ABCDEFGH; refused 'cannot open file' flock img bx << .
   > revert -n img <<< '00000002: 7879'
   > dd -n bs=2 seek=1 of=img <<< xyz
-  > patch -n img <<< '+00000002: 78'
+  > patch -n -f fix img
   > .
   $ flock -s img bx revert -n img <<< '00000002: 78'
   length 8 to 8
   -00000002: 43                                       C
   +00000002: 78                                       x
+  end 3
 
 # What -n writes can be applied
 
@@ -128,6 +168,7 @@ One that another program changes, and one that others read:
   -00000002: 4344                                     CD
   +00000002: 787a                                     xz
   +00000008: 0000 0000 41                             ....A
+  end 4
   $ chmod 444 img; mkdir shut; mv img shut; chmod 555 shut; kept bx revert -n -f dump shut/img | cmp - ../patch
   $ chmod 755 shut; mv shut/img img; chmod 644 img; bx patch -f ../patch img; bx xxd img
   00000000: 4142 787a 4546 4748 0000 0000 41         ABxzEFGH....A
@@ -157,13 +198,12 @@ the words and what they read.
   > }
   $ changes='revert img|00000002: 7879\n00000003: 7a\n0000000c: 41\n
   > revert -p -s 6 img|414243
-  > revert img|
   > dd bs=2 seek=1 of=img|xyz
   > dd conv=notrunc of=img|ABxy
   > dd of=img|'
-  $ patches='patch img|length 8 to 8\n-00000002: 4344\n+00000002: 7879\n
-  > patch -R img|length 4 to 8\n+00000004: 4546 4748\n
-  > patch img|'
+  $ patches='patch img|length 8 to 8\n-00000002: 4344\n+00000002: 7879\nend\n
+  > patch -R img|length 4 to 8\n+00000004: 4546 4748\nend 2\n
+  > patch img|end 0\n'
   $ dried -n ABCDEFGH <<< "$changes"$'\n'"$patches"
   $ dried -n ABCDEFGH "$patched" "$unpatched" <<< "$changes"$'\n'"$patches"
   $ dried -n ABCDEFGH "$stopped" <<< "$changes"$'\n'"$patches"
@@ -171,8 +211,8 @@ the words and what they read.
   $ dried '--dry-run --fresh -U --mounted -J other' ABCDEFGH <<< "$changes"$'\n'"$patches"
   $ dried -n << .
   > $changes
-  > patch img|length 0 to 2\n+0: 4142\n
-  > patch img|length 0 to 5\n
+  > patch img|length 0 to 2\n+0: 4142\nend\n
+  > patch img|length 0 to 5\nend\n
   > .
 
 # The last changes as one patch
@@ -185,7 +225,7 @@ With -r those that a redo would make. It only reads.
   > dd bs=2 seek=1 of=img|xyz
   > dd of=img|A
   > revert -p -s 6 img|414243
-  > patch img|length 9 to 40\n+0000001f: 21\n
+  > patch img|length 9 to 40\n+0000001f: 21\nend\n
   > .
   $ shows() { kept bx show -p $1 img | cmp - <(bx diff image$2 image$3) || echo "show -p $1 at $stands"; }
   $ steps() { # WORDS OTHER: what `show -d` says is a patch
@@ -222,6 +262,7 @@ Of 1 TiB no more is read than what the change touches, by `-n` and by `show -p`.
   > +00000003: 41                                       A
   > -ffffffffff: 00                                       .
   > +ffffffffff: 42                                       B
+  > end 5
   > .
   $ timeout 20 bx revert -n -f dump img | cmp - want
   $ timeout 20 bx patch -n -f want img | cmp - want

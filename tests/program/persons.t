@@ -104,14 +104,14 @@ Changes that may only be looked at:
   $ (flock -s 9; as 65534 bx log img) 9< img.bxj
   1 8 1
 
-What is unfinished may be shown, and root's `log` recovers it:
+What is unfinished may be shown, and root's `log --anyway` recovers it, as nothing tells which image it is of:
 
   $ head -3 img.bxj > begun; cat begun > img.bxj; kept as 65534 bx log img
   bx: cannot open file
   [1]
   $ kept as 65534 bx show -k 0 img
   # change 1: unfinished, the next command takes it back
-  $ bx log img; wc -c < img.bxj
+  $ bx log --anyway img; wc -c < img.bxj
   bx: recovered: change 1 was taken back
   0
 
@@ -128,7 +128,7 @@ What is unfinished may be shown, and root's `log` recovers it:
 
 Root goes on with what its owner stopped:
 
-  $ put 1:1 644 a.bxj "$evil"; bx log a; cat a; wc -c < a.bxj
+  $ put 1:1 644 a.bxj "$evil"; bx log --anyway a; cat a; wc -c < a.bxj
   bx: recovered: change 1 was taken back
   EVILEFGH0
 
@@ -207,7 +207,7 @@ nothing.
   66 2:7
   0
   $ umask 022; chmod 3777 .; rm -f img*; put 0:7 660 img ABCDEFGH; put 65534:7 660 img.bxj "$evil"; opening img
-  $ chmod 2770 .; as 1:1,7 bx log img
+  $ chmod 2770 .; as 1:1,7 bx log --anyway img
   bx: recovered: change 1 was taken back
 
 # A group that a folder gave to a file of a neighbour (wants root)

@@ -54,6 +54,8 @@ No line on how far work is stands in what is typed.
         4 1: 41
         4 2: 41
         4 3: 41
+        1 hint: a dump is read from the terminal, up to control-D at the start of a line; -f DUMP names a file
+        2 hint: the input is read from the terminal, up to control-D at the start of a line; if=FILE names a file
 
 # Each set of closed standard streams
 
@@ -80,7 +82,7 @@ a command fails (0: it reads, 1: it writes, 2: it reports), its words, and stand
   > done 9<< .
   > stopped||revert -f dump img|1: 41\n
   > stopped|1|undo -k 0 img|
-  > stopped||log img|
+  > stopped|1|log img|
   > stopped||dd if=dump of=img conv=notrunc|
   > patched||revert -f dump img|
   > patched|0|revert img|1: 41\n

@@ -113,7 +113,7 @@ It has 65,535 changes, here in the older form.
   change 0000ffff 00000000
   save 0000ffff
   done 0000ffff
-  $ kept bx revert -f /dev/null img
+  $ kept bx revert -p img <<< 41
   bx: journal is full
   [1]
   $ printf 'change2 00000001 0000000000000000\nsave 00000001\ndone2 00000001 0000000000000000\n' > img.bxj.redo; kept bx log img
@@ -128,7 +128,7 @@ It has 65,535 changes, here in the older form.
   $ fresh ABxyEFGH "$patched"; mega '\0' 1000000 > img.bxj.redo; kept bx undo img
   bx: redo line 1 is damaged
   [1]
-  $ mega s 1000000 > img.bxj.redo; kept bx revert -f /dev/null img
+  $ mega s 1000000 > img.bxj.redo; kept bx revert -p img <<< 41
   bx: redo line 1 is damaged
   [1]
   $ cp "$(command -v bx)" img.bxj.redo; refused 'redo line 1 is damaged' << .
@@ -144,7 +144,7 @@ It has 65,535 changes, here in the older form.
   $ fresh ABxyEFGH "$patched" 'change 00000001 00000008\nsave 00000001\ndone 00000001\n'; kept bx log img
   bx: redo line 1 is damaged
   [1]
-  $ fresh ABCDEFG '' "$unpatched"; kept bx revert -f /dev/null img
+  $ fresh ABCDEFG '' "$unpatched"; kept bx revert -p img <<< 41
   bx: redo line 4 is damaged
   [1]
 
