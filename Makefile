@@ -7,7 +7,7 @@ zsh = $(DESTDIR)$(PREFIX)/share/zsh/$(if $(filter /usr,$(PREFIX)),vendor-complet
 # of a program that is there already, nothing is built: make check BX=PATH, and so each target below that looks at the program
 program = $(or $(BX),./bx)
 built = $(if $(BX),,all)
-.PHONY: all look test check release install uninstall package tour pictures check-docs docs compare record hostile hints power fuzz bench clean
+.PHONY: all look test case check release install uninstall package tour pictures check-docs docs compare record hostile hints stops power fuzz bench clean
 
 all: bx
 
@@ -50,6 +50,10 @@ release: $(built)
 # The package, installed, upgraded and removed in a root of its own. As root, or by fakeroot; it needs lintian.
 check-package: $(built)
 	tests/hostile.py --bx $(program) package
+
+# One file of cases, or one case, alone and before any proof: make case NAME=redone, make case NAME='patch and undo'.
+case:
+	tools/case.py "$$NAME"
 
 # What follows is run by hand and is no part of the gate.
 
@@ -96,6 +100,10 @@ hostile: $(built)
 # What standard error gets at each fault, on a terminal and in a pipe.
 hints: $(built)
 	tests/hostile.py --bx $(program) hints
+
+# Each command killed before each of its writes and syncs, by strace, and then the next one on the right image and on another one.
+stops: $(built)
+	tests/stops.py --bx $(program)
 
 # The order in which the files of a command reach the disk, by strace; and losses of power, played on what bx wrote, and (as root)
 # on what the kernel's page cache held back.

@@ -243,11 +243,13 @@ def imports(text):
 
 
 def parts(text):
-    """The definitions of a file: name, lines (no comments, imports or blank lines), and the comment above.
+    """The definitions of a file: name, lines (no comments, imports or blank lines), and the comment above, or of the
+    first the one at the head of the file.
 
     A line `module _ .. where` gives those below it, set in by two spaces, their first parameters; it counts with the
     next."""
     found, comment, opened, within = [], [], [], False
+    head = [line[2:].strip() for line in itertools.takewhile(lambda line: line.startswith("--"), text.split("\n"))]
     for line in map(str.rstrip, text.split("\n")):
         if line.startswith("module _ "):
             comment, opened, within = [], [line], True
@@ -262,7 +264,7 @@ def parts(text):
             continue
         begun = HEAD.match(line)
         if begun and re.match(r"(abbrev|unfoldable|pub|record|data) |[\w'-]+ :", line):
-            found.append((begun[2], opened, " ".join(comment)))
+            found.append((begun[2], opened, " ".join(comment or ([] if found else head))))
             comment, opened = [], []
         if found:
             found[-1][1].append(line)

@@ -1,15 +1,15 @@
-"""Compares what documents quote with its source: docs/HEADLINE.md, docs/CALLING.md, and the heads of public crates.
+"""Compares what documents quote with its source: the pages of docs/, and the heads of public crates.
 
 The first line of a block of a document names what it quotes, and --write fills the block:
 
     ```antt undo_of PerformStep   definitions of specs/ (CRATE/NAME where several crates have the name): of a record or
                                   a list of cases all lines, of others their equations without the line with the type
-    ```rust run_all.headline      the clause of a public call or law, behind its name
+    ```rust run_all.headline      the clause of a call or law, behind its name
     ```rust examples/src/a.rt b   functions and structs of a file by their names, and an impl by impl:NAME of its type
                                   or trait
 
-In docs/HEADLINE.md, which has at most 302 lines, each definition that a quoted line names is quoted too, or stands in
-its paragraphs between ` and `. The block at the head of a public crate's lib.rt stands in that crate's examples."""
+In docs/HEADLINE.md each definition that a quoted line names is quoted too, or stands in its paragraphs between ` and `.
+The block at the head of a public crate's lib.rt stands in that crate's examples."""
 import itertools
 import re
 
@@ -17,7 +17,7 @@ import sources
 from pages import believe
 from shared import read
 
-HEADLINE, MOST = "docs/HEADLINE.md", 302
+HEADLINE = "docs/HEADLINE.md"
 BLOCK = re.compile(r"^```(antt|rust) (\S.*)\n((?:(?!```).*\n)*)```$", re.M)
 
 
@@ -25,9 +25,9 @@ class Sources:
     """What can be quoted, and the definitions that it names."""
 
     def __init__(self):
-        self.definitions, self.imports = sources.definitions(believe.named())
+        self.definitions, self.imports, _, self.needed = believe.needed()
         self.functions = [(path, function) for name in sources.crates() for path, _, item in sources.items_in(name)
-                          for function in item.functions if function.is_public]
+                          for function in item.functions]
         self.named = set()
 
     def note(self, known, here, lines):
@@ -37,11 +37,10 @@ class Sources:
         self.named.update(key for key in keys if key in self.definitions)
 
     def definition(self, name):
-        """The lines of a definition, without that of its type; of an inner part's only those that it exports."""
+        """The lines of a definition, without that of its type: of one that public contracts need, or else of any."""
         of, _, name = name.rpartition("/")
-        keys = [(crate, file) for crate, file, other in self.definitions if other == name and of in ("", crate)
-                and not file.startswith("private")
-                and (crate not in sources.inner() or file.startswith(("model.", "show.")))]
+        keys = [(crate, file) for crate, file, other in self.needed if other == name and of in ("", crate)]
+        keys = keys or [(crate, file) for crate, file, other in self.definitions if other == name and of in ("", crate)]
         if len(keys) != 1:
             raise ValueError(f"{len(keys)} definitions have the name {name}")
         lines = [line for line in self.definitions[*keys[0], name].lines if not line.startswith("module _ ")]
@@ -52,14 +51,16 @@ class Sources:
         return lines
 
     def clause(self, name):
-        """The clause of a public call or law, behind its name."""
+        """The clause of a public call or law, behind its name; or of a function that is alone in having it."""
         call, _, label = name.partition(".")
-        found = []
+        found, inner = [], []
         for path, function in self.functions:
             clause = re.search(rf"^ *ensures {label + ' ' if label else ''}\{{", function.contract, re.M)
             if function.name == call and clause:
                 end = sources.closing(function.contract, clause.end() - 1)
-                found.append((path, function.contract[clause.start() : end].split("\n")))
+                here = path, function.contract[clause.start() : end].split("\n")
+                (found if function.is_public else inner).append(here)
+        found = found or inner
         if len(found) != 1:
             raise ValueError(f"{len(found)} calls have the clause {name}")
         path, lines = found[0]
@@ -107,7 +108,7 @@ def heads():
 
 def check(options):
     found, bad = Sources(), []
-    for name in (HEADLINE, "docs/CALLING.md"):
+    for name in (HEADLINE, "docs/SAFETY.md", "docs/CALLING.md"):
         found.named, page = set(), read(name)
         try:
             filled = BLOCK.sub(found.filled, page)
@@ -120,5 +121,4 @@ def check(options):
             shown |= {word for span in spans for word in sources.NAME.findall(span)}
             bad += [f"{name} neither quotes nor explains {key[2]} of {key[0]}/{key[1]}" for key in sorted(found.named)
                     if key[2] not in shown]
-            bad += [f"{name} has more than {MOST} lines"] if len(filled.splitlines()) > MOST else []
     return [*bad, *heads()], "what is quoted is as its sources have it"

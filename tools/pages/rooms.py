@@ -1,5 +1,5 @@
-"""Looks whether the rooms of each crate, and the files in them, import one another in one direction, and as rooms.txt
-says, which people change on purpose, and no script.
+"""Looks whether the rooms of each crate, and the files in them, import one another in one direction, and as
+tools/rooms.txt says, which people change on purpose, and no script.
 
 A room is a module right below `src/`, with its folder; what stands in `lib.rt` is none. A room imports another one
 where one of its files has `use crate::ROOM`, or `use crate::NAME` of a name that `lib.rt` exports from that room. It
@@ -58,7 +58,7 @@ def rooms(name, files, below):
 def tables():
     """What rooms.txt says of each crate: the rooms with what they import, and the inner parts."""
     found, name = {}, None
-    for line in read("rooms.txt").splitlines():
+    for line in read("tools/rooms.txt").splitlines():
         if line.startswith("  "):
             room, others = line.split(":")
             found[name][room.strip()] = set(others.split())

@@ -25,14 +25,16 @@ def runs(old, new, whole):
 
 
 def head_of(old, new):
-    return b"length %d to %d\n" % (len(old), len(new)) if old != new else b""
+    """The first line, which of equal images is the last one too."""
+    return b"length %d to %d\n" % (len(old), len(new)) if old != new else b"end 0\n"
 
 
 def patch(old, new, whole=False):
+    """The text of a patch, whose last line tells how many stand before it."""
     pairs = [(sign, first, image[first:last]) for first, last in runs(old, new, whole)
              for sign, image in (("-", old), ("+", new))]
-    lines = (f"{sign}{form.dump_line(first, data)}\n" for sign, first, data in pairs if data)
-    return head_of(old, new) + "".join(lines).encode()
+    lines = [f"{sign}{form.dump_line(first, data)}\n".encode() for sign, first, data in pairs if data]
+    return b"".join([head_of(old, new), *lines, b"end %d\n" % (len(lines) + 1)] if lines else [head_of(old, new)])
 
 
 def by_patch(text):
@@ -72,7 +74,7 @@ def case(tools, name, *texts):
     if len(plain) > MOST_TEXT:
         return [*out, f"sum: {len(plain)} {hashlib.md5(plain).hexdigest()}"]
     lines, row_lines = ([f"| {line}" for line in text.decode().splitlines()] for text in (plain, rows))
-    return [*out, *["output:"] * bool(lines), *lines, "rows:" if rows else 'rows: ""', *row_lines]
+    return [*out, "output:", *lines, "rows:", *row_lines]
 
 
 def pairs(rng, count, is_compared):
