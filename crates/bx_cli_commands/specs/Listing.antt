@@ -5,7 +5,7 @@ use Rattle.bx_journal.specs.LogRow.{LogRow}
 use Rattle.bx_journal.specs.Steps.{Steps}
 use Rattle.bx_journal.specs.Showing.{LookCounts, StopsLog, StopsRows}
 use Rattle.bx_journal.specs.ShownSteps.{RefusesSteps, StopsSteps}
-use Rattle.bx_journal.specs.ShownText.{StopsText}
+use Rattle.bx_journal.specs.ShownText.{StopsShownPatch}
 use Rattle.bx_cli_commands.specs.declared.fault.Fault.{Fault}
 use Rattle.bx_cli_commands.specs.declared.fault.Fault.TheVariants as of
 
@@ -39,8 +39,8 @@ StopsShowing honest text s _ = ⊥
 
 -- what was written where it was stopped: as of a look at the steps
 abbrev pub StopsShownList : List ℕ → List ℕ → Steps → Option (List ℕ) → Option (List ℕ) → Fault → Type 0
-StopsShownList text image s old new (of.Session fault) = StopsText text image s old new (look.Text fault)
-StopsShownList text image s old new (of.Io fault) = StopsText text image s old new (look.Io fault)
+StopsShownList text image s old new (of.Session fault) = StopsShownPatch text image s old new (look.Text fault)
+StopsShownList text image s old new (of.Io fault) = StopsShownPatch text image s old new (look.Io fault)
 StopsShownList text image s old new _ = ⊥
 
 -- the fault is of the text and the number of steps: nothing is written before it

@@ -19,7 +19,7 @@ use Rattle.bx_journal_read.specs.declared.show.way.Steps.{Steps}
 use Rattle.bx_journal_read.specs.show.Showing.{AreAllMarks, StopsRows, mark_row, mark_rows, ranges_rows}
 use Rattle.bx_journal_read.specs.show.ShownSteps.{AreFrontMarks, HasFront, IsUnfinishedBehind, first_number, mark_step, newest_first, newest_steps, number_at, shown_steps, steps_text, torn_text, unfinished_line}
 use Rattle.bx_journal_read.specs.show.Stopping.{CountsBytes, StopsPrefix}
-use Rattle.bx_journal.specs.ShownText.{StopsText, last_line, shown_text}
+use Rattle.bx_journal.specs.ShownText.{StopsShownPatch, last_line, shown_patch}
 use Rattle.bx_journal_read.proofs.OpenLemmas.{some_same}
 use Rattle.bx_journal_read.proofs.RowTexts.{log_rows, mark_rows-append, marks_many, rows_next}
 use Rattle.bx_journal_read.proofs.Spellings.{front_once, spelled_once}
@@ -176,7 +176,7 @@ shown_of P text now image s slice marks enough same is (Some torn) a holds =
 
 -- a front of that, or of that and the last line, was written
 pub shown_stopped : (text now image : List ℕ) (s : Steps) (slice marks : List Mark) (w0 w1 : Option (List ℕ)) (fault : ShowFault) → s.count ≤ length marks → now ≡ text → slice ≡ marks → (torn : Option Torn)
-    → AreFrontMarks (Unit {0}) text marks torn → StopsPrefix 0 ((torn_text torn ++ newest_steps s image now s.count slice) ++ last_line s) w0 w1 fault → StopsText text image s w0 w1 fault
+    → AreFrontMarks (Unit {0}) text marks torn → StopsPrefix 0 ((torn_text torn ++ newest_steps s image now s.count slice) ++ last_line s) w0 w1 fault → StopsShownPatch text image s w0 w1 fault
 shown_stopped text now image s slice marks w0 w1 fault enough same is torn a stop =
     let of = shown_of (λ t. StopsPrefix 0 (t ++ last_line s) w0 w1 fault) text now image s slice marks enough same is torn a stop in
     record {
@@ -187,9 +187,9 @@ shown_stopped text now image s slice marks w0 w1 fault enough same is torn a sto
     }
 
 -- nothing was written
-pub shown_refused : (text image : List ℕ) (s : Steps) (w : Option (List ℕ)) (fault : SessionFault) → StopsText text image s w w (Text fault)
+pub shown_refused : (text image : List ℕ) (s : Steps) (w : Option (List ℕ)) (fault : SessionFault) → StopsShownPatch text image s w w (Text fault)
 shown_refused text image s w fault = record {
   quiet = λ no. refl;
-  finished = λ ds d. stops_none 0 (shown_text s image ds) w fault;
-  unfinished = λ front ds stage u. stops_none 0 (unfinished_line (suc (length ds)) stage ++ shown_text s image ds) w fault;
+  finished = λ ds d. stops_none 0 (shown_patch s image ds) w fault;
+  unfinished = λ front ds stage u. stops_none 0 (unfinished_line (suc (length ds)) stage ++ shown_patch s image ds) w fault;
 }

@@ -14,7 +14,7 @@ use Rattle.bx_journal_read.specs.model.Redo.{IsRedoOf}
 use Rattle.bx_journal_read.specs.model.Stack.{StandsFor}
 use Rattle.bx_journal_read.specs.show.Differences.{made_text, signed_line}
 use Rattle.bx_journal_read.specs.show.ShownSteps.{shows_patch}
-use Rattle.bx_journal.specs.ShownText.{shown_text}
+use Rattle.bx_journal.specs.ShownText.{shown_patch}
 use Rattle.bx_patch.specs.Grammar.{IsPatch}
 use Rattle.bx_patch.specs.Patch.{Agrees, Asked, patch_change}
 
@@ -62,7 +62,7 @@ NewestTells (c ∷ older) = IsTrue (is_some c.entry.after)
 
 -- What is shown of steps over entries, beside x, is a patch that agrees with x and makes y of it
 abbrev pub IsShownPatch : (A : Type 0) → Steps → List EntryLines → List ℕ → List ℕ → Type 0
-IsShownPatch A s entries x y = (p : Asked) × IsPatch (shown_text s x entries) p × Agrees p x × (effect {A = A} (patch_change p) x ≡ y)
+IsShownPatch A s entries x y = (p : Asked) × IsPatch (shown_patch s x entries) p × Agrees p x × (effect {A = A} (patch_change p) x ≡ y)
 
 -- What is shown of one undo, beside the image, is a patch of it that makes what the undo makes
 abbrev pub ShownUndoIsAPatch : (A : Type 0) → Type 0

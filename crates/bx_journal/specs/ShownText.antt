@@ -14,13 +14,13 @@ abbrev pub last_line : Steps → List ℕ
 last_line s = if shows_patch s then codes "end\n" else []
 
 -- the steps that are asked for, and that line
-abbrev pub shown_text : Steps → List ℕ → List EntryLines → List ℕ
-shown_text s image entries = shown_steps s image entries ++ last_line s
+abbrev pub shown_patch : Steps → List ℕ → List EntryLines → List ℕ
+shown_patch s image entries = shown_steps s image entries ++ last_line s
 
 -- There were as many entries as were asked for, and behind a line or none this was written of them
 pub record HasShownText (s : Steps) (image : List ℕ) (entries : List EntryLines) (line : List ℕ) (old new : Option (List ℕ)) : Type 0 where
   pub enough : s.count ≤ length entries
-  pub written : Appends old new (line ++ shown_text s image entries)
+  pub written : Appends old new (line ++ shown_patch s image entries)
 
 -- The text is finished entries alone, or has something unfinished behind them, and this was written of the one, and of the other
 pub record ShowsText (text image : List ℕ) (s : Steps) (old new : Option (List ℕ)) : Type 0 where
@@ -30,8 +30,8 @@ pub record ShowsText (text image : List ℕ) (s : Steps) (old new : Option (List
       → (s.way ≡ Undo) × HasShownText s image entries (unfinished_line (suc (length entries)) stage) old new
 
 -- A look was stopped: a front of what is written of such a text was, and nothing of another
-pub record StopsText (text image : List ℕ) (s : Steps) (old new : Option (List ℕ)) (fault : ShowFault) : Type 0 where
+pub record StopsShownPatch (text image : List ℕ) (s : Steps) (old new : Option (List ℕ)) (fault : ShowFault) : Type 0 where
   pub quiet : (HasFront text → ⊥) → new ≡ old
-  pub finished : (entries : List EntryLines) → IsSpelled text entries → StopsPrefix 0 (shown_text s image entries) old new fault
+  pub finished : (entries : List EntryLines) → IsSpelled text entries → StopsPrefix 0 (shown_patch s image entries) old new fault
   pub unfinished : (front : List ℕ) (entries : List EntryLines) (stage : Stage) → IsUnfinishedBehind text front entries stage
-      → StopsPrefix 0 (unfinished_line (suc (length entries)) stage ++ shown_text s image entries) old new fault
+      → StopsPrefix 0 (unfinished_line (suc (length entries)) stage ++ shown_patch s image entries) old new fault

@@ -3,7 +3,7 @@ ghost use Rattle.std.specs.Prelude.{◌≡◌, ◌<◌, ◌≤◌, ◌++◌, ℕ
 ghost use Rattle.bx_journal_read.specs.show.Showing.{RangesOf, StopsLog, StopsRows, LiesWithin, LookCounts, PutFault, Stays};
 ghost use Rattle.bx_journal_read.specs.show.ShownSteps.{RefusesSteps, StopsFound, StopsSteps, CannotStep, FindsSteps, IsChecked, IsFoundPut, IsLeftIn, IsSettled, few_that, fault_that, newest_steps, torn_text};
 ghost use Rattle.bx_journal_read.specs.show.Stopping.{CountsBytes};
-ghost use Rattle.bx_journal.specs.ShownText.{ShowsText, StopsText};
+ghost use Rattle.bx_journal.specs.ShownText.{ShowsText, StopsShownPatch};
 
 mod entries;
 mod step;
@@ -178,7 +178,7 @@ pub fn show_steps<D: Device, T: TextStore, A: Allocator + Clone, W: Write>(
     ensures fault { IfErr result (StopsSteps (T.honest journal.old) (T.text journal.old) steps) }
     ensures quiet { IfErr result (λ fault. RefusesSteps fault → W.contents out.new ≡ W.contents out.old) }
     ensures stops { T.honest journal.old → (IsTrue steps.compares → D.honest image.old) → IfErr result
-        (StopsText (T.text journal.old) (D.image image.old) steps (W.contents out.old) (W.contents out.new)) }
+        (StopsShownPatch (T.text journal.old) (D.image image.old) steps (W.contents out.old) (W.contents out.new)) }
     ensures image { Stays D.honest D.image D.failures result image.old image.new }
     ensures text { Stays T.honest T.text T.failures result journal.old journal.new }
     ensures counts { IfErr result (λ f. LookCounts f (D.failures image.old) (T.failures journal.old) (D.failures image.new) (T.failures journal.new)) }

@@ -32,7 +32,7 @@ use Rattle.bx_journal_image.specs.declared.judge.Verdict.TheVariants.{Other, Unt
 use Rattle.bx_journal_image.specs.declared.line.ImageLine.{ImageLine}
 use Rattle.bx_journal_image.specs.declared.ranges.Range.{Range}
 use Rattle.bx_journal_image.specs.Blocks.{AreTrueMarks, AreStruck, DiffersWithin, is_in, is_in_one, ranges_in, rest_from}
-use Rattle.bx_journal_image.specs.Unfinished.{AreAllIn, IsJudgedWithout, IsUnfinishedJudged, IsUnread}
+use Rattle.bx_journal_image.specs.Unfinished.{AreAllIn, IsJudgedWithout, IsUnfinishedJudged, HasLongSavedLine}
 use Rattle.bx_journal_image.proofs.BlockLaws.{right_line}
 
 -- a line that is a saved one in a short image is one in any
@@ -177,7 +177,7 @@ recovered_text x y text r v s line reads stage few small long right same least m
     lines : rest_to open_.mark.saved open_.mark.lines text ≡ rest_to open_.mark.saved open_.mark.lines (shown text)
     lines = rest_shown text open_.mark stands.order stands.ends.within
 
-    by : ((Other ≡ Untold) × IsUnread text open_.mark) ⊎ IsJudgedWithout line text open_.mark y Other → ⊥
+    by : ((Other ≡ Untold) × HasLongSavedLine text open_.mark) ⊎ IsJudgedWithout line text open_.mark y Other → ⊥
     by (inl unread) = absurd (let wrong : Other ≡ Untold = unread.0 in cc)
     by (inr judged) =
         recovered_image x y (shown text) open_.mark s line stands (omega (arith, few, stands.len)) small long right same least most (record {

@@ -8,7 +8,7 @@ use Rattle.bx_journal_image.specs.declared.advice.Standing.{Standing}
 use Rattle.bx_journal_image.specs.declared.line.ImageLine.{ImageLine}
 use Rattle.bx_journal_image.specs.declared.sealing.Span.{Span}
 use Rattle.bx_journal_image.specs.Blocks.{AreStruck, AreTrueMarks, AreWholeMarks, HasLongLine, mark_at, ranges_in}
-use Rattle.bx_journal_image.specs.Unfinished.{IsUnread, WritesNothing, touched_at}
+use Rattle.bx_journal_image.specs.Unfinished.{HasLongSavedLine, LeavesImage, touched_at}
 
 -- a line has what was found of the texts, the length of the image x, and these lengths of what a command makes
 pub record IsLineOf (x : List ℕ) (now : Standing) (foreign : ℕ) (span : Span) (line : ImageLine) : Type 0 where
@@ -67,7 +67,7 @@ AreUnknown marks = (i : ℕ) → i < 32 → mark_at marks i ≡ None
 
 -- what is known of a line's blocks where the change at a mark of a text was taken back: of those that it may touch nothing; of none where its record can't be read
 abbrev pub AreKeptAt : ImageLine → List ℕ → Mark → List (Option ℕ) → Type 0
-AreKeptAt line text mark marks = AreStruck line.length (touched_at text mark) line.marks marks ⊎ (IsUnread text mark × AreUnknown marks)
+AreKeptAt line text mark marks = AreStruck line.length (touched_at text mark) line.marks marks ⊎ (HasLongSavedLine text mark × AreUnknown marks)
 
 -- so behind the recovery of a text
 pub record IsKeptBehind (line : ImageLine) (text : List ℕ) (marks : List (Option ℕ)) : Type 0 where
@@ -79,7 +79,7 @@ pub record IsKeptBehind (line : ImageLine) (text : List ℕ) (marks : List (Opti
 
 -- so, or the recovery writes nothing to the image
 abbrev pub AreKeptBehind : ImageLine → List ℕ → List (Option ℕ) → Type 0
-AreKeptBehind line text marks = (WritesNothing text × (marks ≡ line.marks)) ⊎ IsKeptBehind line text marks
+AreKeptBehind line text marks = (LeavesImage text × (marks ≡ line.marks)) ⊎ IsKeptBehind line text marks
 
 -- the line before a command that first recovers what is unfinished in a text: what a line that was found tells behind the recovery
 pub record IsOpenSealOf (line : ImageLine) (text : List ℕ) (sealed : ImageLine) : Type 0 where

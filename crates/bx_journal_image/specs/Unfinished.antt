@@ -28,17 +28,17 @@ pub record IsJudgedWithout (line : ImageLine) (text : List ℕ) (mark : Mark) (x
   pub judged : IsJudged line kept x verdict
 
 -- the record's lines can't be read in windows of 64 KiB: one is longer
-abbrev pub IsUnread : List ℕ → Mark → Type 0
-IsUnread text mark = HasLongLine 65536 mark.lines mark.saved text
+abbrev pub HasLongSavedLine : List ℕ → Mark → Type 0
+HasLongSavedLine text mark = HasLongLine 65536 mark.lines mark.saved text
 
 -- the blocks of a line without those that such a change may touch; none only where its record's lines can't be read
 abbrev pub IsStruckAt : ImageLine → List ℕ → Mark → Option (List (Option ℕ)) → Type 0
-IsStruckAt line text mark None = IsUnread text mark
+IsStruckAt line text mark None = HasLongSavedLine text mark
 IsStruckAt line text mark (Some kept) = AreStruck line.length (touched_at text mark) line.marks kept
 
 -- so, or nothing is known of it
 abbrev pub IsJudgedAt : ImageLine → List ℕ → Mark → List ℕ → Verdict → Type 0
-IsJudgedAt line text mark x verdict = ((verdict ≡ Untold) × IsUnread text mark) ⊎ IsJudgedWithout line text mark x verdict
+IsJudgedAt line text mark x verdict = ((verdict ≡ Untold) × HasLongSavedLine text mark) ⊎ IsJudgedWithout line text mark x verdict
 
 -- without a line nothing is known of it
 abbrev pub IsJudgedBy : Option ImageLine → List ℕ → Mark → List ℕ → Verdict → Type 0
@@ -54,12 +54,12 @@ pub record IsOpenJudged (line : Option ImageLine) (text x : List ℕ) (verdict :
   pub judged : IsJudgedBy line text mark x verdict
 
 -- nothing is unfinished in it, or what is has no record: recovery writes nothing to the image
-abbrev pub WritesNothing : List ℕ → Type 0
-WritesNothing text = IsClean text ⊎ ((torn : Torn) × IsTornIn text torn × (torn.mark ≡ None))
+abbrev pub LeavesImage : List ℕ → Type 0
+LeavesImage text = IsClean text ⊎ ((torn : Torn) × IsTornIn text torn × (torn.mark ≡ None))
 
 -- what is said of an image beside a journal's text
 abbrev pub IsUnfinishedJudged : Option ImageLine → List ℕ → List ℕ → Option Verdict → Type 0
-IsUnfinishedJudged line text x None = WritesNothing text
+IsUnfinishedJudged line text x None = LeavesImage text
 IsUnfinishedJudged line text x (Some verdict) = IsOpenJudged line text x verdict
 
 -- each address that a record names below its length is in one of the ranges

@@ -19,7 +19,7 @@ use Rattle.bx_patch.specs.declared.diff.row.Extent.{Extent}
 use Rattle.bx_patch.specs.declared.diff.row.Extent.TheVariants.{Bytes, Rows}
 use Rattle.bx_patch.specs.Diff.{counted}
 use Rattle.bx_patch.specs.Text.{PatchLine, differs, headed, length_text, line_for, patch_lines, row_count, row_lines, rows_from, signed_line_text, span_lines, spans_from, with_place}
-use Rattle.bx_patch.specs.private.Diff.{IsHead}
+use Rattle.bx_patch.specs.private.Diff.{IsLengthHead}
 use Rattle.bx_patch.proofs.LineLemmas.{few_digits, headed_whole}
 use Rattle.bx_patch.proofs.PushLemmas.{flat_more}
 
@@ -150,7 +150,7 @@ headed_few head [] = omega arith
 headed_few head (l ∷ lines) = omega (arith, length-append head (flat_map signed_line_text (l ∷ lines)))
 
 -- the line that tells the lengths is a first one
-pub head_is : (old new : ℕ) (head : List ℕ) → old < 2 ^ 59 → new < 2 ^ 59 → head ≡ length_text old new ++ codes "\n" → IsHead head
+pub head_is : (old new : ℕ) (head : List ℕ) → old < 2 ^ 59 → new < 2 ^ 59 → head ≡ length_text old new ++ codes "\n" → IsLengthHead head
 head_is old new head small little e =
     let long : length (length_text old new) ≡ 7 + (length (decimal old) + (4 + length (decimal new))) =
     omega (arith, length-append (decimal old) (codes " to " ++ decimal new)) in
@@ -161,7 +161,7 @@ head_is old new head small little e =
     }
 
 -- the lines of images are counted
-pub number_is : (extent : Extent) (head x y : List ℕ) (number : ℕ) → IsHead head → max (length x) (length y) ≤ 2 ^ 48 →
+pub number_is : (extent : Extent) (head x y : List ℕ) (number : ℕ) → IsLengthHead head → max (length x) (length y) ≤ 2 ^ 48 →
     number ≡ counted (newlines (headed head (patch_lines extent x y))) → number ≡ length (lines_of (headed head (patch_lines extent x y)))
 number_is extent head x y number is short count =
     let lines = patch_lines extent x y in

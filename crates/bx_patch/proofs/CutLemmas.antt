@@ -15,7 +15,7 @@ use Rattle.bx_read.proofs.WindowLemmas.{lines_behind}
 use Rattle.bx_patch.specs.declared.read.fault.PatchFault.{PatchFault}
 use Rattle.bx_patch.specs.declared.read.fault.PatchFault.TheVariants.{NoMemory, NoEnd, Line, OfNoKind, BadLength, PastLength, BadCount}
 use Rattle.bx_patch.specs.Fault.{BeginsWrong, FaultIsOfPatch, GoesOnBehind, HasNoSign, IsCutOff, IsFaultOfLine, IsFaultOfPatch, IsFaultOfRest, IsToTell, PatchFaultIsUnique}
-use Rattle.bx_patch.specs.Grammar.{AsksBefore, EndsWithin, IsEnd, GivesPatch, IsInLengths, IsPatch}
+use Rattle.bx_patch.specs.Grammar.{AsksBefore, EndsWithin, IsPatchEnd, GivesPatch, IsInLengths, IsPatch}
 use Rattle.bx_patch.specs.Laws.{FrontOfAnyIsRefused}
 use Rattle.bx_patch.specs.Patch.{Asked, Pieces}
 use Rattle.bx_patch.specs.Text.{sign_of}
@@ -25,7 +25,7 @@ use Rattle.bx_patch.proofs.RefusalLemmas.{Rest, bars_end, bars_fault, bars_rest,
 use Rattle.bx_patch.proofs.UniqueLemmas.{first_of, one_patch, signed_first}
 
 -- the last line is none of those before it
-end_first : (n : ℕ) (line : List ℕ) → IsEnd n line → first_of line ≡ 101
+end_first : (n : ℕ) (line : List ℕ) → IsPatchEnd n line → first_of line ≡ 101
 end_first n line (inl is) = ap first_of is
 end_first n line (inr is) = ap first_of is
 
@@ -54,7 +54,7 @@ further text a rest b later p q one two less =
       fits = two.fits;
     }
 
-end_further : (p q : Asked) (n : ℕ) (rest later last more : List ℕ) → GoesFurther p q rest later → IsEnd n last → rest ≡ last ++ 10 ∷ more → ⊥
+end_further : (p q : Asked) (n : ℕ) (rest later last more : List ℕ) → GoesFurther p q rest later → IsPatchEnd n last → rest ≡ last ++ 10 ∷ more → ⊥
 end_further p q n rest later last more go ends e =
     let one = end_one n last ends in
     let first = first_whole go.more later last more go.whole go.some one (sym go.spelled ∙ e) in
@@ -90,7 +90,7 @@ record GoesOn (count : ℕ) (rest : List ℕ) (fault : PatchFault) : Type 0 wher
   last : List ℕ
   more : List ℕ
   is : fault ≡ OfNoKind (count + 2)
-  ends : IsEnd count last
+  ends : IsPatchEnd count last
   spelled : rest ≡ last ++ 10 ∷ more
   some : 0 < length more
 
@@ -112,7 +112,7 @@ fault_further p q count rest later fault go (inr (inl is)) =
 fault_further p q count rest later fault go (inr (inr is)) = wrong_further p q count rest later fault go is
 
 -- the last line alone has no fault
-fault_end : (p : Asked) (count : ℕ) (rest last : List ℕ) (fault : PatchFault) → IsEnd count last → rest ≡ last ++ 10 ∷ [] → IsFaultOfRest p count rest fault → ⊥
+fault_end : (p : Asked) (count : ℕ) (rest last : List ℕ) (fault : PatchFault) → IsPatchEnd count last → rest ≡ last ++ 10 ∷ [] → IsFaultOfRest p count rest fault → ⊥
 fault_end p count rest last fault ends e (inl is) = no_newline last [] (subst (λ (t : List ℕ). All (λ c. c ≢ 10) t) e (cut_is rest fault is).1)
 fault_end p count rest last fault ends e (inr (inl is)) =
     let on = behind_is count rest fault is in
@@ -120,7 +120,7 @@ fault_end p count rest last fault ends e (inr (inl is)) =
     absurd (omega (arith, ap length same.1, on.some))
 fault_end p count rest last fault ends e (inr (inr is)) =
     let same = same_line last is.line [] is.later (end_one count last ends) is.one (sym e ∙ is.spelled) in
-    is.no_end (subst (IsEnd count) same.0 ends)
+    is.no_end (subst (IsPatchEnd count) same.0 ends)
 
 pub no_bytes : (t : List ℕ) → length t ≡ 0 → t ≡ []
 no_bytes [] e = refl
@@ -145,7 +145,7 @@ fault_is_of_patch text fault p of is =
         | inl more ↦ end_further p of.asked (length (lines_of is.lines)) last of.rest is.last [] (further text is.lines last of.lines of.rest p of.asked two one more) is.ends refl
         | inr least ↦
             let same = same_front of.lines of.rest is.lines last (sym one.spelled ∙ two.spelled) least most in
-            let ends = subst (λ (t : List ℕ). IsEnd (length (lines_of t)) is.last) (sym same.0) is.ends in
+            let ends = subst (λ (t : List ℕ). IsPatchEnd (length (lines_of t)) is.last) (sym same.0) is.ends in
             fault_end of.asked count of.rest is.last fault ends same.1 of.is
       ]
     ]
@@ -235,7 +235,7 @@ behind_wrong : (q : Asked) (n : ℕ) (rest : List ℕ) (a b : PatchFault) → Go
 behind_wrong q n rest a b is wrong =
     let on = behind_is n rest a is in
     let same = same_line on.last wrong.line on.more wrong.later (end_one n on.last on.ends) wrong.one (sym on.spelled ∙ wrong.spelled) in
-    wrong.no_end (subst (IsEnd n) same.0 on.ends)
+    wrong.no_end (subst (IsPatchEnd n) same.0 on.ends)
 
 rest_fault : (q : Asked) (n : ℕ) (rest : List ℕ) (a b : PatchFault) → IsFaultOfRest q n rest a → IsFaultOfRest q n rest b → a ≡ b
 rest_fault q n rest a b (inl one) (inl two) = (cut_is rest a one).0 ∙ sym (cut_is rest b two).0
@@ -289,7 +289,7 @@ front_fits q p rest (inr a) fits = by q.lengths p.lengths a.2 fits
         (all_front (EndsWithin l.0) q.expected a.0 p.expected a.3 here.0, all_front (EndsWithin l.1) q.written a.1 p.written a.4 here.1)
 
 -- nothing stands behind whole lines at the front of the last one
-end_whole : (n : ℕ) (last more rest : List ℕ) → IsEnd n last → AreWholeLines more → 0 < length more → last ++ 10 ∷ [] ≡ more ++ rest → length rest ≡ 0
+end_whole : (n : ℕ) (last more rest : List ℕ) → IsPatchEnd n last → AreWholeLines more → 0 < length more → last ++ 10 ∷ [] ≡ more ++ rest → length rest ≡ 0
 end_whole n last more rest ends whole some e =
     let first = first_whole more rest last [] whole some (end_one n last ends) (sym e) in
     omega (arith, ap length e, length-append last (10 ∷ []), length-append more rest, ap length first.1, length-append last (10 ∷ first.0))

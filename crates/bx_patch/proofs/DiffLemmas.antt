@@ -7,10 +7,10 @@ use Rattle.std.proofs.lemmas.List.{length-take, length-drop}
 use Rattle.bx_text.specs.Fold.{line_bytes}
 use Rattle.bx_patch.specs.declared.diff.fault.DiffFault.{DiffFault}
 use Rattle.bx_patch.specs.declared.diff.row.Extent.{Extent}
-use Rattle.bx_patch.specs.Text.{PatchLine, length_text, signed_line_text, ended, headed, row_lines, rows_from, row_count, patch_lines, patch_text}
+use Rattle.bx_patch.specs.Text.{PatchLine, length_text, signed_line_text, with_end, headed, row_lines, rows_from, row_count, patch_lines, patch_text}
 use Rattle.bx_patch.specs.Diff.{OnlyReads}
 use Rattle.bx_patch.specs.private.Row.{window_lines}
-use Rattle.bx_patch.specs.private.Diff.{HasPut, WritesPart, lengths_line, lines_of_window, lines_before}
+use Rattle.bx_patch.specs.private.Diff.{HasPut, WritesUpTo, lengths_line, lines_of_window, lines_before}
 use Rattle.bx_patch.proofs.PushLemmas.{flat_more, equal_rows}
 use Rattle.bx_patch.proofs.RowLemmas.{nested_take}
 use Rattle.bx_patch.proofs.WritingLemmas.{headed_prefix}
@@ -114,20 +114,20 @@ module _ (extent : Extent) (head : List ℕ) (number written : ℕ) (first now :
   pub next_put : HasPut head (lines_before extent x y at ++ lines_of_window extent a b at) number written first now → HasPut head (lines_before extent x y next) number written first now
   next_put put = subst (λ (ls : List PatchLine). HasPut head ls number written first now) lines_on put
 
-  pub next_part : (fault : DiffFault) → WritesPart first now (headed head (lines_before extent x y at ++ lines_of_window extent a b at)) fault →
-      WritesPart first now (headed head (patch_lines extent x y)) fault
+  pub next_part : (fault : DiffFault) → WritesUpTo first now (headed head (lines_before extent x y at ++ lines_of_window extent a b at)) fault →
+      WritesUpTo first now (headed head (patch_lines extent x y)) fault
   next_part fault part =
       let n : ℕ = (next + 15) / 16 in
       let few : n ≤ row_count x y = omega arith in
-      let here = subst (λ (ls : List PatchLine). WritesPart first now (headed head ls) fault) lines_on part in
-      subst (λ (ls : List PatchLine). WritesPart first now (headed head ls) fault) (sym (rows_front extent x y n few))
+      let here = subst (λ (ls : List PatchLine). WritesUpTo first now (headed head ls) fault) lines_on part in
+      subst (λ (ls : List PatchLine). WritesUpTo first now (headed head ls) fault) (sym (rows_front extent x y n few))
       (headed_prefix fault head (lines_before extent x y next) (rows_from extent x y n (row_count x y - n)) first now here)
 
 -- a comparison of two devices of these lengths, from their start
 pub ended_is : (extent : Extent) (head : List ℕ) (x y : List ℕ) (old new : ℕ) → old ≡ length x → new ≡ length y → head ≡ length_text old new ++ codes "\n" →
-    ended (headed head (patch_lines extent x y)) ≡ patch_text extent x y
+    with_end (headed head (patch_lines extent x y)) ≡ patch_text extent x y
 ended_is extent head x y old new e f h =
-    ap (λ head. ended (headed head (patch_lines extent x y))) (h ∙ ap (λ n. length_text n new ++ codes "\n") e ∙ ap (λ n. length_text (length x) n ++ codes "\n") f)
+    ap (λ head. with_end (headed head (patch_lines extent x y))) (h ∙ ap (λ n. length_text n new ++ codes "\n") e ∙ ap (λ n. length_text (length x) n ++ codes "\n") f)
 
 -- a device that was only read, and once more
 pub reads_on : {D : Type 0} (honest : D → Type 0) (image : D → List ℕ) (room failures : D → ℕ) (survives : D → List ℕ → Type 0) (failed : Bool) (first mid now : D) →

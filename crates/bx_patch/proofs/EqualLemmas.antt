@@ -7,7 +7,7 @@ use Rattle.std.specs.List.{flat_map}
 use Rattle.bx_text.specs.Fold.{line_bytes}
 use Rattle.bx_patch.specs.Laws.{EqualIsEmpty}
 use Rattle.bx_patch.specs.declared.diff.row.Extent.{Extent}
-use Rattle.bx_patch.specs.Text.{PatchLine, ended, headed, length_text, signed_line_text, patch_lines, patch_text, row_count, row_lines, rows_from}
+use Rattle.bx_patch.specs.Text.{PatchLine, with_end, headed, length_text, signed_line_text, patch_lines, patch_text, row_count, row_lines, rows_from}
 use Rattle.bx_patch.proofs.UniqueLemmas.{first_of}
 use Rattle.bx_patch.proofs.WritingLemmas.{no_more}
 use Rattle.bx_patch.proofs.MakesLemmas.{no_lines}
@@ -24,7 +24,7 @@ same_none : (extent : Extent) (x : List ℕ) → patch_lines extent x x ≡ []
 same_none extent x = no_more (patch_lines extent x x) (ap length (none_from extent x 0 (row_count x x)))
 
 -- a text of the last line alone has no line in front, as it begins with another letter
-alone : (old new : ℕ) (lines : List PatchLine) → ended (headed (length_text old new ++ codes "\n") lines) ≡ codes "end 0\n" → lines ≡ []
+alone : (old new : ℕ) (lines : List PatchLine) → with_end (headed (length_text old new ++ codes "\n") lines) ≡ codes "end 0\n" → lines ≡ []
 alone old new [] e = refl
 alone old new (l ∷ lines) e = absurd (omega (arith, ap first_of e))
 
@@ -34,6 +34,6 @@ zero_text = decimal_digit 0 (omega arith)
 pub equal_is_empty : EqualIsEmpty
 equal_is_empty extent x y = (
   λ empty. no_lines extent x y (alone (length x) (length y) (patch_lines extent x y) empty),
-  λ same. ap (patch_text extent x) (sym same) ∙ ap (λ lines. ended (headed (length_text (length x) (length x) ++ codes "\n") lines)) (same_none extent x)
+  λ same. ap (patch_text extent x) (sym same) ∙ ap (λ lines. with_end (headed (length_text (length x) (length x) ++ codes "\n") lines)) (same_none extent x)
       ∙ ap (λ digits. codes "end " ++ digits ++ codes "\n") zero_text,
 )

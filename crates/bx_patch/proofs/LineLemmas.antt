@@ -18,8 +18,8 @@ use Rattle.bx_read.proofs.WrittenLemmas.{reads_back}
 use Rattle.bx_text.specs.Dump.{dump_line, pair_of, shown_byte}
 use Rattle.bx_text.specs.Field.{hex_text, laid_out}
 use Rattle.bx_patch.specs.Patch.{Asked, Pieces}
-use Rattle.bx_patch.specs.Text.{PatchLine, end_text, sign_of, signed_line_text, length_text, headed}
-use Rattle.bx_patch.specs.Grammar.{IsEnd, IsLength, IsSigned, GivesSigned, GivesPatch}
+use Rattle.bx_patch.specs.Text.{PatchLine, patch_end, sign_of, signed_line_text, length_text, headed}
+use Rattle.bx_patch.specs.Grammar.{IsPatchEnd, IsLength, IsSigned, GivesSigned, GivesPatch}
 use Rattle.bx_patch.proofs.EndLemmas.{whole_both, whole_line}
 
 -- a line with 1 to 16 bytes at an address that can be read
@@ -116,11 +116,11 @@ decimal_one : (k n : ℕ) → k ≡ 64 → IsOneLine (decimal n)
 decimal_one k n e = subst IsOneLine (digits_start k 10 false n e) (digits_one k n [] tt)
 
 -- the last line
-pub end_one : (n : ℕ) (line : List ℕ) → IsEnd n line → All (λ c. c ≢ 10) line
+pub end_one : (n : ℕ) (line : List ℕ) → IsPatchEnd n line → All (λ c. c ≢ 10) line
 end_one n line (inl is) = subst (All (λ c. c ≢ 10)) (sym is) (one_line (codes "end") (λ h. absurd (omega (arith, h)), (λ h. absurd (omega (arith, h)), (λ h. absurd (omega (arith, h)), tt))))
 end_one n line (inr is) =
     subst (All (λ c. c ≢ 10)) (sym is)
-    (one_line (end_text n) (λ h. absurd (omega (arith, h)), (λ h. absurd (omega (arith, h)), (λ h. absurd (omega (arith, h)), (λ h. absurd (omega (arith, h)), decimal_one 64 n refl)))))
+    (one_line (patch_end n) (λ h. absurd (omega (arith, h)), (λ h. absurd (omega (arith, h)), (λ h. absurd (omega (arith, h)), (λ h. absurd (omega (arith, h)), decimal_one 64 n refl)))))
 
 pub few_digits : (n : ℕ) → n < 2 ^ 59 → length (decimal n) ≤ 18
 few_digits n small = length-decimal-le 18 n (omega arith) (omega arith) (omega arith)

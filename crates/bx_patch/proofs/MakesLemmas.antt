@@ -12,9 +12,9 @@ use Rattle.bx_image.specs.Change.{effect, placed}
 use Rattle.bx_image.specs.Image.{place, cut, end_of}
 use Rattle.bx_image.proofs.Images.{same_image, length-cut, slice_index-cut, length-place, slice_index-place_within, slice_index-place_below, slice_index-place_above, end_of_le, slice_index_past}
 use Rattle.bx_read.specs.Text.{lines_of}
-use Rattle.bx_patch.specs.Patch.{Asked, HasPiece, Agrees, Reaches, new_length, patch_change, reversed, Pieces}
+use Rattle.bx_patch.specs.Patch.{Asked, HasPiece, Agrees, HasByteAt, new_length, patch_change, reversed, Pieces}
 use Rattle.bx_patch.specs.declared.diff.row.Extent.{Extent}
-use Rattle.bx_patch.specs.Text.{PatchLine, differs, end_text, headed, length_text, row_count, patch_lines, patch_text}
+use Rattle.bx_patch.specs.Text.{PatchLine, differs, patch_end, headed, length_text, row_count, patch_lines, patch_text}
 use Rattle.bx_patch.specs.Grammar.{EndsWithin, IsInLengths, IsPatch}
 use Rattle.bx_patch.specs.Laws.{FailedIsRefused, FrontIsRefused, HasNoEnd, IsShort, NothingIsChanged, PatchMakesNew, PatchReversed, PatchIsStrict, PatchTellsLength}
 use Rattle.bx_patch.proofs.CutLemmas.{front_of_any_is_refused, one_request}
@@ -33,7 +33,7 @@ side_in x y true ((false, at, bytes) ∷ ls) are = side_in x y true ls are.1
 side_in x y false ((true, at, bytes) ∷ ls) are = side_in x y false ls are.1
 side_in x y false ((false, at, bytes) ∷ ls) are = (are.0.has, side_in x y false ls are.1)
 
-pub side_cover : (new : Bool) (ls : List PatchLine) (i : ℕ) → Reach new ls i → Reaches (pieces_of new ls) i
+pub side_cover : (new : Bool) (ls : List PatchLine) (i : ℕ) → Reach new ls i → HasByteAt (pieces_of new ls) i
 side_cover new [] i h = absurd h
 side_cover true ((true, at, bytes) ∷ ls) i (inl h) = inl (h.1, h.2)
 side_cover true ((false, at, bytes) ∷ ls) i (inl h) = let e : false ≡ true = h.0 in cc
@@ -77,14 +77,14 @@ placed_length A t [] z each long = long
 placed_length A t (p ∷ ps) z each long =
     placed_length A t ps (place z p.0 p.1) each.1 (length-place z p.0 p.1 ∙ omega (arith, piece_end t p.0 p.1 each.0))
 
-placed_byte : (A : Type 0) (t : List ℕ) (ps : Pieces) (z : List ℕ) (i : ℕ) → EachIn t ps → (slice_index z i ≡ slice_index t i) ⊎ Reaches ps i →
+placed_byte : (A : Type 0) (t : List ℕ) (ps : Pieces) (z : List ℕ) (i : ℕ) → EachIn t ps → (slice_index z i ≡ slice_index t i) ⊎ HasByteAt ps i →
     slice_index (placed {A = A} (writes ps) z) i ≡ slice_index t i
 unfolding placed
 placed_byte A t [] z i each (inl same) = same
 placed_byte A t [] z i each (inr none) = absurd none
 placed_byte A t (p ∷ ps) z i each have = placed_byte A t ps (place z p.0 p.1) i each.1 (next have)
   where
-    next : (slice_index z i ≡ slice_index t i) ⊎ Reaches (p ∷ ps) i → (slice_index (place z p.0 p.1) i ≡ slice_index t i) ⊎ Reaches ps i
+    next : (slice_index z i ≡ slice_index t i) ⊎ HasByteAt (p ∷ ps) i → (slice_index (place z p.0 p.1) i ≡ slice_index t i) ⊎ HasByteAt ps i
     next (inr (inr later)) = inr later
     next (inr (inl here)) = inl (slice_index-place_within z p.0 p.1 i here.0 here.1 ∙ piece_byte t p.0 p.1 i each.0 here.0 here.1)
     next (inl same) = elim (cases_lt i p.0) [
@@ -97,7 +97,7 @@ placed_byte A t (p ∷ ps) z i each have = placed_byte A t ps (place z p.0 p.1) 
 
 -- pieces of a list that cover what differs make the list
 pub placed_makes : (A : Type 0) (t : List ℕ) (ps : Pieces) (z : List ℕ) → EachIn t ps → length z ≡ length t →
-    ((i : ℕ) → i < length t → (slice_index z i ≡ slice_index t i) ⊎ Reaches ps i) → placed {A = A} (writes ps) z ≡ t
+    ((i : ℕ) → i < length t → (slice_index z i ≡ slice_index t i) ⊎ HasByteAt ps i) → placed {A = A} (writes ps) z ≡ t
 placed_makes A t ps z each long have =
     let len = placed_length A t ps z each long in
     same_image (placed {A = A} (writes ps) z) t len (λ i inside. placed_byte A t ps z i each (have i (omega arith)))
@@ -142,14 +142,14 @@ brought_byte x old new i inside = go (eqb old new)
 
 -- from the other side to one
 pub makes_side : (A : Type 0) (z t : List ℕ) (ps : Pieces) → EachIn t ps →
-    ((i : ℕ) → i < length t → (slice_index z i ≡ slice_index t i) ⊎ Reaches ps i) →
+    ((i : ℕ) → i < length t → (slice_index z i ≡ slice_index t i) ⊎ HasByteAt ps i) →
     effect {A = A} (record { base = new_length (length z, length t); writes = writes ps }) z ≡ t
 unfolding effect brought
 makes_side A z t ps each have =
     placed_makes A t ps (brought z (length z) (length t)) each (brought_length z (length z) (length t) refl)
     (λ i inside. again i inside (have i inside))
   where
-    again : (i : ℕ) → i < length t → (slice_index z i ≡ slice_index t i) ⊎ Reaches ps i → (slice_index (brought z (length z) (length t)) i ≡ slice_index t i) ⊎ Reaches ps i
+    again : (i : ℕ) → i < length t → (slice_index z i ≡ slice_index t i) ⊎ HasByteAt ps i → (slice_index (brought z (length z) (length t)) i ≡ slice_index t i) ⊎ HasByteAt ps i
     again i inside (inl same) = inl (brought_byte z (length z) (length t) i inside ∙ same)
     again i inside (inr cover) = inr cover
 
@@ -180,7 +180,7 @@ module _ (extent : Extent) (x y : List ℕ) (short : IsShort x) (little : IsShor
       let lines = headed (length_text (length x) (length y) ++ codes "\n") (patch_lines extent x y) in
       record {
         lines = lines;
-        last = end_text (length (lines_of lines));
+        last = patch_end (length (lines_of lines));
         before = record {
           spelled = refl;
           whole = headed_whole (length_text (length x) (length y)) (patch_lines extent x y);
@@ -191,13 +191,13 @@ module _ (extent : Extent) (x y : List ℕ) (short : IsShort x) (little : IsShor
       }
 
   -- each address is as before, or one of the written pieces has it
-  pub changed : (i : ℕ) → i < length y → (slice_index x i ≡ slice_index y i) ⊎ Reaches (pieces_of true (patch_lines extent x y)) i
+  pub changed : (i : ℕ) → i < length y → (slice_index x i ≡ slice_index y i) ⊎ HasByteAt (pieces_of true (patch_lines extent x y)) i
   changed i inside = elim (either_differs (differs x y i)) [
     | inl differ ↦ inr (side_cover true (patch_lines extent x y) i (reaches x y extent true i inside differ))
     | inr same ↦ inl (same_byte x y i same)
   ]
 
-  pub kept : (i : ℕ) → i < length x → (slice_index y i ≡ slice_index x i) ⊎ Reaches (pieces_of false (patch_lines extent x y)) i
+  pub kept : (i : ℕ) → i < length x → (slice_index y i ≡ slice_index x i) ⊎ HasByteAt (pieces_of false (patch_lines extent x y)) i
   kept i inside = elim (either_differs (differs x y i)) [
     | inl differ ↦ inr (side_cover false (patch_lines extent x y) i (reaches x y extent false i inside differ))
     | inr same ↦ inl (sym (same_byte x y i same))
@@ -244,7 +244,7 @@ module _ (A : Type 0) (extent : Extent) (x y : List ℕ) (short : IsShort x) (li
   makes_by [] e = (record { long = tt; has = all_in x [] tt }, none_effect x ∙ no_lines extent x y e)
   makes_by (l ∷ ls) e =
       let are : Each (IsOf x y) (l ∷ ls) = subst (Each (IsOf x y)) e (lines_are extent x y short little) in
-      let P : List PatchLine → Type 0 = λ ls. (i : ℕ) → i < length y → (slice_index x i ≡ slice_index y i) ⊎ Reaches (pieces_of true ls) i in (
+      let P : List PatchLine → Type 0 = λ ls. (i : ℕ) → i < length y → (slice_index x i ≡ slice_index y i) ⊎ HasByteAt (pieces_of true ls) i in (
         record { long = refl; has = all_in x (pieces_of false (l ∷ ls)) (side_in x y false (l ∷ ls) are) },
         makes_side A x y (pieces_of true (l ∷ ls)) (side_in x y true (l ∷ ls) are) (subst P e (changed extent x y short little)),
       )
@@ -256,7 +256,7 @@ module _ (A : Type 0) (extent : Extent) (x y : List ℕ) (short : IsShort x) (li
   back_by [] e = (record { long = tt; has = all_in y [] tt }, none_effect y ∙ sym (no_lines extent x y e))
   back_by (l ∷ ls) e =
       let are : Each (IsOf x y) (l ∷ ls) = subst (Each (IsOf x y)) e (lines_are extent x y short little) in
-      let P : List PatchLine → Type 0 = λ ls. (i : ℕ) → i < length x → (slice_index y i ≡ slice_index x i) ⊎ Reaches (pieces_of false ls) i in (
+      let P : List PatchLine → Type 0 = λ ls. (i : ℕ) → i < length x → (slice_index y i ≡ slice_index x i) ⊎ HasByteAt (pieces_of false ls) i in (
         record { long = refl; has = all_in y (pieces_of true (l ∷ ls)) (side_in x y true (l ∷ ls) are) },
         makes_side A y x (pieces_of false (l ∷ ls)) (side_in x y false (l ∷ ls) are) (subst P e (kept extent x y short little)),
       )
@@ -286,7 +286,7 @@ failed_is_refused extent x y written fault short little part =
     subst HasNoEnd (sym part.4) (front_is_refused extent x y part.0 part.1 short little part.2 part.3)
 
 -- two lists that have the same pieces have the same bytes at their addresses
-cover_same : (x z : List ℕ) (ps : Pieces) (i : ℕ) → EachIn x ps → EachIn z ps → Reaches ps i → slice_index z i ≡ slice_index x i
+cover_same : (x z : List ℕ) (ps : Pieces) (i : ℕ) → EachIn x ps → EachIn z ps → HasByteAt ps i → slice_index z i ≡ slice_index x i
 cover_same x z [] i a b none = absurd none
 cover_same x z (p ∷ ps) i a b (inl here) = sym (piece_byte z p.0 p.1 i b.0 here.0 here.1) ∙ piece_byte x p.0 p.1 i a.0 here.0 here.1
 cover_same x z (p ∷ ps) i a b (inr later) = cover_same x z ps i a.1 b.1 later

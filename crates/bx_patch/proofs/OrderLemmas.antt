@@ -5,7 +5,7 @@ use Rattle.std.proofs.lemmas.List.{length-take, length-drop}
 use Rattle.bx_image.specs.declared.record.spans.Span.{Span}
 use Rattle.bx_text.specs.Fold.{line_bytes}
 use Rattle.bx_patch.specs.Laws.{PatchTurnsRound}
-use Rattle.bx_patch.specs.Patch.{AreInOrder, Pieces, Reaches, TurnsRound}
+use Rattle.bx_patch.specs.Patch.{AreInOrder, Pieces, HasByteAt, TurnsRound}
 use Rattle.bx_patch.specs.declared.diff.row.Extent.{Extent}
 use Rattle.bx_patch.specs.declared.diff.row.Extent.TheVariants.{Bytes, Rows}
 use Rattle.bx_patch.specs.Text.{PatchLine, differs, line_for, patch_lines, row_count, row_lines, rows_from, span_lines, spans_from, with_place}
@@ -134,11 +134,11 @@ order_put : (from at end : ℕ) (bytes : List ℕ) (rest : Pieces) → from ≤ 
 order_put from at end [] rest above most order = order_from from end rest (omega (arith, above, most)) order
 order_put from at end (b ∷ bytes) rest above most order = (above, order_from (at + length (b ∷ bytes)) end rest most order)
 
-split : (at : ℕ) (bytes : List ℕ) (rest : Pieces) (i : ℕ) → Reaches (some_piece at bytes ++ rest) i → ((at ≤ i) × (i < at + length bytes)) ⊎ Reaches rest i
+split : (at : ℕ) (bytes : List ℕ) (rest : Pieces) (i : ℕ) → HasByteAt (some_piece at bytes ++ rest) i → ((at ≤ i) × (i < at + length bytes)) ⊎ HasByteAt rest i
 split at [] rest i here = inr here
 split at (b ∷ bytes) rest i here = here
 
-join : (at : ℕ) (bytes : List ℕ) (rest : Pieces) (i : ℕ) → ((at ≤ i) × (i < at + length bytes)) ⊎ Reaches rest i → Reaches (some_piece at bytes ++ rest) i
+join : (at : ℕ) (bytes : List ℕ) (rest : Pieces) (i : ℕ) → ((at ≤ i) × (i < at + length bytes)) ⊎ HasByteAt rest i → HasByteAt (some_piece at bytes ++ rest) i
 join at [] rest i (inl here) = absurd (omega (arith, here.0, here.1))
 join at [] rest i (inr later) = later
 join at (b ∷ bytes) rest i here = here
@@ -177,20 +177,20 @@ module _ (x y : List ℕ) where
   in_order new from to (s ∷ ss) is =
       subst (AreInOrder from) (sym (pieces_first new s ss)) (order_put from s.at s.end (of_side new s) (pieces_in new ss) is.0 (side_most new s is.1) (in_order new s.end to ss is.2))
 
-  reached : (new : Bool) (from to : ℕ) (ss : List Span) (i : ℕ) → Between from to ss → Reaches (pieces_in new ss) i → HaveSpan ss i × (i < length (side new x y))
+  reached : (new : Bool) (from to : ℕ) (ss : List Span) (i : ℕ) → Between from to ss → HasByteAt (pieces_in new ss) i → HaveSpan ss i × (i < length (side new x y))
   reached new from to [] i is here = absurd here
   reached new from to (s ∷ ss) i is here =
-      elim (split s.at (of_side new s) (pieces_in new ss) i (subst (λ (ps : Pieces). Reaches ps i) (pieces_first new s ss) here)) [
+      elim (split s.at (of_side new s) (pieces_in new ss) i (subst (λ (ps : Pieces). HasByteAt ps i) (pieces_first new s ss) here)) [
         | inl first ↦ let ends = side_length new s i first.0 is.1 first.1 in (inl (first.0, ends.0), ends.1)
         | inr later ↦ let rest = reached new s.end to ss i is.2 later in (inr rest.0, rest.1)
       ]
 
-  reaches_back : (new : Bool) (from to : ℕ) (ss : List Span) (i : ℕ) → Between from to ss → HaveSpan ss i → i < length (side new x y) → Reaches (pieces_in new ss) i
+  reaches_back : (new : Bool) (from to : ℕ) (ss : List Span) (i : ℕ) → Between from to ss → HaveSpan ss i → i < length (side new x y) → HasByteAt (pieces_in new ss) i
   reaches_back new from to [] i is have inside = absurd have
   reaches_back new from to (s ∷ ss) i is have inside =
-      subst (λ (ps : Pieces). Reaches ps i) (sym (pieces_first new s ss)) (join s.at (of_side new s) (pieces_in new ss) i (by have (λ later. reaches_back new s.end to ss i is.2 later inside)))
+      subst (λ (ps : Pieces). HasByteAt ps i) (sym (pieces_first new s ss)) (join s.at (of_side new s) (pieces_in new ss) i (by have (λ later. reaches_back new s.end to ss i is.2 later inside)))
     where
-      by : HaveSpan (s ∷ ss) i → (HaveSpan ss i → Reaches (pieces_in new ss) i) → ((s.at ≤ i) × (i < s.at + length (of_side new s))) ⊎ Reaches (pieces_in new ss) i
+      by : HaveSpan (s ∷ ss) i → (HaveSpan ss i → HasByteAt (pieces_in new ss) i) → ((s.at ≤ i) × (i < s.at + length (of_side new s))) ⊎ HasByteAt (pieces_in new ss) i
       by (inl here) rest = inl (here.0, side_long new s i here.0 here.1 inside)
       by (inr later) rest = inr (rest later)
 
@@ -205,12 +205,12 @@ module _ (x y : List ℕ) where
         order_from 0 (16 * 0) (pieces_of new (patch_lines extent x y)) (omega arith)
         (subst (λ (ls : List PatchLine). AreInOrder (16 * 0) (pieces_of new ls)) (sym own.1) (in_order new (16 * 0) (16 * (0 + row_count x y)) own.0 own.2))
 
-    across : (new other : Bool) (i : ℕ) → i < length (side other x y) → Reaches (pieces_of new (patch_lines extent x y)) i → Reaches (pieces_of other (patch_lines extent x y)) i
+    across : (new other : Bool) (i : ℕ) → i < length (side other x y) → HasByteAt (pieces_of new (patch_lines extent x y)) i → HasByteAt (pieces_of other (patch_lines extent x y)) i
     across new other i inside here =
-        let have = (reached new (16 * 0) (16 * (0 + row_count x y)) own.0 i own.2 (subst (λ (ls : List PatchLine). Reaches (pieces_of new ls) i) own.1 here)).0 in
-        subst (λ (ls : List PatchLine). Reaches (pieces_of other ls) i) (sym own.1) (reaches_back other (16 * 0) (16 * (0 + row_count x y)) own.0 i own.2 have inside)
+        let have = (reached new (16 * 0) (16 * (0 + row_count x y)) own.0 i own.2 (subst (λ (ls : List PatchLine). HasByteAt (pieces_of new ls) i) own.1 here)).0 in
+        subst (λ (ls : List PatchLine). HasByteAt (pieces_of other ls) i) (sym own.1) (reaches_back other (16 * 0) (16 * (0 + row_count x y)) own.0 i own.2 have inside)
 
-    cut_away : (i : ℕ) → length y ≤ i → i < length x → Reaches (pieces_of false (patch_lines extent x y)) i
+    cut_away : (i : ℕ) → length y ≤ i → i < length x → HasByteAt (pieces_of false (patch_lines extent x y)) i
     cut_away i past inside = side_cover false (patch_lines extent x y) i (reaches x y extent false i inside differ)
       where
         differ : differs x y i ≡ true
@@ -227,9 +227,9 @@ module _ (x y : List ℕ) where
         record {
           old_order = to (λ ls. AreInOrder 0 (pieces_of false ls)) (ordered false);
           new_order = to (λ ls. AreInOrder 0 (pieces_of true ls)) (ordered true);
-          told = λ i below. to (λ ls. Reaches (pieces_of true ls) i → Reaches (pieces_of false ls) i) (across true false i below.0);
-          rewritten = λ i below. to (λ ls. Reaches (pieces_of false ls) i → Reaches (pieces_of true ls) i) (across false true i below.1);
-          cut = λ i cut. to (λ ls. Reaches (pieces_of false ls) i) (cut_away i cut.0 cut.1);
+          told = λ i below. to (λ ls. HasByteAt (pieces_of true ls) i → HasByteAt (pieces_of false ls) i) (across true false i below.0);
+          rewritten = λ i below. to (λ ls. HasByteAt (pieces_of false ls) i → HasByteAt (pieces_of true ls) i) (across false true i below.1);
+          cut = λ i cut. to (λ ls. HasByteAt (pieces_of false ls) i) (cut_away i cut.0 cut.1);
         }
 
 pub patch_turns_round : PatchTurnsRound

@@ -12,7 +12,7 @@ use Rattle.bx_text.specs.declared.owned.pieces.Piece.{Piece}
 use Rattle.bx_read.specs.Text.{contents}
 use Rattle.bx_patch.specs.declared.other.Other.TheVariants.{Length, Bytes}
 use Rattle.bx_patch.specs.declared.other.window.Cached.{Cached}
-use Rattle.bx_patch.specs.declared.read.patch.PatchLengths.{PatchLengths}
+use Rattle.bx_patch.specs.declared.read.lengths.PatchLengths.{PatchLengths}
 use Rattle.bx_patch.specs.Other.{DiffersFirst, HasFirstBytes, IsFirstOther, OtherDisagrees, has_other}
 use Rattle.bx_patch.specs.Patch.{HasPiece, Pieces}
 use Rattle.bx_patch.specs.Text.{differs}

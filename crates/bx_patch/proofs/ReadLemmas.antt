@@ -17,7 +17,7 @@ use Rattle.bx_read.proofs.WindowLemmas.{lines_behind}
 use Rattle.bx_patch.specs.declared.read.fault.PatchFault.{PatchFault}
 use Rattle.bx_patch.specs.declared.read.fault.PatchFault.TheVariants.{NoEnd, OfNoKind}
 use Rattle.bx_patch.specs.Fault.{IsFaultOfLine, IsFaultOfPatch, IsFaultOfRest, IsPast}
-use Rattle.bx_patch.specs.Grammar.{AsksBefore, EndsWithin, IsInLengths, GivesPatch, GivesSigned, IsEnd, IsLength, IsPatch, IsRemark, IsSigned}
+use Rattle.bx_patch.specs.Grammar.{AsksBefore, EndsWithin, IsInLengths, GivesPatch, GivesSigned, IsPatchEnd, IsLength, IsPatch, IsRemark, IsSigned}
 use Rattle.bx_patch.specs.Patch.{Asked, nothing_asked, Pieces}
 use Rattle.bx_patch.specs.Text.{sign_of}
 use Rattle.bx_patch.specs.private.Read.{Adds, Gives, HasReadLines, HasSign}
@@ -189,14 +189,14 @@ read_on text rest later line n old new step one have adds =
     }
 
 -- to the end
-pub read_end : (text rest later line : List ℕ) (n : ℕ) (p : Asked) → rest ≡ line ++ 10 ∷ later → IsEnd n line → later ≡ [] → HasReadLines text rest n p → IsPatch text p
+pub read_end : (text rest later line : List ℕ) (n : ℕ) (p : Asked) → rest ≡ line ++ 10 ∷ later → IsPatchEnd n line → later ≡ [] → HasReadLines text rest n p → IsPatch text p
 read_end text rest later line n p step end none have =
     let all : rest ≡ line ++ codes "\n" = step ∙ ap (λ t. line ++ 10 ∷ t) none in
     record {
       lines = have.lines;
       last = line;
       before = subst (λ (t : List ℕ). AsksBefore text have.lines t p) all have.before;
-      ends = subst (λ (k : ℕ). IsEnd k line) have.count end;
+      ends = subst (λ (k : ℕ). IsPatchEnd k line) have.count end;
     }
 
 -- a rest that has a fault
@@ -204,12 +204,12 @@ pub refused : (text rest : List ℕ) (n : ℕ) (p : Asked) (fault : PatchFault) 
 refused text rest n p fault have is =
     record { lines = have.lines; rest = rest; asked = p; before = have.before; is = subst (λ (k : ℕ). IsFaultOfRest p k rest fault) have.count is }
 
-pub refused_line : (text rest later line : List ℕ) (n : ℕ) (p : Asked) (fault : PatchFault) → rest ≡ line ++ 10 ∷ later → All (λ c. c ≢ 10) line → (IsEnd n line → ⊥) →
+pub refused_line : (text rest later line : List ℕ) (n : ℕ) (p : Asked) (fault : PatchFault) → rest ≡ line ++ 10 ∷ later → All (λ c. c ≢ 10) line → (IsPatchEnd n line → ⊥) →
     HasReadLines text rest n p → IsFaultOfLine p (n + 1) line fault → IsFaultOfPatch text fault
 refused_line text rest later line n p fault step one other have is =
     refused text rest n p fault have (inr (inr (record { line = line; later = later; spelled = step; one = one; no_end = other; is = is })))
 
-pub refused_behind : (text rest later line : List ℕ) (n : ℕ) (p : Asked) (fault : PatchFault) → rest ≡ line ++ 10 ∷ later → IsEnd n line →
+pub refused_behind : (text rest later line : List ℕ) (n : ℕ) (p : Asked) (fault : PatchFault) → rest ≡ line ++ 10 ∷ later → IsPatchEnd n line →
     HasReadLines text rest n p → (fault ≡ OfNoKind (n + 2)) × (0 < length later) → IsFaultOfPatch text fault
 refused_behind text rest later line n p fault step end have is =
     subst (λ (f : PatchFault). IsFaultOfPatch text f) (sym is.0) (refused text rest n p (OfNoKind (n + 2)) have (inr (inl (refl, (line, later, end, step, is.1)))))

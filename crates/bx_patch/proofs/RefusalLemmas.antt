@@ -10,7 +10,7 @@ use Rattle.bx_read.proofs.FaultLemmas.{fault_is_of_line}
 use Rattle.bx_read.proofs.GrammarLemmas.{read_line-only}
 use Rattle.bx_patch.specs.declared.read.fault.PatchFault.{PatchFault}
 use Rattle.bx_patch.specs.declared.read.fault.PatchFault.TheVariants.{NoMemory, NoEnd, Line, OfNoKind, BadLength, PastLength, BadCount}
-use Rattle.bx_patch.specs.Fault.{HasNoSign, IsFaultOfLine, IsNoLength, IsPast, IsToTell, TellsCount}
+use Rattle.bx_patch.specs.Fault.{HasNoSign, IsFaultOfLine, IsNoLength, IsPast, IsToTell, TellsLines}
 use Rattle.bx_patch.specs.Grammar.{EndsWithin, IsInLengths, GivesPatch, GivesSigned, IsRemark, IsSigned}
 use Rattle.bx_patch.specs.Patch.{Asked, nothing_asked, Pieces}
 use Rattle.bx_patch.specs.Text.{sign_of}
@@ -112,7 +112,7 @@ bars_end q line first =
       no_length = λ none o n long. absurd (omega (arith, first, length_first line o n long));
     }
 
-pub count_first : (line : List ℕ) → TellsCount line → first_of line ≡ 101
+pub count_first : (line : List ℕ) → TellsLines line → first_of line ≡ 101
 count_first line tells = ap first_of tells.1
 
 bars_kind : (q : Asked) (line : List ℕ) → HasNoSign line → (IsRemark line → ⊥) → (IsToTell q line → ⊥) → Bars q line

@@ -9,11 +9,11 @@ use Rattle.bx_image.specs.Image.{place, end_of}
 use Rattle.bx_image.proofs.Images.{same_image, length-place, slice_index-place_within, slice_index-place_below, slice_index-place_above}
 use Rattle.bx_patch.specs.Grammar.{IsInLengths}
 use Rattle.bx_patch.specs.Laws.{TurnedMakesOld}
-use Rattle.bx_patch.specs.Patch.{Agrees, AreInOrder, Asked, HasPiece, Pieces, Reaches, TurnsRound, new_length, patch_change, reversed}
+use Rattle.bx_patch.specs.Patch.{Agrees, AreInOrder, Asked, HasPiece, Pieces, HasByteAt, TurnsRound, new_length, patch_change, reversed}
 use Rattle.bx_patch.proofs.MakesLemmas.{EachIn, all_in, brought, brought_byte, each_in, makes_side, piece_end, tells, writes}
 
 -- a place that isn't reached keeps its byte
-other_byte : (A : Type 0) (ps : Pieces) (z : List ℕ) (i : ℕ) → (Reaches ps i → ⊥) → slice_index (placed {A = A} (writes ps) z) i ≡ slice_index z i
+other_byte : (A : Type 0) (ps : Pieces) (z : List ℕ) (i : ℕ) → (HasByteAt ps i → ⊥) → slice_index (placed {A = A} (writes ps) z) i ≡ slice_index z i
 unfolding placed
 other_byte A [] z i apart = refl
 other_byte A (p ∷ ps) z i apart =
@@ -23,13 +23,13 @@ other_byte A (p ∷ ps) z i apart =
     ]
 
 -- pieces in order reach no place in front of them
-pub not_before : (from : ℕ) (ps : Pieces) (i : ℕ) → AreInOrder from ps → i < from → Reaches ps i → ⊥
+pub not_before : (from : ℕ) (ps : Pieces) (i : ℕ) → AreInOrder from ps → i < from → HasByteAt ps i → ⊥
 not_before from [] i order less h = h
 not_before from (p ∷ ps) i order less (inl here) = omega (arith, here.0, order.0, less)
 not_before from (p ∷ ps) i order less (inr later) = not_before (p.0 + length p.1) ps i order.1 (omega (arith, order.0, less)) later
 
 -- how long an image is in which pieces are placed
-keeps_length : (A : Type 0) (n : ℕ) (ps : Pieces) (z : List ℕ) → ((i : ℕ) → Reaches ps i → i < n) → length z ≡ n → length (placed {A = A} (writes ps) z) ≡ n
+keeps_length : (A : Type 0) (n : ℕ) (ps : Pieces) (z : List ℕ) → ((i : ℕ) → HasByteAt ps i → i < n) → length z ≡ n → length (placed {A = A} (writes ps) z) ≡ n
 unfolding placed
 keeps_length A n [] z inside long = long
 keeps_length A n (p ∷ ps) z inside long =
@@ -70,7 +70,7 @@ own_pieces A from (p ∷ ps) z order = (
 )
 
 -- a place of pieces that are in an image is one of the image
-reached_inside : (t : List ℕ) (ps : Pieces) (i : ℕ) → EachIn t ps → Reaches ps i → i < length t
+reached_inside : (t : List ℕ) (ps : Pieces) (i : ℕ) → EachIn t ps → HasByteAt ps i → i < length t
 reached_inside t [] i each h = absurd h
 reached_inside t (p ∷ ps) i each (inr later) = reached_inside t ps i each.1 later
 reached_inside t (p ∷ ps) i each (inl here) = by p.1 here.0 here.1 each.0
@@ -79,7 +79,7 @@ reached_inside t (p ∷ ps) i each (inl here) = by p.1 here.0 here.1 each.0
     by [] above below has = absurd (omega (arith, above, below))
     by (b ∷ bytes) above below has = omega (arith, below, piece_end t p.0 (b ∷ bytes) has)
 
-is_reached : (ps : Pieces) (i : ℕ) → Reaches ps i ⊎ (Reaches ps i → ⊥)
+is_reached : (ps : Pieces) (i : ℕ) → HasByteAt ps i ⊎ (HasByteAt ps i → ⊥)
 is_reached [] i = inr (λ h. h)
 is_reached (p ∷ ps) i = elim (is_reached ps i) [
   | inl later ↦ inl (inr later)
@@ -108,29 +108,29 @@ Turned A x e w l =
 
 module _ (A : Type 0) (x : List ℕ) (e w : Pieces) (has : All (HasPiece x) e) (order : AreInOrder 0 w) where
   -- the change back, from an image of this length
-  back : (y : List ℕ) → ((i : ℕ) → i < length x → (slice_index y i ≡ slice_index x i) ⊎ Reaches e i) →
+  back : (y : List ℕ) → ((i : ℕ) → i < length x → (slice_index y i ≡ slice_index x i) ⊎ HasByteAt e i) →
       effect {A = A} (record { base = new_length (length y, length x); writes = writes e }) y ≡ x
   back y have = makes_side A y x e (each_in x e has) have
 
-  turned_alike : ((i : ℕ) → Reaches w i → Reaches e i) → Turned A x e w None
+  turned_alike : ((i : ℕ) → HasByteAt w i → HasByteAt e i) → Turned A x e w None
   unfolding effect
   turned_alike told =
       let y : List ℕ = placed {A = A} (writes w) x in
       let long : length y ≡ length x = keeps_length A (length x) w x (λ i here. reached_inside x e i (each_in x e has) (told i here)) refl in
-      let have : (i : ℕ) → i < length x → (slice_index y i ≡ slice_index x i) ⊎ Reaches e i =
+      let have : (i : ℕ) → i < length x → (slice_index y i ≡ slice_index x i) ⊎ HasByteAt e i =
       λ i inside. elim (is_reached e i) [ inl here ↦ inr here | inr none ↦ inl (other_byte A w x i (λ here. none (told i here))) ] in
       let P : Option ℕ → Type 0 = λ b. effect {A = A} (record { base = b; writes = writes e }) y ≡ x in (
         record { long = tt; has = all_in y w (own_pieces A 0 w x order) },
         subst P (none_same (length y) (length x) long) (back y have),
       )
 
-  turned_lengths : (l : ℕ × ℕ) → length x ≡ l.0 → length (placed {A = A} (writes w) (brought x l.0 l.1)) ≡ l.1 → ((i : ℕ) → (i < l.0) × (i < l.1) → Reaches w i → Reaches e i) →
-      ((i : ℕ) → (l.1 ≤ i) × (i < l.0) → Reaches e i) → Turned A x e w (Some l)
+  turned_lengths : (l : ℕ × ℕ) → length x ≡ l.0 → length (placed {A = A} (writes w) (brought x l.0 l.1)) ≡ l.1 → ((i : ℕ) → (i < l.0) × (i < l.1) → HasByteAt w i → HasByteAt e i) →
+      ((i : ℕ) → (l.1 ≤ i) × (i < l.0) → HasByteAt e i) → Turned A x e w (Some l)
   unfolding effect brought
   turned_lengths l first long told cut =
       let z : List ℕ = brought x l.0 l.1 in
       let y : List ℕ = placed {A = A} (writes w) z in
-      let have : (i : ℕ) → i < length x → (slice_index y i ≡ slice_index x i) ⊎ Reaches e i =
+      let have : (i : ℕ) → i < length x → (slice_index y i ≡ slice_index x i) ⊎ HasByteAt e i =
       λ i inside. elim (is_reached e i) [
         | inl here ↦ inr here
         | inr none ↦ elim (cases_lt i l.1) [

@@ -7,8 +7,8 @@ use Rattle.std.proofs.lemmas.List.{drop_all, drop_more}
 use Rattle.std.proofs.lemmas.List.Elements.{All-cons, All-head, All-nil, All-tail}
 use Rattle.bx_text.specs.declared.owned.pieces.Piece.{Piece}
 use Rattle.bx_read.specs.Text.{contents, lines_of}
-use Rattle.bx_patch.specs.Grammar.{GivesPatch, GivesSigned, IsReadable}
-use Rattle.bx_patch.specs.Patch.{AreInOrder, Asked, IsBelowBoth, IsCutAway, Pieces, Reaches, TurnsRound}
+use Rattle.bx_patch.specs.Grammar.{GivesPatch, GivesSigned, IsReadPatch}
+use Rattle.bx_patch.specs.Patch.{AreInOrder, Asked, IsBelowBoth, IsCutAway, Pieces, HasByteAt, TurnsRound}
 use Rattle.bx_patch.specs.private.Turn.{AreSmall, below_both, reach_each, run_from}
 use Rattle.bx_patch.proofs.ReadLemmas.{small_end}
 use Rattle.bx_patch.proofs.TurnLemmas.{not_before}
@@ -28,10 +28,10 @@ ge_of a b e = grind (arith, nat_tests, e)
 -- what a walk from a place comes to
 record Runs (pieces : Pieces) (at : ℕ) (run : Pieces × ℕ) : Type 0 where
   on : at ≤ run.1
-  reached : (j : ℕ) → at ≤ j → j < run.1 → Reaches pieces j
-  left : (j : ℕ) → run.1 ≤ j → Reaches pieces j → Reaches run.0 j
-  whole : (j : ℕ) → Reaches run.0 j → Reaches pieces j
-  behind : (from : ℕ) → AreInOrder from pieces → (Reaches pieces run.1 → ⊥) × AreInOrder from run.0
+  reached : (j : ℕ) → at ≤ j → j < run.1 → HasByteAt pieces j
+  left : (j : ℕ) → run.1 ≤ j → HasByteAt pieces j → HasByteAt run.0 j
+  whole : (j : ℕ) → HasByteAt run.0 j → HasByteAt pieces j
+  behind : (from : ℕ) → AreInOrder from pieces → (HasByteAt pieces run.1 → ⊥) × AreInOrder from run.0
 
 runs : (pieces : Pieces) (at : ℕ) → Runs pieces at (run_from pieces at)
 runs [] at = record {
@@ -79,13 +79,13 @@ runs (p ∷ ps) at = go (nat_le p.0 at) refl (runs ps (max at (p.0 + length p.1)
 
 -- each place below a limit that others reach
 Covers : ℕ → Pieces → Pieces → Type 0
-Covers below whole inner = (i : ℕ) → i < below → Reaches inner i → Reaches whole i
+Covers below whole inner = (i : ℕ) → i < below → HasByteAt inner i → HasByteAt whole i
 
 -- the pieces of the whole that are left at a walk have all places from there on, and those before it, from one on, are reached
 record Stands (whole : Pieces) (outer : Pieces × ℕ) (from : ℕ) : Type 0 where
-  before : (j : ℕ) → from ≤ j → j < outer.1 → Reaches whole j
-  left : (j : ℕ) → outer.1 ≤ j → Reaches whole j → Reaches outer.0 j
-  within : (j : ℕ) → Reaches outer.0 j → Reaches whole j
+  before : (j : ℕ) → from ≤ j → j < outer.1 → HasByteAt whole j
+  left : (j : ℕ) → outer.1 ≤ j → HasByteAt whole j → HasByteAt outer.0 j
+  within : (j : ℕ) → HasByteAt outer.0 j → HasByteAt whole j
   order : (g : ℕ) × AreInOrder g outer.0
 
 goes_on : (whole : Pieces) (outer : Pieces × ℕ) (from at end : ℕ) → from ≤ at → at ≤ end → Stands whole outer from → Stands whole (run_from outer.0 (max outer.1 at)) end
@@ -135,14 +135,14 @@ covers_is below whole outer from (q ∷ qs) stands order =
         )
 
 pub covers : (below : ℕ) (outer inner : Pieces) → AreInOrder 0 outer → AreInOrder 0 inner →
-    IsTrue (reach_each below (outer, 0) inner) ↔ ((i : ℕ) → i < below → Reaches inner i → Reaches outer i)
+    IsTrue (reach_each below (outer, 0) inner) ↔ ((i : ℕ) → i < below → HasByteAt inner i → HasByteAt outer i)
 unfolding Covers
 covers below outer inner order others =
     covers_is below outer (outer, 0) 0 inner
     (record { before = λ j above less. absurd (omega (arith, less)); left = λ j above here. here; within = λ j here. here; order = (0, order) }) others
 
 -- a range that pieces reach
-pub reaches_range : (pieces : Pieces) (at end : ℕ) → AreInOrder 0 pieces → end ≤ (run_from pieces at).1 ↔ ((i : ℕ) → (at ≤ i) × (i < end) → Reaches pieces i)
+pub reaches_range : (pieces : Pieces) (at end : ℕ) → AreInOrder 0 pieces → end ≤ (run_from pieces at).1 ↔ ((i : ℕ) → (at ≤ i) × (i < end) → HasByteAt pieces i)
 reaches_range pieces at end order =
     let run = runs pieces at in (
       λ most i inside. run.reached i inside.0 (omega (arith, inside.1, most)),
@@ -153,7 +153,7 @@ reaches_range pieces at end order =
     )
 
 -- a place that small pieces reach is small
-pub reached_small : (pieces : Pieces) (i : ℕ) → AreSmall pieces → Reaches pieces i → i < 2 ^ 63
+pub reached_small : (pieces : Pieces) (i : ℕ) → AreSmall pieces → HasByteAt pieces i → i < 2 ^ 63
 reached_small [] i small here = absurd here
 reached_small (p ∷ ps) i small (inl here) = omega (arith, here.1, All-head (λ piece. piece.0 + length piece.1 < 2 ^ 63) p ps small)
 reached_small (p ∷ ps) i small (inr later) = reached_small ps i (All-tail (λ piece. piece.0 + length piece.1 < 2 ^ 63) p ps small) later
@@ -243,7 +243,7 @@ pub each_ends : {A : Type 0} (below : ℕ) (outer : Pieces × ℕ) (ps : List (P
 each_ends below outer ps i past = rw (contents_end ps i past) refl
 
 -- whether pieces reach each place that is cut off
-pub cut_is : (pieces : Pieces) (old new : ℕ) (run : Pieces × ℕ) → AreInOrder 0 pieces → run ≡ run_from pieces new → IsTrue (nat_le old run.1) ↔ ((i : ℕ) → IsCutAway (Some (old, new)) i → Reaches pieces i)
+pub cut_is : (pieces : Pieces) (old new : ℕ) (run : Pieces × ℕ) → AreInOrder 0 pieces → run ≡ run_from pieces new → IsTrue (nat_le old run.1) ↔ ((i : ℕ) → IsCutAway (Some (old, new)) i → HasByteAt pieces i)
 cut_is pieces old new run order on =
     let range = reaches_range pieces new old order in
     let same : run.1 ≡ (run_from pieces new).1 = ap (λ (r : Pieces × ℕ). r.1) on in (
@@ -256,7 +256,7 @@ cut_is pieces old new run order on =
 
 -- what is asked below both lengths
 pub told_is : (l : Option (ℕ × ℕ)) (outer inner : Pieces) → AreSmall inner → AreInOrder 0 outer → AreInOrder 0 inner →
-    IsTrue (reach_each (below_both l) (outer, 0) inner) ↔ ((i : ℕ) → IsBelowBoth l i → Reaches inner i → Reaches outer i)
+    IsTrue (reach_each (below_both l) (outer, 0) inner) ↔ ((i : ℕ) → IsBelowBoth l i → HasByteAt inner i → HasByteAt outer i)
 told_is l outer inner small order others =
     let is = covers (below_both l) outer inner order others in (
       λ all i below here. is.0 all i (below_is l i below (reached_small inner i small here)) here,
@@ -280,7 +280,7 @@ patch_small (line ∷ lines) p (inl a) = patch_small lines p a.1
 patch_small (line ∷ lines) p (inr (inl a)) = signed_small lines p.expected p.written a.4
 patch_small (line ∷ lines) p (inr (inr a)) = signed_small (line ∷ lines) p.expected p.written a.1
 
-pub readable_small : (p : Asked) → IsReadable p → AreSmall p.expected × AreSmall p.written
+pub readable_small : (p : Asked) → IsReadPatch p → AreSmall p.expected × AreSmall p.written
 readable_small p is = patch_small (lines_of is.1.lines) p is.1.before.gives
 
 -- whether a patch can be turned round, as both walks tell
@@ -293,7 +293,7 @@ module _ (l : Option (ℕ × ℕ)) (e w : Pieces) (small : AreSmall e) (little :
       let on : IsTrue (reach_each (below_both l) (e, 0) w) = (told_is l e w little order others).1 turns.told in
       let bad : false ≡ true = sym off ∙ is ∙ ap (λ m. reach_each m (e, 0) w) limit ∙ on in cc
 
-  pub turns_yes : (a b : Bool) → ((i : ℕ) → IsCutAway l i → Reaches e i) → a ≡ reach_each n (e, 0) w → a ≡ true → b ≡ reach_each n (w, 0) e → IsTrue b ↔ TurnsRound asks
+  pub turns_yes : (a b : Bool) → ((i : ℕ) → IsCutAway l i → HasByteAt e i) → a ≡ reach_each n (e, 0) w → a ≡ true → b ≡ reach_each n (w, 0) e → IsTrue b ↔ TurnsRound asks
   turns_yes a b cut is on back =
       let told = (told_is l e w little order others).0 (sym (ap (λ m. reach_each m (e, 0) w) limit) ∙ sym is ∙ on) in
       let same : b ≡ reach_each (below_both l) (w, 0) e = back ∙ ap (λ m. reach_each m (w, 0) e) limit in (

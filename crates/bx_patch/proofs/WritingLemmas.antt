@@ -11,10 +11,10 @@ use Rattle.bx_patch.specs.declared.diff.fault.DiffFault.{DiffFault}
 use Rattle.bx_patch.specs.declared.diff.fault.DiffFault.TheVariants.{NoMemory, TooLarge, OldFailed, NewFailed, WriteFailed}
 use Rattle.bx_read.specs.Text.{lines_of}
 use Rattle.bx_read.specs.private.Window.{newlines}
-use Rattle.bx_patch.specs.Text.{PatchLine, end_text, ended, headed, length_text, patch_lines, patch_text, signed_line_text}
+use Rattle.bx_patch.specs.Text.{PatchLine, patch_end, with_end, headed, length_text, patch_lines, patch_text, signed_line_text}
 use Rattle.bx_patch.specs.declared.diff.row.Extent.{Extent}
 use Rattle.bx_patch.specs.Diff.{AreShort, IsFaultFor, TellsWritten, WritesPrefix, counted}
-use Rattle.bx_patch.specs.private.Diff.{HasPut, IsLate, IsUntold, PutsPart, WritesPart}
+use Rattle.bx_patch.specs.private.Diff.{HasPut, IsLate, IsUntold, PutsPart, WritesUpTo}
 use Rattle.bx_patch.proofs.CountLemmas.{newlines_both}
 use Rattle.bx_patch.proofs.PushLemmas.{flat_more}
 
@@ -102,7 +102,7 @@ put_more head lines more number next written after first mid now some has add =
     }
 
 -- a prefix of a text is one of a longer text
-pub part_longer : (fault : DiffFault) (old new : Option (List ℕ)) (text more : List ℕ) → WritesPart old new text fault → WritesPart old new (text ++ more) fault
+pub part_longer : (fault : DiffFault) (old new : Option (List ℕ)) (text more : List ℕ) → WritesUpTo old new text fault → WritesUpTo old new (text ++ more) fault
 part_longer fault old new text more part =
     (part.0, part.1 ++ more, ap (λ t. t ++ more) part.2 ∙ append_assoc part.0 part.1 more, part.3, part.4)
 
@@ -127,7 +127,7 @@ prefix_behind fault first mid now before text written put count part = (
 )
 
 pub part_behind : (fault : DiffFault) (first mid now : Option (List ℕ)) (before text : List ℕ) (written : ℕ) → Appends first mid before →
-    written ≡ counted (length before) → PutsPart written mid now text fault → WritesPart first now (before ++ text) fault
+    written ≡ counted (length before) → PutsPart written mid now text fault → WritesUpTo first now (before ++ text) fault
 part_behind fault first mid now before text written put count part =
     let is = prefix_behind fault first mid now before text written put count part in
     (is.0, is.1, is.2, is.4, is.5)
@@ -145,19 +145,19 @@ put_failed n told before old new bytes e is = (
 )
 
 pub begin_failed : (fault : DiffFault) (head : List ℕ) (lines : List PatchLine) (number written : ℕ) (first mid now : Option (List ℕ)) → written ≤ 0 →
-    HasPut head lines number written first mid → PutsPart written mid now head fault → WritesPart first now (head ++ flat_map signed_line_text lines) fault
+    HasPut head lines number written first mid → PutsPart written mid now head fault → WritesUpTo first now (head ++ flat_map signed_line_text lines) fault
 begin_failed fault head [] number written first mid now is put part =
-    subst (λ (t : List ℕ). WritesPart first now t fault) (sym (append-nil head)) (part_behind fault first mid now [] head written put.put put.count part)
+    subst (λ (t : List ℕ). WritesUpTo first now t fault) (sym (append-nil head)) (part_behind fault first mid now [] head written put.put put.count part)
 begin_failed fault head (l ∷ lines) number written first mid now is put part = absurd (no_bytes_yet head l lines number written first mid is put)
 
 pub text_failed : (fault : DiffFault) (head : List ℕ) (lines more : List PatchLine) (first now : Option (List ℕ)) → 0 < length (flat_map signed_line_text more) →
-    WritesPart first now ((head ++ flat_map signed_line_text lines) ++ flat_map signed_line_text more) fault → WritesPart first now (headed head (lines ++ more)) fault
+    WritesUpTo first now ((head ++ flat_map signed_line_text lines) ++ flat_map signed_line_text more) fault → WritesUpTo first now (headed head (lines ++ more)) fault
 text_failed fault head lines more first now some part =
-    subst (λ (t : List ℕ). WritesPart first now t fault) (sym (headed_more head lines more some)) part
+    subst (λ (t : List ℕ). WritesUpTo first now t fault) (sym (headed_more head lines more some)) part
 
 -- lines that were written are a prefix of those and more
 pub lines_part : (fault : DiffFault) (head : List ℕ) (lines more : List PatchLine) (number written : ℕ) (first now : Option (List ℕ)) → IsUntold fault →
-    HasPut head lines number written first now → WritesPart first now (headed head (lines ++ more)) fault
+    HasPut head lines number written first now → WritesUpTo first now (headed head (lines ++ more)) fault
 lines_part fault head [] more number written first now tells put = ([], headed head more, refl, put.put, tells 0)
 lines_part fault head (l ∷ lines) more number written first now tells put =
     let done = head ++ flat_map signed_line_text (l ∷ lines) in (
@@ -168,15 +168,15 @@ lines_part fault head (l ∷ lines) more number written first now tells put =
       tells (length done),
     )
 
-pub headed_prefix : (fault : DiffFault) (head : List ℕ) (lines more : List PatchLine) (first now : Option (List ℕ)) → WritesPart first now (headed head lines) fault →
-    WritesPart first now (headed head (lines ++ more)) fault
+pub headed_prefix : (fault : DiffFault) (head : List ℕ) (lines more : List PatchLine) (first now : Option (List ℕ)) → WritesUpTo first now (headed head lines) fault →
+    WritesUpTo first now (headed head (lines ++ more)) fault
 headed_prefix fault head [] more first now part = empty part.0 part.1 part.2 part.3 part.4
   where
-    empty : (a b : List ℕ) → [] ≡ a ++ b → Appends first now a → TellsWritten (length a) fault → WritesPart first now (headed head more) fault
+    empty : (a b : List ℕ) → [] ≡ a ++ b → Appends first now a → TellsWritten (length a) fault → WritesUpTo first now (headed head more) fault
     empty [] b e put tells = ([], headed head more, refl, put, tells)
     empty (x ∷ a) b e put tells = absurd (omega (arith, ap length e))
 headed_prefix fault head (l ∷ lines) more first now part =
-    subst (λ (t : List ℕ). WritesPart first now t fault)
+    subst (λ (t : List ℕ). WritesUpTo first now t fault)
     (append_assoc head (flat_map signed_line_text (l ∷ lines)) (flat_map signed_line_text more) ∙ ap (λ t. head ++ t) (sym (flat_more signed_line_text (l ∷ lines) more)))
     (part_longer fault first now (head ++ flat_map signed_line_text (l ∷ lines)) (flat_map signed_line_text more) part)
 
@@ -188,29 +188,29 @@ memory_untold fault e = subst IsUntold (sym e) (λ n. tt)
 
 -- the last line, with its newline
 abbrev last_of : ℕ → List ℕ
-last_of n = end_text n ++ codes "\n"
+last_of n = patch_end n ++ codes "\n"
 
 -- it is written behind all others
-pub ended_some : (lines : List ℕ) → 0 < length (ended lines)
+pub ended_some : (lines : List ℕ) → 0 < length (with_end lines)
 ended_some lines = omega (arith, length-append lines (last_of (length (lines_of lines))))
 
 pub text_some : (extent : Extent) (x y : List ℕ) → 0 < length (patch_text extent x y)
 text_some extent x y = ended_some (headed (length_text (length x) (length y) ++ codes "\n") (patch_lines extent x y))
 
 pub ended_put : (head : List ℕ) (lines : List PatchLine) (number written : ℕ) (first mid now : Option (List ℕ)) → HasPut head lines number written first mid →
-    number ≡ length (lines_of (headed head lines)) → Appends mid now (last_of number) → Appends first now (ended (headed head lines))
+    number ≡ length (lines_of (headed head lines)) → Appends mid now (last_of number) → Appends first now (with_end (headed head lines))
 ended_put head lines number written first mid now put is more =
     subst (λ (n : ℕ). Appends first now (headed head lines ++ last_of n)) is (Appends-trans first mid now (headed head lines) (last_of number) put.put more)
 
 pub ended_failed : (fault : DiffFault) (head : List ℕ) (lines : List PatchLine) (number written : ℕ) (first mid now : Option (List ℕ)) →
     HasPut head lines number written first mid → number ≡ length (lines_of (headed head lines)) → PutsPart written mid now (last_of number) fault →
-    WritesPrefix first now (ended (headed head lines)) fault
+    WritesPrefix first now (with_end (headed head lines)) fault
 ended_failed fault head lines number written first mid now put is part =
     subst (λ (n : ℕ). WritesPrefix first now (headed head lines ++ last_of n) fault) is
     (prefix_behind fault first mid now (headed head lines) (last_of number) written put.put put.count part)
 
 -- and isn't written behind a part of them
-pub never_ended : (fault : DiffFault) (lines : List ℕ) (first now : Option (List ℕ)) → WritesPart first now lines fault → WritesPrefix first now (ended lines) fault
+pub never_ended : (fault : DiffFault) (lines : List ℕ) (first now : Option (List ℕ)) → WritesUpTo first now lines fault → WritesPrefix first now (with_end lines) fault
 never_ended fault lines first now part =
     let last = last_of (length (lines_of lines)) in (
       part.0,

@@ -4,7 +4,7 @@ use Rattle.bx_read.specs.FaultTable.{IsFaultOf}
 use Rattle.bx_read.specs.Text.{lines_of}
 use Rattle.bx_patch.specs.declared.read.fault.PatchFault.{PatchFault}
 use Rattle.bx_patch.specs.declared.read.fault.PatchFault.TheVariants.{NoMemory, NoEnd, Line, OfNoKind, BadLength, PastLength, BadCount}
-use Rattle.bx_patch.specs.Grammar.{AsksBefore, IsEnd, IsLength, IsPatch, IsRemark, IsSigned}
+use Rattle.bx_patch.specs.Grammar.{AsksBefore, IsPatchEnd, IsLength, IsPatch, IsRemark, IsSigned}
 use Rattle.bx_patch.specs.Patch.{Asked, nothing_asked}
 use Rattle.bx_patch.specs.Text.{sign_of}
 
@@ -26,8 +26,8 @@ IsPast None new piece = ⊥
 IsPast (Some lengths) new piece = (if new then lengths.1 else lengths.0) < piece.0 + length piece.1
 
 -- the line tells how many lines stand before it, as the last one may
-abbrev pub TellsCount : List ℕ → Type 0
-TellsCount line = (text : List ℕ) × (line ≡ codes "end " ++ text)
+abbrev pub TellsLines : List ℕ → Type 0
+TellsLines line = (text : List ℕ) × (line ≡ codes "end " ++ text)
 
 -- The fault of a line with this number behind lines that ask this, where it isn't the last one.
 abbrev pub IsFaultOfLine : Asked → ℕ → List ℕ → PatchFault → Type 0
@@ -35,34 +35,34 @@ IsFaultOfLine before number line NoMemory = ⊥
 IsFaultOfLine before number line NoEnd = ⊥
 IsFaultOfLine before number line (Line fault) = (new : Bool) × (text : List ℕ) × (line ≡ sign_of new ∷ text) × IsFaultOf number text fault
 IsFaultOfLine before number line (OfNoKind n) =
-    (n ≡ number) × HasNoSign line × (IsRemark line → ⊥) × (IsToTell before line → ⊥) × (TellsCount line → ⊥)
+    (n ≡ number) × HasNoSign line × (IsRemark line → ⊥) × (IsToTell before line → ⊥) × (TellsLines line → ⊥)
 IsFaultOfLine before number line (BadLength n) = (n ≡ number) × IsToTell before line × IsNoLength line
 IsFaultOfLine before number line (PastLength n) =
     (n ≡ number) × ((new : Bool) × (piece : ℕ × List ℕ) × IsSigned new line piece × IsPast before.lengths new piece)
-IsFaultOfLine before number line (BadCount n) = (n ≡ number) × TellsCount line
+IsFaultOfLine before number line (BadCount n) = (n ≡ number) × TellsLines line
 
 -- the text has no newline
-abbrev pub HasNoNewline : List ℕ → Type 0
-HasNoNewline text = All (λ c. c ≢ 10) text
+abbrev pub HasNoLineEnd : List ℕ → Type 0
+HasNoLineEnd text = All (λ c. c ≢ 10) text
 
 -- Behind this many lines, which ask this, the rest begins with a whole line that isn't the last one and has the fault.
 pub record BeginsWrong (before : Asked) (count : ℕ) (rest : List ℕ) (fault : PatchFault) : Type 0 where
   pub line : List ℕ
   pub later : List ℕ
   pub spelled : rest ≡ line ++ 10 ∷ later
-  pub one : HasNoNewline line
-  pub no_end : IsEnd count line → ⊥
+  pub one : HasNoLineEnd line
+  pub no_end : IsPatchEnd count line → ⊥
   pub is : IsFaultOfLine before (count + 1) line fault
 
 -- Behind this many lines the rest begins with the last one, and more stands behind that: the line there is of no kind.
 abbrev pub GoesOnBehind : ℕ → List ℕ → PatchFault → Type 0
 GoesOnBehind count rest (OfNoKind n) =
-    (n ≡ count + 2) × ((last more : List ℕ) × IsEnd count last × (rest ≡ last ++ 10 ∷ more) × (0 < length more))
+    (n ≡ count + 2) × ((last more : List ℕ) × IsPatchEnd count last × (rest ≡ last ++ 10 ∷ more) × (0 < length more))
 GoesOnBehind count rest fault = ⊥
 
 -- No whole line is left, so there is no end.
 abbrev pub IsCutOff : List ℕ → PatchFault → Type 0
-IsCutOff rest NoEnd = HasNoNewline rest
+IsCutOff rest NoEnd = HasNoLineEnd rest
 IsCutOff rest fault = ⊥
 
 -- The fault of what stands behind this many lines, which ask this.

@@ -5,7 +5,7 @@ use Rattle.bx_read.specs.Grammar.{IsLine}
 use Rattle.bx_read.specs.Text.{lines_of}
 use Rattle.bx_read.specs.Window.{AreWholeLines}
 use Rattle.bx_patch.specs.Patch.{Asked, Pieces}
-use Rattle.bx_patch.specs.Text.{end_text, sign_of}
+use Rattle.bx_patch.specs.Text.{patch_end, sign_of}
 
 -- a line that counts for nothing: an empty one, or one that begins with `#`
 abbrev pub IsRemark : List ℕ → Type 0
@@ -62,16 +62,16 @@ pub record AsksBefore (text lines rest : List ℕ) (p : Asked) : Type 0 where
   pub fits : IsInLengths p
 
 -- The line is the last one of a text that has n lines before it: `end`, or that and their number.
-abbrev pub IsEnd : ℕ → List ℕ → Type 0
-IsEnd n line = (line ≡ codes "end") ⊎ (line ≡ end_text n)
+abbrev pub IsPatchEnd : ℕ → List ℕ → Type 0
+IsPatchEnd n line = (line ≡ codes "end") ⊎ (line ≡ patch_end n)
 
 -- The text is a patch that asks this: lines that ask it, and then the last one with its newline, and nothing else.
 pub record IsPatch (text : List ℕ) (p : Asked) : Type 0 where
   pub lines : List ℕ
   pub last : List ℕ
   pub before : AsksBefore text lines (last ++ codes "\n") p
-  pub ends : IsEnd (length (lines_of lines)) last
+  pub ends : IsPatchEnd (length (lines_of lines)) last
 
 -- a text asks this
-abbrev pub IsReadable : Asked → Type 0
-IsReadable p = (text : List ℕ) × IsPatch text p
+abbrev pub IsReadPatch : Asked → Type 0
+IsReadPatch p = (text : List ℕ) × IsPatch text p

@@ -46,9 +46,9 @@ pub record ChangesNothing (p : Asked) : Type 0 where
   pub lengths : option_and_then new_length p.lengths ≡ None
 
 -- one of the pieces has a byte at the place
-abbrev pub Reaches : Pieces → ℕ → Type 0
-Reaches [] i = ⊥
-Reaches (piece ∷ pieces) i = ((piece.0 ≤ i) × (i < piece.0 + length piece.1)) ⊎ Reaches pieces i
+abbrev pub HasByteAt : Pieces → ℕ → Type 0
+HasByteAt [] i = ⊥
+HasByteAt (piece ∷ pieces) i = ((piece.0 ≤ i) × (i < piece.0 + length piece.1)) ⊎ HasByteAt pieces i
 
 -- the first piece stands at a place or behind it, and each other one where the one before it ends, or behind that
 abbrev pub AreInOrder : ℕ → Pieces → Type 0
@@ -69,6 +69,6 @@ IsCutAway (Some l) i = (l.1 ≤ i) × (i < l.0)
 pub record TurnsRound (p : Asked) : Type 0 where
   pub old_order : AreInOrder 0 p.expected
   pub new_order : AreInOrder 0 p.written
-  pub told : (i : ℕ) → IsBelowBoth p.lengths i → Reaches p.written i → Reaches p.expected i
-  pub rewritten : (i : ℕ) → IsBelowBoth p.lengths i → Reaches p.expected i → Reaches p.written i
-  pub cut : (i : ℕ) → IsCutAway p.lengths i → Reaches p.expected i
+  pub told : (i : ℕ) → IsBelowBoth p.lengths i → HasByteAt p.written i → HasByteAt p.expected i
+  pub rewritten : (i : ℕ) → IsBelowBoth p.lengths i → HasByteAt p.expected i → HasByteAt p.written i
+  pub cut : (i : ℕ) → IsCutAway p.lengths i → HasByteAt p.expected i

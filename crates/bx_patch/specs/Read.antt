@@ -3,7 +3,7 @@ use Rattle.std.specs.Prelude.{Option}
 use Rattle.std.specs.Option.{option_map}
 use Rattle.bx_read.specs.Text.{contents}
 use Rattle.bx_patch.specs.declared.read.patch.Patch.{Patch}
-use Rattle.bx_patch.specs.declared.read.patch.PatchLengths.{PatchLengths}
+use Rattle.bx_patch.specs.declared.read.lengths.PatchLengths.{PatchLengths}
 use Rattle.bx_patch.specs.Patch.{Asked, Pieces}
 
 -- a patch of these lengths, if any are stated, and these pieces

@@ -71,13 +71,13 @@ headed head [] = []
 headed head (line ∷ lines) = head ++ flat_map signed_line_text (line ∷ lines)
 
 -- the last line of a text that has n lines before it, without its newline
-abbrev pub end_text : ℕ → List ℕ
-end_text n = codes "end " ++ decimal n
+abbrev pub patch_end : ℕ → List ℕ
+patch_end n = codes "end " ++ decimal n
 
 -- lines, and the last one, which tells how many they are and behind which nothing stands
-abbrev pub ended : List ℕ → List ℕ
-ended lines = lines ++ (end_text (length (lines_of lines)) ++ codes "\n")
+abbrev pub with_end : List ℕ → List ℕ
+with_end lines = lines ++ (patch_end (length (lines_of lines)) ++ codes "\n")
 
 -- The text of the patch from x to y.
 abbrev pub patch_text : Extent → List ℕ → List ℕ → List ℕ
-patch_text extent x y = ended (headed (length_text (length x) (length y) ++ codes "\n") (patch_lines extent x y))
+patch_text extent x y = with_end (headed (length_text (length x) (length y) ++ codes "\n") (patch_lines extent x y))

@@ -13,5 +13,6 @@ pub use diff::row::Extent;
 pub use diff::write_patch;
 pub use other::{Other, find_other};
 pub use read::fault::PatchFault;
-pub use read::patch::{Patch, PatchLengths};
+pub use read::lengths::PatchLengths;
+pub use read::patch::Patch;
 pub use read::read_patch;

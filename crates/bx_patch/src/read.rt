@@ -1,7 +1,7 @@
 //! The text of a patch, read.
 ghost use Rattle.std.specs.Prelude.{◌≡◌, ◌⊎◌, ◌↔◌, ◌∷◌, ◌++◌, ◌+◌, ◌<◌, ◌≤◌, [], length, IsTrue, IfOk, IfErr, MatchOption, MatchResult, OnOk};
-ghost use Rattle.bx_patch.specs.Fault.{HasNoNewline, IsFaultOfPatch};
-ghost use Rattle.bx_patch.specs.Grammar.{IsEnd, IsPatch};
+ghost use Rattle.bx_patch.specs.Fault.{HasNoLineEnd, IsFaultOfPatch};
+ghost use Rattle.bx_patch.specs.Grammar.{IsPatchEnd, IsPatch};
 ghost use Rattle.bx_patch.specs.Patch.{nothing_asked};
 ghost use Rattle.bx_patch.specs.Read.{asked_of};
 
@@ -25,7 +25,7 @@ const END: &[u8] = b"end";
 
 /// Whether a line is the last one of a text that has this many lines before it.
 fn is_end(line: &[u8], count: u64) -> bool
-    ensures { IsTrue result ↔ IsEnd count line.now }
+    ensures { IsTrue result ↔ IsPatchEnd count line.now }
 {
     if line == END {
         return true;
@@ -38,7 +38,7 @@ fn is_end(line: &[u8], count: u64) -> bool
 
 /// The first line without its newline, and what follows it; None where the text has no newline.
 fn first_line(text: &[u8]) -> Option<(&[u8], &[u8])>
-    ensures { MatchOption result (HasNoNewline text.now) (λ parts. HasNoNewline parts.0.now × (text.now ≡ parts.0.now ++ 10 ∷ parts.1.now)) }
+    ensures { MatchOption result (HasNoLineEnd text.now) (λ parts. HasNoLineEnd parts.0.now × (text.now ≡ parts.0.now ++ 10 ∷ parts.1.now)) }
 {
     let end = memchr(b'\n', text)?;
     Some((&text[..end], &text[end + 1..]))

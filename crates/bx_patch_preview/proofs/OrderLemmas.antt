@@ -9,7 +9,7 @@ use Rattle.std.proofs.lemmas.List.Sorted.{IsNonDecreasingBy-take}
 use Rattle.bx_text.specs.declared.owned.pieces.Piece.{Piece}
 use Rattle.bx_image.specs.Change.{placed}
 use Rattle.bx_image.specs.Image.{is_within, place}
-use Rattle.bx_patch_preview.specs.private.Order.{AreOrdered}
+use Rattle.bx_patch_preview.specs.private.Order.{AreByPlace}
 use Rattle.bx_patch_preview.specs.private.Untouched.{is_overwritten}
 use Rattle.bx_patch_preview.specs.private.Window.{IsWindow}
 use Rattle.bx_patch_preview.proofs.WindowLemmas.{piece_before, piece_behind}
@@ -57,7 +57,7 @@ reached {A = A} old new at begun ended ps y long most least behind before put wi
         subst Q (sym (get_or-drop begun ps k d)) (rw long (behind (begun + k) d (omega arith) (omega (arith, high, length-drop {A = Piece A} begun ps))))
 
 -- what is in order still is where a part is taken
-pub ordered_front : {A : Type 0} (n : ℕ) (ps : List (Piece A)) → AreOrdered ps → AreOrdered (take n ps)
+pub ordered_front : {A : Type 0} (n : ℕ) (ps : List (Piece A)) → AreByPlace ps → AreByPlace (take n ps)
 ordered_front n ps is = (IsNonDecreasingBy-take (λ p. p.at) n ps is.0, IsNonDecreasingBy-take (λ p. p.at + length p.bytes) n ps is.1)
 
 -- an address outside of a piece
@@ -74,7 +74,7 @@ none_behind {A = A} ps n at j all ended above = list_any_none (λ p. is_within p
     outside (get_or ps k d).at (get_or ps k d).bytes j (inr (omega (arith, end, above))))
 
 -- and one before the next piece
-pub none_before : {A : Type 0} (ps : List (Piece A)) (n : ℕ) (p : Piece A) (at j : ℕ) → AreOrdered ps → n < length ps → p ≡ get_or ps n p
+pub none_before : {A : Type 0} (ps : List (Piece A)) (n : ℕ) (p : Piece A) (at j : ℕ) → AreByPlace ps → n < length ps → p ≡ get_or ps n p
     → AllWithin (λ p. p.at + length p.bytes ≤ at) ps 0 n → at ≤ j → j < p.at → is_overwritten ps j ≡ false
 none_before {A = A} ps n p at j order within read ended above below = list_any_none (λ p. is_within p.at p.bytes j) ps (λ k d h. elim (cases_lt k n) [
   | inl front ↦

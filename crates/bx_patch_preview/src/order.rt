@@ -1,7 +1,7 @@
 //! Pieces in the order of their addresses, among which those that reach into a window are found by a search.
 ghost use Rattle.std.specs.Prelude.{◌≡◌, ◌+◌, ◌≤◌, All, IsTrue, length, nat_le, nat_lt};
 ghost use Rattle.std.specs.List.{AllWithin};
-ghost use Rattle.bx_patch_preview.specs.private.Order.{AreOrdered, IsNotBefore};
+ghost use Rattle.bx_patch_preview.specs.private.Order.{AreByPlace, IsNotBefore};
 
 use bx_image::Change;
 use bx_text::Piece;
@@ -21,7 +21,7 @@ fn is_not_before<A: Allocator>(piece: &Piece<A>, other: &Piece<A>) -> bool
 
 /// Whether the addresses of pieces rise, and their ends.
 fn are_ordered<A: Allocator>(pieces: &[Piece<A>]) -> bool
-    ensures { IsTrue result → AreOrdered pieces.now }
+    ensures { IsTrue result → AreByPlace pieces.now }
 {
     for i in 1..pieces.len() {
         if !is_not_before(&pieces[i], &pieces[i - 1]) {
@@ -33,7 +33,7 @@ fn are_ordered<A: Allocator>(pieces: &[Piece<A>]) -> bool
 
 /// The same of the pieces of each change.
 pub fn all_ordered<A: Allocator>(changes: &[Change<A>]) -> bool
-    ensures { IsTrue result → All (λ c. AreOrdered c.writes) changes.now }
+    ensures { IsTrue result → All (λ c. AreByPlace c.writes) changes.now }
 {
     for change in changes {
         if !are_ordered(change.writes.as_slice()) {
@@ -52,7 +52,7 @@ fn ends_by<A: Allocator>(piece: &Piece<A>, at: u64) -> bool
 
 /// How many of the first pieces end at an address or before it.
 pub fn count_ended<A: Allocator>(pieces: &[Piece<A>], at: u64) -> usize
-    requires ordered { AreOrdered pieces.now }
+    requires ordered { AreByPlace pieces.now }
     ensures most { result ≤ length pieces.now }
     ensures ended { AllWithin (λ p. p.at + length p.bytes ≤ at) pieces.now 0 result }
 {
@@ -68,7 +68,7 @@ fn begins_by<A: Allocator>(piece: &Piece<A>, at: u64, count: usize) -> bool
 
 /// How many of the first pieces begin before the end of a window of `count` bytes.
 pub fn count_begun<A: Allocator>(pieces: &[Piece<A>], at: u64, count: usize) -> usize
-    requires ordered { AreOrdered pieces.now }
+    requires ordered { AreByPlace pieces.now }
     ensures most { result ≤ length pieces.now }
     ensures behind { AllWithin (λ p. at + count ≤ p.at) pieces.now result (length pieces.now) }
 {

@@ -4,7 +4,7 @@ ghost use Rattle.std.proofs.Props.{props};
 ghost use Rattle.bx_image.specs.Change.{touches};
 ghost use Rattle.bx_image.specs.Image.{is_within};
 ghost use Rattle.bx_patch_preview.specs.Changed.{AreBeforeAndBehind};
-ghost use Rattle.bx_patch_preview.specs.private.Order.{AreOrdered};
+ghost use Rattle.bx_patch_preview.specs.private.Order.{AreByPlace};
 ghost use Rattle.bx_patch_preview.specs.private.Untouched.{AreUntouched, is_overwritten, is_past_base};
 
 use crate::order::{all_ordered, count_ended};
@@ -23,7 +23,7 @@ pub struct Untouched<'a, A: Allocator = Global> {
     pub before: u64,
     // whether a search may look for their pieces
     pub(crate) ordered: bool,
-    ghost order: { IsTrue ordered → All (λ c. AreOrdered c.writes) changes.now } by { Prim.hlevel props },
+    ghost order: { IsTrue ordered → All (λ c. AreByPlace c.writes) changes.now } by { Prim.hlevel props },
 }
 
 impl<'a, A: Allocator> Untouched<'a, A> {
@@ -91,7 +91,7 @@ fn until_pieces<A: Allocator>(pieces: &[Piece<A>], at: u64, end: u64) -> u64
 
 /// The same of pieces in order: of those that don't end before, the first one alone is looked at.
 fn until_next<A: Allocator>(pieces: &[Piece<A>], at: u64, end: u64) -> u64
-    requires ordered { AreOrdered pieces.now }
+    requires ordered { AreByPlace pieces.now }
     ensures most { result ≤ end }
     ensures untouched { (j : ℕ) → at ≤ j → j < result → is_overwritten pieces.now j ≡ false }
 {
@@ -103,7 +103,7 @@ fn until_next<A: Allocator>(pieces: &[Piece<A>], at: u64, end: u64) -> u64
 
 /// A place, `end` at most, up to which a change cuts off and overwrites nothing from an address on.
 fn until_change<A: Allocator>(change: &Change<A>, ordered: bool, at: u64, end: u64) -> u64
-    requires ordered { IsTrue ordered → AreOrdered change.now.writes }
+    requires ordered { IsTrue ordered → AreByPlace change.now.writes }
     ensures most { result ≤ end }
     ensures untouched { (j : ℕ) → at ≤ j → j < result → touches change.now j ≡ false }
 {

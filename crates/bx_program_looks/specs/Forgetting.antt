@@ -10,7 +10,7 @@ use Rattle.bx_journal.specs.SessionFault.{SessionFault}
 use Rattle.bx_journal.specs.SessionFault.TheVariants.{Damaged, DeviceFailed, Interrupted, LengthDiffers, RedoDamaged}
 use Rattle.bx_journal_image.specs.Line.{FitsPlaces, image_line}
 use Rattle.bx_journal_image.specs.Ranges.{EndsIn}
-use Rattle.bx_journal_image.specs.Unfinished.{IsOpenJudged, WritesNothing}
+use Rattle.bx_journal_image.specs.Unfinished.{IsOpenJudged, LeavesImage}
 use Rattle.bx_journal_image.specs.declared.judge.Verdict.{Verdict}
 use Rattle.bx_journal_image.specs.declared.judge.Verdict.TheVariants.{Same, Other, Untold}
 use Rattle.bx_journal_image.specs.declared.line.ImageLine.{ImageLine}
@@ -68,12 +68,12 @@ EndsWithEntry text = (n : ℕ) × EndsIn text n
 -- what the image is by a line, beside a text in which a change is unfinished that recovery takes back; none where the text ends an entry, or
 -- recovery writes nothing to the image
 abbrev pub IsJudgedOpen : Option ImageLine → List ℕ → List ℕ → Option Verdict → Type 0
-IsJudgedOpen line text x None = EndsWithEntry text ⊎ WritesNothing text
+IsJudgedOpen line text x None = EndsWithEntry text ⊎ LeavesImage text
 IsJudgedOpen line text x (Some verdict) = IsOpenJudged line text x verdict
 
 -- what is unfinished is recovered first: that writes nothing to the image, or the image is the one that it was made on
 abbrev pub IsRecoveredFirst : List ℕ → List ℕ → List ℕ → Type 0
-IsRecoveredFirst note image journal = EndsWithEntry journal ⊎ WritesNothing journal ⊎ IsNotedAs note image journal Same
+IsRecoveredFirst note image journal = EndsWithEntry journal ⊎ LeavesImage journal ⊎ IsNotedAs note image journal Same
 
 -- why the history of an image isn't dropped whose files are open
 abbrev pub KeepsHistory : Guard → List ℕ → List ℕ → List ℕ → List ℕ → Unseen → Type 0

@@ -24,7 +24,7 @@ use Rattle.bx_journal_image.specs.Line.{FitsPlaces, image_line}
 use Rattle.bx_journal_image.specs.Seal.{IsOpenSeal, IsSealOf, IsStepsSealOf}
 use Rattle.bx_journal_image.specs.Stand.{IsStandOf}
 use Rattle.bx_journal_image.specs.Ranges.{ending_line}
-use Rattle.bx_journal_image.specs.Unfinished.{IsOpenJudged, IsUnfinishedJudged, WritesNothing}
+use Rattle.bx_journal_image.specs.Unfinished.{IsOpenJudged, IsUnfinishedJudged, LeavesImage}
 use Rattle.bx_cli_commands.specs.declared.command.Command.TheVariants.{Redo, Undo}
 use Rattle.bx_program_files.specs.declared.guard.Guard.{Guard}
 use Rattle.bx_program_files.specs.declared.unopened.Unopened.{Unopened}
@@ -71,7 +71,7 @@ EndsWhole text = (text ≡ []) ⊎ EndsLine text
 -- what the image x is by a line beside a journal's text in which something unfinished has its `save` line; none beside one that has nothing
 -- such, if it is accepted
 abbrev pub IsJudgedBeside : Option ImageLine → List ℕ → List ℕ → Option Verdict → Type 0
-IsJudgedBeside line text x None = IsAccepted (shown text) → WritesNothing text
+IsJudgedBeside line text x None = IsAccepted (shown text) → LeavesImage text
 IsJudgedBeside line text x (Some verdict) = IsOpenJudged line text x verdict
 
 -- the image was judged by the line before anything was recovered onto it, and that kept nothing off

@@ -17,7 +17,7 @@ pub record HasPut (head : List ℕ) (lines : List PatchLine) (number written : �
   pub count : written ≡ counted (length (headed head lines))
 
 -- a first line, with its newline
-pub record IsHead (head : List ℕ) : Type 0 where
+pub record IsLengthHead (head : List ℕ) : Type 0 where
   pub text : List ℕ
   pub spelled : head ≡ text ++ codes "\n"
   pub short : length head < 2 ^ 63
@@ -28,8 +28,8 @@ PutsPart before old new text fault =
     (prefix rest : List ℕ) × (text ≡ prefix ++ rest) × (0 < length rest) × Appends old new prefix × TellsWritten (before + length prefix) fault
 
 -- a prefix of a text was written, or all of it, where more is to follow
-abbrev pub WritesPart : Option (List ℕ) → Option (List ℕ) → List ℕ → DiffFault → Type 0
-WritesPart old new text fault = (prefix rest : List ℕ) × (text ≡ prefix ++ rest) × Appends old new prefix × TellsWritten (length prefix) fault
+abbrev pub WritesUpTo : Option (List ℕ) → Option (List ℕ) → List ℕ → DiffFault → Type 0
+WritesUpTo old new text fault = (prefix rest : List ℕ) × (text ≡ prefix ++ rest) × Appends old new prefix × TellsWritten (length prefix) fault
 
 -- a fault that isn't one of a write
 abbrev pub IsUntold : DiffFault → Type 0

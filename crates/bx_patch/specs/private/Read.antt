@@ -7,7 +7,7 @@ use Rattle.bx_patch.specs.declared.read.fault.PatchFault.{PatchFault}
 use Rattle.bx_patch.specs.declared.read.fault.PatchFault.TheVariants.{Line}
 use Rattle.bx_patch.specs.declared.read.line.Kind.{Kind}
 use Rattle.bx_patch.specs.declared.read.line.Kind.TheVariants.{Remark, Lengths, Signed, Count, Other}
-use Rattle.bx_patch.specs.Fault.{HasNoSign, IsToTell, TellsCount}
+use Rattle.bx_patch.specs.Fault.{HasNoSign, IsToTell, TellsLines}
 use Rattle.bx_patch.specs.Grammar.{AsksBefore, IsInLengths, GivesPatch, IsRemark}
 use Rattle.bx_patch.specs.Patch.{Asked}
 use Rattle.bx_patch.specs.Text.{sign_of}
@@ -30,8 +30,8 @@ abbrev pub IsKind : Asked → List ℕ → Kind → Type 0
 IsKind before line Remark = IsRemark line
 IsKind before line Lengths = IsToTell before line
 IsKind before line (Signed new) = HasSign new line
-IsKind before line Count = TellsCount line
-IsKind before line Other = HasNoSign line × (IsRemark line → ⊥) × (IsToTell before line → ⊥) × (TellsCount line → ⊥)
+IsKind before line Count = TellsLines line
+IsKind before line Other = HasNoSign line × (IsRemark line → ⊥) × (IsToTell before line → ⊥) × (TellsLines line → ⊥)
 
 -- with the line behind them, lines that ask the one ask the other
 abbrev pub Adds : Asked → List ℕ → Asked → Type 0

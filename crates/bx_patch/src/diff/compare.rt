@@ -1,9 +1,9 @@
 //! Two devices that are compared, a window at a time.
 ghost use Rattle.std.specs.Prelude.{◌≡◌, ◌<◌, ◌≤◌, ◌+◌, ◌++◌, ◌%◌, ◌^◌, ℕ, max, false, List, Option, length, take, IfErr, OnOk};
 ghost use Rattle.std.specs.Io.KnownBytes.{Appends};
-ghost use Rattle.bx_patch.specs.Text.{PatchLine, ended, headed, patch_lines, row_count};
+ghost use Rattle.bx_patch.specs.Text.{PatchLine, with_end, headed, patch_lines, row_count};
 ghost use Rattle.bx_patch.specs.Diff.{OnlyReads, WritesPrefix, fails, of_new, of_old};
-ghost use Rattle.bx_patch.specs.private.Diff.{HasPut, IsHead, IsLate, IsWritingFault, WritesPart, lines_of_window};
+ghost use Rattle.bx_patch.specs.private.Diff.{HasPut, IsLengthHead, IsLate, IsWritingFault, WritesUpTo, lines_of_window};
 ghost use Rattle.bx_patch.specs.private.Row.{AreSame, window_lines};
 
 use crate::diff::alike::Alike;
@@ -75,7 +75,7 @@ fn put_window<W: Write, A: Allocator>(
         writing.new.number writing.new.written first (W.contents out.new)) }
     ensures part { (lines : List PatchLine) (first : Option (List ℕ))
         → HasPut place.entry.head.now lines writing.old.number writing.old.written first (W.contents out.old)
-        → IfErr result (WritesPart first (W.contents out.new) (headed place.entry.head.now
+        → IfErr result (WritesUpTo first (W.contents out.new) (headed place.entry.head.now
         (lines ++ window_lines place.entry.extent place.entry.at old.now new.now (row_count old.now new.now)))) }
     ensures kind { IfErr result IsWritingFault }
 {
@@ -107,7 +107,7 @@ fn put_next<D: Device, E: Device, W: Write, A: Allocator>(
         writing.new.number writing.new.written first (W.contents out.new)) }
     ensures part { D.honest old.old → E.honest new.old → (lines : List PatchLine) (first : Option (List ℕ))
         → HasPut place.entry.head.now lines writing.old.number writing.old.written first (W.contents out.old)
-        → IfErr result (WritesPart first (W.contents out.new)
+        → IfErr result (WritesUpTo first (W.contents out.new)
         (headed place.entry.head.now (lines ++ lines_of_window place.entry.extent (D.image old.old) (E.image new.old) place.entry.at))) }
     ensures kind { IfErr result IsLate }
     ensures old { OnlyReads D.honest D.image D.room D.failures D.survives (fails of_old result) old.old old.new }
@@ -146,7 +146,7 @@ fn compare_lines<D: Device, E: Device, W: Write, S: Alike, A: Allocator>(
         → OnOk result (HasPut walk.entry.place.head.now (patch_lines walk.entry.place.extent (D.image old.old) (E.image new.old))
         writing.new.number writing.new.written (W.contents out.old) (W.contents out.new)) }
     ensures part { D.honest old.old → E.honest new.old → S.AreAlike walk.entry.alike.now (D.image old.old) (E.image new.old)
-        → IfErr result (WritesPart (W.contents out.old) (W.contents out.new)
+        → IfErr result (WritesUpTo (W.contents out.old) (W.contents out.new)
         (headed walk.entry.place.head.now (patch_lines walk.entry.place.extent (D.image old.old) (E.image new.old)))) }
     ensures kind { IfErr result IsLate }
     ensures old { OnlyReads D.honest D.image D.room D.failures D.survives (fails of_old result) old.old old.new }
@@ -182,13 +182,13 @@ pub fn compare_devices<D: Device, E: Device, W: Write, S: Alike, A: Allocator>(
     requires small { max walk.place.lengths.old walk.place.lengths.new ≤ 2 ^ 48 }
     requires fresh { writing.old.number ≡ 0 }
     requires none { writing.old.written ≡ 0 }
-    requires head { IsHead walk.place.head.now }
+    requires head { IsLengthHead walk.place.head.now }
     ensures text { D.honest old.old → E.honest new.old → S.AreAlike walk.entry.alike.now (D.image old.old) (E.image new.old)
         → OnOk result (Appends (W.contents out.old) (W.contents out.new)
-        (ended (headed walk.entry.place.head.now (patch_lines walk.entry.place.extent (D.image old.old) (E.image new.old))))) }
+        (with_end (headed walk.entry.place.head.now (patch_lines walk.entry.place.extent (D.image old.old) (E.image new.old))))) }
     ensures part { D.honest old.old → E.honest new.old → S.AreAlike walk.entry.alike.now (D.image old.old) (E.image new.old)
         → IfErr result (WritesPrefix (W.contents out.old) (W.contents out.new)
-        (ended (headed walk.entry.place.head.now (patch_lines walk.entry.place.extent (D.image old.old) (E.image new.old))))) }
+        (with_end (headed walk.entry.place.head.now (patch_lines walk.entry.place.extent (D.image old.old) (E.image new.old))))) }
     ensures kind { IfErr result IsLate }
     ensures old { OnlyReads D.honest D.image D.room D.failures D.survives (fails of_old result) old.old old.new }
     ensures new { OnlyReads E.honest E.image E.room E.failures E.survives (fails of_new result) new.old new.new }

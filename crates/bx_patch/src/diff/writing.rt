@@ -2,9 +2,9 @@
 ghost use Rattle.std.specs.Prelude.{◌≡◌, ◌≤◌, ◌+◌, ◌++◌, ℕ, List, Option, length, flat_map, codes, IfOk, IfErr, OnOk};
 ghost use Rattle.std.specs.Io.KnownBytes.{Appends};
 ghost use Rattle.bx_read.specs.private.Window.{newlines};
-ghost use Rattle.bx_patch.specs.Text.{PatchLine, end_text, headed, signed_line_text};
+ghost use Rattle.bx_patch.specs.Text.{PatchLine, patch_end, headed, signed_line_text};
 ghost use Rattle.bx_patch.specs.Diff.{counted};
-ghost use Rattle.bx_patch.specs.private.Diff.{HasPut, IsWritingFault, PutsPart, WritesPart};
+ghost use Rattle.bx_patch.specs.private.Diff.{HasPut, IsWritingFault, PutsPart, WritesUpTo};
 
 use crate::diff::fault::DiffFault;
 use bx_text::{IoFault, ShortText, dec_field, emit};
@@ -35,7 +35,7 @@ fn newlines(text: &[u8]) -> u64
 
 /// The last line of a text that has this many lines before it, with its newline.
 fn end_line(number: u64) -> ShortText<32>
-    ensures { result ≡ end_text number ++ codes "\n" }
+    ensures { result ≡ patch_end number ++ codes "\n" }
 {
     let mut line = ShortText::new();
     line.push_all(b"end ");
@@ -74,7 +74,7 @@ fn begin<W: Write, A: Allocator>(
         → OnOk result (writing.new.written ≡ counted (length (head.now ++ flat_map signed_line_text lines))) }
     ensures part { (lines : List PatchLine) (first : Option (List ℕ))
         → HasPut head.now lines writing.old.number writing.old.written first (W.contents out.old)
-        → IfErr result (WritesPart first (W.contents out.new) (head.now ++ flat_map signed_line_text lines)) }
+        → IfErr result (WritesUpTo first (W.contents out.new) (head.now ++ flat_map signed_line_text lines)) }
     ensures number { (lines : List PatchLine) (first : Option (List ℕ))
         → HasPut head.now lines writing.old.number writing.old.written first (W.contents out.old)
         → OnOk result (writing.new.number ≡ counted (newlines (head.now ++ flat_map signed_line_text lines))) }
@@ -105,7 +105,7 @@ pub fn put_text<W: Write, A: Allocator>(
         → OnOk result (HasPut head.now (lines ++ more) writing.new.number writing.new.written first (W.contents out.new)) }
     ensures part { (lines more : List PatchLine) (first : Option (List ℕ)) → writing.old.text.items ≡ flat_map signed_line_text more
         → HasPut head.now lines writing.old.number writing.old.written first (W.contents out.old)
-        → IfErr result (WritesPart first (W.contents out.new) (headed head.now (lines ++ more))) }
+        → IfErr result (WritesUpTo first (W.contents out.new) (headed head.now (lines ++ more))) }
     ensures kind { IfErr result IsWritingFault }
 {
     if writing.text.as_slice().is_empty() {
@@ -138,8 +138,8 @@ fn put_lines<W: Write, A: Allocator>(out: &mut W, writing: &mut Writing<A>) -> R
 
 /// Writes the last line of a text that has this many lines before it, behind them, which have `written` bytes.
 pub fn put_end<W: Write>(out: &mut W, number: u64, written: u64) -> Result<(), DiffFault>
-    ensures put { OnOk result (Appends (W.contents out.old) (W.contents out.new) (end_text number ++ codes "\n")) }
-    ensures part { IfErr result (PutsPart written (W.contents out.old) (W.contents out.new) (end_text number ++ codes "\n")) }
+    ensures put { OnOk result (Appends (W.contents out.old) (W.contents out.new) (patch_end number ++ codes "\n")) }
+    ensures part { IfErr result (PutsPart written (W.contents out.old) (W.contents out.new) (patch_end number ++ codes "\n")) }
     ensures kind { IfErr result IsWritingFault }
 {
     match put(out, written, end_line(number).as_bytes()) {

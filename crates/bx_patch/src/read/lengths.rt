@@ -5,8 +5,14 @@ ghost use Rattle.bx_patch.specs.Grammar.{IsLength};
 ghost use Rattle.bx_patch.specs.Fault.{IsNoLength};
 ghost use Rattle.bx_patch.specs.private.Read.{BeginsElse, HasNoSpace};
 
-use crate::read::patch::PatchLengths;
 use memchr::memchr;
+
+/// The length before and the one after.
+#[derive(Clone, Copy, Debug, PartialEq, Eq)]
+pub struct PatchLengths {
+    pub old: u64,
+    pub new: u64,
+}
 
 /// What follows a word at the front of a text.
 pub fn after<'a>(text: &'a [u8], word: &[u8]) -> Option<&'a [u8]>

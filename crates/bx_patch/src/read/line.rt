@@ -1,14 +1,14 @@
 //! A line of a patch, taken.
 ghost use Rattle.std.specs.Prelude.{◌≡◌, ◌⊎◌, ◌↔◌, ◌+◌, ◌<◌, ◌^◌, length, IfErr, OnOk, IsTrue};
 ghost use Rattle.std.specs.Option.{option_map};
-ghost use Rattle.bx_patch.specs.Fault.{HasNoSign, IsFaultOfLine, IsPast, IsToTell, TellsCount};
+ghost use Rattle.bx_patch.specs.Fault.{HasNoSign, IsFaultOfLine, IsPast, IsToTell, TellsLines};
 ghost use Rattle.bx_patch.specs.Grammar.{IsRemark};
 ghost use Rattle.bx_patch.specs.Read.{asked_of};
 ghost use Rattle.bx_patch.specs.private.Read.{Adds, HasSign, IsKind};
 
 use crate::read::fault::PatchFault;
-use crate::read::lengths::{after, lengths_in};
-use crate::read::patch::{Patch, PatchLengths, push};
+use crate::read::lengths::{PatchLengths, after, lengths_in};
+use crate::read::patch::{Patch, push};
 use crate::read::signed::signed_piece;
 use bx_text::Piece;
 use std::alloc::Allocator;
@@ -43,7 +43,7 @@ fn lengths_kind<A: Allocator>(patch: &Patch<A>, line: &[u8]) -> bool
 
 /// Whether a line tells how many lines stand before it.
 fn tells_count(line: &[u8]) -> bool
-    ensures { IsTrue result ↔ TellsCount line.now }
+    ensures { IsTrue result ↔ TellsLines line.now }
 {
     match after(line, b"end ") {
         Some(_) => true,

@@ -2,22 +2,16 @@
 ghost use Rattle.std.specs.Prelude.{◌≡◌, ◌++◌, ◌∷◌, [], IsTrue, ◌↔◌, IfErr, MatchOption, OnOk};
 ghost use Rattle.std.specs.Option.{option_and_then, option_map};
 ghost use Rattle.bx_read.specs.Text.{contents};
-ghost use Rattle.bx_patch.specs.Grammar.{IsReadable};
+ghost use Rattle.bx_patch.specs.Grammar.{IsReadPatch};
 ghost use Rattle.bx_patch.specs.Patch.{ChangesNothing, TurnsRound, new_length, nothing_asked, patch_change, reversed};
 ghost use Rattle.bx_patch.specs.Read.{asked_of};
 
 use crate::read::fault::PatchFault;
+use crate::read::lengths::PatchLengths;
 use crate::read::turn::turns;
 use bx_image::Change;
 use bx_text::{Piece, Pieces};
 use std::alloc::{Allocator, Global};
-
-/// The length before and the one after.
-#[derive(Clone, Copy, Debug, PartialEq, Eq)]
-pub struct PatchLengths {
-    pub old: u64,
-    pub new: u64,
-}
 
 /// What a patch asks.
 #[derive(Drop)]
@@ -59,7 +53,7 @@ impl<A: Allocator> Patch<A> {
     /// one, as `turned_makes_old` says. None where it can't: pieces stand in no order, or below both lengths they are expected and written at
     /// other places, or a place that is cut off isn't expected.
     pub fn reversed(self) -> Option<Patch<A>>
-        requires { IsReadable (asked_of self) }
+        requires { IsReadPatch (asked_of self) }
         ensures { MatchOption result (TurnsRound (asked_of self) → ⊥)
             (λ patch. TurnsRound (asked_of self) × (asked_of patch ≡ reversed (asked_of self))) }
     {

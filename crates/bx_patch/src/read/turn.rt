@@ -2,11 +2,11 @@
 ghost use Rattle.std.specs.Prelude.{◌≡◌, ◌↔◌, ◌+◌, ◌<◌, ◌≤◌, ◌^◌, ℕ, length, drop, IsTrue};
 ghost use Rattle.std.specs.Option.{option_map};
 ghost use Rattle.bx_read.specs.Text.{contents};
-ghost use Rattle.bx_patch.specs.Patch.{AreInOrder, IsCutAway, Reaches, TurnsRound};
+ghost use Rattle.bx_patch.specs.Patch.{AreInOrder, IsCutAway, HasByteAt, TurnsRound};
 ghost use Rattle.bx_patch.specs.Read.{asked_with};
 ghost use Rattle.bx_patch.specs.private.Turn.{AreSmall, below_both, reach_each, run_from};
 
-use crate::read::patch::PatchLengths;
+use crate::read::lengths::PatchLengths;
 use bx_text::Piece;
 use std::alloc::Allocator;
 
@@ -96,7 +96,7 @@ fn limit_of(lengths: Option<PatchLengths>) -> u64
 fn reach_cut<A: Allocator>(pieces: &[Piece<A>], lengths: Option<PatchLengths>) -> bool
     requires small { AreSmall (contents pieces.now) }
     requires order { AreInOrder 0 (contents pieces.now) }
-    ensures { IsTrue result ↔ ((i : ℕ) → IsCutAway (option_map (λ lengths. (lengths.old, lengths.new)) lengths) i → Reaches (contents pieces.now) i) }
+    ensures { IsTrue result ↔ ((i : ℕ) → IsCutAway (option_map (λ lengths. (lengths.old, lengths.new)) lengths) i → HasByteAt (contents pieces.now) i) }
 {
     match lengths {
         None => true,

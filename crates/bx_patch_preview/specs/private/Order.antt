@@ -8,5 +8,5 @@ abbrev pub IsNotBefore : {A : Type 0} → Piece A → Piece A → Type 0
 IsNotBefore piece other = (other.at ≤ piece.at) × (other.at + length other.bytes ≤ piece.at + length piece.bytes)
 
 -- the addresses of the pieces rise, and so do their ends
-abbrev pub AreOrdered : {A : Type 0} → List (Piece A) → Type 0
-AreOrdered pieces = IsNonDecreasingBy (λ p. p.at) pieces × IsNonDecreasingBy (λ p. p.at + length p.bytes) pieces
+abbrev pub AreByPlace : {A : Type 0} → List (Piece A) → Type 0
+AreByPlace pieces = IsNonDecreasingBy (λ p. p.at) pieces × IsNonDecreasingBy (λ p. p.at + length p.bytes) pieces

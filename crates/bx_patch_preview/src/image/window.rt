@@ -5,7 +5,7 @@ ghost use Rattle.bx_image.specs.Change.{effect, placed};
 ghost use Rattle.bx_image.specs.Image.{cut, place};
 ghost use Rattle.bx_patch.specs.Diff.{OnlyReads};
 ghost use Rattle.bx_patch_preview.specs.Changed.{effects};
-ghost use Rattle.bx_patch_preview.specs.private.Order.{AreOrdered};
+ghost use Rattle.bx_patch_preview.specs.private.Order.{AreByPlace};
 ghost use Rattle.bx_patch_preview.specs.private.Window.{IsWindow};
 
 use crate::order::{count_begun, count_ended};
@@ -116,7 +116,7 @@ fn put_pieces<A: Allocator>(pieces: &[Piece<A>], at: u64, buf: &mut [u8])
 
 /// Puts pieces in order into a window: those alone that reach into it.
 fn put_reaching<A: Allocator>(pieces: &[Piece<A>], at: u64, buf: &mut [u8])
-    requires ordered { AreOrdered pieces.now }
+    requires ordered { AreByPlace pieces.now }
     ensures length { length buf.new ≡ length buf.old }
     ensures put { (y : List ℕ) → IsWindow buf.old at y → IsWindow buf.new at (placed pieces.now y) }
 {
@@ -127,7 +127,7 @@ fn put_reaching<A: Allocator>(pieces: &[Piece<A>], at: u64, buf: &mut [u8])
 
 /// Makes a change in a window.
 fn put_change<A: Allocator>(change: &Change<A>, ordered: bool, at: u64, buf: &mut [u8])
-    requires ordered { IsTrue ordered → AreOrdered change.now.writes }
+    requires ordered { IsTrue ordered → AreByPlace change.now.writes }
     ensures length { length buf.new ≡ length buf.old }
     ensures put { (y : List ℕ) → IsWindow buf.old at y → IsWindow buf.new at (effect change.now y) }
 {

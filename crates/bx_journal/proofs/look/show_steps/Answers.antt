@@ -7,7 +7,7 @@ use Rattle.bx_journal_read.specs.show.Showing.{PutFault}
 use Rattle.bx_journal_read.proofs.RowTexts.{ok_weaker}
 use Rattle.bx_journal_read.proofs.StepsShown.{front_lie, put_allows, put_stops, steps_shown}
 use Rattle.bx_journal_read.proofs.StopLemmas.{stops_first, stops_later}
-use Rattle.bx_journal.specs.ShownText.{StopsText, last_line}
+use Rattle.bx_journal.specs.ShownText.{StopsShownPatch, last_line}
 use Rattle.bx_journal.proofs.ShownEnd.{all_shown}
 use Rattle.bx_journal.proofs.StoppedLooks.{shown_refused, shown_stopped}
 use Rattle.bx_journal.proofs.look.show_steps.Goals as goal
@@ -59,7 +59,7 @@ returns-in-Ok-put_found-clause-stops g c h hd =
     let put = c.in-Ok-put_found.ensures.put (f.looks.honesty.1 h) hd in
     let steps = newest_steps c.args.steps image now c.args.steps.count marks in
     let first = Appends-trans w0 put.0 w1 (torn_text c.in-Ok.found.torn) steps put.1 put.2 in
-    IfErr-weaker c.put_last.result (StopsPrefix c.in-Ok-put_found.written (last_line c.args.steps) w1 w2) (StopsText stored image c.args.steps w0 w2)
+    IfErr-weaker c.put_last.result (StopsPrefix c.in-Ok-put_found.written (last_line c.args.steps) w1 w2) (StopsShownPatch stored image c.args.steps w0 w2)
     (λ e stop. shown_stopped stored now image c.args.steps marks marks w0 w2 e f.can.0 (f.looks.same h) refl c.in-Ok.found.torn known
     (stops_later 0 c.in-Ok-put_found.written (torn_text c.in-Ok.found.torn ++ steps) (last_line c.args.steps) w0 w1 w2 e first (c.in-Ok-put_found.ensures.counted (f.looks.honesty.1 h) hd) stop))
     c.put_last.ensures.stops

@@ -1,7 +1,7 @@
 use Rattle.std.proofs.Common.{◌∙◌, arith, ◌++◌, List, ℕ, length, sym, subst}
 use Rattle.std.specs.Prelude.{IfErr, codes}
 use Rattle.bx_patch.specs.Diff.{WritesPrefix}
-use Rattle.bx_patch.specs.Text.{ended, headed, length_text, patch_lines, patch_text}
+use Rattle.bx_patch.specs.Text.{with_end, headed, length_text, patch_lines, patch_text}
 use Rattle.bx_patch.proofs.CountLemmas.{head_is}
 use Rattle.bx_patch.proofs.DiffLemmas.{ended_is}
 use Rattle.bx_patch.proofs.WritingLemmas.{ended_some, memory_untold, nothing_written}
@@ -32,8 +32,8 @@ returns-clause-part g c = λ honest faithful known.
     let here = subst (λ (b : List ℕ). g.S.Alike.AreAlike c.args.alike.now (g.D.Device.image c.lengths_of.new.old) b) (sym (on.new.stays faithful))
     (subst (λ (a : List ℕ). g.S.Alike.AreAlike c.args.alike.now a y) (sym (on.old.stays honest)) known) in
     let part = c.compare_devices.ensures.part (on.old.goes_on.honesty.1 honest) (on.new.goes_on.honesty.1 faithful) here in
-    let first = subst (λ (a : List ℕ). P (ended (headed head (patch_lines extent a (g.E.Device.image c.lengths_of.new.new))))) (on.old.stays honest) part in
-    let both = subst (λ (b : List ℕ). P (ended (headed head (patch_lines extent x b)))) (on.new.stays faithful) first in
+    let first = subst (λ (a : List ℕ). P (with_end (headed head (patch_lines extent a (g.E.Device.image c.lengths_of.new.new))))) (on.old.stays honest) part in
+    let both = subst (λ (b : List ℕ). P (with_end (headed head (patch_lines extent x b)))) (on.new.stays faithful) first in
     subst P (ended_is extent head x y c.in-Ok.lengths.old c.in-Ok.lengths.new (on.old_len honest) (on.new_len faithful) (c.as_bytes.ensures.value ∙ c.in-Ok-memory_for.ensures.head)) both
 
 pub compare_devices-requires-clause-head : goal.compare_devices-requires-clause-head

@@ -1,6 +1,6 @@
 use Rattle.std.proofs.Common.{arith}
 use Rattle.std.proofs.lemmas.List.Elements.{AllWithin-more, at_read}
-use Rattle.bx_patch_preview.specs.private.Order.{AreOrdered}
+use Rattle.bx_patch_preview.specs.private.Order.{AreByPlace}
 use Rattle.bx_patch_preview.proofs.order.all_ordered.Goals as goal
 
 pub loop-change-init : goal.loop-change-init
@@ -9,10 +9,10 @@ loop-change-init g c = record { ordered = λ k d low high. absurd (omega (arith,
 pub loop-change-preserved : goal.loop-change-preserved
 loop-change-preserved g c =
     let changes = c.args.changes.now in
-    let is : AreOrdered c.change-item.result.writes = rw (← c.as_slice.ensures) (c.are_ordered.ensures c.if-not-are_ordered.false) in
+    let is : AreByPlace c.change-item.result.writes = rw (← c.as_slice.ensures) (c.are_ordered.ensures c.if-not-are_ordered.false) in
     record {
-      ordered = AllWithin-more (λ c. AreOrdered c.writes) changes 0 c.loop-change.change-index c.loop-change.invariant.ordered
-          (at_read changes (λ c. AreOrdered c.writes) c.loop-change.change-index c.change-item.result c.loop-change-test.true c.change-item.is is);
+      ordered = AllWithin-more (λ c. AreByPlace c.writes) changes 0 c.loop-change.change-index c.loop-change.invariant.ordered
+          (at_read changes (λ c. AreByPlace c.writes) c.loop-change.change-index c.change-item.result c.loop-change-test.true c.change-item.is is);
     }
 
 pub returns : goal.returns

@@ -3,7 +3,7 @@ use Rattle.std.specs.Prelude.{IfErr, OnOk}
 use Rattle.bx_patch.specs.declared.diff.fault.DiffFault.TheVariants.{OldFailed, NewFailed}
 use Rattle.bx_patch.specs.Text.{headed, row_count}
 use Rattle.bx_patch.specs.private.Row.{window_lines}
-use Rattle.bx_patch.specs.private.Diff.{HasPut, WritesPart, lines_of_window, part_at}
+use Rattle.bx_patch.specs.private.Diff.{HasPut, WritesUpTo, lines_of_window, part_at}
 use Rattle.bx_patch.proofs.WritingLemmas.{lines_part}
 use Rattle.bx_patch.proofs.diff.compare.put_next.Goals as goal
 
@@ -34,7 +34,7 @@ returns-clause-part g c = λ honest faithful lines first put.
     let place = c.args.place in
     let old = c.front-old_bytes.ensures.bytes ∙ c.in-Ok.ensures.bytes honest in
     let new = c.front-new_bytes.ensures.bytes ∙ c.in-Ok-fill_window.ensures.bytes faithful in
-    let P = λ (a b : List ℕ). IfErr c.put_window.result (WritesPart first (g.W.Write.contents c.put_window.new.out)
+    let P = λ (a b : List ℕ). IfErr c.put_window.result (WritesUpTo first (g.W.Write.contents c.put_window.new.out)
     (headed place.head.now (lines ++ window_lines place.extent place.at a b (row_count a b)))) in
     subst (λ (b : List ℕ). P (part_at (g.D.Device.image c.args.old.now) place.at) b) new
     (subst (λ (a : List ℕ). P a c.front-new_bytes.result.now) old (c.put_window.ensures.part lines first put))

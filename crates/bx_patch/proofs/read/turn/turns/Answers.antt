@@ -1,7 +1,7 @@
 use Rattle.std.proofs.Common.{◌≡◌, false, true}
 use Rattle.std.specs.Option.{option_map}
 use Rattle.bx_read.specs.Text.{contents}
-use Rattle.bx_patch.specs.declared.read.patch.PatchLengths.{PatchLengths}
+use Rattle.bx_patch.specs.declared.read.lengths.PatchLengths.{PatchLengths}
 use Rattle.bx_patch.proofs.WalkLemmas.{turns_no, turns_yes}
 use Rattle.bx_patch.proofs.read.turn.turns.Goals as goal
 
