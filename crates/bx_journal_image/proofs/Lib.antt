@@ -1,6 +1,5 @@
 pub mod LineLemmas
 pub mod RangeLemmas
-pub mod AppendedLemmas
 pub mod BlockLemmas
 pub mod JudgeLemmas
 pub mod LookLemmas

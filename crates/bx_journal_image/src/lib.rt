@@ -5,7 +5,6 @@
 #![tactic(auto)]
 
 mod advice;
-mod appended;
 mod blocks;
 mod digest;
 mod entry;
@@ -24,14 +23,13 @@ mod unfinished;
 mod written;
 
 pub use advice::{Standing, is_about, is_changed, is_redo_refused, is_undo_refused, others_after};
-pub use appended::appended_from;
 pub use blocks::{block_at, block_len, strike, strike_from};
 pub use digest::{Digest, digest_of, is_same};
 pub use finding::{AtRest, stand};
 pub use judge::{Blocks, Verdict, judge_blocks, judge_image, mark_image};
 pub use line::{ImageLine, LINE, LineText, is_replaceable, read_line, write_line};
 pub use marks::{BLOCK, BLOCKS, Marks};
-pub use ranges::{END, Range, end_of, push_ranges};
+pub use ranges::{END, Range, end_of};
 pub use resealing::seal_unfinished;
 pub use sealing::{Span, seal, seal_steps};
 pub use strikes::{strike_lines, strike_text};

@@ -1,12 +1,8 @@
-//! Which ranges the saved lines of a text have.
-ghost use Rattle.std.specs.Prelude.{◌≡◌, ℕ, ◌+◌, ◌^◌, ◌<◌, ◌≤◌, ◌==◌, [], ◌∷◌, ◌++◌, OnOk, IfSome, IfNone};
-ghost use Rattle.bx_journal_format.specs.Text.{split};
-ghost use Rattle.bx_journal_image.specs.Ranges.{EndsIn, begins_entry, ending_line, lines_in, ranges_behind, ranges_with, with_range};
+//! A range of an image, and the line that ends an entry.
+ghost use Rattle.std.specs.Prelude.{◌≡◌, ◌^◌, ◌<◌, IfSome, IfNone};
+ghost use Rattle.bx_journal_image.specs.Ranges.{EndsIn, ending_line};
 
 use crate::line::{LineText, number_behind, push_field};
-use bx_image::MAX_LEN;
-use bx_journal_format::{line_end, saved_in};
-use bx_text::NoMemory;
 
 /// Bytes of an image.
 #[derive(Clone, Copy, Debug, PartialEq, Eq)]
@@ -49,95 +45,5 @@ pub fn end_of(text: &[u8]) -> Option<u32>
         Some(number.number as u32)
     } else {
         None
-    }
-}
-
-/// Whether a range ends where this address is.
-fn ends_at(range: Range, at: u64) -> bool
-    ensures { result ≡ (at == range.at + range.count) }
-{
-    at >= range.at && at - range.at == range.count
-}
-
-fn push(ranges: &mut Vec<Range>, range: Range) -> Result<(), NoMemory>
-    ensures { OnOk result (ranges.new.items ≡ ranges.old.items ++ range ∷ []) }
-{
-    if ranges.push(range).is_err() {
-        return Err(NoMemory);
-    }
-    Ok(())
-}
-
-/// Adds a range. It goes on with the last one where it begins at its end.
-fn push_range(ranges: &mut Vec<Range>, range: Range) -> Result<(), NoMemory>
-    requires { range.at + range.count ≤ MAX_LEN }
-    ensures { OnOk result (ranges.new.items ≡ with_range ranges.old.items range) }
-{
-    let Some(last) = ranges.pop() else {
-        return push(ranges, range);
-    };
-    if ends_at(last, range.at) {
-        let longer = Range {
-            at: last.at,
-            count: last.count + range.count,
-        };
-        return push(ranges, longer);
-    }
-    push(ranges, last)?;
-    push(ranges, range)
-}
-
-/// Whether an entry begins with this line.
-pub(crate) fn begins_entry(line: &[u8]) -> bool
-    ensures { result ≡ begins_entry line.now }
-{
-    line.starts_with(b"change")
-}
-
-/// Adds what a whole line has. Where an entry begins, those before it are dropped.
-fn push_line(ranges: &mut Vec<Range>, line: &[u8]) -> Result<(), NoMemory>
-    ensures { OnOk result (ranges.new.items ≡ ranges_with ranges.old.items line.now) }
-{
-    if begins_entry(line) {
-        ranges.clear();
-        return Ok(());
-    }
-    let Some(saved) = saved_in(MAX_LEN, line) else {
-        return Ok(());
-    };
-    let bytes = &saved.bytes[..saved.count];
-    let range = Range {
-        at: saved.at,
-        count: bytes.len() as u64,
-    };
-    push_range(ranges, range)
-}
-
-/// Adds the ranges of the whole lines of a text.
-fn push_lines(ranges: &mut Vec<Range>, text: &[u8]) -> Result<(), NoMemory>
-    ensures { OnOk result (ranges.new.items ≡ ranges_behind ranges.old.items (split text.now).lines) }
-{
-    let mut rest = text;
-    while let Some(i) = line_end(rest) {
-        push_line(ranges, &rest[..i])?;
-        let (_, behind) = rest.split_at(i + 1);
-        rest = behind;
-    }
-    Ok(())
-}
-
-/// Adds the ranges of the saved lines that stand whole in a window of a text; `is_first` says whether the window begins with a line.
-pub fn push_ranges(ranges: &mut Vec<Range>, window: &[u8], is_first: bool) -> Result<(), NoMemory>
-    ensures { OnOk result (ranges.new.items ≡ ranges_behind ranges.old.items (lines_in window.now is_first)) }
-{
-    if is_first {
-        return push_lines(ranges, window);
-    }
-    match line_end(window) {
-        Some(i) => {
-            let (_, behind) = window.split_at(i + 1);
-            push_lines(ranges, behind)
-        }
-        None => Ok(()),
     }
 }
