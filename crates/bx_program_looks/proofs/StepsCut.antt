@@ -1,29 +1,20 @@
 -- The patch of steps, or what is written of it.
-use Rattle.std.proofs.Common.{◌≡◌, ◌⊎◌, ◌≤◌, ◌<◌, ℕ, List, [], Option, Result, inl, inr, refl, sym, ap, subst, ◌∙◌}
+use Rattle.std.proofs.Common.{◌≡◌, ◌≤◌, ◌<◌, ℕ, List, Option, Result, inl, inr, refl, sym, ap, subst, ◌∙◌}
 use Rattle.std.specs.Io.KnownBytes.{Appends}
 use Rattle.std.specs.Result.{IfErr, OnOk}
 use Rattle.std.proofs.lemmas.Result.{IfErr-weaker, on_ok_weaker}
-use Rattle.bx_text.proofs.KnownLemmas.{Appends-nil}
 use Rattle.bx_image.specs.declared.device.Device.{Ghosts as DeviceViews}
 use Rattle.bx_journal_store.specs.declared.store.TextStore.{Ghosts as StoreViews}
-use Rattle.bx_patch.specs.declared.diff.fault.DiffFault.{DiffFault}
-use Rattle.bx_patch.specs.declared.diff.fault.DiffFault.TheVariants.{OldFailed, TooLarge}
 use Rattle.bx_journal.specs.Images.{Images}
 use Rattle.bx_journal.specs.Machine.{top}
 use Rattle.bx_journal.specs.SessionView.{SessionView, devices_of}
 use Rattle.bx_journal.specs.Way.{Way}
 use Rattle.bx_program_looks.specs.Devices.{HoldBytes, IsDeviceStop}
 use Rattle.bx_program_looks.specs.Looks.{HidesChanges, IsUnseenOr}
-use Rattle.bx_program_looks.specs.Stepped.{CountsHeld, HoldCounted, HoldsImage, IsPatchCut, IsStepsCut, OfImages, WritesSteps, patch_between, behind_steps, steps_in, steps_patch, stopped_by, too_few}
+use Rattle.bx_program_looks.specs.Stepped.{CountsHeld, HoldCounted, HoldsImage, IsPatchCut, IsStepsCut, OfImages, WritesSteps, patch_between, behind_steps, steps_in, steps_patch, too_few}
 use Rattle.bx_program_looks.specs.declared.unseen.Unseen.{Unseen}
 use Rattle.bx_program_looks.proofs.Looking.{stop_hides}
 use Rattle.bx_program_looks.proofs.StepLemmas.{one_images, top_stands}
-
--- nothing of a patch is written where there is no image behind the steps
-pub nothing_cut : (text : List ℕ) (w : Option (List ℕ)) (fault : DiffFault) (u : Unseen) → (fault ≡ TooLarge) ⊎ (fault ≡ OldFailed) → u ≡ stopped_by fault
-    → IsPatchCut text w w u
-nothing_cut text w fault u (inl large) is = (TooLarge, is ∙ ap stopped_by large, ([], text, refl, Appends-nil w, tt))
-nothing_cut text w fault u (inr failed) is = (OldFailed, is ∙ ap stopped_by failed, ([], text, refl, Appends-nil w, tt))
 
 -- Of the devices of a session that hold images.
 module _ {D T : Type 0} (d : DeviceViews D) (t : StoreViews T) (image journal redo : List ℕ) (s : Images) (v : SessionView D T) (again : D)
