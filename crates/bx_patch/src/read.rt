@@ -6,7 +6,7 @@ ghost use Rattle.bx_patch.specs.Patch.{nothing_asked};
 ghost use Rattle.bx_patch.specs.Read.{asked_of};
 
 pub mod fault;
-mod lengths;
+pub mod lengths;
 mod line;
 pub mod patch;
 mod signed;
