@@ -1,5 +1,5 @@
 -- The patch that a change of a named image would be.
-use Rattle.std.proofs.Common.{◌≡◌, ◌⊎◌, ◌∙◌, ℕ, Bool, List, [], ◌∷◌, length, Option, None, Some, Result, Ok, Err, refl, inl, inr, subst}
+use Rattle.std.proofs.Common.{arith, ◌≡◌, ◌⊎◌, ◌∙◌, ℕ, Bool, List, [], ◌∷◌, length, Option, None, Some, Result, Ok, Err, refl, inl, inr, subst}
 use Rattle.std.specs.Option.{option_map_or}
 use Rattle.std.specs.Result.{IfErr, MatchResult, OnOk}
 use Rattle.std.specs.Io.KnownBytes.{Appends}
@@ -15,12 +15,12 @@ use Rattle.bx_patch.proofs.WritingLemmas.{text_some}
 use Rattle.bx_patch.specs.Diff.{AreShort, IsFaultFor, TellsWritten, WritesPrefix}
 use Rattle.bx_patch.specs.Text.{patch_text}
 use Rattle.bx_patch.specs.declared.diff.fault.DiffFault.{DiffFault}
-use Rattle.bx_patch.specs.declared.diff.fault.DiffFault.TheVariants.{NewFailed, TooLarge}
+use Rattle.bx_patch.specs.declared.diff.fault.DiffFault.TheVariants.{NewFailed, NoMemory, TooLarge}
 use Rattle.bx_patch.specs.declared.diff.row.Extent.TheVariants.{Bytes}
 use Rattle.bx_patch_preview.specs.Changed.{FitInTurn, effects}
 use Rattle.bx_program_world.specs.World.{MayBeRead, Sight, held, stat_named}
-use Rattle.bx_program_commands.specs.Previews.{StopsChange, StopsPreview, WritesChange, WritesPreview, has_fixed_length}
-use Rattle.bx_program_commands.specs.Proposed.{IsCompared, unchanged_for}
+use Rattle.bx_program_commands.specs.Previews.{MakesFirst, StopsChange, StopsPreview, WritesChange, WritesPreview, has_fixed_length}
+use Rattle.bx_program_commands.specs.Proposed.{IsCompared, IsFitting, unchanged_for}
 use Rattle.bx_program_commands.specs.declared.proposal.Proposal.{Proposal}
 use Rattle.bx_program_commands.specs.declared.proposal.Unpreviewed.{Unpreviewed}
 use Rattle.bx_program_commands.specs.declared.proposal.Unpreviewed.TheVariants.{Refused, Stopped, Unfitting, Unopened}
@@ -51,6 +51,10 @@ module _ {A : Type 0} (change : Change A) (x : List ℕ) where
         λ makeable. absurd (is.1 (rw (changes_are, again_is) (fits_alone change x makeable.0))),
       )
 
+  -- there is no memory for the change
+  pub unlisted : (old : Option (List ℕ)) (fault : DiffFault) → fault ≡ NoMemory → IsCompared change x (Err fault) old old
+  unlisted old fault is = rw is (nothing_of old x (effect change x) NoMemory tt, λ makeable. omega (arith, makeable.0.len_fits, makeable.1))
+
   -- both are compared
   pub compared : (old new : Option (List ℕ)) (first again second : List ℕ) (changes : List (Change A)) → first ≡ x → again ≡ x → changes ≡ change ∷ []
       → second ≡ effects changes again → (outcome : Result (Unit {0}) DiffFault)
@@ -73,6 +77,16 @@ module _ {A : Type 0} (change : Change A) (x : List ℕ) where
             subst (λ (u : List ℕ). WritesPrefix old new (patch_text Bytes x u) e) made one,
             λ makeable. subst (λ (u : List ℕ). IsFaultFor x u e) made two,
           )
+
+-- a fault cuts the patch of what is made of an image
+pub cut_behind : {R A : Type 0} (remaining : R → Option (List ℕ)) (proposal : Proposal R) (keeps : Bool) (x z : List ℕ) (change : Change A) (counts : Option Counts)
+    (old new : Option (List ℕ)) (outcome : Result (Unit {0}) DiffFault) (fault : DiffFault) → z ≡ x → outcome ≡ Err fault
+    → MakesFirst remaining proposal x counts (effect change x) → IsFitting change keeps x → IsCompared change z outcome old new
+    → StopsChange remaining proposal keeps x old new (Stopped fault)
+cut_behind remaining proposal keeps x z change counts old new outcome fault same is makes fits compared =
+    let one = subst (λ (u : List ℕ). IsCompared change u outcome old new) same compared in
+    let two = subst (λ (o : Result (Unit {0}) DiffFault). IsCompared change x o old new) is one in
+    inr (counts, effect change x, makes, fits.1, two.0, two.1 fits.0)
 
 -- a name that leads to no file holds nothing
 pub held_none : (w : Sight) (name : List ℕ) → stat_named w name ≡ None → [] ≡ held w name
