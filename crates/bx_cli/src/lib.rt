@@ -12,15 +12,13 @@
 //! `docs/FORMATS.md` has the words ("Numbers on the command line"), and `docs/DECISIONS.md` why.
 #![tactic(auto)]
 
-mod beside;
 mod given;
-mod hint;
 mod instead;
 pub mod laws;
+mod misuse;
 mod options;
 mod plan;
 
-pub use beside::unlike_line;
 pub use bx_cli_commands::{
     Access, ChangeJob, Command, DdChange, DdImageJob, DdJob, DiffJob, Done, DumpJob, Durability,
     Fault, ForgetJob, Form, HexdumpJob, Job, LogJob, LookJob, OdJob, PatchJob, Reply, RevertJob,
@@ -28,5 +26,5 @@ pub use bx_cli_commands::{
     change_if_read, change_of_plan, list_ranges, list_steps, log_text, plan_rest, run_all, run_dd,
     run_dump, run_one,
 };
-pub use hint::{Known, Misuse, hint_text, misuse_of};
+pub use misuse::{Misuse, misuse_of};
 pub use plan::plan_words;

@@ -1,5 +1,5 @@
 //! The characters beside the digits of a dump.
-use bx_cli::unlike_line;
+use bx_hints::unlike_line;
 use std::process::Abort;
 
 // Dumps, each with the line that is answered: lines of xxd, some of them edited, and lines of other forms, as xxd writes them.

@@ -1,6 +1,6 @@
 //! The characters beside the digits of a dump, which a revert doesn't read.
 ghost use Rattle.std.specs.Prelude.{◌≡◌, ◌*◌, ◌≤◌, length, max, nat_lt};
-ghost use Rattle.bx_cli.specs.private.Beside.{agreeing};
+ghost use Rattle.bx_hints.specs.private.Beside.{agreeing};
 
 use bx_read::Line;
 

@@ -1,6 +1,6 @@
 -- How many places agree, from the front on.
 use Rattle.std.proofs.Common.{◌≡◌, ◌≢◌, ℕ, ◌+◌, ◌<◌, ◌==◌, length, drop, List, [], ◌∷◌, refl, slice_index, arith}
-use Rattle.bx_cli.specs.private.Beside.{agreeing}
+use Rattle.bx_hints.specs.private.Beside.{agreeing}
 
 pub agreeing_same : (xs ys : List ℕ) → 0 < length xs → 0 < length ys → slice_index xs 0 ≡ slice_index ys 0 →
     agreeing xs ys ≡ agreeing (drop 1 xs) (drop 1 ys) + 1
