@@ -2,5 +2,6 @@
 pub mod look;
 pub mod names;
 pub mod read;
+pub mod tail;
 mod unfit;
 pub mod unopened;

@@ -5,13 +5,11 @@ mod looks;
 mod patch;
 mod previews;
 mod ready;
+mod sights;
 mod steps;
 
+use crate::faults::show_fault;
 use crate::files::unopened::number_of;
-use crate::hints::audience::{Audience, asks_for_hints};
-use crate::hints::remarks::Remarks;
-use crate::hints::seen::{Seen, Watched};
-use crate::hints::show_fault;
 use crate::history::changes::{change_anew, change_image};
 use crate::history::forget::forget;
 use crate::history::told::look_for_others;
@@ -19,9 +17,12 @@ use crate::jobs::copies::{copy_onto, tell};
 use crate::jobs::looks::look;
 use crate::jobs::previews::{preview_copy, preview_read};
 use crate::jobs::ready::most_of_dd;
+use crate::jobs::sights::{look_at_change, look_before, tell_behind};
 use crate::jobs::steps::take_steps;
+use crate::progress::{
+    progress_of_dump, progress_of_dumped, progress_of_input, progress_of_standard,
+};
 use crate::requests::{request_dump, request_input};
-use crate::stopped::{Noted, STANDARD_INPUT, Stopped};
 use crate::streams::closed::Held;
 use crate::streams::input::{MOST_INPUT, Placed, whole};
 use bx_cli::{
@@ -29,11 +30,14 @@ use bx_cli::{
     plan_words,
 };
 use bx_dd::Counts;
+use bx_hints::{
+    Audience, Remarks, STANDARD_INPUT, Seen, Stopped, Terminals, Watched, asks_for_hints,
+};
 use bx_image::Change;
 use bx_journal::Way;
 use bx_program_dumps::Undumped;
 use bx_program_sessions::Task;
-use bx_program_system::{Counted, Progress, SystemWorld, Tally, Terminals};
+use bx_program_system::{Counted, Noted, Progress, SystemWorld, Tally};
 use bx_read::ReadFault;
 use bx_text::{IoFault, Source, Words, emit};
 use std::alloc::Global;
@@ -128,9 +132,9 @@ where
     R: Files<File = File> + Input + Print + Eprint + Clock + AllocGlobal,
 {
     let mut remarks = Remarks::new(audience);
-    remarks.look_before(rt, job);
+    look_before(rt, job, &mut remarks);
     perform_seen(rt, job, &mut remarks)?;
-    remarks.tell(rt, job);
+    tell_behind(rt, job, &mut remarks);
     Ok(())
 }
 
@@ -245,7 +249,7 @@ fn forget_changes<'a, R>(rt: &R, job: &'a ForgetJob, remarks: &Remarks) -> Resul
 where
     R: Files<File = File> + Print + Eprint + Clock + AllocGlobal,
 {
-    let progress = remarks.progress_of_input(rt, None);
+    let progress = progress_of_input(rt, remarks, None);
     forget(rt, &job.target, &progress)
 }
 
@@ -295,14 +299,14 @@ where
     match &job.dump {
         Some(name) => {
             let input = whole(rt, name)?;
-            let progress = remarks.progress_of_input(rt, input.left);
+            let progress = progress_of_input(rt, remarks, input.left);
             let read = change_of(alloc, job, input, seen, &progress);
             progress.end();
             read
         }
         None => {
             let input = Placed::whole(STANDARD_INPUT, rt.reader(), None);
-            let progress = remarks.progress_of_standard(rt);
+            let progress = progress_of_standard(rt, remarks);
             let read = change_of(alloc, job, input, seen, &progress);
             progress.end();
             read
@@ -324,11 +328,11 @@ where
     if job.dry_run {
         return preview_read(rt, &job.target, read, remarks, out);
     }
-    let progress = remarks.progress_of_input(rt, None);
+    let progress = progress_of_input(rt, remarks, None);
     look_for_others(rt, &job.target, job.fresh, remarks);
     let mut fresh = false;
     if let Ok(change) = &read {
-        remarks.look_at_change(rt, &job.target, change);
+        look_at_change(rt, &job.target, change, remarks);
         fresh = job.fresh;
     }
     let task: Task<Empty> = Task::Put(read);
@@ -391,7 +395,7 @@ fn dump_named<'a, R, W: Write>(
 where
     R: Files<File = File> + Print + Eprint + Clock + AllocGlobal,
 {
-    let progress = remarks.progress_of_dump(rt, None);
+    let progress = progress_of_dump(rt, remarks, None);
     let mut world = SystemWorld::reading(rt, &progress, most_of(job));
     match request_dump(&mut world, rt.alloc(), job, name, out) {
         Ok(done) => Ok(done),
@@ -416,7 +420,7 @@ fn dump_standard<R, W: Write>(
 where
     R: Files<File = File> + Input + Print + Eprint + Clock + AllocGlobal,
 {
-    let progress = remarks.progress_of_dumped(rt, most_of(job));
+    let progress = progress_of_dumped(rt, remarks, most_of(job));
     let mut reader = Noted::new(rt.reader());
     let counted = Counted::new(&mut reader, &progress);
     let mut world = SystemWorld::new(rt, &progress, false);

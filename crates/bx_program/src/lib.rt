@@ -5,14 +5,13 @@
 
 mod advice;
 mod devices;
+mod faults;
 mod files;
-mod hints;
 mod history;
 mod jobs;
+mod progress;
 mod requests;
-mod stopped;
 mod streams;
 
-pub use bx_program_system::Terminals;
+pub use bx_hints::{Reason, Stopped, Terminals};
 pub use jobs::{perform, run};
-pub use stopped::{Reason, Stopped};

@@ -27,6 +27,6 @@ pub use files::open::{fixed_length, lock, lock_shared, open_there, open_to_read,
 pub use files::opened::OpenFile;
 pub use folders::folder_of;
 pub use noted::Noted;
-pub use progress::{Counted, Progress, Terminals};
+pub use progress::{Counted, Progress};
 pub use tally::Tally;
 pub use world::SystemWorld;

@@ -9,17 +9,6 @@ const FIRST: u64 = 1000;
 /// The count of milliseconds after which the line is written again.
 const AGAIN: u64 = 200;
 
-/// Which of the standard streams are a terminal's, where a person types and looks.
-#[derive(Clone, Copy)]
-pub struct Terminals {
-    /// Standard input.
-    pub input: bool,
-    /// Standard output.
-    pub output: bool,
-    /// Standard error.
-    pub errors: bool,
-}
-
 /// The bytes that a part of the work has passed, and the line that shows them. Whoever counts holds a reference to it.
 #[derive(Drop)]
 pub struct Progress<'r, R> {

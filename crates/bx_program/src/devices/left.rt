@@ -1,7 +1,7 @@
 //! What stopped a command on the files of an image: the file that wasn't opened, or the device, by what the three said of their calls.
 use crate::files::unopened::not_opened;
-use crate::stopped::{Reason, Row, STANDARD_OUTPUT, Stopped};
 use bx_cli::{Fault, Target};
+use bx_hints::{Reason, Row, STANDARD_OUTPUT, Stopped};
 use bx_journal::SessionFault;
 use bx_patch::Other;
 use bx_program_files::{Unopened, Why};

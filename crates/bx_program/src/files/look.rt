@@ -1,6 +1,6 @@
 //! What is asked of an image by its name, before any file is opened.
-use crate::stopped::Stopped;
 use bx_cli::Target;
+use bx_hints::Stopped;
 use bx_program_system::{fixed_length, open_there};
 use std::fs::{self, File};
 use std::io::ErrorKind;

@@ -1,9 +1,11 @@
 //! One file alone, as it is opened beside others that read it.
 use crate::files::unfit::unfit_image;
-use crate::stopped::Stopped;
+use bx_hints::Stopped;
 use bx_program_system::{open_to_read, stat_of};
 use bx_program_world::read_unfit;
 use std::fs::{self, File};
+use std::io::{self, ErrorKind, Seek, SeekFrom};
+use std::os::unix::fs::FileTypeExt;
 use std::rt::Files;
 
 /// Opens one file to read it: a regular file or a block device, behind whatever links lead to it.
@@ -25,5 +27,26 @@ where
     match open_to_read(rt, name) {
         Ok(file) => Ok(file),
         Err(error) => Err(Stopped::unopened(name, error)),
+    }
+}
+
+/// The image, to be read; none where it is missing. To open anything but a regular file or a block device may already do
+/// something to it.
+pub fn open_if_there<R: Files<File = File>>(rt: &R, image: &str) -> io::Result<Option<File>> {
+    match fs::metadata(rt, image) {
+        Ok(found) if found.is_file() || found.file_type().is_block_device() => {
+            Ok(Some(open_to_read(rt, image)?))
+        }
+        Ok(_) => Err(io::Error::from(ErrorKind::Unsupported)),
+        Err(error) if error.kind() == ErrorKind::NotFound => Ok(None),
+        Err(error) => Err(error),
+    }
+}
+
+/// How many bytes the image of this name has; one that is missing has none.
+pub fn length_by_name<R: Files<File = File>>(rt: &R, image: &str) -> Option<u64> {
+    match open_if_there(rt, image).ok()? {
+        Some(file) => (&file).seek(SeekFrom::End(0)).ok(),
+        None => Some(0),
     }
 }

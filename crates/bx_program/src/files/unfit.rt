@@ -1,6 +1,6 @@
 //! What is said of a file that may not be opened.
-use crate::stopped::{Reason, Stopped};
 use bx_cli::Fault;
+use bx_hints::{Reason, Stopped};
 use bx_program_world::{Classes, Stat, Unfit};
 use std::fs::Metadata;
 use std::os::unix::fs::MetadataExt;

@@ -1,7 +1,7 @@
 //! What is said of the files of a session that weren't opened, by what opening them answered.
 use crate::files::unfit::{bits_left, unfit_image, unfit_text};
-use crate::stopped::Stopped;
 use bx_cli::{Fault, Target};
+use bx_hints::Stopped;
 use bx_program_files::{Unopened, Which, Why};
 use bx_program_system::{
     Misplaced, SystemWorld, Unknown, folder_of, is_among_devices, is_mounted, stat_of,

@@ -1,9 +1,8 @@
 //! What is said of an image that isn't the one that was left, or on which what is unfinished was begun.
 use crate::advice::Advice;
 use crate::files::look::is_missing;
-use crate::hints::remarks::Remarks;
-use crate::stopped::{Reason, Stopped};
 use bx_cli::{Fault, Target};
+use bx_hints::{Reason, Remarks, Stopped};
 use bx_journal::Way;
 use std::fs::File;
 use std::rt::Files;

@@ -1,14 +1,15 @@
 //! dd onto an image, and its report.
 ghost use Rattle.bx_cli_commands.specs.jobs.Passing.{CanPass, plan_skip};
 
-use crate::hints::remarks::Remarks;
 use crate::history::changes::{change_anew, change_image};
 use crate::history::told::look_for_others;
 use crate::jobs::ready::{Ready, most_of_dd, plan_behind};
-use crate::stopped::Stopped;
+use crate::jobs::sights::tell_before_copy;
+use crate::progress::progress_of_copy;
 use crate::streams::input::{Placed, file, standard};
 use bx_cli::{Command, DdImageJob, Fault, change_of_plan};
 use bx_dd::{Counts, report};
+use bx_hints::{Remarks, Stopped};
 use bx_program_sessions::Task;
 use bx_program_system::Progress;
 use bx_text::IoFault;
@@ -27,7 +28,7 @@ pub fn copy_onto<'a, R>(
 where
     R: Files<File = File> + Input + Print + Eprint + Clock + AllocGlobal,
 {
-    let progress = remarks.progress_of_copy(rt, &job.plan);
+    let progress = progress_of_copy(rt, remarks, &job.plan);
     look_for_others(rt, &job.target, job.fresh, remarks);
     let counts = copy_input(rt, job, &progress, remarks)?;
     if let Some(counts) = counts {
@@ -67,7 +68,7 @@ where
     R: Files<File = File> + Print + Eprint + Clock + AllocGlobal,
     requires { CanPass input.passed (plan_skip job.now.plan) }
 {
-    remarks.tell_before_copy(rt, job, input.most(most_of_dd(&job.plan)));
+    tell_before_copy(rt, job, input.most(most_of_dd(&job.plan)), remarks);
     if job.fresh {
         return copy_anew(rt, job, input, progress, remarks);
     }

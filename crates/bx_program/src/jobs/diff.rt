@@ -1,9 +1,9 @@
 //! The patch from one file to another.
 use crate::files::unopened::not_opened_alone;
-use crate::hints::remarks::Remarks;
+use crate::progress::progress_of_dump;
 use crate::requests::request_diff;
-use crate::stopped::Stopped;
 use bx_cli::{DiffJob, Fault};
+use bx_hints::{Remarks, Stopped};
 use bx_image::FailedCall;
 use bx_journal::SessionFault;
 use bx_patch::{DiffFault, Extent};
@@ -77,7 +77,7 @@ pub fn diff<'a, R, W: Write>(
 where
     R: Files<File = File> + Print + Eprint + Clock + AllocGlobal,
 {
-    let progress = remarks.progress_of_dump(rt, None);
+    let progress = progress_of_dump(rt, remarks, None);
     let mut world = SystemWorld::comparing(rt, &progress);
     let extent = if job.rows {
         Extent::Rows

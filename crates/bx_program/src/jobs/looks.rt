@@ -3,12 +3,12 @@ use crate::advice::{ANOTHER, Advice, put_other};
 use crate::devices::left::not_seen;
 use crate::files::look::refuse_without_journal;
 use crate::files::names::{names_of, world_of};
-use crate::hints::remarks::Remarks;
 use crate::history::recover_image;
+use crate::progress::progress_of_input;
 use crate::requests::request_report;
-use crate::stopped::Stopped;
 use crate::streams::paged::Paged;
 use bx_cli::{Fault, LogJob, LookJob, ShowJob, Target};
+use bx_hints::{Remarks, Stopped};
 use bx_journal::{SessionFault, Steps, Way};
 use bx_program_commands::Report;
 use bx_program_files::Names;
@@ -29,7 +29,7 @@ pub fn look<'a, R, W: Write>(
 where
     R: Files<File = File> + Print + Eprint + Clock + AllocGlobal,
 {
-    let progress = remarks.progress_of_input(rt, None);
+    let progress = progress_of_input(rt, remarks, None);
     match job {
         LookJob::Log(job) => show_log(rt, job, &progress, out),
         LookJob::Show(job) => show_next(rt, job, &progress, out),

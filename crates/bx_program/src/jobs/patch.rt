@@ -3,17 +3,18 @@ ghost use Rattle.bx_cli_commands.specs.Command.{IsNear};
 
 use crate::devices::agreement::agree;
 use crate::files::look::is_device;
-use crate::hints::remarks::Remarks;
 use crate::history::changes::{change_anew, change_image};
 use crate::history::settle_image;
 use crate::history::told::look_for_others;
 use crate::jobs::previews::preview_patch;
-use crate::stopped::{Noted, STANDARD_INPUT, Stopped};
+use crate::jobs::sights::tell_before_patch;
+use crate::progress::{progress_of_input, progress_of_standard};
 use crate::streams::input::{MOST_INPUT, Placed, whole};
 use bx_cli::{Command, Fault, PatchJob};
+use bx_hints::{Remarks, STANDARD_INPUT, Stopped};
 use bx_patch::{Patch, read_patch};
 use bx_program_sessions::Task;
-use bx_program_system::{Counted, Progress};
+use bx_program_system::{Counted, Noted, Progress};
 use bx_text::Source;
 use std::alloc::Global;
 use std::fs::File;
@@ -37,7 +38,7 @@ where
     if changes_length(&patch) && is_device(rt, image) {
         return Err(Stopped::fixed(image));
     }
-    let progress = remarks.progress_of_input(rt, None);
+    let progress = progress_of_input(rt, remarks, None);
     if job.dry_run {
         return preview_patch(rt, &job.target, patch, &progress, out);
     }
@@ -102,7 +103,7 @@ where
     R: Files<File = File> + Print + Eprint + Clock + AllocGlobal,
 {
     let image = job.target.image.as_str();
-    remarks.tell_before_patch(rt, &job.target, &patch);
+    tell_before_patch(rt, &job.target, &patch, remarks);
     look_for_others(rt, &job.target, job.fresh, remarks);
     let target = &job.target;
     if job.fresh {
@@ -140,13 +141,13 @@ where
     match &job.patch {
         Some(name) => {
             let input = whole(rt, name)?;
-            let progress = remarks.progress_of_input(rt, input.left);
+            let progress = progress_of_input(rt, remarks, input.left);
             let text = text_of(alloc, input, &progress);
             progress.end();
             asked_of(alloc, job, name.as_str(), text?)
         }
         None => {
-            let progress = remarks.progress_of_standard(rt);
+            let progress = progress_of_standard(rt, remarks);
             let input = Placed::whole(STANDARD_INPUT, rt.reader(), None);
             let text = text_of(alloc, input, &progress);
             progress.end();

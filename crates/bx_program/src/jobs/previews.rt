@@ -6,13 +6,13 @@ use crate::devices::left::stopped;
 use crate::files::look::is_missing;
 use crate::files::names::world_of;
 use crate::files::unopened::not_opened_alone;
-use crate::hints::remarks::Remarks;
 use crate::jobs::ready::{Ready, plan_behind};
+use crate::progress::{progress_of_copy, progress_of_input};
 use crate::requests::request_preview;
-use crate::stopped::{Reason, Stopped};
 use crate::streams::input::{Placed, file, standard};
 use bx_cli::{DdImageJob, Fault, Target};
 use bx_dd::Counts;
+use bx_hints::{Reason, Remarks, Stopped};
 use bx_image::Change;
 use bx_journal::SessionFault;
 use bx_patch::{DiffFault, Patch};
@@ -101,7 +101,7 @@ pub fn preview_read<'a, R, W: Write>(
 where
     R: Files<File = File> + Print + Eprint + Clock + AllocGlobal,
 {
-    let progress = remarks.progress_of_input(rt, None);
+    let progress = progress_of_input(rt, remarks, None);
     let proposal: Proposal<Empty> = Proposal::Read(read);
     preview(rt, target, proposal, &progress, out)?;
     Ok(())
@@ -133,7 +133,7 @@ pub fn preview_copy<'a, R, W: Write>(
 where
     R: Files<File = File> + Input + Print + Eprint + Clock + AllocGlobal,
 {
-    let progress = remarks.progress_of_copy(rt, &job.plan);
+    let progress = progress_of_copy(rt, remarks, &job.plan);
     let skip = job.skip();
     match &job.plan.input {
         Some(name) => preview_from(rt, job, file(rt, skip, name)?, &progress, out),

@@ -2,13 +2,13 @@
 ghost use Rattle.bx_cli_commands.specs.jobs.Passing.{CanPass, plan_skip};
 
 use crate::files::look::{device_length, is_device};
-use crate::stopped::{Noted, Stopped};
 use crate::streams::fitting::Fitting;
 use crate::streams::input::Placed;
 use crate::streams::part::Part;
 use bx_cli::{DdImageJob, plan_rest};
 use bx_dd::Plan;
-use bx_program_system::Progress;
+use bx_hints::Stopped;
+use bx_program_system::{Noted, Progress};
 use std::fs::File;
 use std::io::Read;
 use std::rt::Files;

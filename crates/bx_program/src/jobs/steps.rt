@@ -2,11 +2,11 @@
 use crate::devices::left::stopped;
 use crate::files::look::refuse_without_journal;
 use crate::files::names::{guard_of, names_of, world_of};
-use crate::hints::remarks::Remarks;
 use crate::history::told::told;
+use crate::progress::progress_of_input;
 use crate::requests::request_move;
-use crate::stopped::Stopped;
 use bx_cli::StepsJob;
+use bx_hints::{Remarks, Stopped};
 use bx_journal::Way;
 use std::fs::File;
 use std::rt::Files;
@@ -27,7 +27,7 @@ where
     remarks.look_at_times(rt, target);
     remarks.tell_before_steps(rt, way, job);
     let names = names_of(rt.alloc(), target)?;
-    let progress = remarks.progress_of_input(rt, None);
+    let progress = progress_of_input(rt, remarks, None);
     let mut world = world_of(rt, target, &progress)?;
     let guard = guard_of(target);
     let moved = request_move(&mut world, rt.alloc(), &names, guard, way, job.count);

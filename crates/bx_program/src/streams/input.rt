@@ -2,8 +2,8 @@
 ghost use Rattle.std.specs.Prelude.{IfOk};
 ghost use Rattle.bx_cli_commands.specs.jobs.Passing.{CanPass};
 
-use crate::stopped::{STANDARD_INPUT, Stopped};
 use bx_cli::{Fault, Skip};
+use bx_hints::{STANDARD_INPUT, Stopped};
 use bx_program_system::{fixed_length, open_there};
 use bx_text::{IoFault, Name};
 use std::fs::{File, Metadata};

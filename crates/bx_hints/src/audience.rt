@@ -1,5 +1,15 @@
 //! Who reads what the program writes.
-use bx_program_system::Terminals;
+
+/// Which of the standard streams are a terminal's, where a person types and looks.
+#[derive(Clone, Copy)]
+pub struct Terminals {
+    /// Standard input.
+    pub input: bool,
+    /// Standard output.
+    pub output: bool,
+    /// Standard error.
+    pub errors: bool,
+}
 
 /// Whether a person looks at the standard streams, and whether hints are written.
 #[derive(Clone, Copy)]

@@ -1,6 +1,6 @@
 //! Numbers of dd that are 0 as products, where hexadecimal may be meant.
-use crate::hints::quoted::printed;
-use bx_cli::{ChangeJob, DumpJob, Job};
+use crate::quoted::printed;
+use bx_cli_commands::{ChangeJob, DumpJob, Job};
 use bx_text::Words;
 use std::alloc::{AllocError, Global};
 

@@ -1,5 +1,5 @@
 //! What is said of the names of files.
-use crate::hints::quoted::quoted;
+use crate::quoted::quoted;
 use crate::stopped::{STANDARD_INPUT, STANDARD_OUTPUT};
 use std::alloc::{AllocError, Global};
 

@@ -1,29 +1,42 @@
 //! How many changes stand and are undone: before a command, behind it, and where it was stopped.
-use crate::hints::commands::operands_of;
-use crate::hints::quoted::quoted;
-use crate::hints::tail::{Tail, tail_of};
-use bx_cli::{ChangeJob, Fault, Job, StepsJob, Target};
-use bx_journal::{SessionFault, Way};
+use crate::commands::operands_of;
+use crate::quoted::quoted;
+use bx_cli_commands::{ChangeJob, Job, StepsJob, Target};
+use bx_journal::Way;
 use std::alloc::{AllocError, Global};
-use std::fs::File;
-use std::rt::Files;
+
+/// The last entry of a text.
+#[derive(Clone, Copy)]
+pub enum Tail {
+    /// It is finished, and has this number; 0 where there is none, and where the text is missing.
+    Finished(u32),
+    /// It is unfinished behind its `save` line, and has this number.
+    Begun(u32),
+    /// What it is isn't known.
+    Unknown,
+}
+
+impl Tail {
+    /// How many finished entries stand in the text, where that is known.
+    pub fn finished(self) -> Option<u32> {
+        match self {
+            Tail::Finished(number) => Some(number),
+            Tail::Begun(number) => Some(number.saturating_sub(1)),
+            Tail::Unknown => None,
+        }
+    }
+}
 
 /// The ends of a journal and its redo file.
 #[derive(Clone, Copy)]
 pub struct Standing {
-    journal: Tail,
-    redo: Tail,
+    /// The journal's.
+    pub journal: Tail,
+    /// The redo file's.
+    pub redo: Tail,
 }
 
 impl Standing {
-    /// What stands now.
-    pub fn of<R: Files<File = File>>(rt: &R, target: &Target) -> Standing {
-        Standing {
-            journal: tail_of(rt, target.texts.journal.as_str()),
-            redo: tail_of(rt, target.texts.redo.as_str()),
-        }
-    }
-
     /// How many changes a history has that is dropped, and how many that are undone; what is unfinished is recovered before,
     /// and nothing is undone then.
     fn dropped(self) -> Option<(u32, u32)> {
@@ -73,11 +86,10 @@ fn begun_text(alloc: Global, target: &Target, way: Way, number: u32) -> Result<S
 }
 
 /// Says which changes were taken back or made again, and how many are left.
-pub fn tell_of_steps<R>(rt: &R, name: &str, way: Way, job: &StepsJob)
+pub fn tell_of_steps<R>(rt: &R, name: &str, way: Way, job: &StepsJob, now: &Standing)
 where
-    R: Files<File = File> + Eprint + AllocGlobal,
+    R: Eprint + AllocGlobal,
 {
-    let now = Standing::of(rt, &job.target);
     let (Some(changes), Some(undone)) = (now.journal.finished(), now.redo.finished()) else {
         return;
     };
@@ -124,25 +136,15 @@ pub fn tell_of_dropped<R: Eprint>(rt: &R, name: &str, standing: &Standing) {
     }
 }
 
-/// What is said of an undo or a redo that was stopped in the middle: which change it was, and what the next command makes of it.
-/// None of another job, and where the journal's end doesn't tell the change.
-pub fn stopped_text<R>(rt: &R, job: &Job, fault: Fault) -> Result<Option<String>, AllocError>
-where
-    R: Files<File = File> + AllocGlobal,
-{
-    let (way, target) = match (job, fault) {
-        (Job::Change(ChangeJob::Undo(job)), Fault::Session(SessionFault::Interrupted)) => {
-            (Way::Undo, &job.target)
-        }
-        (Job::Change(ChangeJob::Redo(job)), Fault::Session(SessionFault::Interrupted)) => {
-            (Way::Redo, &job.target)
-        }
+/// What is said of an undo or a redo that was stopped in the middle, at the change of this number: what the next command makes of it.
+/// None of another job.
+pub fn stopped_text(alloc: Global, job: &Job, number: u32) -> Result<Option<String>, AllocError> {
+    let (way, target) = match job {
+        Job::Change(ChangeJob::Undo(job)) => (Way::Undo, &job.target),
+        Job::Change(ChangeJob::Redo(job)) => (Way::Redo, &job.target),
         _ => return Ok(None),
     };
-    match tail_of(rt, target.texts.journal.as_str()) {
-        Tail::Begun(number) => Ok(Some(stopped_at(rt.alloc(), target, way, number)?)),
-        Tail::Finished(_) | Tail::Unknown => Ok(None),
-    }
+    Ok(Some(stopped_at(alloc, target, way, number)?))
 }
 
 /// What is said of one that was stopped at this change.

@@ -1,6 +1,6 @@
 //! What a change will cost, where that is much.
-use crate::hints::quoted::quoted;
-use bx_cli::Target;
+use crate::quoted::quoted;
+use bx_cli_commands::Target;
 use bx_dd::Plan;
 use bx_patch::Patch;
 

@@ -1,6 +1,6 @@
 //! Commands that a hint gives, with the user's own names, so that they can be pasted into a shell.
-use crate::hints::quoted::push_name;
-use bx_cli::{Fault, Job, Target};
+use crate::quoted::push_name;
+use bx_cli_commands::{Fault, Job, Target};
 use bx_journal::SessionFault;
 use std::alloc::{AllocError, Global};
 

@@ -1,26 +1,12 @@
-//! What the program writes of a fault, and for a person of a success.
-pub mod audience;
-mod commands;
-mod cost;
-mod effect;
-mod names;
-mod products;
-mod quoted;
-pub mod remarks;
-pub mod seen;
-mod steps;
-mod tail;
-mod typed;
-
-use crate::hints::commands::{is_named, operands_of, push_word, words_of};
-use crate::hints::names::{name_hint, subject};
-use crate::hints::quoted::{printed, quoted};
-use crate::hints::steps::stopped_text;
+//! The hint on what stopped a job: the file that did it, why it did, and what can be done.
+use crate::commands::{is_named, operands_of, push_word, words_of};
+use crate::hint::{Known, hint_text};
+use crate::names::{name_hint, subject};
+use crate::quoted::{printed, quoted};
+use crate::steps::stopped_text;
 use crate::stopped::{Reason, Row, Stopped};
-use bx_cli::{ChangeJob, Fault, Job, Target, misuse_of};
-use bx_hints::{Known, hint_text};
+use bx_cli_commands::{ChangeJob, Fault, Job, Target};
 use bx_image::FailedCall;
-use bx_text::Words;
 use std::alloc::{AllocError, Global};
 use std::fmt::Write as _;
 use std::fs::{self, File};
@@ -39,52 +25,36 @@ const APPLIED: &str =
 const TAKEN_BACK: &str =
     "it has what stood before the patch, so that is taken back already; bx patch without -R applies it";
 
-/// Writes the text of the fault, and behind it where hints are written the hint. A hint that can't be made or written is left
-/// out. Where the reader of standard output has gone nothing is written, as by other programs. The job is none where the words
-/// ask for none.
-pub fn show_fault<R>(
+/// Writes the hint on words that were refused: the word at fault, why it is, and how the command is called.
+pub fn show_misuse<R>(
     rt: &R,
-    hints: bool,
-    words: &Words,
+    fault: Fault,
+    word: &str,
+    reason: &str,
+    usage: &str,
+) -> Result<(), AllocError>
+where
+    R: Eprint + AllocGlobal,
+{
+    let word = printed(rt.alloc(), word)?;
+    let known = Known {
+        subject: word.as_str(),
+        reason,
+        words: "",
+        usage,
+    };
+    show_known(rt, fault, &known);
+    Ok(())
+}
+
+/// Writes the hint on the file that stopped the job, why it did, and what can be done. An undo or a redo that was stopped in the middle
+/// had begun with the change of the number `begun`, where that is known.
+pub fn show_cause<R>(
+    rt: &R,
     job: Option<&Job>,
     stopped: Stopped<'_>,
-) -> Fault
-where
-    R: Files<File = File> + Eprint + AllocGlobal,
-{
-    let fault = stopped.fault;
-    if stopped.is_silent() {
-        return fault;
-    }
-    let _ = eprintln!(rt; "bx: {fault}");
-    if hints {
-        let _ = show_hint(rt, words, job, stopped);
-    }
-    fault
-}
-
-/// The hint on a line of its own.
-fn show_hint<R>(rt: &R, words: &Words, job: Option<&Job>, stopped: Stopped<'_>) -> Result<(), Fault>
-where
-    R: Files<File = File> + Eprint + AllocGlobal,
-{
-    if is_of_words(stopped) {
-        let misuse = misuse_of(rt.alloc(), words, stopped.fault)?;
-        let word = printed(rt.alloc(), misuse.word.as_str())?;
-        let known = Known {
-            subject: word.as_str(),
-            reason: misuse.reason,
-            words: "",
-            usage: misuse.usage.as_str(),
-        };
-        show_known(rt, stopped.fault, &known);
-        return Ok(());
-    }
-    show_cause(rt, job, stopped)
-}
-
-/// The file that stopped the job, why it did, and what can be done.
-fn show_cause<R>(rt: &R, job: Option<&Job>, stopped: Stopped<'_>) -> Result<(), Fault>
+    begun: Option<u32>,
+) -> Result<(), AllocError>
 where
     R: Files<File = File> + Eprint + AllocGlobal,
 {
@@ -95,7 +65,7 @@ where
         let _ = eprintln!(rt; "hint: {name}: {reason}");
         return Ok(());
     }
-    if let Some(text) = steps_text(rt, job, stopped.fault)? {
+    if let Some(text) = steps_text(rt.alloc(), job, begun)? {
         show_steps(rt, name.as_str(), reason.as_str(), text.as_str());
         return Ok(());
     }
@@ -118,13 +88,14 @@ where
 }
 
 /// What is said of an undo or a redo that was stopped in the middle; none of another job.
-fn steps_text<R>(rt: &R, job: Option<&Job>, fault: Fault) -> Result<Option<String>, AllocError>
-where
-    R: Files<File = File> + AllocGlobal,
-{
-    match job {
-        Some(job) => stopped_text(rt, job, fault),
-        None => Ok(None),
+fn steps_text(
+    alloc: Global,
+    job: Option<&Job>,
+    begun: Option<u32>,
+) -> Result<Option<String>, AllocError> {
+    match (job, begun) {
+        (Some(job), Some(number)) => stopped_text(alloc, job, number),
+        (None, _) | (_, None) => Ok(None),
     }
 }
 
@@ -149,7 +120,7 @@ where
 }
 
 /// Whether the words of the command line are at fault, which were read.
-fn is_of_words(stopped: Stopped<'_>) -> bool {
+pub fn is_of_words(stopped: Stopped<'_>) -> bool {
     let number = stopped.fault.number();
     let of_words = (20..30).contains(&number) || stopped.fault == Fault::Usage;
     of_words && matches!(stopped.reason, Reason::Unknown)

@@ -1,12 +1,10 @@
 //! What a revert makes of its image: a gap, a much longer image, or no other byte.
 use bx_image::Change;
-use bx_program_system::open_to_read;
 use bx_text::Piece;
 use std::alloc::Global;
-use std::fs::{self, File};
-use std::io::{self, ErrorKind, Seek, SeekFrom};
-use std::os::unix::fs::{FileExt, FileTypeExt};
-use std::rt::Files;
+use std::fs::File;
+use std::io::{self, Seek, SeekFrom};
+use std::os::unix::fs::FileExt;
 
 /// A gap of more bytes than this is worth a hint.
 const GAP: u64 = 1 << 20;
@@ -30,13 +28,10 @@ pub struct Effect {
 }
 
 impl Effect {
-    /// What a change will make of an image, where one that is missing is as an empty one; none where the image can't be read.
-    pub fn new<R>(rt: &R, image: &str, change: &Change) -> Option<Effect>
-    where
-        R: Files<File = File> + AllocGlobal,
-    {
-        let file = opened(rt, image).ok()?;
-        let before = length_of(&file).ok()?;
+    /// What a change will make of an image, which is none where it is missing, and then as an empty one; none where the image can't
+    /// be read.
+    pub fn new(alloc: Global, image: &Option<File>, change: &Change) -> Option<Effect> {
+        let before = length_of(image).ok()?;
         let mut after = before;
         let mut given = 0u64;
         let mut saved = 0u64;
@@ -51,7 +46,7 @@ impl Effect {
             after,
             gap: after.saturating_sub(before).saturating_sub(given),
             saved,
-            is_same: after == before && are_there(rt.alloc(), &file, change),
+            is_same: after == before && are_there(alloc, image, change),
         })
     }
 
@@ -61,26 +56,7 @@ impl Effect {
     }
 }
 
-/// The image, to be read; none where it is missing. To open anything but a regular file or a block device may already do
-/// something to it.
-fn opened<R: Files<File = File>>(rt: &R, image: &str) -> io::Result<Option<File>> {
-    match fs::metadata(rt, image) {
-        Ok(found) if found.is_file() || found.file_type().is_block_device() => {
-            Ok(Some(open_to_read(rt, image)?))
-        }
-        Ok(_) => Err(io::Error::from(ErrorKind::Unsupported)),
-        Err(error) if error.kind() == ErrorKind::NotFound => Ok(None),
-        Err(error) => Err(error),
-    }
-}
-
-/// How many bytes the image of this name has; one that is missing has none.
-pub fn length_by_name<R: Files<File = File>>(rt: &R, image: &str) -> Option<u64> {
-    let file = opened(rt, image).ok()?;
-    length_of(&file).ok()
-}
-
-/// How many bytes it has.
+/// How many bytes an image has; one that is missing has none.
 fn length_of(image: &Option<File>) -> io::Result<u64> {
     match image {
         Some(file) => (&*file).seek(SeekFrom::End(0)),

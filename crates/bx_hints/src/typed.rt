@@ -1,5 +1,5 @@
 //! Standard input that a person types.
-use bx_cli::{ChangeJob, Job};
+use bx_cli_commands::{ChangeJob, Job};
 
 /// Says that a job that changes an image reads what is typed, before it does.
 pub fn tell_of_typing<R: Eprint>(rt: &R, job: &Job) {

@@ -1,10 +1,9 @@
 //! What stopped a job.
-use bx_cli::Fault;
+use bx_cli_commands::Fault;
 use bx_dd::DdFault;
 use bx_image::FailedCall;
 use bx_journal::SessionFault;
 use bx_patch::PatchFault;
-pub use bx_program_system::Noted;
 use bx_read::ReadFault;
 use bx_text::IoFault;
 use std::io::{self, ErrorKind};

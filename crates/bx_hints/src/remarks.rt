@@ -1,32 +1,32 @@
 //! What a person may want to know after a success.
-use crate::hints::audience::Audience;
-use crate::hints::commands::operands_of;
-use crate::hints::cost::{saved_by_dd, saved_by_patch, tell_of_cost};
-use crate::hints::effect::{Effect, length_by_name};
-use crate::hints::names::is_of_text;
-use crate::hints::products::tell_of_products;
-use crate::hints::quoted::quoted;
-use crate::hints::seen::Seen;
-use crate::hints::steps::{Standing, tell_of_begun, tell_of_dropped, tell_of_steps};
-use crate::hints::typed::tell_of_typing;
-use bx_cli::{ChangeJob, DdImageJob, Job, StepsJob, Target};
-use bx_dd::{Counts, Plan};
+use crate::audience::Audience;
+use crate::commands::operands_of;
+use crate::cost::tell_of_cost;
+use crate::effect::Effect;
+use crate::names::is_of_text;
+use crate::products::tell_of_products;
+use crate::quoted::quoted;
+use crate::seen::Seen;
+use crate::steps::{Standing, tell_of_begun, tell_of_dropped, tell_of_steps};
+use crate::typed::tell_of_typing;
+use bx_cli_commands::{ChangeJob, Job, StepsJob, Target};
+use bx_dd::Counts;
 use bx_image::Change;
 use bx_journal::{How, Way};
-use bx_patch::Patch;
-use bx_program_system::{Progress, Terminals};
 use std::alloc::Global;
 use std::fs::{self, File};
 use std::io::ErrorKind;
 use std::rt::Files;
-use std::time::Clock;
 
 /// What was seen of a job while it ran. Nothing is looked at where no hints are written.
 #[derive(Drop)]
 pub struct Remarks {
-    audience: Audience,
+    /// Who reads what is written.
+    pub audience: Audience,
     // what stood before
     standing: Option<Standing>,
+    // what stands behind an undo or a redo
+    now: Option<Standing>,
     // the image was missing before
     is_new: bool,
     // something was undone before, and could be made again
@@ -53,6 +53,7 @@ impl Remarks {
         Remarks {
             audience,
             standing: None,
+            now: None,
             is_new: false,
             was_undone: false,
             is_later: false,
@@ -70,55 +71,7 @@ impl Remarks {
         self.audience.hints
     }
 
-    /// Whether a line on how far work is has a place on standard error, beside an output that may be a terminal.
-    fn has_place(&self) -> bool {
-        let Terminals { output, errors, .. } = self.audience.terminals;
-        errors && !output
-    }
-
-    /// A line on how much of `total` bytes is read, for work whose output may be a terminal, where it has no place.
-    pub fn progress_of_dump<'r, R>(&self, rt: &'r R, total: Option<u64>) -> Progress<'r, R>
-    where
-        R: Clock + Eprint,
-    {
-        Progress::new(rt, self.has_place(), total)
-    }
-
-    /// The same of standard input, where a line has no place in what a person types.
-    pub fn progress_of_dumped<'r, R>(&self, rt: &'r R, total: Option<u64>) -> Progress<'r, R>
-    where
-        R: Clock + Eprint,
-    {
-        let shows = self.has_place() && !self.audience.terminals.input;
-        Progress::new(rt, shows, total)
-    }
-
-    /// The same, for work that writes nothing to standard output while it reads.
-    pub fn progress_of_input<'r, R>(&self, rt: &'r R, total: Option<u64>) -> Progress<'r, R>
-    where
-        R: Clock + Eprint,
-    {
-        Progress::new(rt, self.audience.terminals.errors, total)
-    }
-
-    /// The same of standard input, where nobody types it.
-    pub fn progress_of_standard<'r, R: Clock + Eprint>(&self, rt: &'r R) -> Progress<'r, R> {
-        let Terminals { input, errors, .. } = self.audience.terminals;
-        Progress::new(rt, errors && !input, None)
-    }
-
-    /// The same of what dd reads, and of what it makes of it.
-    pub fn progress_of_copy<'r, R>(&self, rt: &'r R, plan: &Plan) -> Progress<'r, R>
-    where
-        R: Clock + Eprint,
-    {
-        match plan.input {
-            Some(_) => self.progress_of_input(rt, None),
-            None => self.progress_of_standard(rt),
-        }
-    }
-
-    /// Looks whether the job's image is missing, how long it is, and what stands and is undone, before the job opens a file.
+    /// Looks whether the job's image is missing, how long it is, and whether something is undone, before the job opens a file.
     /// What may be wrong with numbers of dd is said here, wherever standard error leads, and that a job reads what is typed.
     pub fn look_before<R>(&mut self, rt: &R, job: &Job)
     where
@@ -133,11 +86,20 @@ impl Remarks {
         }
         if let Some(target) = job.target() {
             let image = target.image.as_str();
-            self.standing = Some(Standing::of(rt, target));
             self.is_new = is_missing(rt, image);
             self.length = length_of(rt, image);
             self.was_undone = is_filled(rt, target.texts.redo.as_str());
         }
+    }
+
+    /// Takes what stands and is undone before a job.
+    pub fn look_at_standing(&mut self, standing: Standing) {
+        self.standing = Some(standing);
+    }
+
+    /// Takes what stands and is undone behind an undo or a redo.
+    pub fn look_behind(&mut self, standing: Standing) {
+        self.now = Some(standing);
     }
 
     /// Looks which of image and journal was modified later, before the files are opened. A block device has no such time.
@@ -199,40 +161,21 @@ impl Remarks {
         self.standing = None;
     }
 
-    /// Looks what the change of a dump will make of the image, which is not yet written, and says what it will cost.
-    pub fn look_at_change<R>(&mut self, rt: &R, target: &Target, change: &Change)
+    /// Looks what the change of a dump will make of the image, which is not yet written, and says what it will cost. The image is none
+    /// where it is missing.
+    pub fn look_at_change<R>(
+        &mut self,
+        rt: &R,
+        target: &Target,
+        image: &Option<File>,
+        change: &Change,
+    )
     where
-        R: Files<File = File> + Eprint + AllocGlobal,
+        R: Eprint + AllocGlobal,
     {
-        if self.audience.hints {
-            self.effect = Effect::new(rt, target.image.as_str(), change);
-            if let Some(effect) = &self.effect {
-                tell_of_cost(rt, target, effect.saved);
-            }
-        }
-    }
-
-    /// Says what a patch will cost.
-    pub fn tell_before_patch<R>(&self, rt: &R, target: &Target, patch: &Patch)
-    where
-        R: Files<File = File> + Eprint + AllocGlobal,
-    {
-        if self.audience.hints {
-            if let Some(length) = length_by_name(rt, target.image.as_str()) {
-                tell_of_cost(rt, target, saved_by_patch(patch, length));
-            }
-        }
-    }
-
-    /// Says what dd will cost, whose input has at most as many bytes as are left, where that is known.
-    pub fn tell_before_copy<R>(&self, rt: &R, job: &DdImageJob, left: Option<u64>)
-    where
-        R: Files<File = File> + Eprint + AllocGlobal,
-    {
-        if self.audience.hints {
-            if let Some(length) = length_by_name(rt, job.target.image.as_str()) {
-                tell_of_cost(rt, &job.target, saved_by_dd(&job.plan, length, left));
-            }
+        self.effect = Effect::new(rt.alloc(), image, change);
+        if let Some(effect) = &self.effect {
+            tell_of_cost(rt, target, effect.saved);
         }
     }
 
@@ -290,13 +233,23 @@ impl Remarks {
             }
             ChangeJob::Forget(_) => self.tell_of_history(rt, name, true),
             ChangeJob::Undo(steps) => {
-                tell_of_steps(rt, name, Way::Undo, steps);
+                self.tell_of_steps(rt, name, Way::Undo, steps);
                 self.tell_of_times(rt, name, steps.count, "redo", operands);
             }
             ChangeJob::Redo(steps) => {
-                tell_of_steps(rt, name, Way::Redo, steps);
+                self.tell_of_steps(rt, name, Way::Redo, steps);
                 self.tell_of_times(rt, name, steps.count, "undo", operands);
             }
+        }
+    }
+
+    /// Which changes were taken back or made again.
+    fn tell_of_steps<R>(&self, rt: &R, name: &str, way: Way, job: &StepsJob)
+    where
+        R: Eprint + AllocGlobal,
+    {
+        if let Some(now) = &self.now {
+            tell_of_steps(rt, name, way, job, now);
         }
     }
 

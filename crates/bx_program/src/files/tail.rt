@@ -1,4 +1,6 @@
 //! What stands at the end of a journal or a redo file, as far as a hint tells it: nothing else rests on it.
+use bx_cli::Target;
+use bx_hints::{Standing, Tail};
 use bx_journal_image::end_of;
 use bx_program_system::open_to_read;
 use std::fs::{self, File};
@@ -9,25 +11,11 @@ use std::rt::Files;
 /// How many bytes are read: an end line, and the `save` line before it.
 const LAST: usize = 128;
 
-/// The last entry of a text.
-#[derive(Clone, Copy)]
-pub enum Tail {
-    /// It is finished, and has this number; 0 where there is none, and where the text is missing.
-    Finished(u32),
-    /// It is unfinished behind its `save` line, and has this number.
-    Begun(u32),
-    /// What it is isn't known.
-    Unknown,
-}
-
-impl Tail {
-    /// How many finished entries stand in the text, where that is known.
-    pub fn finished(self) -> Option<u32> {
-        match self {
-            Tail::Finished(number) => Some(number),
-            Tail::Begun(number) => Some(number.saturating_sub(1)),
-            Tail::Unknown => None,
-        }
+/// What stands at the ends of the texts of an image.
+pub fn standing_of<R: Files<File = File>>(rt: &R, target: &Target) -> Standing {
+    Standing {
+        journal: tail_of(rt, target.texts.journal.as_str()),
+        redo: tail_of(rt, target.texts.redo.as_str()),
     }
 }
 
