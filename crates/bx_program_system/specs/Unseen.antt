@@ -1,6 +1,6 @@
 -- A view of the system, which no proof knows anything about.
 use Rattle.std.specs.Prelude.{false, [], None}
-use Rattle.bx_program_world.specs.Memory.{no_stat}
+use Rattle.bx_program_world.specs.World.{no_stat}
 use Rattle.bx_program_world.specs.World.{Sight}
 
 -- nothing is seen: what the system has is known to no proof

@@ -1,5 +1,1 @@
-pub mod Beside
-pub mod Entries
-pub mod Made
 pub mod Persons
-pub mod Survivors

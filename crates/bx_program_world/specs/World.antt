@@ -3,11 +3,26 @@ use Rattle.std.specs.Prelude.{◌≡◌, ◌⊎◌, ◌<◌, ◌≤◌, ◌+◌,
 use Rattle.std.specs.Option.{option_map_or}
 use Rattle.bx_image.specs.Power.{NoMore}
 use Rattle.bx_program_world.specs.Rule.{image_unfit, read_unfit, text_unfit}
+use Rattle.bx_program_world.specs.declared.stat.Kind.TheVariants.{Other}
 use Rattle.bx_program_world.specs.declared.stat.Stat.{Stat}
 use Rattle.bx_program_world.specs.declared.world.Noted.{Noted}
 use Rattle.bx_program_world.specs.declared.world.Noted.TheVariants.{Put, Without, Stands}
 use Rattle.bx_program_world.specs.declared.world.Refusal.{Refusal}
 use Rattle.bx_program_world.specs.declared.world.Refusal.TheVariants.{Missing}
+
+-- what the system says of a file that isn't there
+abbrev pub no_stat : Stat
+no_stat = record {
+  kind = Other;
+  owner = 0;
+  group = 0;
+  is_group_given = false;
+  reads = record { group = false; others = false };
+  writes = record { group = false; others = false };
+  links = 0;
+  is_mounted = false;
+  is_read_only = false;
+}
 
 -- The three files of a session, by their numbers
 pub record Trio : Type 0 where

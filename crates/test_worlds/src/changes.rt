@@ -11,11 +11,11 @@ use bx_image::{Change, Fuse};
 use bx_patch::read_patch;
 use bx_program_files::Names;
 use bx_program_sessions::{Task, change_files};
-use bx_program_world::{LentInput, MemoryWorld, Plan};
 use bx_read::ReadFault;
 use bx_text::{Bytes, Pieces, Source, Words};
 use std::alloc::Global;
 use test_case_files::{Answer, Ask, Records};
+use test_world::{LentInput, MemoryWorld, Plan};
 
 /// The furthest place that a command names.
 const MOST_PLACE: u64 = 1 << 62;

@@ -8,8 +8,8 @@ use bx_cli_commands::{Fault, Reply};
 use bx_dd::DdFault;
 use bx_journal::{How, SessionFault, Way};
 use bx_program_files::Why;
-use bx_program_world::{MemoryWorld, Plan};
 use bx_text::IoFault;
+use test_world::{MemoryWorld, Plan};
 
 /// What fails in a play, as far as it decides which faults may be.
 #[derive(Clone, Copy, Debug, PartialEq, Eq)]

@@ -4,9 +4,9 @@ use crate::setting::CAREFUL;
 use bx_journal::Way;
 use bx_program_files::Names;
 use bx_program_sessions::{Moved, move_changes};
-use bx_program_world::{MemoryWorld, Plan};
 use std::alloc::Global;
 use test_case_files::{Ask, Row};
+use test_world::{MemoryWorld, Plan};
 
 /// Which way a line moves changes; none where it is no move.
 pub fn way_of(row: &Row) -> Option<Way> {

@@ -8,7 +8,7 @@ use crate::sweeps::MOST_CALLS;
 use bx_cli_commands::Fault;
 use bx_image::Fuse;
 use bx_program_files::Unopened;
-use bx_program_world::{MemoryWorld, Plan};
+use test_world::{MemoryWorld, Plan};
 
 /// The calls of the world up to the one that makes an image: three looks, an opening that finds none, and that one.
 const CALLS_UP_TO_MAKING: u64 = 5;

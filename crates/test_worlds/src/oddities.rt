@@ -3,9 +3,10 @@ use crate::setting::{
     CALLER, ELSEWHERE, Held, IMAGE, JOURNAL, LINK, OTHER, OTHER_BYTES, REDO, STAT, There, names_of,
 };
 use bx_program_files::{Names, Which, Why};
-use bx_program_world::{Kind, MemoryWorld, Refusal, Stat, Unfit};
+use bx_program_world::{Kind, Refusal, Stat, Unfit};
 use bx_text::NoMemory;
 use std::alloc::{AllocError, Global};
+use test_world::MemoryWorld;
 
 /// Somebody who neither runs the program nor owns the image.
 const THIRD: u32 = 1001;

@@ -7,9 +7,9 @@ use bx_cli_commands::{Fault, Reply};
 use bx_journal::{How, Way};
 use bx_program_files::{Names, Unopened};
 use bx_program_sessions::Moved;
-use bx_program_world::{MemoryWorld, Plan};
 use std::alloc::Global;
 use test_case_files::{Answer, Ask, CommandsCase, Opening, Row};
+use test_world::{MemoryWorld, Plan};
 
 /// What a case asks for.
 #[derive(Clone, Copy, Debug, PartialEq, Eq)]

@@ -18,8 +18,8 @@ use crate::seen::told::{Told, judge};
 use crate::setting::{Held, Kept, held_by, there_in, there_of, world_of};
 use crate::sweeps::{Failing, MOST_CALLS};
 use bx_program_files::Names;
-use bx_program_world::{Fails, MemoryWorld, Plan};
 use std::alloc::Global;
+use test_world::{Fails, MemoryWorld, Plan};
 
 /// What is asked, the files, and what has to come of it.
 #[derive(Clone, Copy)]

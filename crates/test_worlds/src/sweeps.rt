@@ -5,7 +5,7 @@ use crate::report::{Failure, Wrong};
 use crate::setting::{Held, Kept, held_by};
 use bx_image::{Fuse, Part};
 use bx_journal::How;
-use bx_program_world::{Fails, MemoryWorld, Plan};
+use test_world::{Fails, MemoryWorld, Plan};
 
 /// More calls than a case makes.
 pub const MOST_CALLS: u64 = 200;

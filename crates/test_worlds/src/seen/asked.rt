@@ -16,11 +16,12 @@ use bx_program_commands::{
 use bx_program_dumps::{Undumped, dump_file};
 use bx_program_files::{Names, Unopened, Which, Why};
 use bx_program_looks::{Unseen, log, log_with_ranges, show, show_unfinished};
-use bx_program_world::{LentInput, MemoryWorld, Plan, Refusal, World};
+use bx_program_world::{Refusal, World};
 use bx_text::{Bytes, IoFault, Piece, Pieces, Words, emit};
 use std::alloc::Global;
 use std::io::{Empty, Write};
 use test_case_files::PatchWritten;
+use test_world::{LentInput, MemoryWorld, Plan};
 
 /// What makes the one file of a case of the other.
 #[derive(Clone, Copy, Debug, PartialEq, Eq)]

@@ -6,8 +6,8 @@ use crate::setting::{Held, Kept, There, has_other, held_by, there_in};
 use bx_cli_commands::Fault;
 use bx_journal::SessionFault;
 use bx_program_looks::Unseen;
-use bx_program_world::MemoryWorld;
 use std::alloc::Global;
+use test_world::MemoryWorld;
 
 /// What is left of an image and its texts.
 #[derive(Clone, Copy, Debug, PartialEq, Eq)]

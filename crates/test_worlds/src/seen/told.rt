@@ -6,8 +6,9 @@ use bx_cli_commands::{Done, Fault};
 use bx_journal::SessionFault;
 use bx_program_files::{Unopened, Why};
 use bx_program_looks::Unseen;
-use bx_program_world::{MemoryWorld, Refusal};
+use bx_program_world::Refusal;
 use std::alloc::Global;
+use test_world::MemoryWorld;
 
 /// What has to come of it.
 #[derive(Clone, Copy)]

@@ -8,10 +8,10 @@ use bx_journal::Way;
 use bx_program_commands::{Outcome, Request, run_request};
 use bx_program_files::Names;
 use bx_program_sessions::Task;
-use bx_program_world::{MemoryWorld, Plan};
 use std::alloc::Global;
 use std::io::{Empty, sink};
 use test_case_files::PatchWritten;
+use test_world::{MemoryWorld, Plan};
 
 /// Makes what a request asks for in a world, and answers what its files then hold.
 fn held_behind(

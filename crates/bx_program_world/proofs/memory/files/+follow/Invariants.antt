@@ -1,4 +1,0 @@
-use Rattle.bx_program_world.proofs.memory.files.+follow.Given as goal
-
-abbrev pub decreases-follow : goal.decreases-follow
-decreases-follow l = l.steps

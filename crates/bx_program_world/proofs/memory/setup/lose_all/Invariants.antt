@@ -1,9 +1,0 @@
-use Rattle.std.proofs.Common.{◌≡◌, ◌<◌, ℕ, length}
-use Rattle.bx_program_world.specs.MemoryFiles.{bytes_at, synced_at}
-use Rattle.bx_program_world.proofs.memory.setup.lose_all.Given as goal
-
-abbrev pub invariant-loop-number : goal.invariant-loop-number
-invariant-loop-number l =
-    ((i : ℕ) → i < l.number → bytes_at l.files i ≡ synced_at l.initial.files i)
-    × ((i : ℕ) → synced_at l.files i ≡ synced_at l.initial.files i)
-    × (length l.files ≡ length l.initial.files)

@@ -1,0 +1,4 @@
+pub mod Beside
+pub mod Entries
+pub mod Made
+pub mod Survivors

@@ -1,0 +1,3 @@
+pub mod MemoryFiles
+pub mod Memory
+pub mod Loss
