@@ -19,7 +19,7 @@ _bx_images() {
 
 # The names of dd's operands that weren't given, each with its '='.
 _bx_operands() {
-    local names='if= of= ibs= obs= bs= cbs= skip= seek= count= conv=' line=" ${COMP_WORDS[*]:first+1}" name left=''
+    local names='if= of= ibs= obs= bs= cbs= skip= seek= count= conv= iflag= status=' line=" ${COMP_WORDS[*]:first+1}" name left=''
     line=${line// =/=}
     for name in $names; do
         [[ $line == *" $name"* ]] || left+=" $name"
@@ -31,7 +31,7 @@ _bx_operands() {
 # The conversions that weren't given. More may follow behind a comma.
 _bx_conversions() {
     local word left=''
-    for word in block unblock lcase ucase swab sync notrunc; do
+    for word in block unblock lcase ucase swab sync notrunc fsync fdatasync; do
         [[ ,$cur, == *",$word,"* ]] || left+=" $word"
     done
     [[ $cur == *,* ]] && lead=$lead${cur%,*},
@@ -52,6 +52,8 @@ _bx_dd() {
     if) _bx_files ;;
     of) _bx_images ;;
     conv) _bx_conversions ;;
+    iflag) _bx_words fullblock ;;
+    status) _bx_words 'none noxfer progress' ;;
     '') _bx_operands ;;
     esac
 }

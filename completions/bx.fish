@@ -12,9 +12,13 @@ function __bx_operand
         case 'conv=*'
             set -l front (string replace -r '^(conv=(?:.*,)?).*' '$1' -- $token)
             set -l given (string split , -- (string sub -s 6 -- $token))
-            for word in block unblock lcase ucase swab sync notrunc
+            for word in block unblock lcase ucase swab sync notrunc fsync fdatasync
                 contains -- $word $given; or echo $front$word
             end
+        case 'iflag=*'
+            echo iflag=fullblock
+        case 'status=*'
+            printf 'status=%s\n' none noxfer progress
         case 'if=*'
             __fish_complete_path (string sub -s 4 -- $token) | string replace -r '^' if=
         case 'of=*'
@@ -24,7 +28,8 @@ function __bx_operand
             set -l given (commandline -opc | string match -r '^[a-z]+=')
             for operand in if=\t'File to read' of=\t'Image to change' ibs=\t'Bytes of an input block' \
                 obs=\t'Bytes of an output block' bs=\t'Bytes of both blocks' cbs=\t'Bytes of a record' \
-                skip=\t'Input blocks to skip' seek=\t'Output blocks to skip' count=\t'Most input blocks' conv=\tConversions
+                skip=\t'Input blocks to skip' seek=\t'Output blocks to skip' count=\t'Most input blocks' conv=\tConversions \
+                iflag=\t'How the input is read' status=\t'What is reported'
                 contains -- (string replace -r '\t.*' '' -- $operand) $given; or echo $operand
             end
     end

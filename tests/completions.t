@@ -109,11 +109,11 @@ What the completion of zsh adds, at a terminal of its own, is written down by a 
   $ bx redo im<TAB>
   image
   $ bx dd <TAB>
-  bs= cbs= conv= count= ibs= if= obs= of= seek= skip=
+  bs= cbs= conv= count= ibs= if= iflag= obs= of= seek= skip= status=
   $ bx dd c<TAB>
   cbs= conv= count=
   $ bx dd if=image <TAB>
-  bs= cbs= conv= count= ibs= obs= of= seek= skip=
+  bs= cbs= conv= count= ibs= iflag= obs= of= seek= skip= status=
   $ bx dd if=image of<TAB>
   of=
   $ bx dd if=<TAB>
@@ -123,13 +123,17 @@ What the completion of zsh adds, at a terminal of its own, is written down by a 
   $ bx dd if=im<TAB>
   image image.bxj image.bxj.redo
   $ bx dd conv=<TAB>
-  block lcase notrunc swab sync ucase unblock
+  block fdatasync fsync lcase notrunc swab sync ucase unblock
   $ bx dd conv=s<TAB>
   swab sync
   $ bx dd conv=lcase,s<TAB>
   swab sync
   $ bx dd conv=swab,s<TAB>
   sync
+  $ bx dd status=<TAB>
+  none noxfer progress
+  $ bx dd iflag=<TAB>
+  fullblock
   $ bx dd count=<TAB>
   $ bx dd -J <TAB>
   'a file' image image.bxj image.bxj.redo

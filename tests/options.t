@@ -61,7 +61,7 @@ What bx takes is found by trying: each letter as an option, and the names of GNU
   > done
   $ printf '%s\n' if of ibs obs bs cbs skip seek count conv files status iflag oflag > names
   $ for name in $(cat names); do
-  >   for value in 1 image notrunc; do if takes dd $name=$value $([ $name = of ] || echo of=image); then echo $name; fi; done
+  >   for value in 1 image notrunc fullblock none; do if takes dd $name=$value $([ $name = of ] || echo of=image); then echo $name; fi; done
   > done | sort -u > bx
   $ bx dd --help | sed -nE 's/^  (\w+)=.*/\1/p' | grep -xFf names | same 'the help of dd'
   $ sed -nE 's/^\.It Cm (\w+)=.*/\1/p' $man | same 'dd in the man page'

@@ -17,11 +17,11 @@ use Rattle.bx_text.proofs.SizeLaws.{size_has_form}
 use Rattle.bx_dd.specs.declared.fault.DdFault.{DdFault}
 use Rattle.bx_dd.specs.declared.fault.DdFault.TheVariants.{UnknownOperand, BadNumber, NumberTooLarge, ZeroSize, Repeated}
 use Rattle.bx_dd.specs.declared.operands.Kind.{Kind}
-use Rattle.bx_dd.specs.declared.operands.Kind.TheVariants.{File, Size, Number, Conversions}
+use Rattle.bx_dd.specs.declared.operands.Kind.TheVariants.{File, Size, Number, Conversions, Flags, Reports}
 use Rattle.bx_dd.specs.private.Number.{product_number}
-use Rattle.bx_dd.specs.Operands.{is_operand, operand_name, operand_value, kind_of, is_conversion, value_fault, is_given, operand_fault, first_fault, given, number_given, converts}
+use Rattle.bx_dd.specs.Operands.{is_operand, operand_name, operand_value, kind_of, is_conversion, is_flag, is_report, value_fault, is_given, operand_fault, first_fault, given, number_given, converts}
 use Rattle.bx_dd.specs.private.Operands.{parts_of, is_equals, is_named, kind_fault, number_fault, size_fault}
-use Rattle.bx_dd.specs.OperandGrammar.{IsOperand, IsAmong, AreConversions, IsSoundValue, IsValueFault, IsSoundBehind, IsOperandFault, OperandHasForm, AreSoundBehind, OperandsHaveForm, Says, WordsAreAskedFor}
+use Rattle.bx_dd.specs.OperandGrammar.{IsOperand, IsAmong, AreConversions, AreFlags, IsSoundValue, IsValueFault, IsSoundBehind, IsOperandFault, OperandHasForm, AreSoundBehind, OperandsHaveForm, Says, WordsAreAskedFor}
 
 and_true : (a b : Bool) → (a && b) ≡ true → (a ≡ true) × (b ≡ true)
 and_true true b h = (refl, h)
@@ -219,22 +219,28 @@ no_list : (xs : List ℕ) → eqb (length xs) 0 ≡ true → xs ≡ []
 no_list [] e = refl
 no_list (x ∷ xs) e = absurd (omega (arith, eqb-true (length (x ∷ xs)) 0 e))
 
-conversions_all : (parts : List (List ℕ)) → list_all is_conversion parts ≡ true → All (λ part. IsTrue (is_conversion part)) parts
-conversions_all [] e = λ k d inside. absurd (omega arith)
-conversions_all (x ∷ xs) e =
-    let two = and_true (is_conversion x) (list_all is_conversion xs) e in
-    λ k d inside. at k d inside two.0 (conversions_all xs two.1)
+all_known : (is : List ℕ → Bool) (parts : List (List ℕ)) → list_all is parts ≡ true → All (λ part. IsTrue (is part)) parts
+all_known is [] e = λ k d inside. absurd (omega arith)
+all_known is (x ∷ xs) e =
+    let two = and_true (is x) (list_all is xs) e in
+    λ k d inside. at k d inside two.0 (all_known is xs two.1)
   where
-    at : (k : ℕ) (d : List ℕ) → k < suc (length xs) → is_conversion x ≡ true → All (λ part. IsTrue (is_conversion part)) xs → is_conversion (get_or (x ∷ xs) k d) ≡ true
+    at : (k : ℕ) (d : List ℕ) → k < suc (length xs) → is x ≡ true → All (λ part. IsTrue (is part)) xs → is (get_or (x ∷ xs) k d) ≡ true
     at zero d inside first later = first
     at (suc k) d inside first later = later k d (omega arith)
 
-all_conversions : (parts : List (List ℕ)) → All (λ part. IsTrue (is_conversion part)) parts → list_all is_conversion parts ≡ true
-all_conversions [] are = refl
-all_conversions (x ∷ xs) are =
-    let first : is_conversion x ≡ true = are 0 [] (omega arith) in
-    let later : list_all is_conversion xs ≡ true = all_conversions xs (λ k d inside. are (suc k) d (omega arith)) in
+known_all : (is : List ℕ → Bool) (parts : List (List ℕ)) → All (λ part. IsTrue (is part)) parts → list_all is parts ≡ true
+known_all is [] are = refl
+known_all is (x ∷ xs) are =
+    let first : is x ≡ true = are 0 [] (omega arith) in
+    let later : list_all is xs ≡ true = known_all is xs (λ k d inside. are (suc k) d (omega arith)) in
     rw (first, later) refl
+
+-- a value that is known or not
+known_is : (at : ℕ) (known : Bool) (S : Type 0) → (known ≡ true → S) → (S → known ≡ true)
+    → Settled (cond known None (Some (UnknownOperand at))) S (λ fault. (fault ≡ UnknownOperand at) × (S → ⊥))
+known_is at true S sound back = inl (refl, sound refl)
+known_is at false S sound back = inr (UnknownOperand at, refl, (refl, λ is. false≢true (back is)))
 
 value_is : (at : ℕ) (kind : Kind) (value : List ℕ) → Settled (value_fault at kind value) (IsSoundValue kind value) (IsValueFault at kind value)
 value_is at File value = go (eqb (length value) 0) refl
@@ -242,12 +248,9 @@ value_is at File value = go (eqb (length value) 0) refl
     go : (b : Bool) → eqb (length value) 0 ≡ b → Settled (cond b (Some (UnknownOperand at)) None) (value ≢ []) (λ fault. (fault ≡ UnknownOperand at) × (value ≡ []))
     go true e = inr (UnknownOperand at, refl, (refl, no_list value e))
     go false e = inl (refl, λ none. eqb-false (length value) 0 e (ap length none))
-value_is at Conversions value = go (list_all is_conversion (parts_of value)) refl
-  where
-    go : (b : Bool) → list_all is_conversion (parts_of value) ≡ b →
-        Settled (cond b None (Some (UnknownOperand at))) (AreConversions value) (λ fault. (fault ≡ UnknownOperand at) × (AreConversions value → ⊥))
-    go true e = inl (refl, conversions_all (parts_of value) e)
-    go false e = inr (UnknownOperand at, refl, (refl, λ are. false≢true (sym e ∙ all_conversions (parts_of value) are)))
+value_is at Conversions value = known_is at (list_all is_conversion (parts_of value)) (AreConversions value) (all_known is_conversion (parts_of value)) (known_all is_conversion (parts_of value))
+value_is at Flags value = known_is at (list_all is_flag (parts_of value)) (AreFlags value) (all_known is_flag (parts_of value)) (known_all is_flag (parts_of value))
+value_is at Reports value = known_is at (is_report value) (IsTrue (is_report value)) (λ is. is) (λ is. is)
 value_is at Number value = ⊎_elim fine (λ other. ⊎_elim large bad other) (number_is value (product_number value) refl)
   where
     fine : ((n : ℕ) × (product_number value ≡ Ok n) × IsProduct value n × (n ≤ 2 ^ 40 - 1)) → Settled (number_fault at (product_number value)) (IsSoundValue Number value) (IsValueFault at Number value)
@@ -281,7 +284,9 @@ value_is at (Size most) value = ⊎_elim fine (λ other. ⊎_elim large bad othe
 
 value_sound : (at : ℕ) (kind : Kind) (value : List ℕ) → IsSoundValue kind value → value_fault at kind value ≡ None
 value_sound at File value is = let e : eqb (length value) 0 ≡ false = ne_eqb (length value) 0 (λ z. is (no_list value (eq-eqb (length value) 0 z))) in rw e refl
-value_sound at Conversions value is = rw (all_conversions (parts_of value) is) refl
+value_sound at Conversions value is = rw (known_all is_conversion (parts_of value) is) refl
+value_sound at Flags value is = rw (known_all is_flag (parts_of value) is) refl
+value_sound at Reports value is = rw is refl
 value_sound at Number value is = ap (number_fault at) (number_ok value is.0 is.1 is.2)
 value_sound at (Size most) value is =
     let few : ltb most is.0 ≡ false = le-ltb most is.0 is.3 in
@@ -291,6 +296,8 @@ value_sound at (Size most) value is =
 value_faulty : (at : ℕ) (kind : Kind) (value : List ℕ) (fault : DdFault) → IsValueFault at kind value fault → value_fault at kind value ≡ Some fault
 value_faulty at File value fault is = rw (is.1, is.0) refl
 value_faulty at Conversions value fault is = ⊎_elim (λ fine. absurd (is.1 fine.1)) (λ bad. bad.1 ∙ ap Some (bad.2.0 ∙ sym is.0)) (value_is at Conversions value)
+value_faulty at Flags value fault is = ⊎_elim (λ fine. absurd (is.1 fine.1)) (λ bad. bad.1 ∙ ap Some (bad.2.0 ∙ sym is.0)) (value_is at Flags value)
+value_faulty at Reports value fault is = ⊎_elim (λ fine. absurd (is.1 fine.1)) (λ bad. bad.1 ∙ ap Some (bad.2.0 ∙ sym is.0)) (value_is at Reports value)
 value_faulty at Number value fault (inl bad) = ap (number_fault at) (number_bad value bad.1) ∙ ap Some (sym bad.0)
 value_faulty at Number value fault (inr large) = ap (number_fault at) (number_large value large.1.0 large.1.1 large.1.2) ∙ ap Some (sym large.0)
 value_faulty at (Size most) value fault (inl bad) = ap (size_fault at most) (number_bad value bad.1) ∙ ap Some (sym bad.0)

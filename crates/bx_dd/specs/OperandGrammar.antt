@@ -5,8 +5,8 @@ use Rattle.bx_text.specs.SizeGrammar.{IsProduct}
 use Rattle.bx_dd.specs.declared.fault.DdFault.{DdFault}
 use Rattle.bx_dd.specs.declared.fault.DdFault.TheVariants.{UnknownOperand, BadNumber, NumberTooLarge, ZeroSize, Repeated}
 use Rattle.bx_dd.specs.declared.operands.Kind.{Kind}
-use Rattle.bx_dd.specs.declared.operands.Kind.TheVariants.{File, Size, Number, Conversions}
-use Rattle.bx_dd.specs.Operands.{kind_of, is_conversion, operand_fault, first_fault, given, number_given, converts}
+use Rattle.bx_dd.specs.declared.operands.Kind.TheVariants.{File, Size, Number, Conversions, Flags, Reports}
+use Rattle.bx_dd.specs.Operands.{kind_of, is_conversion, is_flag, is_report, operand_fault, first_fault, given, number_given, converts}
 
 -- The word is a name, the first `=` in it, and a value.
 abbrev pub IsOperand : List ℕ → List ℕ → List ℕ → Type 0
@@ -20,12 +20,18 @@ IsAmong name words = (front rest : List (List ℕ)) × (word value : List ℕ) �
 abbrev pub AreConversions : List ℕ → Type 0
 AreConversions value = All (λ part. IsTrue (is_conversion part)) (slice_split (λ b. b == 44) value)
 
--- The value is one of its kind: a name, a size, a number, or conversions.
+-- Each word of the value of `iflag` is a flag.
+abbrev pub AreFlags : List ℕ → Type 0
+AreFlags value = All (λ part. IsTrue (is_flag part)) (slice_split (λ b. b == 44) value)
+
+-- The value is one of its kind: a name, a size, a number, conversions, flags, or a report.
 abbrev pub IsSoundValue : Kind → List ℕ → Type 0
 IsSoundValue File value = value ≢ []
 IsSoundValue (Size most) value = (n : ℕ) × IsProduct value n × (0 < n) × (n ≤ most) × (n ≤ 2 ^ 40 - 1)
 IsSoundValue Number value = (n : ℕ) × IsProduct value n × (n ≤ 2 ^ 40 - 1)
 IsSoundValue Conversions value = AreConversions value
+IsSoundValue Flags value = AreFlags value
+IsSoundValue Reports value = IsTrue (is_report value)
 
 -- The value is no product of factors.
 abbrev pub IsNoProduct : List ℕ → Type 0
@@ -41,6 +47,8 @@ IsValueFault at (Size most) value fault =
 IsValueFault at Number value fault =
     ((fault ≡ BadNumber at) × IsNoProduct value) ⊎ ((fault ≡ NumberTooLarge at) × ((n : ℕ) × IsProduct value n × (2 ^ 40 - 1 < n)))
 IsValueFault at Conversions value fault = (fault ≡ UnknownOperand at) × (AreConversions value → ⊥)
+IsValueFault at Flags value fault = (fault ≡ UnknownOperand at) × (AreFlags value → ⊥)
+IsValueFault at Reports value fault = (fault ≡ UnknownOperand at) × (IsTrue (is_report value) → ⊥)
 
 -- The word is an operand of a known name that wasn't given before, and its value is sound.
 abbrev pub IsSoundBehind : List (List ℕ) → List ℕ → Type 0

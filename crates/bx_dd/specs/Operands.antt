@@ -11,7 +11,7 @@ use Rattle.bx_text.specs.declared.number.size.SizeFault.TheVariants.{Bad, TooLar
 use Rattle.bx_text.specs.declared.number.size.SizeStyle.TheVariants.{Product}
 use Rattle.bx_text.specs.Number.{read_size}
 use Rattle.bx_dd.specs.declared.operands.Kind.{Kind}
-use Rattle.bx_dd.specs.declared.operands.Kind.TheVariants.{File, Size, Number, Conversions}
+use Rattle.bx_dd.specs.declared.operands.Kind.TheVariants.{File, Size, Number, Conversions, Flags, Reports}
 
 -- ---- one operand: the name in front of the first `=`, and the value behind it
 
@@ -33,12 +33,22 @@ kind_of name = if bytes_eq name (codes "if") || bytes_eq name (codes "of") then 
     if bytes_eq name (codes "ibs") || bytes_eq name (codes "bs") || bytes_eq name (codes "cbs") then Some (Size 16777216) else
     if bytes_eq name (codes "obs") then Some (Size 1099511627775) else
     if bytes_eq name (codes "skip") || bytes_eq name (codes "seek") || bytes_eq name (codes "count") then Some Number else
-    if bytes_eq name (codes "conv") then Some Conversions else None
+    if bytes_eq name (codes "conv") then Some Conversions else
+    if bytes_eq name (codes "iflag") then Some Flags else if bytes_eq name (codes "status") then Some Reports else None
 
 -- the names of conversions
 abbrev pub is_conversion : List ℕ → Bool
 is_conversion part = bytes_eq part (codes "block") || bytes_eq part (codes "unblock") || bytes_eq part (codes "lcase") || bytes_eq part (codes "ucase")
     || bytes_eq part (codes "swab") || bytes_eq part (codes "sync") || bytes_eq part (codes "notrunc")
+    || bytes_eq part (codes "fsync") || bytes_eq part (codes "fdatasync")
+
+-- the names of what input flags ask for
+abbrev pub is_flag : List ℕ → Bool
+is_flag part = bytes_eq part (codes "fullblock")
+
+-- the names of what may be reported
+abbrev pub is_report : List ℕ → Bool
+is_report value = bytes_eq value (codes "none") || bytes_eq value (codes "noxfer") || bytes_eq value (codes "progress")
 
 -- ---- faults, each with the operand's place from 1
 
@@ -55,6 +65,8 @@ value_fault at (Size most) value =
     checked at (λ n. if nat_lt most n then Some (NumberTooLarge at) else if n == 0 then Some (ZeroSize at) else None) (read_size Product value)
 value_fault at Number value = checked at (λ n. None) (read_size Product value)
 value_fault at Conversions value = if list_all is_conversion (slice_split (λ b. b == 44) value) then None else Some (UnknownOperand at)
+value_fault at Flags value = if list_all is_flag (slice_split (λ b. b == 44) value) then None else Some (UnknownOperand at)
+value_fault at Reports value = if is_report value then None else Some (UnknownOperand at)
 
 -- the place of the first word that is an operand of this name, counted from 0, or how many words there are
 abbrev pub operand_place : List ℕ → List (List ℕ) → ℕ
@@ -92,6 +104,10 @@ number_or other name words = unwrap_or (number_given name words) other
 -- the size of the blocks of this name: `bs` supersedes it
 abbrev pub block_size : List ℕ → List (List ℕ) → ℕ
 block_size name words = number_or (number_or 512 name words) (codes "bs") words
+
+-- whether nothing is to be reported
+abbrev pub is_quiet : List (List ℕ) → Bool
+is_quiet words = bytes_eq (unwrap_or (given (codes "status") words) []) (codes "none")
 
 -- whether `conv` has this word
 abbrev pub converts : List ℕ → List (List ℕ) → Bool

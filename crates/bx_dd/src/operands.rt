@@ -1,10 +1,10 @@
 //! The operands of dd.
-ghost use Rattle.std.specs.Prelude.{◌≡◌, ℕ, ◌+◌, ◌-◌, ◌*◌, ◌^◌, ◌<◌, ◌≤◌, List, [], length, take, slice_get, true, false, None, Some, MatchOption, nat_lt};
+ghost use Rattle.std.specs.Prelude.{◌≡◌, ℕ, ◌+◌, ◌-◌, ◌*◌, ◌^◌, ◌<◌, ◌≤◌, List, [], length, take, slice_get, true, false, None, Some, MatchOption, nat_lt, if◌then◌else◌};
 ghost use Rattle.std.specs.Option.{option_copied};
 ghost use Rattle.std.specs.List.{list_all, list_any, position_or_len};
 ghost use Rattle.std.specs.Str.{bytes_eq};
 ghost use Rattle.bx_dd.specs.private.Number.{product_number};
-ghost use Rattle.bx_dd.specs.Operands.{is_operand, operand_name, operand_value, kind_of, is_conversion, value_fault, operand_fault, first_fault, given, number_given, converts, block_size, number_or, is_given, operand_place, operands_fault};
+ghost use Rattle.bx_dd.specs.Operands.{is_operand, operand_name, operand_value, kind_of, is_conversion, is_flag, is_quiet, is_report, value_fault, operand_fault, first_fault, given, number_given, converts, block_size, number_or, is_given, operand_place, operands_fault};
 ghost use Rattle.bx_dd.specs.private.Operands.{parts_of, is_named, is_conflict, is_cbs_missing, later_fault, letters_of, shape_of, number_fault, size_fault};
 
 mod number;
@@ -25,6 +25,10 @@ enum Kind {
     Size(u64),
     Number,
     Conversions,
+    /// How the input is read.
+    Flags,
+    /// What is reported.
+    Reports,
 }
 
 /// What the value of an operand of this name is.
@@ -37,18 +41,42 @@ fn kind_of(name: &str) -> Option<Kind>
         "obs" => Some(Kind::Size(1_099_511_627_775)),
         "skip" | "seek" | "count" => Some(Kind::Number),
         "conv" => Some(Kind::Conversions),
+        "iflag" => Some(Kind::Flags),
+        "status" => Some(Kind::Reports),
         _ => None,
     }
 }
 
-/// Whether this is a word of `conv`.
+/// Whether this is a word of `conv`. All that is written is put on the disk, so nothing is left to do for the last two.
 fn is_conversion(part: &str) -> bool
     ensures { result ≡ is_conversion part.now }
 {
     matches!(
         part,
-        "block" | "unblock" | "lcase" | "ucase" | "swab" | "sync" | "notrunc"
+        "block"
+            | "unblock"
+            | "lcase"
+            | "ucase"
+            | "swab"
+            | "sync"
+            | "notrunc"
+            | "fsync"
+            | "fdatasync"
     )
+}
+
+/// Whether this is a word of `iflag`. Input blocks are always filled, so nothing is left to do for it.
+fn is_flag(part: &str) -> bool
+    ensures { result ≡ is_flag part.now }
+{
+    part == "fullblock"
+}
+
+/// Whether this is a value of `status`. The speed of a transfer is never reported, and how far it is on a terminal alone.
+fn is_report(value: &str) -> bool
+    ensures { result ≡ is_report value.now }
+{
+    matches!(value, "none" | "noxfer" | "progress")
 }
 
 /// Whether all words of the value of `conv` are known.
@@ -56,6 +84,13 @@ fn are_conversions(value: &str) -> bool
     ensures { result ≡ list_all is_conversion (parts_of value.now) }
 {
     value.split(',').all(|part| is_conversion(part))
+}
+
+/// Whether all words of the value of `iflag` are known.
+fn are_flags(value: &str) -> bool
+    ensures { result ≡ list_all is_flag (parts_of value.now) }
+{
+    value.split(',').all(|part| is_flag(part))
 }
 
 /// Whether the value of `conv` has this word.
@@ -123,6 +158,17 @@ fn size_fault(at: u64, most: u64, value: &str) -> Option<DdFault>
     }
 }
 
+/// The fault of a value that isn't known.
+fn unknown_unless(at: u64, is_known: bool) -> Option<DdFault>
+    ensures { result ≡ (if is_known then None else Some (DdFault.UnknownOperand at)) }
+{
+    if is_known {
+        None
+    } else {
+        Some(DdFault::UnknownOperand(at))
+    }
+}
+
 /// The fault of a value.
 fn value_fault(at: u64, kind: Kind, value: &str) -> Option<DdFault>
     ensures { result ≡ value_fault at kind value.now }
@@ -137,13 +183,9 @@ fn value_fault(at: u64, kind: Kind, value: &str) -> Option<DdFault>
         }
         Kind::Size(most) => size_fault(at, most, value),
         Kind::Number => number_fault(at, value),
-        Kind::Conversions => {
-            if are_conversions(value) {
-                None
-            } else {
-                Some(DdFault::UnknownOperand(at))
-            }
-        }
+        Kind::Conversions => unknown_unless(at, are_conversions(value)),
+        Kind::Flags => unknown_unless(at, are_flags(value)),
+        Kind::Reports => unknown_unless(at, is_report(value)),
     }
 }
 
@@ -221,6 +263,13 @@ pub fn converts<W: Allocator>(words: &Words<W>, part: &str) -> bool
     ensures { result ≡ converts part.now words.now }
 {
     has_part(given(words, "conv").unwrap_or(""), part)
+}
+
+/// Whether nothing is to be reported.
+pub fn is_quiet<W: Allocator>(words: &Words<W>) -> bool
+    ensures { result ≡ is_quiet words.now }
+{
+    given(words, "status").unwrap_or("") == "none"
 }
 
 /// The size of blocks: `bs` supersedes the operand of this name.

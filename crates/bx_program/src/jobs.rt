@@ -380,7 +380,7 @@ where
     };
     match done {
         Done::Dumped(_) => Ok(None),
-        Done::Copied(counts) => Ok(Some(counts)),
+        Done::Copied(counts) => Ok((!is_quiet(job)).then_some(counts)),
     }
 }
 
@@ -429,6 +429,14 @@ where
     match outcome {
         Ok(done) => Ok(done),
         Err(fault) => Err(Stopped::from(fault).on_input(STANDARD_INPUT, reader.error)),
+    }
+}
+
+/// Whether a job asks for no report.
+fn is_quiet(job: &DumpJob) -> bool {
+    match job {
+        DumpJob::Dd(job) => job.plan.quiet,
+        DumpJob::Od(_) | DumpJob::Xxd(_) | DumpJob::Hexdump(_) | DumpJob::Strings(_) => false,
     }
 }
 

@@ -71,6 +71,7 @@ pub fn plan_rest(plan: &Plan, passed: u64) -> Plan
         swab: plan.swab,
         sync: plan.sync,
         notrunc: plan.notrunc,
+        quiet: plan.quiet,
         letters: plan.letters,
         shape: plan.shape,
     }

@@ -6,7 +6,7 @@ ghost use Rattle.bx_dd.specs.Parsing.{IsPlanOf};
 use crate::fault::DdFault;
 use crate::operands::plan::Plan;
 use crate::operands::{
-    block_size, converts, fault_of, given, letters_of, number_given, number_or, shape_of,
+    block_size, converts, fault_of, given, is_quiet, letters_of, number_given, number_or, shape_of,
 };
 use bx_text::{Name, Words};
 use std::alloc::Allocator;
@@ -49,6 +49,7 @@ fn plan_of<A: Allocator + Clone, W: Allocator>(
         swab: converts(words, "swab"),
         sync: converts(words, "sync"),
         notrunc: converts(words, "notrunc"),
+        quiet: is_quiet(words),
         letters: letters_of(words),
         shape: shape_of(words),
     })

@@ -34,6 +34,8 @@ pub struct Plan<A: Allocator = Global> {
     pub sync: bool,
     /// Whether what lies behind the output stays.
     pub notrunc: bool,
+    /// Whether the counts of blocks are not reported.
+    pub quiet: bool,
     /// The case that ASCII letters get.
     pub letters: Letters,
     /// Whether lines become records of `cbs` bytes, or records lines.

@@ -33,6 +33,9 @@ where
     let counts = copy_input(rt, job, &progress, remarks)?;
     if let Some(counts) = counts {
         remarks.look_at_counts(&counts);
+        if job.plan.quiet {
+            return Ok(());
+        }
         // One that can't be made or written is no fault: what it tells of is done.
         let _ = tell(rt, &counts, 0);
     }

@@ -160,6 +160,7 @@ where
         input: &mut ready.reader,
     };
     match preview(rt, &job.target, proposal, progress, out) {
+        Ok(_) if job.plan.quiet => Ok(None),
         Ok(counts) => Ok(counts),
         Err(stopped) => Err(ready.stopped(stopped)),
     }

@@ -196,6 +196,7 @@ fn conversion<'a>(plan: &'a Plan, name: &str) -> Field<'a> {
         "swab" => flag(plan.swab),
         "sync" => flag(plan.sync),
         "notrunc" => flag(plan.notrunc),
+        "quiet" => flag(plan.quiet),
         "lcase" => flag(plan.letters == Letters::Lower),
         "ucase" => flag(plan.letters == Letters::Upper),
         "block" => flag(plan.shape == Shape::Block),
