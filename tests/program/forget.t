@@ -72,6 +72,92 @@ No journal:
   $ bx revert --fresh -f dump made; cat made; bx log made
   A1 0 0
 
+# A redo file whose journal is gone
+
+One that is right, of an image of another length, damaged behind its first line, empty, and of a history of which the line still
+tells:
+
+  $ echo '0: 41' > dump; printf '+0: 41\nend\n' > fix
+  $ dropped() { bx forget img || echo "[$?]"; holds "$1"; echo img*; }
+  $ fresh ABCDEFGH - "$unpatched"; dropped ABCDEFGH
+  img img.bxj.redo
+  $ fresh ABCDEFGHIJ - "$unpatched"; dropped ABCDEFGHIJ
+  img img.bxj.redo
+  $ fresh ABCDEFGH - "${unpatched}what is this\n"; dropped ABCDEFGH
+  img img.bxj.redo
+  $ fresh ABCDEFGH - ''; dropped ABCDEFGH
+  img img.bxj.redo
+  $ changes '2: 7879'; bx undo img; rm img.bxj; dropped ABCDEFGH
+  0
+  img img.bxj.redo
+
+A change that begins a history anew goes on as with none:
+
+  $ anew() { bx "$@" 2>&1 || echo "[$?]"; bx log img; head -c 3 img; echo; wc -c < img.bxj.redo; }
+  $ fresh ABCDEFGH - "$unpatched"; anew revert --fresh -f dump img
+  1 8 1
+  ABC
+  0
+  $ fresh XBCDEFGHIJ - "$unpatched"; anew revert --fresh -f dump img
+  1 10 1
+  ABC
+  0
+  $ fresh XBCDEFGHIJ - "$unpatched"; anew patch --fresh -f fix img
+  1 10 1
+  ABC
+  0
+  $ fresh XBCDEFGHIJ - "${unpatched}what is this\n"; anew dd --fresh if=dump of=img conv=notrunc
+  0+1 records in
+  0+1 records out
+  1 10 6
+  0: 
+  0
+  $ changes '2: 7879'; bx undo img; rm img.bxj; anew revert --fresh -f dump img
+  0
+  1 8 1
+  ABC
+  0
+
+A redo file that begins as none may be any file, and nothing is dropped where the change is refused or a file can't be opened:
+
+  $ fresh ABCDEFGH - 'a letter\nthat is no journal\n'
+  $ refused 'redo line 1 is damaged' << .
+  > forget img
+  > revert --fresh -f dump img
+  > patch --fresh -f fix img
+  > dd --fresh if=dump of=img
+  > .
+  $ echo '0: 4g' > bad
+  $ fresh ABCDEFGH - "$unpatched"; kept bx revert --fresh -f bad img
+  bx: line 1: bad pair
+  [1]
+  $ chmod 666 img.bxj.redo; kept bx forget img
+  bx: cannot open file
+  [1]
+  $ fresh ABCDEFGH - "$unpatched"; kept flock img.bxj.redo bx forget img
+  bx: cannot open file
+  [1]
+  $ fresh - - "$unpatched"; kept bx forget img
+  bx: cannot open file
+  [1]
+  $ fresh ABCDEFGHIJ - "$unpatched"; echo '1000000000000: 41' | bx revert --fresh img; holds ABCDEFGHIJ; echo img*
+  bx: image too large
+  img img.bxj.redo
+
+Each other command is refused as before, and drops none:
+
+  $ fresh ABCDEFGHIJ - "$unpatched"
+  $ refused 'redo line 4 is damaged' << .
+  > revert -f dump img
+  > patch -f fix img
+  > .
+  $ refused 'cannot open file' << .
+  > undo img
+  > redo img
+  > log img
+  > show img
+  > .
+
 # A file that begins as no journal, and inputs that are refused
 
   $ echo '0: 41' > dump; printf '+0: 41\nend\n' > fix; echo '0: 4g' > bad

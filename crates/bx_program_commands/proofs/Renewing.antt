@@ -261,7 +261,7 @@ loses_undropped : (names : Names) (unseen : Unseen) (w : Sight) (was left : ℕ 
     → ((x text redo_text : List ℕ) → was t.image x → was t.journal text → was t.redo redo_text → Found text x redo_text s)
     → LosesUndropped unseen (held_by_names names w) s (left t.image) (left t.journal) (left t.redo)
 loses_undropped names (Stopped (Session Interrupted)) w was left s t leads survives finds =
-    survives (record { image = t.image; journal = t.journal; redo = Some t.redo })
+    survives (record { image = t.image; journal = Some t.journal; redo = Some t.redo })
     (record { image = leads.image; journal = leads.journal; redo = leads.redo })
 loses_undropped names unseen w was left s t leads survives finds =
     λ x text redo_text there text_there redo_there. finds x text redo_text (survives t.image x there) (survives t.journal text text_there)

@@ -11,7 +11,7 @@ use Rattle.bx_cli_commands.specs.declared.jobs.dumps.DumpJob.{DumpJob}
 use Rattle.bx_program_world.specs.World.{NothingNewFound, Sight, Spares}
 use Rattle.bx_program_files.specs.Files.{LeavesFiles}
 use Rattle.bx_program_files.specs.Fit.{AreFit}
-use Rattle.bx_program_files.specs.Reading.{AreReadable, MayRefuseReading}
+use Rattle.bx_program_files.specs.Reading.{AreReadable, MayRefuseForgetting, MayRefuseReading}
 use Rattle.bx_program_files.specs.Reasons.{MayRefuseOpening}
 use Rattle.bx_program_files.specs.declared.names.Names.{Names}
 use Rattle.bx_program_files.specs.declared.unopened.Unopened.{Unopened}
@@ -155,7 +155,7 @@ MayRefuseFile (DumpInput job input) counted note w file = ⊥
 MayRefuseFile (Diff old_name new_name extent) counted note w file = ⊥
 MayRefuseFile (Preview name proposal) counted note w file = ⊥
 MayRefuseFile (Look names report) counted note w file = MayRefuseReading names.now counted w file
-MayRefuseFile (Forget names guard) counted note w file = MayRefuseReading names.now counted w file
+MayRefuseFile (Forget names guard) counted note w file = MayRefuseForgetting names.now counted w file
 MayRefuseFile (Renew names guard task) counted note w file = MayRefuseOpening names.now guard.mounted true counted w file
 
 -- what an undo, a redo and a change did they did behind a judgement of the image, by the line that the note had

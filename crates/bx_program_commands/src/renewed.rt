@@ -136,9 +136,9 @@ fn open_to_drop<W: World, R: Read + Drop>(
 }
 
 /// Changes an image with whose change the history begins anew: opens the files, which recovers what is unfinished and makes those that
-/// are missing, drops the history, and does the task on the image alone. Onto an image that the note doesn't tell to be the one nothing is
-/// recovered: what is unfinished is dropped with the history, as `forget_files` judges, and the change is made on what stands there. The
-/// history is kept where a file may not be changed.
+/// are missing, drops the history, a redo text alone too, and does the task on the image alone. Onto an image that the note doesn't tell
+/// to be the one nothing is recovered: what is unfinished is dropped with the history, as `forget_files` judges, and the change is made on
+/// what stands there. The history is kept where a file may not be changed.
 pub fn renew_files<W: World, R: Read + Drop>(
     world: &mut W,
     alloc: Global,

@@ -8,7 +8,7 @@ use Rattle.bx_program_world.specs.declared.rule.Unfit.TheVariants.{Link}
 use Rattle.bx_program_world.specs.declared.stat.Stat.{Stat}
 use Rattle.bx_program_world.specs.declared.world.Refusal.{Refusal}
 use Rattle.bx_program_world.specs.declared.world.Refusal.TheVariants.{Locked, Missing, Moved, Other, Taken}
-use Rattle.bx_program_files.specs.Reading.{AreFitToRead, AreReadable, IsAnother, IsReadable, IsUnfitToRead, LeadToOneFile, LeadToRead, MayRefuseReading, MayRefuseToRead, StaysSeen}
+use Rattle.bx_program_files.specs.Reading.{AreFitToRead, AreReadable, IsAnother, IsPair, IsReadable, IsUnfitToRead, LeadToOneFile, LeadToRead, MayRefuseForgetting, MayRefuseReading, MayRefuseToRead, StaysSeen, as_redo}
 use Rattle.bx_program_files.specs.Reasons.{IsReason, IsRefusedFile, IsRefusedFor, IsUnfitBeside, NoneUnfit}
 use Rattle.bx_program_files.specs.declared.names.Names.{Names}
 use Rattle.bx_program_files.specs.declared.unopened.Unopened.{Unopened}
@@ -74,6 +74,14 @@ fit_open names f w fit named = record {
     redo None e = tt
     redo (Some n) e = unlinked w.caller (w.stat f.image) (w.is_link names.redo) (w.stat n) (fit.redo f.image named.image n e)
 
+-- the same where the redo text stands in the place of the journal
+pub pair_open : (names : Names) (f : ReadFiles) (w : Sight) → AreReadable names w → IsPair names f w → AreFitToRead f w
+pair_open names f w fit pair = record {
+  image = fit.image f.image pair.image;
+  journal = unlinked w.caller (w.stat f.image) (w.is_link names.redo) (w.stat f.journal) (fit.redo f.image pair.image f.journal pair.redo);
+  redo = rw pair.alone tt;
+}
+
 module _ (names : Names) (counted : Type 0) (w : Sight) where
   by_which : (which : Which) (u : Unopened) → u.which ≡ which → MayRefuseToRead names counted w which u.why → MayRefuseReading names counted w u
   by_which which u same is = subst (λ (x : Which). MayRefuseToRead names counted w x u.why) (sym same) is
@@ -123,6 +131,22 @@ module _ (names : Names) (counted : Type 0) (w : Sight) where
 
     pub unready : (u : Unopened) → IsReason ⊥ NoneUnfit (IsAnother f u.which) counted u.why → MayRefuseReading names counted w u
     unready u is = another u.which u.why is
+
+  module _ (f : ReadFiles) (pair : IsPair names f w) where
+    no_second : IsAnother f Redo → ⊥
+    no_second is = elim is [
+      | inl same ↦ (let wrong : None ≡ Some f.image = sym pair.alone ∙ same in cc)
+      | inr same ↦ (let wrong : None ≡ Some f.journal = sym pair.alone ∙ same in cc)
+    ]
+
+    pub pair_unready : (u : Unopened) → IsReason ⊥ NoneUnfit (IsAnother f u.which) counted u.why → MayRefuseForgetting names counted w (as_redo u)
+    pair_unready u is = by u.which u.why is
+      where
+        by : (which : Which) (why : Why) → IsReason ⊥ NoneUnfit (IsAnother f which) counted why
+            → MayRefuseForgetting names counted w (as_redo (record { which = which; why = why }))
+        by Image why is = reason_map _ _ _ _ counted _ _ why (none _) (λ _. none _) (none _) is
+        by Journal why is = reason_map _ _ _ _ counted _ _ why (none _) (λ _. none _) (λ same. inl (f.image, rw (← same) pair.redo, pair.image)) is
+        by Redo why is = reason_map _ _ _ _ counted _ _ why (none _) (λ _. none _) (λ one. absurd (no_second one)) is
 
 -- an open file that may be read is refused for no unfitness
 pub never_unfit : (P A B counted : Type 0) (U : Unfit → Type 0) (why : Why) → ((u : Unfit) → U u → ⊥) → (A → B) → IsReason P U A counted why

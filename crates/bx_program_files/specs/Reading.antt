@@ -4,6 +4,7 @@ use Rattle.bx_program_world.specs.Rule.{read_unfit, text_unfit}
 use Rattle.bx_program_world.specs.World.{MayBeRead, MayBeText, NothingNewFound, ReadFiles, Sight, number_if, stat_named}
 use Rattle.bx_program_world.specs.declared.rule.Unfit.{Unfit}
 use Rattle.bx_program_world.specs.declared.stat.Stat.{Stat}
+use Rattle.bx_program_world.specs.declared.world.Refusal.TheVariants.{Missing}
 use Rattle.bx_program_files.specs.Reasons.{IsReason, IsUnfitBeside}
 use Rattle.bx_program_files.specs.declared.names.Names.{Names}
 use Rattle.bx_program_files.specs.declared.reading.Looked.{Looked}
@@ -11,6 +12,7 @@ use Rattle.bx_program_files.specs.declared.unopened.Unopened.{Unopened}
 use Rattle.bx_program_files.specs.declared.unopened.Which.{Which}
 use Rattle.bx_program_files.specs.declared.unopened.Which.TheVariants.{Image, Journal, Redo}
 use Rattle.bx_program_files.specs.declared.unopened.Why.{Why}
+use Rattle.bx_program_files.specs.declared.unopened.Why.TheVariants.{System}
 
 -- the numbers of files that are open to be read
 abbrev pub numbers_read : {F : Type 0} → (F → ℕ) → Looked F → ReadFiles
@@ -84,6 +86,35 @@ MayRefuseToRead names counted w Redo why =
 -- under a name is unfit by the rule, or two of the names lead to one file
 abbrev pub MayRefuseReading : Names → Type 0 → Sight → Unopened → Type 0
 MayRefuseReading names counted w u = MayRefuseToRead names counted w u.which u.why
+
+-- why one of the files of an image may not be opened whose history is dropped: of a missing journal only where the redo text is missing too
+abbrev pub MayRefuseToForget : Names → Type 0 → Sight → Which → Why → Type 0
+MayRefuseToForget names counted w Journal (System Missing) = (w.named names.journal ≡ None) × (w.named names.redo ≡ None)
+MayRefuseToForget names counted w which why = MayRefuseToRead names counted w which why
+
+-- Why the files of an image may not be opened so that its history is dropped: as of reading them, but that a journal may be missing beside a redo text
+abbrev pub MayRefuseForgetting : Names → Type 0 → Sight → Unopened → Type 0
+MayRefuseForgetting names counted w u = MayRefuseToForget names counted w u.which u.why
+
+-- the names lead to an image and to its redo text, which stands in the place of the journal
+pub record IsPair (names : Names) (f : ReadFiles) (w : Sight) : Type 0 where
+  pub image : w.named names.image ≡ Some f.image
+  pub redo : w.named names.redo ≡ Some f.journal
+  pub alone : f.redo ≡ None
+
+-- An image and its redo text are open, which stands in the place of the journal: the names lead to them, they are two files, and may be read
+pub record AreOpenAlone (names : Names) (f : ReadFiles) (w : Sight) : Type 0 where
+  pub named : IsPair names f w
+  pub apart : f.journal ≡ f.image → ⊥
+  pub fit : AreReadable names w
+
+-- a file that is not opened, where the redo text stands in the place of the journal
+abbrev pub as_redo : Unopened → Unopened
+as_redo u = record { which = in_place u.which; why = u.why }
+  where
+    in_place : Which → Which
+    in_place Image = Image
+    in_place which = Redo
 
 -- one of the texts is another file of the three
 abbrev pub IsAnother : ReadFiles → Which → Type 0

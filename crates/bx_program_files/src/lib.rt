@@ -18,6 +18,6 @@ pub use alone::{close_alone, lend_alone, look_alone};
 pub use guard::Guard;
 pub use made::{Files, Made, unmake_all};
 pub use names::Names;
-pub use reading::{Looked, open_to_forget, open_to_look};
+pub use reading::{Looked, open_redo_to_forget, open_to_forget, open_to_look};
 pub use trio::open_trio;
 pub use unopened::{Unopened, Which, Why};

@@ -7,10 +7,13 @@ ghost use Rattle.bx_program_files.specs.Reading.{AreFitToRead, AreOpenToRead, Ar
 ghost use Rattle.bx_program_files.specs.Reasons.{IsReason, IsRefusedFile, IsRefusedFor, IsUnfitBeside, NoneUnfit};
 ghost use Rattle.bx_program_files.specs.declared.unopened.Which.TheVariants.{Image, Journal, Redo};
 
+mod redo;
+
 use crate::Names;
 use crate::alone::{look_alone, open_alone};
 use crate::unopened::{Unopened, Which};
 use bx_program_world::{Look, Refusal, Stat, Unfit, World, read_unfit, text_unfit};
+pub use redo::open_redo_to_forget;
 
 /// An image and its texts that are open to be read: locked, and each a file of its own.
 #[derive(Drop)]

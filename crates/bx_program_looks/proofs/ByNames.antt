@@ -1,19 +1,18 @@
 -- What dropping a history leaves of files, by their names.
-use Rattle.std.proofs.Common.{◌≡◌, ◌∙◌, ℕ, List, Some, Ok, Err, refl, sym, ap, subst}
+use Rattle.std.proofs.Common.{◌≡◌, ◌∙◌, ℕ, List, Ok, Err, refl, sym, subst}
 use Rattle.std.specs.Prelude.{Result, IfErr, OnOk}
 use Rattle.bx_image.specs.Power.{NoMore}
 use Rattle.bx_journal.specs.SessionFault.{SessionFault}
 use Rattle.bx_journal.specs.SessionFault.TheVariants.{NoMemory, TooLarge, DeviceFailed, Damaged, TooFew, JournalFull, Interrupted, Broken, LengthDiffers, NothingToRedo, RedoDamaged}
 use Rattle.bx_cli_commands.specs.declared.fault.Fault.TheVariants.{Session}
-use Rattle.bx_program_world.specs.World.{IsNoText, NothingNewFound, ReadFiles, Sight, Spares, held}
-use Rattle.bx_program_files.specs.Reading.{LeadToRead}
+use Rattle.bx_program_world.specs.World.{NothingNewFound, Sight, Spares, held}
 use Rattle.bx_program_files.specs.declared.guard.Guard.{Guard}
 use Rattle.bx_program_files.specs.declared.names.Names.{Names}
-use Rattle.bx_program_looks.specs.Forgetting.{Empties, ForgetsPart, HasForgotten, Held, IsNoTextNamed, KeepsHistory, LosesAll, LosesPart, MayForgetNamed, StopsForgetting, SurvivesEmptying, SurvivesForgetting, found_if, held_by_names, held_by_numbers}
+use Rattle.bx_program_looks.specs.Forgetting.{Empties, ForgetsPart, HasForgotten, Held, IsNoTextNamed, KeepsHistory, LeadToTexts, LosesAll, LosesPart, MayForgetNamed, StopsForgetting, SurvivesEmptying, SurvivesForgetting, TextFiles, found_if, held_by_names, held_by_numbers}
 use Rattle.bx_program_looks.specs.declared.unseen.Unseen.{Unseen}
 use Rattle.bx_program_looks.specs.declared.unseen.Unseen.TheVariants.{Unopened, Unfinished, Another, Stopped}
-use Rattle.bx_program_looks.proofs.Apart.{same_files}
-use Rattle.bx_program_looks.proofs.Emptied.{by_number, spares_bytes}
+use Rattle.bx_program_looks.proofs.Emptied.{IsNeither, by_number, spares_bytes}
+use Rattle.bx_program_looks.proofs.Placed.{same_texts}
 
 -- what is said of a result that is done, or that failed
 pub done : {V E : Type 0} (P : Type 0) (r : Result V E) (v : V) → r ≡ Ok v → OnOk r P → P
@@ -24,7 +23,7 @@ pub failed : {V E : Type 0} (P : E → Type 0) (r : Result V E) (e : E) → r �
 failed P r e is p = rw is at p
 
 -- the name of the image leads to its bytes
-pub image_held : (names : Names) (f : ReadFiles) (w : Sight) → LeadToRead names f w → held w names.image ≡ w.bytes f.image
+pub image_held : (names : Names) (f : TextFiles) (w : Sight) → LeadToTexts names f w → held w names.image ≡ w.bytes f.image
 image_held names f w leads = rw leads.image refl
 
 -- all is as it was
@@ -63,19 +62,19 @@ hidden_survives names old found left (Stopped (Session Interrupted)) guard note 
 hidden_survives names old found left (Stopped fault) guard note image journal redo is none = none
 
 -- Of files that these names lead to.
-module _ (names : Names) (f : ReadFiles) (old new : Sight) (leads : LeadToRead names f old) (only : Spares (IsNoText f) old new) where
+module _ (names : Names) (f : TextFiles) (old new : Sight) (leads : LeadToTexts names f old) (only : Spares (IsNeither f) old new) where
   pub others_named : Spares (IsNoTextNamed names old) old new
-  others_named = spares_bytes (IsNoText f) (IsNoTextNamed names old) old new only
-      (λ i (no_journal, no_redo). only.bytes i ((λ is. no_journal (leads.journal ∙ ap Some (sym is))), (λ is. no_redo (leads.redo ∙ is))))
+  others_named = spares_bytes (IsNeither f) (IsNoTextNamed names old) old new only
+      (λ i (no_journal, no_redo). only.bytes i ((λ is. no_journal (leads.journal ∙ is)), (λ is. no_redo (leads.redo ∙ is))))
 
-  leads_behind : LeadToRead names f new
+  leads_behind : LeadToTexts names f new
   leads_behind = record {
     image = only.named names.image ∙ leads.image;
     journal = only.named names.journal ∙ leads.journal;
     redo = only.named names.redo ∙ leads.redo;
   }
 
-  held_same : (w : Sight) → LeadToRead names f w → held_by_numbers f w ≡ held_by_names names w
+  held_same : (w : Sight) → LeadToTexts names f w → held_by_numbers f w ≡ held_by_names names w
   held_same w there = rw (there.image, there.journal, there.redo) refl
 
   as_names : (P : Held → Held → Type 0) → P (held_by_numbers f old) (held_by_numbers f new) → P (held_by_names names old) (held_by_names names new)
@@ -101,19 +100,19 @@ module _ (names : Names) (f : ReadFiles) (old new : Sight) (leads : LeadToRead n
   -- what is found after a loss of power
   module _ (image : List ℕ → Type 0) (first found left : ℕ → List ℕ → Type 0) (image_first : NoMore (first f.image) image)
       (nothing_new : NothingNewFound first found) where
-    pub survived_all : LosesAll (held_by_numbers f old) (left f.image) (left f.journal) (found_if left f.redo)
+    pub survived_all : LosesAll (held_by_numbers f old) (left f.image) (found_if left f.journal) (found_if left f.redo)
         → SurvivesForgetting names (Ok tt) old first left
     survived_all p g there =
-        subst (λ (h : ReadFiles). LosesAll (held_by_names names old) (left h.image) (left h.journal) (found_if left h.redo))
-        (same_files names old f g leads there)
-        (subst (λ h. LosesAll h (left f.image) (left f.journal) (found_if left f.redo)) (held_same old leads) p)
+        subst (λ (h : TextFiles). LosesAll (held_by_names names old) (left h.image) (found_if left h.journal) (found_if left h.redo))
+        (same_texts names old f g leads there)
+        (subst (λ h. LosesAll h (left f.image) (found_if left f.journal) (found_if left f.redo)) (held_same old leads) p)
 
-    survived_part : LosesPart (held_by_numbers f old) (left f.image) (left f.journal) (found_if left f.redo)
+    survived_part : LosesPart (held_by_numbers f old) (left f.image) (found_if left f.journal) (found_if left f.redo)
         → SurvivesForgetting names (Err (Stopped (Session Interrupted))) old first left
     survived_part p g there =
-        subst (λ (h : ReadFiles). LosesPart (held_by_names names old) (left h.image) (left h.journal) (found_if left h.redo))
-        (same_files names old f g leads there)
-        (subst (λ h. LosesPart h (left f.image) (left f.journal) (found_if left f.redo)) (held_same old leads) p)
+        subst (λ (h : TextFiles). LosesPart (held_by_names names old) (left h.image) (found_if left h.journal) (found_if left h.redo))
+        (same_texts names old f g leads there)
+        (subst (λ h. LosesPart h (left f.image) (found_if left f.journal) (found_if left f.redo)) (held_same old leads) p)
 
     nothing : NoMore image (left f.image) × ((n : ℕ) → (n ≡ f.image → ⊥) → NoMore (found n) (left n)) → NothingNewFound first left
     nothing p n c there = by_number n f.image

@@ -1,5 +1,5 @@
 -- What emptying texts that are lent leaves of their files.
-use Rattle.std.proofs.Common.{◌≡◌, ◌⊎◌, ◌∙◌, ℕ, zero, suc, Bool, true, false, List, [], Option, Some, None, length, take, refl, sym, ap, subst, inl, inr, arith}
+use Rattle.std.proofs.Common.{◌≡◌, ◌∙◌, ℕ, zero, suc, Bool, true, false, List, [], Option, Some, None, length, take, refl, sym, ap, subst, inl, inr, arith}
 use Rattle.std.specs.Prelude.{Result, Ok, Err, IfErr, OnOk, ◌==◌}
 use Rattle.std.proofs.lemmas.Bool.Decides.{Decides-eqb}
 use Rattle.std.proofs.lemmas.Result.{IfErr-weaker}
@@ -15,8 +15,8 @@ use Rattle.bx_journal.specs.Power.{Found, FoundBefore}
 use Rattle.bx_journal.specs.SessionFault.{SessionFault}
 use Rattle.bx_journal.specs.SessionFault.TheVariants.{NoMemory, TooLarge, DeviceFailed, Damaged, TooFew, JournalFull, Interrupted, Broken, LengthDiffers, NothingToRedo, RedoDamaged}
 use Rattle.bx_journal.proofs.ForgottenLemmas.{found_in_part}
-use Rattle.bx_program_world.specs.World.{ClosesTexts, IsNoneRead, IsNoText, NothingNewSpared, ReadFiles, Sight, Spares, TextsLeft, bytes_if}
-use Rattle.bx_program_looks.specs.Forgetting.{Empties, FindsDropped, ForgetsPart, HasForgotten, Held, IsAlone, LosesAll, LosesPart, SurvivesEmptying, found_if, held_by_numbers}
+use Rattle.bx_program_world.specs.World.{NothingNewSpared, Sight, Spares, bytes_if}
+use Rattle.bx_program_looks.specs.Forgetting.{Empties, FindsDropped, ForgetsPart, HasForgotten, Held, LosesAll, LosesPart, SurvivesEmptying, TextFiles, found_if, held_by_numbers}
 
 -- what three devices hold
 abbrev held_on : {D T : Type 0} → DeviceViews D → StoreViews T → Devices D T → Held
@@ -67,60 +67,64 @@ by_number {X = X} a b same other = at (a == b) refl
 some_number : (n i : ℕ) → Some n ≡ Some i → i ≡ n
 some_number n i e = grind (arith, e)
 
--- Of files that are lent, whose devices `a` were emptied, and are then `b`.
-module _ {D T : Type 0} (d : DeviceViews D) (t : StoreViews T) (f : ReadFiles) (old mid new : Sight) (a b : Devices D T)
-    (lets : Spares (IsNoText f) old mid) (closes : ClosesTexts f (t.text b.journal) (t.text b.redo) mid new)
-    (image_is : d.image a.image ≡ old.bytes f.image) (journal_is : t.text a.journal ≡ old.bytes f.journal)
-    (redo_is : t.text a.redo ≡ bytes_if old f.redo) (alone : IsAlone f) (image_same : d.image b.image ≡ d.image a.image) where
-  texts_only : Spares (IsNoText f) old new
-  texts_only = spares_then (IsNoText f) (IsNoText f) (IsNoText f) old mid new (λ i p. p) (λ i p. p) lets closes.only
+-- a file is this text, or isn't
+pub by_text : {X : Type 0} (o : Option ℕ) (i : ℕ) → (o ≡ Some i → X) → ((o ≡ Some i → ⊥) → X) → X
+by_text None i same other = other (λ e. (let wrong : None ≡ Some i = e in cc))
+by_text (Some n) i same other = by_number i n (λ is. same (ap Some (sym is))) (λ apart. other (λ e. apart (some_number n i e)))
 
-  -- a redo text that is missing was cut to nothing, as it was
-  redo_new : IsCutInPart 0 (t.text a.redo) (t.text b.redo) → t.text b.redo ≡ bytes_if new f.redo
-  redo_new part = at f.redo refl
-    where
-      at : (o : Option ℕ) → f.redo ≡ o → t.text b.redo ≡ bytes_if new f.redo
-      at None is =
-          let none : bytes_if old f.redo ≡ [] = rw is refl in
-          let empty : t.text b.redo ≡ [] = part.front ∙ ap (take (length (t.text b.redo))) (redo_is ∙ none) ∙ take_none (length (t.text b.redo)) in
-          rw is empty
-      at (Some n) is = rw is (sym (closes.redo_bytes n is))
+-- the file is neither of the texts
+abbrev pub IsNeither : TextFiles → ℕ → Type 0
+IsNeither f n = (f.journal ≡ Some n → ⊥) × (f.redo ≡ Some n → ⊥)
+
+-- Of files that are lent, whose devices `a` were emptied, and are then `b`.
+module _ {D T : Type 0} (d : DeviceViews D) (t : StoreViews T) (f : TextFiles) (old new : Sight) (a b : Devices D T)
+    (texts_only : Spares (IsNeither f) old new) (journal_closes : (n : ℕ) → f.journal ≡ Some n → new.bytes n ≡ t.text b.journal)
+    (redo_closes : (n : ℕ) → f.redo ≡ Some n → new.bytes n ≡ t.text b.redo)
+    (image_is : d.image a.image ≡ old.bytes f.image) (journal_is : t.text a.journal ≡ bytes_if old f.journal)
+    (redo_is : t.text a.redo ≡ bytes_if old f.redo) (alone : IsNeither f f.image) (image_same : d.image b.image ≡ d.image a.image) where
+  -- a text that is missing was cut to nothing, as it was
+  text_new : (o : Option ℕ) (x y : T) → t.text x ≡ bytes_if old o → ((n : ℕ) → o ≡ Some n → new.bytes n ≡ t.text y)
+      → IsCutInPart 0 (t.text x) (t.text y) → t.text y ≡ bytes_if new o
+  text_new None x y is closes part = part.front ∙ ap (take (length (t.text y))) is ∙ take_none (length (t.text y))
+  text_new (Some n) x y is closes part = sym (closes n refl)
 
   held_old : held_on d t a ≡ held_by_numbers f old
   held_old = rw (image_is, journal_is, redo_is) refl
 
-  held_new : IsCutInPart 0 (t.text a.redo) (t.text b.redo) → held_on d t b ≡ held_by_numbers f new
-  held_new part =
+  held_new : IsCutInPart 0 (t.text a.journal) (t.text b.journal) → IsCutInPart 0 (t.text a.redo) (t.text b.redo)
+      → held_on d t b ≡ held_by_numbers f new
+  held_new journal_part redo_part =
       let image : d.image b.image ≡ new.bytes f.image = image_same ∙ image_is ∙ sym (texts_only.bytes f.image alone) in
-      rw (image, sym closes.journal_bytes, redo_new part) refl
+      rw (image, text_new f.journal a.journal b.journal journal_is journal_closes journal_part, text_new f.redo a.redo b.redo redo_is redo_closes redo_part) refl
 
-  as_files : (P : Held → Held → Type 0) → IsCutInPart 0 (t.text a.redo) (t.text b.redo) → P (held_on d t a) (held_on d t b)
-      → P (held_by_numbers f old) (held_by_numbers f new)
-  as_files P part p = subst (λ h. P h (held_by_numbers f new)) held_old (subst (P (held_on d t a)) (held_new part) p)
+  as_files : (P : Held → Held → Type 0) → IsCutInPart 0 (t.text a.journal) (t.text b.journal) → IsCutInPart 0 (t.text a.redo) (t.text b.redo)
+      → P (held_on d t a) (held_on d t b) → P (held_by_numbers f old) (held_by_numbers f new)
+  as_files P journal_part redo_part p =
+      subst (λ h. P h (held_by_numbers f new)) held_old (subst (P (held_on d t a)) (held_new journal_part redo_part) p)
+
+  cut_whole : (x y : T) → t.text y ≡ [] → IsCutInPart 0 (t.text x) (t.text y)
+  cut_whole x y none = record { no_shorter = omega arith; front = rw none refl }
 
   pub emptied_all : AreAlone d t (d.image a.image) b → Empties f (Ok tt) old new
-  emptied_all done =
-      let part : IsCutInPart 0 (t.text a.redo) (t.text b.redo) = record { no_shorter = omega arith; front = rw done.redo refl } in
-      as_files HasForgotten part (record { image = image_same; journal = done.journal; redo = done.redo; rest = done.rest; undone = done.undone })
+  emptied_all done = as_files HasForgotten (cut_whole a.journal b.journal done.journal) (cut_whole a.redo b.redo done.redo)
+      (record { image = image_same; journal = done.journal; redo = done.redo; rest = done.rest; undone = done.undone })
 
   pub emptied_part : LeavesTexts (t.text a.journal) (t.text a.redo) (t.text b.journal) (t.text b.redo) → FindsDropped (held_on d t a) (held_on d t b)
       → Empties f (Err Interrupted) old new
-  emptied_part texts finds = as_files ForgetsPart texts.redo_part (record { image = image_same; texts = texts; finds = finds })
+  emptied_part texts finds = as_files ForgetsPart texts.journal_part texts.redo_part (record { image = image_same; texts = texts; finds = finds })
 
-  redo_none : (i : ℕ) → (i ≡ f.journal → ⊥) → t.text b.redo ≡ t.text a.redo → (o : Option ℕ) → f.redo ≡ o → new.bytes i ≡ old.bytes i
-  redo_none i other redo None is = texts_only.bytes i (other, λ e. (let wrong : None ≡ Some i = sym is ∙ e in cc))
-  redo_none i other redo (Some n) is = by_number i n
-      (λ same. let whole : bytes_if old f.redo ≡ old.bytes n = rw is refl in
-      subst (λ k. new.bytes k ≡ old.bytes k) (sym same) (closes.redo_bytes n is ∙ redo ∙ redo_is ∙ whole))
-      (λ apart. texts_only.bytes i (other, λ e. apart (some_number n i (sym is ∙ e))))
+  -- a text whose device has what it had
+  text_same : (o : Option ℕ) (x y : T) → t.text x ≡ bytes_if old o → ((n : ℕ) → o ≡ Some n → new.bytes n ≡ t.text y) → t.text y ≡ t.text x
+      → (i : ℕ) → o ≡ Some i → new.bytes i ≡ old.bytes i
+  text_same o x y is closes same i e = let whole : bytes_if old o ≡ old.bytes i = rw e refl in closes i e ∙ same ∙ is ∙ whole
 
   bytes_none : t.text b.journal ≡ t.text a.journal → t.text b.redo ≡ t.text a.redo → (i : ℕ) → new.bytes i ≡ old.bytes i
-  bytes_none journal redo i = by_number i f.journal
-      (λ is. subst (λ n. new.bytes n ≡ old.bytes n) (sym is) (closes.journal_bytes ∙ journal ∙ journal_is))
-      (λ other. redo_none i other redo f.redo refl)
+  bytes_none journal redo i = by_text f.journal i (text_same f.journal a.journal b.journal journal_is journal_closes journal i)
+      (λ no_journal. by_text f.redo i (text_same f.redo a.redo b.redo redo_is redo_closes redo i)
+      (λ no_redo. texts_only.bytes i (no_journal, no_redo)))
 
   pub emptied_none : t.text b.journal ≡ t.text a.journal → t.text b.redo ≡ t.text a.redo → Empties f (Err DeviceFailed) old new
-  emptied_none journal redo = spares_bytes (IsNoText f) (λ n. Unit {0}) old new texts_only (λ i p. bytes_none journal redo i)
+  emptied_none journal redo = spares_bytes (IsNeither f) (λ n. Unit {0}) old new texts_only (λ i p. bytes_none journal redo i)
 
   -- whatever forgetting answers
   pub emptied : (r : Result (Unit {0}) SessionFault) → OnOk r (AreAlone d t (d.image a.image) b) → IfErr r ForgetDevicesFault → LoseOrKeep t a b r
@@ -150,44 +154,53 @@ none_fades c is = rw is (record {
 })
 
 -- Of what is found after a loss of power: no more of the image and of the texts than of their devices.
-module _ {D T : Type 0} (d : DeviceViews D) (t : StoreViews T) (f : ReadFiles) (old : Sight) (a b : Devices D T) (found left : ℕ → List ℕ → Type 0)
-    (image_is : d.image a.image ≡ old.bytes f.image) (journal_is : t.text a.journal ≡ old.bytes f.journal)
+module _ {D T : Type 0} (d : DeviceViews D) (t : StoreViews T) (f : TextFiles) (old : Sight) (a b : Devices D T) (found left : ℕ → List ℕ → Type 0)
+    (image_is : d.image a.image ≡ old.bytes f.image) (journal_is : t.text a.journal ≡ bytes_if old f.journal)
     (redo_is : t.text a.redo ≡ bytes_if old f.redo) (image_left : NoMore (d.survives b.image) (left f.image))
-    (texts_left : TextsLeft f (t.survives b.journal) (t.survives b.redo) left) where
-  redo_case : (P : Option ℕ → Type 0) → (f.redo ≡ None → P None) → ((n : ℕ) → f.redo ≡ Some n → P (Some n)) → P f.redo
-  redo_case P none some = at f.redo refl
-    where
-      at : (o : Option ℕ) → f.redo ≡ o → P f.redo
-      at None is = subst P (sym is) (none is)
-      at (Some n) is = subst P (sym is) (some n is)
+    (journal_left : (n : ℕ) → f.journal ≡ Some n → NoMore (t.survives b.journal) (left n))
+    (redo_left : (n : ℕ) → f.redo ≡ Some n → NoMore (t.survives b.redo) (left n)) where
+  text_case : (o : Option ℕ) (P : Option ℕ → Type 0) → (o ≡ None → P None) → ((n : ℕ) → o ≡ Some n → P (Some n)) → P o
+  text_case None P none some = none refl
+  text_case (Some n) P none some = some n refl
+
+  only_empty : (o : Option ℕ) (y : T) → ((n : ℕ) → o ≡ Some n → NoMore (t.survives y) (left n)) → Only [] (t.survives y) → Only [] (found_if left o)
+  only_empty o y more empty = text_case o (λ o. Only [] (found_if left o)) (λ is c none. none) (λ n is c there. empty c (more n is c there))
 
   pub survives_all : Only (d.image a.image) (d.survives b.image) → Only [] (t.survives b.journal) → Only [] (t.survives b.redo)
-      → LosesAll (held_by_numbers f old) (left f.image) (left f.journal) (found_if left f.redo)
+      → LosesAll (held_by_numbers f old) (left f.image) (found_if left f.journal) (found_if left f.redo)
   survives_all image journal redo = record {
     image_found = λ c there. image c (image_left c there) ∙ image_is;
-    journal_found = λ c there. journal c (texts_left.journal_found c there);
-    redo_found = redo_case (λ o. Only [] (found_if left o)) (λ is c none. none) (λ n is c there. redo c (texts_left.redo_found n is c there));
+    journal_found = only_empty f.journal b.journal journal_left journal;
+    redo_found = only_empty f.redo b.redo redo_left redo;
   }
+
+  part_fades : (o : Option ℕ) (x y : T) → t.text x ≡ bytes_if old o → ((n : ℕ) → o ≡ Some n → NoMore (t.survives y) (left n))
+      → AllFade 0 (t.text x) (t.survives y) → AllFade 0 (bytes_if old o) (found_if left o)
+  part_fades o x y is more part = text_case o (λ o. AllFade 0 (bytes_if old o) (found_if left o)) (λ none c empty. none_fades c empty)
+      (λ n some c there. subst (λ r. IsFaded 0 r c) (is ∙ rw some refl) (part c (more n some c there)))
+
+  whole_left : (o : Option ℕ) (x y : T) → t.text x ≡ bytes_if old o → ((n : ℕ) → o ≡ Some n → NoMore (t.survives y) (left n))
+      → Only (t.text x) (t.survives y) → Only (bytes_if old o) (found_if left o)
+  whole_left o x y is more whole = text_case o (λ o. Only (bytes_if old o) (found_if left o)) (λ none c empty. empty)
+      (λ n some c there. whole c (more n some c there) ∙ is ∙ rw some refl)
 
   fades : FadesInOrder (t.text a.journal) (t.text a.redo) (t.survives b.journal) (t.survives b.redo)
-      → FadesInOrder (old.bytes f.journal) (bytes_if old f.redo) (left f.journal) (found_if left f.redo)
+      → FadesInOrder (bytes_if old f.journal) (bytes_if old f.redo) (found_if left f.journal) (found_if left f.redo)
   fades p = record {
-    journal_part = λ c there. subst (λ j. IsFaded 0 j c) journal_is (p.journal_part c (texts_left.journal_found c there));
-    redo_part = redo_case (λ o. AllFade 0 (bytes_if old o) (found_if left o)) (λ is c none. none_fades c none)
-        (λ n is c there. subst (λ r. IsFaded 0 r c) (redo_is ∙ rw is refl) (p.redo_part c (texts_left.redo_found n is c there)));
-    redo_first = redo_case (λ o. Only (old.bytes f.journal) (left f.journal) ⊎ Only [] (found_if left o)) (λ is. inr (λ c none. none))
-        (λ n is. elim p.redo_first [
-          | inl journal ↦ inl (λ c there. journal c (texts_left.journal_found c there) ∙ journal_is)
-          | inr redo ↦ inr (λ c there. redo c (texts_left.redo_found n is c there))
-        ]);
+    journal_part = part_fades f.journal a.journal b.journal journal_is journal_left p.journal_part;
+    redo_part = part_fades f.redo a.redo b.redo redo_is redo_left p.redo_part;
+    redo_first = elim p.redo_first [
+      | inl journal ↦ inl (whole_left f.journal a.journal b.journal journal_is journal_left journal)
+      | inr redo ↦ inr (only_empty f.redo b.redo redo_left redo)
+    ];
   }
 
-  pub survives_part : KeepImage d t a b → LosesPart (held_by_numbers f old) (left f.image) (left f.journal) (found_if left f.redo)
+  pub survives_part : KeepImage d t a b → LosesPart (held_by_numbers f old) (left f.image) (found_if left f.journal) (found_if left f.redo)
   survives_part p = record {
     image_found = λ c there. p.image c (image_left c there) ∙ image_is;
     texts = fades p.texts;
     finds = λ x text redo_text image journal redo s first whole redo_whole.
-        found_in_part (old.bytes f.journal) (old.bytes f.image) (bytes_if old f.redo) text x redo_text s first
+        found_in_part (bytes_if old f.journal) (old.bytes f.image) (bytes_if old f.redo) text x redo_text s first
         (elim (fades p.texts).redo_first [
           | inl all ↦ inl (all text journal)
           | inr none ↦ inr (none redo_text redo)
@@ -195,36 +208,25 @@ module _ {D T : Type 0} (d : DeviceViews D) (t : StoreViews T) (f : ReadFiles) (
         (p.image x (image_left x image) ∙ image_is) whole redo_whole;
   }
 
-  redo_spared : (mid : ℕ → List ℕ → Type 0) → NoMore (t.survives a.redo) (t.survives b.redo)
-      → ((n : ℕ) → f.redo ≡ Some n → NoMore (found n) (t.survives a.redo)) → NothingNewSpared (IsNoText f) found mid
-      → NothingNewSpared (IsNoneRead f) mid left → (n : ℕ) → (n ≡ f.image → ⊥) → (n ≡ f.journal → ⊥) → (c : List ℕ) → left n c
-      → (o : Option ℕ) → f.redo ≡ o → found n c
-  redo_spared mid redo first lets others n other apart c there None is =
-      let none = λ (e : f.redo ≡ Some n). (let wrong : None ≡ Some n = sym is ∙ e in absurd (cc)) in
-      lets n (apart, none) c (others n (other, (apart, none)) c there)
-  redo_spared mid redo first lets others n other apart c there (Some m) is = by_number n m
-      (λ same. first n (is ∙ ap Some (sym same)) c (redo c (texts_left.redo_found n (is ∙ ap Some (sym same)) c there)))
-      (λ differs. let none = λ (e : f.redo ≡ Some n). differs (some_number m n (sym is ∙ e)) in
-      lets n (apart, none) c (others n (other, (apart, none)) c there))
-
   pub survives_none : (mid : ℕ → List ℕ → Type 0) → NoMore (d.survives a.image) (d.survives b.image)
       → NoMore (t.survives a.journal) (t.survives b.journal) → NoMore (t.survives a.redo) (t.survives b.redo)
-      → NoMore (found f.journal) (t.survives a.journal) → ((n : ℕ) → f.redo ≡ Some n → NoMore (found n) (t.survives a.redo))
-      → NothingNewSpared (IsNoText f) found mid → NothingNewSpared (IsNoneRead f) mid left
+      → ((n : ℕ) → f.journal ≡ Some n → NoMore (found n) (t.survives a.journal)) → ((n : ℕ) → f.redo ≡ Some n → NoMore (found n) (t.survives a.redo))
+      → NothingNewSpared (IsNeither f) found mid → NothingNewSpared (λ n. (n ≡ f.image → ⊥) × IsNeither f n) mid left
       → NoMore (d.survives a.image) (left f.image) × ((n : ℕ) → (n ≡ f.image → ⊥) → NoMore (found n) (left n))
   survives_none mid image journal redo first first_redo lets others = (
     (λ c there. image c (image_left c there)),
-    (λ n other c there. by_number n f.journal
-        (λ is. subst (λ k. found k c) (sym is) (first c (journal c (texts_left.journal_found c (subst (λ k. left k c) is there)))))
-        (λ apart. redo_spared mid redo first_redo lets others n other apart c there f.redo refl)),
+    (λ n other c there. by_text f.journal n (λ is. first n is c (journal c (journal_left n is c there)))
+        (λ no_journal. by_text f.redo n (λ is. first_redo n is c (redo c (redo_left n is c there)))
+        (λ no_redo. lets n (no_journal, no_redo) c (others n (other, (no_journal, no_redo)) c there)))),
   )
 
   -- whatever forgetting answers
   pub survived : (mid : ℕ → List ℕ → Type 0) (r : Result (Unit {0}) SessionFault) → d.honest a.image → t.honest a.journal → t.honest a.redo
       → d.image b.image ≡ d.image a.image → OnOk r (AreAlone d t (d.image a.image) b) → IfErr r (λ e. AfterFault e (KeepImage d t a b) (Unit {0}))
-      → IfErr r (λ e. AfterFault e (Unit {0}) (FoundBefore d t a b)) → NoMore (found f.journal) (t.survives a.journal)
-      → ((n : ℕ) → f.redo ≡ Some n → NoMore (found n) (t.survives a.redo)) → NothingNewSpared (IsNoText f) found mid
-      → NothingNewSpared (IsNoneRead f) mid left → SurvivesEmptying f r old (d.survives a.image) found left
+      → IfErr r (λ e. AfterFault e (Unit {0}) (FoundBefore d t a b))
+      → ((n : ℕ) → f.journal ≡ Some n → NoMore (found n) (t.survives a.journal)) → ((n : ℕ) → f.redo ≡ Some n → NoMore (found n) (t.survives a.redo))
+      → NothingNewSpared (IsNeither f) found mid → NothingNewSpared (λ n. (n ≡ f.image → ⊥) × IsNeither f n) mid left
+      → SurvivesEmptying f r old (d.survives a.image) found left
   survived mid (Ok done) dh th rh same all keeps before first first_redo lets others =
       survives_all (λ c there. all.settled.image c there ∙ same) (λ c there. all.settled.journal c there ∙ all.journal)
       (λ c there. all.settled.redo c there ∙ all.redo)

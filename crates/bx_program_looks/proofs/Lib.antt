@@ -12,3 +12,5 @@ pub mod StepsCut
 pub mod Refused
 pub mod NoteLemmas
 pub mod FrontRows
+pub mod Placed
+pub mod Alone

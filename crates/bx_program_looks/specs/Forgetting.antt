@@ -1,5 +1,5 @@
 -- Forgetting the changes of an image, by the names of its files.
-use Rattle.std.specs.Prelude.{◌≡◌, ◌⊎◌, ◌<◌, ℕ, Bool, true, false, not, ◌||◌, List, [], ◌∷◌, Option, None, Some, Result, Ok, Err}
+use Rattle.std.specs.Prelude.{◌≡◌, ◌⊎◌, ◌<◌, ℕ, Bool, true, false, not, ◌||◌, List, [], ◌∷◌, Option, None, Some, Result, Ok, Err, if◌then◌else◌}
 use Rattle.bx_image.specs.Power.{NoMore, Only}
 use Rattle.bx_journal.specs.Forgotten.{FadesInOrder, IsWhole, LeavesTexts, OfSome, only}
 use Rattle.bx_journal.specs.Images.{Images}
@@ -16,7 +16,7 @@ use Rattle.bx_journal_image.specs.declared.judge.Verdict.TheVariants.{Same, Othe
 use Rattle.bx_journal_image.specs.declared.line.ImageLine.{ImageLine}
 use Rattle.bx_cli_commands.specs.declared.fault.Fault.TheVariants.{Session}
 use Rattle.bx_program_world.specs.World.{IsNoText, NothingNewFound, ReadFiles, Sight, Spares, bytes_if, held}
-use Rattle.bx_program_files.specs.Reading.{AreReadable, LeadToRead, MayRefuseReading}
+use Rattle.bx_program_files.specs.Reading.{AreReadable, LeadToRead, MayRefuseForgetting}
 use Rattle.bx_program_files.specs.declared.guard.Guard.{Guard}
 use Rattle.bx_program_files.specs.declared.names.Names.{Names}
 use Rattle.bx_program_looks.specs.Looks.{HidesChanges, StopsOpening}
@@ -96,9 +96,29 @@ pub record Held : Type 0 where
 abbrev pub held_by_names : Names → Sight → Held
 held_by_names names w = record { image = held w names.image; journal = held w names.journal; redo = held w names.redo }
 
+-- An image and the texts that are emptied beside it, by their numbers; a text that is missing has none
+pub record TextFiles : Type 0 where
+  pub image : ℕ
+  pub journal : Option ℕ
+  pub redo : Option ℕ
+
+-- the names lead to these files
+pub record LeadToTexts (names : Names) (f : TextFiles) (w : Sight) : Type 0 where
+  pub image : w.named names.image ≡ Some f.image
+  pub journal : w.named names.journal ≡ f.journal
+  pub redo : w.named names.redo ≡ f.redo
+
+-- the files that are lent: where the journal is missing, and so the redo text stands in its place, the two change places
+abbrev pub texts_of : Bool → ReadFiles → TextFiles
+texts_of exchanged f = record {
+  image = f.image;
+  journal = if exchanged then f.redo else Some f.journal;
+  redo = if exchanged then Some f.journal else f.redo;
+}
+
 -- what the files of these numbers hold
-abbrev pub held_by_numbers : ReadFiles → Sight → Held
-held_by_numbers f w = record { image = w.bytes f.image; journal = w.bytes f.journal; redo = bytes_if w f.redo }
+abbrev pub held_by_numbers : TextFiles → Sight → Held
+held_by_numbers f w = record { image = w.bytes f.image; journal = bytes_if w f.journal; redo = bytes_if w f.redo }
 
 -- Both texts are empty, and the image is as it was, and stands alone, with nothing undone
 pub record HasForgotten (old new : Held) : Type 0 where
@@ -127,7 +147,7 @@ IsUntouched old new = Spares (λ n. Unit {0}) old new
 -- Why a history is not dropped: a file may not be opened, something is unfinished that is recovered first, it may be another image's, a text is
 -- damaged, or memory or a device fails, and all is as it was; or the dropping was stopped in the middle
 abbrev pub StopsForgetting : Guard → List ℕ → Names → Type 0 → Sight → Sight → Unseen → Type 0
-StopsForgetting guard note names counted old new (Unopened file) = MayRefuseReading names counted old file × IsUntouched old new
+StopsForgetting guard note names counted old new (Unopened file) = MayRefuseForgetting names counted old file × IsUntouched old new
 StopsForgetting guard note names counted old new (Stopped (Session Interrupted)) =
     MayForgetNamed guard note names old × ForgetsPart (held_by_names names old) (held_by_names names new)
 StopsForgetting guard note names counted old new unseen =
@@ -154,9 +174,9 @@ pub record LosesPart (old : Held) (image journal redo : List ℕ → Type 0) : T
 -- what is found of the three files after a loss of power, by the answer; where all is as it was, nothing that wasn't to be found before
 abbrev pub SurvivesForgetting : Names → Result (Unit {0}) Unseen → Sight → (ℕ → List ℕ → Type 0) → (ℕ → List ℕ → Type 0) → Type 0
 SurvivesForgetting names (Ok done) old found left =
-    (f : ReadFiles) → LeadToRead names f old → LosesAll (held_by_names names old) (left f.image) (left f.journal) (found_if left f.redo)
+    (f : TextFiles) → LeadToTexts names f old → LosesAll (held_by_names names old) (left f.image) (found_if left f.journal) (found_if left f.redo)
 SurvivesForgetting names (Err (Stopped (Session Interrupted))) old found left =
-    (f : ReadFiles) → LeadToRead names f old → LosesPart (held_by_names names old) (left f.image) (left f.journal) (found_if left f.redo)
+    (f : TextFiles) → LeadToTexts names f old → LosesPart (held_by_names names old) (left f.image) (found_if left f.journal) (found_if left f.redo)
 SurvivesForgetting names (Err unseen) old found left = NothingNewFound found left
 
 -- the image is neither of its texts
@@ -170,18 +190,31 @@ pub record AreLent (names : Names) (w : Sight) : Type 0 where
   pub alone : IsAlone files
   pub fit : AreReadable names w
 
+-- The files that are lent, where the redo text stands in the place of a journal that is missing or not, and the names lead to them; they may be read
+pub record AreLentTexts (names : Names) (exchanged : Bool) (beside : Option ReadFiles) (w : Sight) : Type 0 where
+  pub files : ReadFiles
+  pub lent : beside ≡ Some files
+  pub named : LeadToTexts names (texts_of exchanged files) w
+  pub alone : IsAlone files
+  pub fit : AreReadable names w
+
+-- what may be found of a device is what may be found of the image to which the name leads
+abbrev pub IsFoundOf : List ℕ → Sight → (ℕ → List ℕ → Type 0) → (List ℕ → Type 0) → Type 0
+IsFoundOf name w found device = (n : ℕ) → w.named name ≡ Some n → NoMore (found n) device
+
 -- What emptying the texts of files that are lent leaves: empty texts; fronts of them, where it was stopped in the middle; or all as it was
-abbrev pub Empties : ReadFiles → Result (Unit {0}) SessionFault → Sight → Sight → Type 0
+abbrev pub Empties : TextFiles → Result (Unit {0}) SessionFault → Sight → Sight → Type 0
 Empties f (Ok done) old new = HasForgotten (held_by_numbers f old) (held_by_numbers f new)
 Empties f (Err Interrupted) old new = ForgetsPart (held_by_numbers f old) (held_by_numbers f new)
 Empties f (Err DeviceFailed) old new = IsUntouched old new
 Empties f (Err fault) old new = ⊥
 
 -- and what is found of them after a loss of power, where `image` is what may be found of the image's device
-abbrev pub SurvivesEmptying : ReadFiles → Result (Unit {0}) SessionFault → Sight → (List ℕ → Type 0) → (ℕ → List ℕ → Type 0)
+abbrev pub SurvivesEmptying : TextFiles → Result (Unit {0}) SessionFault → Sight → (List ℕ → Type 0) → (ℕ → List ℕ → Type 0)
     → (ℕ → List ℕ → Type 0) → Type 0
-SurvivesEmptying f (Ok done) old image found left = LosesAll (held_by_numbers f old) (left f.image) (left f.journal) (found_if left f.redo)
+SurvivesEmptying f (Ok done) old image found left =
+    LosesAll (held_by_numbers f old) (left f.image) (found_if left f.journal) (found_if left f.redo)
 SurvivesEmptying f (Err Interrupted) old image found left =
-    LosesPart (held_by_numbers f old) (left f.image) (left f.journal) (found_if left f.redo)
+    LosesPart (held_by_numbers f old) (left f.image) (found_if left f.journal) (found_if left f.redo)
 SurvivesEmptying f (Err fault) old image found left =
     NoMore image (left f.image) × ((n : ℕ) → (n ≡ f.image → ⊥) → NoMore (found n) (left n))

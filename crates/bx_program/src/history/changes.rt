@@ -111,7 +111,8 @@ where
     R: Files<File = File> + Print + Eprint + Clock + AllocGlobal,
     requires near { IsNearTask task }
 {
-    if is_missing(rt, target.texts.journal.as_str()) {
+    // Without both texts there is no history to drop; a redo file without its journal is dropped as one.
+    if is_missing(rt, target.texts.journal.as_str()) && is_missing(rt, target.texts.redo.as_str()) {
         return change_image(rt, target, task, progress, remarks);
     }
     let made = made_image(rt, target, progress)?;
@@ -126,8 +127,8 @@ where
     outcome
 }
 
-/// Drops the history of an image that is there, and then does a task on it: the files stay locked from one to the other. A redo text
-/// that was missing stays so where the change is refused.
+/// Drops the history of an image that is there, and then does a task on it: the files stay locked from one to the other. A text that
+/// was missing stays so where the change is refused.
 fn renew<'a, R>(
     rt: &R,
     world: &mut SystemWorld<'_, '_, R>,
@@ -139,19 +140,28 @@ where
     requires near { IsNearTask task }
 {
     let redo = target.texts.redo.as_str();
-    let is_made = is_missing(rt, redo);
+    let journal = target.texts.journal.as_str();
+    let (no_redo, no_journal) = (is_missing(rt, redo), is_missing(rt, journal));
     let names = names_of(rt.alloc(), target)?;
     // So that nobody comes between the drop of the history and the change.
     world.keep_locks();
     let renewed = request_renewal(world, rt.alloc(), &names, guard_of(target), task);
     world.pass_locks();
-    if is_made && !is_done(&renewed) {
-        take_empty(rt, redo);
-    }
     if is_refused_behind(&renewed) {
         forget_line(world, &names);
     }
+    if !is_done(&renewed) {
+        take_made(rt, redo, no_redo);
+        take_made(rt, journal, no_journal);
+    }
     Ok(renewed)
+}
+
+/// Takes a text away that was missing, if it is empty.
+fn take_made<R: Files<File = File>>(rt: &R, name: &str, was_missing: bool) {
+    if was_missing {
+        take_empty(rt, name);
+    }
 }
 
 /// Drops the history of an image that is there, and then changes it.

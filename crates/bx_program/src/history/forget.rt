@@ -8,10 +8,10 @@ use crate::requests::request_forget;
 use bx_cli::Target;
 use bx_hints::Stopped;
 use bx_journal::Way;
-use bx_program_files::{Names, open_to_look};
+use bx_program_files::{Names, Unopened, Which, Why, open_redo_to_forget, open_to_look};
 use bx_program_looks::Unseen;
 use bx_program_system::{Progress, SystemWorld};
-use bx_program_world::World;
+use bx_program_world::{Refusal, World};
 use std::fs::File;
 use std::rt::Files;
 use std::time::Clock;
@@ -25,7 +25,7 @@ enum Dropped {
     Unfinished,
 }
 
-/// Drops the history of an image, whose texts are there. None of the three is made, and the image is opened to be read alone; only
+/// Drops the history of an image, of whose texts one is there. None of the three is made, and the image is opened to be read alone; only
 /// where something is unfinished that was begun on it, it is recovered before.
 ///
 /// # Errors
@@ -87,19 +87,38 @@ where
     }
 }
 
-/// Takes the third text away, where the journal is empty. The files are locked meanwhile, so that no line of a later command is
-/// taken.
+/// Takes the third text away, where the journal is empty, or missing beside a redo text. The files are locked meanwhile, so that no
+/// line of a later command is taken.
 pub fn forget_line<R>(world: &mut SystemWorld<'_, '_, R>, names: &Names)
 where
     R: Files<File = File> + Print + Eprint + Clock + AllocGlobal,
 {
-    if let Ok(looked) = open_to_look(world, names) {
-        if looked
-            .journal
-            .metadata()
-            .is_ok_and(|found| found.len() == 0)
-        {
-            let _ = world.put_note(&[], true);
+    match open_to_look(world, names) {
+        Ok(looked) => {
+            if looked
+                .journal
+                .metadata()
+                .is_ok_and(|found| found.len() == 0)
+            {
+                let _ = world.put_note(&[], true);
+            }
         }
+        Err(
+            Unopened {
+                which: Which::Journal,
+                why: Why::System(Refusal::Missing),
+            },
+        ) => forget_line_alone(world, names),
+        Err(_) => {}
+    }
+}
+
+/// The same beside a redo text whose journal is missing.
+fn forget_line_alone<R>(world: &mut SystemWorld<'_, '_, R>, names: &Names)
+where
+    R: Files<File = File> + Print + Eprint + Clock + AllocGlobal,
+{
+    if let Ok(_locked) = open_redo_to_forget(world, names) {
+        let _ = world.put_note(&[], true);
     }
 }
