@@ -5,8 +5,8 @@ Usage: tools/cases.py [--compare] [--bx PATH] [--out FOLDER] [--seed N] [KIND ..
 
 Each KIND is a file of tools/record, whose head says what it writes. Without one all are written. The same seed and
 tools give the same files. With --compare nothing is written: the words, the transfers onto images and their undos, and
-the patches of pairs are run by bx, beside xxd, od, hexdump, strings, dd and cmp -l, and each difference is printed. The
-status is 1 where there is one."""
+the patches of pairs (diff, patch, -n of revert, dd and patch, show -p) are run by bx, beside xxd, od, hexdump, strings, dd,
+and cmp -l with patches that are made here, and each difference is printed. The status is 1 where there is one."""
 import importlib
 import sys
 

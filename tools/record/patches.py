@@ -19,6 +19,8 @@ LENGTHS = [0, 1, 15, 16, 17, 40, 300, 32767, 32768, 32769]
 def runs(old, new, whole):
     """The ranges that have lines, by rising address: whole rows, or what differs in them."""
     for row in range(0, max(len(old), len(new)), 16):
+        if old[row:row + 16] == new[row:row + 16]:
+            continue
         places = [at for at in range(row, row + 16) if old[at:at + 1] != new[at:at + 1]]
         places = range(row, row + 16) if places and whole else places
         yield from zip((at for at in places if at - 1 not in places), (at + 1 for at in places if at + 1 not in places))
@@ -94,29 +96,39 @@ def pairs(rng, count, is_compared):
         yield f"drawn {number}", " ".join(old), " ".join(new)
 
 
-# What is done with a patch, each tenth pair and else those in the middle: the words, what they read, what they write
-# (* is anything), and what the image is then.
+# What is done with a patch, of each tenth pair all and else those in the middle, of equal images the first: the words,
+# what they read, what they write (* is anything), and what the image is then.
 STEPS = [row.split("|") for row in (
-    "patch -n image|fix|fix|old", "patch -nR old|back|fix|old", "patch -U image|fix||new", "show -p image||fix|new",
-    "patch -UR image|fix||old", "undo -U image||*|new", "undo -U image||*|old", "show -rp image||fix|old",
-    "redo -U image||*|new")]
+    "patch -n image|fix|fix|old", "patch -nR old|back|fix|old", "revert -n image|dump|over|old", "dd -n of=image|new|fix|old",
+    "patch -U image|fix||new", "show -p image||fix|new", "patch -UR image|fix||old", "undo -U image||*|new",
+    "undo -U image||*|old", "show -rp image||fix|old", "redo -U image||*|new")]
+FIRST, MIDDLE = slice(4), slice(4, 7)
+
+
+def made(tools, old, new):
+    """The texts of a pair, each made by no bx: patches both ways and in rows, the dump of the new image, which is one
+    byte where there is none, and the patch of what a revert of that dump makes of the old one."""
+    (tools.folder / "dumped").write_bytes(new or b"A")
+    over = (new or b"A") + old[len(new or b"A"):]
+    return {"": b"", "old": old, "new": new, "fix": patch(old, new), "back": patch(new, old), "rows": patch(old, new, True),
+            "dump": tools.run(["xxd", "dumped"])[0], "over": patch(old, over)}
 
 
 def differ(options, rng, tools):
-    """Whether bx names other addresses of a pair than `cmp -l`, or doesn't apply its patch and take it back."""
+    """Whether bx writes another patch of a pair than is made here, which names what `cmp -l` does, or doesn't apply it
+    and take it back."""
     count = bad = 0
     for title, *pair in pairs(rng, 1000, True):
         old, new = map(form.made_of, pair)
-        named, texts, wrong = by_cmp(tools, old, new), {"": b"", "old": old, "new": new}, None
-        for name, words, head in (("fix", ["old", "new"], head_of(old, new)), ("back", ["new", "old"], head_of(new, old)),
-                                  ("rows", ["-v", "old", "new"], head_of(old, new))):
-            texts[name], said, status = tools.run([options.bx, "diff", *words])
-            wrong = "diff" if said or status or re.match(rb".*\n|", texts[name])[0] != head else wrong
+        named, texts, wrong = by_cmp(tools, old, new), made(tools, old, new), None
+        for name, words in (("fix", ["old", "new"]), ("back", ["new", "old"]), ("rows", ["-v", "old", "new"])):
+            wrong = wrong if tools.run([options.bx, "diff", *words]) == (texts[name], "", 0) else "diff"
         for path in tools.folder.glob("image*"):
             path.unlink()
         (tools.folder / "image").write_bytes(old)
         wrong = wrong if is_right(texts["fix"], texts["rows"], named) else "diff"
-        for words, given, wanted, image in STEPS if count % 10 == 0 else STEPS[2:5]:
+        asked = STEPS[FIRST if old == new else MIDDLE] if old == new or count % 10 else STEPS
+        for words, given, wanted, image in asked:
             output, _, status = tools.run([options.bx, *words.split()], texts[given])
             is_so = not status and (wanted == "*" or output == texts[wanted])
             wrong = wrong if is_so and (tools.folder / "image").read_bytes() == texts[image] else wrong or words
