@@ -6,7 +6,7 @@ use crate::seen::told::Told;
 use crate::seen::{Asking, play_each, tell};
 use crate::setting::{Held, names};
 use crate::sweeps::Failing;
-use bx_program_files::{Names, Unopened};
+use bx_program_files::{Names, Unopened, Which};
 use std::alloc::Global;
 use test_case_files::{Case, LooksCase, Shows, Test};
 
@@ -50,11 +50,18 @@ fn told_of(case: &LooksCase) -> Result<Told<'_>, Wrong> {
     }
 }
 
-/// What has to come of it where a file is odd: it isn't opened, but for a device that may be read.
+/// Whether it is the journal that is missing.
+fn is_gone(odd: &Odd) -> bool {
+    let (_, which, oddity, _) = *odd;
+    which == Which::Journal && oddity == Oddity::Missing
+}
+
+/// What has to come of it where a file is odd: it isn't opened, but for a device that may be read, and beside a journal that is missing.
 fn told_of_odd<'a>(told: Told<'a>, odd: &Odd) -> Told<'a> {
     let (_, which, oddity, why) = *odd;
     match oddity {
         Oddity::Mounted | Oddity::ReadOnly => told,
+        Oddity::Missing if is_gone(odd) => told,
         _ => Told::Unopened(Unopened { which, why }),
     }
 }
@@ -78,11 +85,18 @@ fn asking_of<'a>(alloc: Global, names: &'a Names, case: &'a Case) -> Result<Aski
     })
 }
 
-/// Plays a case. Tells whether all is right.
+/// Plays a case, and where it has a redo text and no change the same without a journal. Tells whether all is right.
 fn play_case(rt: &HostRuntime, case: &Case, names: &Names) -> Result<bool, Wrong> {
     let asking = asking_of(rt.alloc(), names, case)?;
     let _ = print!(rt; "{}, forget", case.name);
-    Ok(play_each(rt, &asking, &EACH))
+    let right = play_each(rt, &asking, &EACH);
+    let is_alone = asking.held.journal.is_empty() && !asking.held.redo.is_empty();
+    let Some(odd) = ODDS.iter().find(|odd| is_alone && is_gone(odd)) else {
+        return Ok(right);
+    };
+    let alone = asking.of_odd(odd, asking.told);
+    let _ = print!(rt; "{}, forget without a journal", case.name);
+    Ok(play_each(rt, &alone, &EACH) && right)
 }
 
 /// Plays a case where each of its files is odd. Tells whether all are right.
