@@ -252,6 +252,36 @@ recovered, and then has to agree with the patch.
   1 8 2
   ZZxyEFGH
 
+# What is shown beside another image
+
+The next command takes nothing back there, so the line on what is unfinished doesn't say so.
+
+  $ begun() { # an image whose second change was stopped, with its line
+  >   changes '2: 7879'; printf 'change2 00000002 0000000000000008\n00000000: 4142                                     AB\nsave 00000002\n' >> img.bxj
+  >   printf abxyEFGH > img
+  > }
+  $ begun; kept bx show -k 0 img
+  # change 2: unfinished, the next command takes it back
+  $ begun; printf ZbxyEFGH > img; kept bx show -k 0 img
+  # change 2: unfinished, the next command takes it back
+  $ begun; printf abxyEFGZ > img; kept bx show img; kept bx show -k 3 img
+  # change 2: unfinished
+  # the image isn't the one that it was made on
+  # change 1: undo writes 2 bytes at 2-3, keeps length 8
+  00000002: 4344                                     CD
+  
+  # change 2: unfinished
+  # the image isn't the one that it was made on
+  bx: only 1 changes to undo
+  [1]
+  $ kept bx log img
+  # change 2: unfinished
+  # the image isn't the one that it was made on
+  1 8 2
+  $ kept bx undo img
+  bx: the image was changed since
+  [1]
+
 # What somebody planted, and what is in use
 
   $ fresh ABxyEFGH; echo 'change2 precious' > precious

@@ -83,7 +83,8 @@ where
     }
 }
 
-/// What stands behind the line on what is unfinished: that the image isn't the one that it was begun on, where it isn't.
+/// What stands behind the line on what is unfinished: that the image isn't the one that it was begun on, where it isn't. The line
+/// then doesn't say what the next command does with it, as that is nothing.
 fn another_line<R>(rt: &R, target: &Target) -> &'static str
 where
     R: Files<File = File> + Print + Eprint + Clock + AllocGlobal,

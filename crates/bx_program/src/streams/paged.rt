@@ -13,7 +13,7 @@ pub struct Paged<'a, W> {
     out: &'a mut W,
     page: Vec<u8>,
     written: u64,
-    // what is put behind the next line
+    // what is put behind the next line, which then ends before its comma
     behind: &'static str,
     /// What stopped it.
     pub stopped: Option<IoFault>,
@@ -31,23 +31,24 @@ impl<'a, W: Write> Paged<'a, W> {
         }
     }
 
-    /// Has this text put behind the line that is written next; nothing where it is empty.
+    /// Has the line that is written next end before its comma, and this text put behind it; neither where the text is empty.
     pub fn put_behind_line(&mut self, text: &'static str) {
         self.behind = text;
     }
 
-    /// Gathers bytes, and behind their first newline what is to be put there.
+    /// Gathers bytes, and behind their first line what is to be put there.
     fn gather(&mut self, bytes: &[u8]) -> Result<(), AllocError> {
         if self.behind.is_empty() {
             return self.page.extend_from_slice(bytes);
         }
         match bytes.iter().position(|byte| *byte == b'\n') {
             Some(end) => {
-                let (line, rest) = bytes.split_at(end.saturating_add(1).min(bytes.len()));
-                self.page.extend_from_slice(line)?;
+                let (line, rest) = bytes.split_at(end.min(bytes.len()));
+                self.page.extend_from_slice(before_comma(line))?;
+                self.page.extend_from_slice(b"\n")?;
                 self.page.extend_from_slice(self.behind.as_bytes())?;
                 self.behind = "";
-                self.page.extend_from_slice(rest)
+                self.page.extend_from_slice(rest.get(1..).unwrap_or(b""))
             }
             None => self.page.extend_from_slice(bytes),
         }
@@ -72,6 +73,15 @@ impl<'a, W: Write> Paged<'a, W> {
             }
         }
     }
+}
+
+/// What stands of a line before its first comma.
+fn before_comma(line: &[u8]) -> &[u8] {
+    let end = line
+        .iter()
+        .position(|byte| *byte == b',')
+        .unwrap_or(line.len());
+    line.split_at(end.min(line.len())).0
 }
 
 impl<W: Write> Write for Paged<'_, W> {
