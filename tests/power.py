@@ -87,7 +87,7 @@ def sessions(judge, options, play, name="session"):
             say(not session.lost, f"{name} {number}",
                 f"{session.commands} commands, {len(judge.seen) - opened} contents")
             for words, content, found, states in session.lost[:1]:
-                print(words, *zip(("image", "journal", "redo file"), content), found, f"not one of {states}",
+                print(words, *zip(("image", "journal", "redo file", "its text"), content), found, f"not one of {states}",
                       sep="\n      ")
         opened = len(judge.seen)
     recovered = sum(found.recovered is True for found in judge.seen.values())
@@ -112,7 +112,7 @@ def replay(judge, options):
     be safe."""
     sessions(judge, options, replayed)
     for *row, sync, wanted in rows(read("tests/power.txt"))[1:]:
-        lost_with, lost = (is_lost(judge, options, *row, without) for without in (None, sync))
+        lost_with, lost = (is_lost(judge, options, *row, without) for without in ((), sync.split()))
         say(lost == (wanted == "lost") and not lost_with, f"without the sync of {row[0]}",
             f"{'' if lost else 'nothing '}lost{', and with it too' * lost_with}")
 

@@ -68,21 +68,21 @@ class Judge:
         return [self.seen[content] for content in several]
 
     def open(self, content):
-        """What `bx log` finds. It refuses without an image or a journal: where the journal has nothing, no change is
-        known."""
-        image, journal, redo_text = content
+        """What `bx undo -k 0` finds, which recovers where the image isn't known to be another one. It refuses without
+        an image or a journal: where the journal has nothing, no change is known."""
+        image, journal, redo_text, _ = content
         if not journal and None in (image, journal):
             return Found(None, 0, image or b"", False, image or b"", undone_in(redo_text))
         with tempfile.TemporaryDirectory(dir=self.path) as path:
             room = Room(self.bx, path)
             room.put(content)
-            log = room.run("log -U IMAGE")
-            if log.returncode:
-                return Found(log.stderr.strip())
-            left, count = room.get(), log.stdout.count("\n")
+            opened = room.run("undo -U -k 0 IMAGE")
+            if opened.returncode:
+                return Found(opened.stderr.strip())
+            left, count = room.get(), int(opened.stdout)
             if left not in self.led:
                 self.led[left] = lead(room, left, count)
-            return self.led[left]._replace(recovered="recovered" in log.stderr)
+            return self.led[left]._replace(recovered="recovered" in opened.stderr)
 
 
 def undone_in(redo_text):
@@ -91,7 +91,7 @@ def undone_in(redo_text):
 
 def lead(room, left, count):
     """Where all undos lead from what was opened and has this count of changes, and all redos behind them."""
-    image, _, redo_text = left
+    image, _, redo_text, _ = left
     ends, undone = [image, None], undone_in(redo_text)
     for at, (word, steps) in enumerate((("undo", count), ("redo", undone and count + undone))):
         if steps:

@@ -5,7 +5,7 @@ Since the last sync of a file any of its calls may be lost, whole or in part, an
 image each byte in the range of a write or a changed length is as it was at some moment, zero or spoiled, and each
 length in between may be found. A text keeps what was synced and not cut; behind that it ends anywhere up to its
 greatest length, and each byte is one that was written or zero. A name that was made or removed since its folder was
-synced is there or not."""
+synced is there or not. The image's text is a line that is there or not."""
 import itertools
 import math
 
@@ -115,6 +115,19 @@ class File:
         for i in ([], [rng.randrange(len(pieces))], range(len(pieces)))[how]:
             parts[i] = rng.choice(pieces[i][2])
         return *parts, rng.randint(*self.lengths()) if how == 0 else rng.choice([*ends, ends[-1], len(base)])
+
+
+
+class Line(File):
+    """The image's text: each write is the whole of it, and lies within one sector of a disk. So it is found as it was at
+    some moment, or empty, or as zeros."""
+
+    def __init__(self, content=b"", named=True):
+        super().__init__(False, content, named)
+
+    def found(self, limit, rng):
+        whole = list(reversed(self.contents)) + [bytes(len(self.now() or b"")), b""] * bool(self.touched)
+        return list(dict.fromkeys(whole * (True in self.names) + [None] * (False in self.names)))
 
 
 def up_to(limit, first, choices, draw, made=tuple):

@@ -5,11 +5,12 @@ import pathlib
 import re
 import subprocess
 
-from replay.losses import File
+from replay.losses import File, Line
 
-# The letters of an order: the folder of the texts, the folder of the image, journal, image, redo file.
-PLACES = {"texts": "F", "images": "I", "texts/journal": "J", "images/image": "D", "texts/journal.redo": "R"}
-FILES = ("images/image", "texts/journal", "texts/journal.redo")
+# The letters of an order: the folder of the texts, the folder of the image, journal, image, redo file, the image's text.
+PLACES = {"texts": "F", "images": "I", "texts/journal": "J", "images/image": "D", "texts/journal.redo": "R",
+          "texts/journal.image": "N"}
+FILES = ("images/image", "texts/journal", "texts/journal.redo", "texts/journal.image")
 LINE = re.compile(r"^(?:\d+ +)?(\w+)\((.*)\) += (\d+)(?:<(.*)>)?$")
 NAMED = ("openat", "unlink", "unlinkat")
 # What is replayed, and calls that would change a file in a way that isn't.
@@ -85,23 +86,24 @@ def calls_of(trace, room):
 
 
 class Disk:
-    """Image, journal and redo file."""
+    """Image, journal, redo file and the image's text."""
 
     def __init__(self, *contents):
-        contents = contents + (None,) * (3 - len(contents))
+        *three, line = contents + (None,) * (4 - len(contents))
         self.files = {letter: File(letter != "D", content or b"", content is not None)
-                      for letter, content in zip("DJR", contents)}
+                      for letter, content in zip("DJR", three)} | {"N": Line(line or b"", line is not None)}
 
     def now(self):
         return tuple(file.now() for file in self.files.values())
 
     def is_settled(self):
-        return all(file.is_settled() for file in self.files.values())
+        """Whether nothing can be lost, but of the image's text, whose last line is never synced."""
+        return all(self.files[letter].is_settled() for letter in "DJR")
 
     def play(self, call, letter, *words):
         """A call on a file; of a folder the names of its files are synced."""
         if letter in "FI":
-            for name in "JR" if letter == "F" else "D":
+            for name in "JRN" if letter == "F" else "D":
                 del self.files[name].names[:-1]
         else:
             getattr(self.files[letter], call)(*words)

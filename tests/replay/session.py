@@ -51,24 +51,24 @@ class Session(Watched):
         if states and not self.lost:
             self.fitting += self.look(words, states, answered)
 
-    def run(self, command, unsynced=False, until=None, left_out=None):
-        """A command, killed before the call `until`. The sync `left_out` is left out of what is replayed. A sync is
-        named by its file and its number among those of the file, as J:0, and a call that writes by its number alone,
-        as W:0."""
+    def run(self, command, unsynced=False, until=None, left_out=()):
+        """A command, killed before the call `until`. The syncs `left_out` are left out of what is replayed. A sync is
+        named by its file and its number among those of the file, as J:0, and a call that writes one of the other three
+        by its number alone, as W:0."""
         steps, self.fitting, seen = command.steps(self.state), [], collections.Counter()
         done, calls = self.room.trace(command.words, command.input, unsynced)
         self.answered(command, done)
         for what, letter, *words in calls:
-            kind = letter if what == "sync" else "N" if what == "name" else "W"
+            kind = letter if what == "sync" else "-" if what == "name" or letter == "N" else "W"
             here = f"{kind}:{seen[kind]}"
             if here == until:
                 break
             if what == "sync" and not unsynced:
                 self.lose_here(command.words, steps if seen["W"] else self.may)
-            if here != left_out:
+            if here not in left_out:
                 self.disk.play(what, letter, *words)
             seen[kind] += 1
-        if left_out and int(left_out[2:]) >= seen[left_out[0]]:
+        if any(int(sync[2:]) >= seen[sync[0]] for sync in left_out):
             raise ValueError(f"{command.words}: no sync {left_out}")
         if until:
             self.kill(steps, seen["W"] > 0, unsynced)
