@@ -1,8 +1,9 @@
-What each command syncs, and in which order, by the calls that strace sees it make, beside the table in docs/FORMATS.md, "Order of
-device calls": F and I are the folders of the texts and of the image, J the journal, D the image, R the redo file. A command that may
-write syncs all five first; a change then JRDJ, with a J before it where it is the journal's first byte, and an undo or a redo of one
-change JDRJ. A history that is dropped is JDRRJ, and by `forget`, which makes no file, no folder's. `wrong:` stands where a file is
-written before the folder of the texts is synced, or while another one is not on the disk.
+What each command syncs, and in which order, by the calls that strace sees it make, beside the tables in docs/FORMATS.md, "Order of
+device calls": F and I are the folders of the texts and of the image, N the image's text, J the journal, D the image, R the redo file. A
+command that may write syncs F and I, the line N on the image, where it makes that text its name F, and then JDR; a change then JRDJ, with
+a J before it where it is the journal's first byte, and an undo or a redo of one change JDRJ. A history that is dropped is JDRRJ; `forget`
+makes no file, and syncs the folder behind it, from which it takes N away. `wrong:` stands where a file is written before the folder of the
+texts is synced, or while another one is not on the disk, but for the line N at the end of a command.
 
   $ head='change2 0000000N 0000000000000008\n' saved="${head}00000000: 41                                       A\nsave 0000000N\n"
   $ line() { echo "${*/IMAGE/-J texts/journal images/image}" | sed 's|OF$|-J texts/journal of=images/image|'; }
@@ -21,48 +22,48 @@ save line:
   >   local status
   >   strace -f -y -o ../calls -e trace=fsync,fdatasync,ftruncate,fallocate,/write,copy_file_range bx $(line "$@") > /dev/null 2>&1
   >   status=$?
-  >   sed -nE 's/^([0-9]+ +)?(\w+)\([0-9]+<[^>]*\/(texts|images|image|journal|journal\.redo)>.* = [0-9]+.*/\2 \3/p' ../calls | awk -v unsynced="$*" '
-  >     BEGIN { letter["texts"] = "F"; letter["images"] = "I"; letter["image"] = "D"; letter["journal"] = "J"; letter["journal.redo"] = "R"
+  >   sed -nE 's/^([0-9]+ +)?(\w+)\([0-9]+<[^>]*\/(texts|images|image|journal|journal\.redo|journal\.image)>.* = [0-9]+.*/\2 \3/p' ../calls | awk -v unsynced="$*" '
+  >     BEGIN { letter["texts"] = "F"; letter["images"] = "I"; letter["image"] = "D"; letter["journal"] = "J"; letter["journal.redo"] = "R"; letter["journal.image"] = "N"
   >       named = unsynced ~ /^forget / }
   >     { at = letter[$2] }
   >     /^f(data)?sync/ { order = order at; named = named || at == "F"; if (left == at) left = ""; next }
-  >     unsynced !~ / -U / && (!named || left && left != at) { print "wrong: " $0 }
+  >     unsynced !~ / -U / && (!named || left && left != at && left != "N") { print "wrong: " $0 }
   >     { left = at }
-  >     END { if (left && unsynced !~ / -U /) print "wrong: " left; if (order) print order }'
+  >     END { if (left && left != "N" && unsynced !~ / -U /) print "wrong: " left; if (order) print order }'
   >   return $status
   > }
 
 # Syncs (wants strace)
 
   $ given 0 0; rm -r images/* texts/*; synced revert -f dump IMAGE
-  FIJDRJJRDJ
+  FINFJDRJJRDJ
   $ given 0 0; synced revert -f dump IMAGE
-  FIJDRJJRDJ
+  FINFJDRJJRDJ
   $ given 1 0; synced revert -f dump IMAGE
-  FIJDRJRDJ
+  FINJDRJRDJ
   $ given 2 1; synced revert -f dump IMAGE
-  FIJDRJRDJ
+  FINJDRJRDJ
   $ given 0 0; synced dd if=dump OF
-  FIJDRJJRDJ
+  FINFJDRJJRDJ
   $ given 0 0; synced dd if=dump obs=1 seek=100 OF
-  FIJDRJJRDJ
+  FINFJDRJJRDJ
   $ given 1 0; synced undo -k 0 IMAGE
   FIJDR
   $ given 1 0; synced undo IMAGE
-  FIJDRJDRJJ
+  FINJDRJDRJJ
   $ given 4 0; synced undo -k 3 IMAGE
-  FIJDRJDRJJDRJJDRJ
+  FINJDRJDRJJDRJJDRJ
   $ given 2 1; synced redo -k 0 IMAGE
   FIJDR
   $ given 1 1; synced redo IMAGE
-  FIJDRJJDRJ
+  FINJDRJJDRJ
   $ given 4 4; synced redo -k 3 IMAGE
-  FIJDRJJDRJJDRJJDRJ
+  FINJDRJJDRJJDRJJDRJ
   $ given 1 0 "$head"; synced undo -k 9 IMAGE
-  FIJDRRJ
+  FINJDRRJ
   [1]
   $ given 1 0 "$saved"; synced undo -k 9 IMAGE
-  FIJDRRDJ
+  FINJDRRDJ
   [1]
   $ given 1 0; synced undo -k 9 IMAGE
   FI
@@ -79,13 +80,15 @@ save line:
   $ given 0 0 "$head"; synced log IMAGE
   FIJDRRJJJDR
   $ given 0 0 "$saved"; synced log IMAGE
+  FI
+  $ given 0 0 "$saved"; synced log --anyway IMAGE
   FIJDRRDJJJDR
   $ given 2 1; synced forget IMAGE
-  JDRRJ
+  JDRRJF
   $ given 1 0 "$saved"; synced forget IMAGE
-  JDRFIJDRRDJJDRJDRRJ
+  JDRFIJDRRDJJDRJDRRJF
   $ given 2 1; synced revert --fresh -f dump IMAGE
-  FIJDRJDRRJFIJDRJJRDJ
+  FIJDRJDRRJFINJDRJJRDJ
   $ given 0 0; synced xxd images/image
   $ given 0 0; synced dd if=images/image
   $ given 0 0; rm -r images/* texts/*; synced revert -U -f dump IMAGE
