@@ -149,20 +149,20 @@ What the completion of zsh adds, at a terminal of its own, is written down by a 
   $ bx strings -<TAB>
   -a -n -t
   $ bx revert -<TAB>
-  --dry-run --fresh --mounted -J -U -f -n -p -s
+  --anyway --dry-run --fresh --mounted -J -U -f -n -p -s
   $ bx undo -<TAB>
   --anyway --mounted -J -U -k
   $ bx redo -<TAB>
   --anyway --mounted -J -U -k
   $ bx log -<TAB>
-  --mounted -J -U -v
+  --anyway --mounted -J -U -v
   $ bx show -<TAB>
   -J -d -k -p -r
   $ bx diff -<TAB>
-  -v
+  -q -v
   $ bx patch -<TAB>
-  --dry-run --fresh --mounted -J -R -U -f -n
+  --anyway --dry-run --fresh --mounted -J -R -U -f -n
   $ bx forget -<TAB>
-  --mounted -J -U
+  --anyway --mounted -J -U
   $ bx dd -<TAB>
-  --dry-run --fresh --mounted -J -U -n
+  --anyway --dry-run --fresh --mounted -J -U -n

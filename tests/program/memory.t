@@ -23,11 +23,11 @@ overwrites, a redo what it restores.
 
 An opening that rolls back holds neither, zeros behind the save line or not:
 
-  $ truncate -s -32 img.bxj; (ulimit -v 20000; bx log img); cmp before img; wc -c < img.bxj
+  $ truncate -s -32 img.bxj; (ulimit -v 20000; bx log --anyway img); cmp before img; wc -c < img.bxj
   bx: recovered: change 1 was taken back
   0
   $ bx dd if=new of=img conv=notrunc 2> /dev/null; truncate -s -32 img.bxj; truncate -s +16M img.bxj
-  $ (ulimit -v 24576; bx log img); cmp before img; wc -c < img.bxj
+  $ (ulimit -v 24576; bx log --anyway img); cmp before img; wc -c < img.bxj
   bx: recovered: change 1 was taken back
   0
 
