@@ -317,3 +317,64 @@ A line beside files of another history, whose journal is newer than it:
   $ cp img.bxj.image was; bx undo img; cmp was img.bxj.image; stat -c %u img.bxj.image
   0
   54321
+
+# Other texts behind a stop (wants strace)
+
+A change that is killed before its end line, and other texts in place of its line. What is no line says nothing: the change is taken back.
+
+  $ begun() { # the second change, whose end line isn't written
+  >   changes '2: 7879'; echo '6: 7a7a' > dump
+  >   { strace -f -o ../calls -e inject=pwrite64:signal=KILL:when=4 bx revert -f dump img; } > ../said 2>&1
+  > }
+  $ begun; cat img; tail -n 1 img.bxj; rm -rf ../begun; mkdir ../begun; cp -p img* ../begun; zeros=$(mega 0 32)
+  ABxyEFzzsave 00000002
+  $ again() { rm -rf img*; cp -p ../begun/* .; }
+  $ undone() { # TEXT: the undo of none goes on, and the text is written anew or stays
+  >   again; printf %b "$1" | tee img.bxj.image > was
+  >   bx undo -k 0 img > out 2>&1; echo "$? $(cat img) $(cmp -s img.bxj.image was && echo stays || echo anew)"
+  > }
+  $ again; for text in '' '\0' "$(mega 0 439 | sed 's/0/\\0/g')" "$(head -c 438 img.bxj.image)" "$(head -c 300 img.bxj.image)$(mega 0 139 | sed 's/0/\\0/g')" \
+  >   "image2 00000001 00000000 0000000000000008 $zeros $zeros 00000000\n" "image1 00000001 00000000 0000000000000008 $zeros $zeros 00000000\n"
+  > do undone "$text"; done | uniq -c
+        7 0 ABxyEFGH anew
+  $ again; for text in "$(cat img.bxj.image)\n\n" "$(mega 0 440 | sed 's/0/\\0/g')" 'image of a disk\n'; do undone "$text"; done | uniq -c
+        3 0 ABxyEFGH stays
+
+Each character another one: of LEAST and MOST (16), of M where blocks of such an image lie within this one (2), and of the digests of 27
+blocks that the change leaves alone it is 48, with all files as they were; of all others the change is taken back, and so it is anyway.
+
+  $ for at in $(seq 0 438); do
+  >   again; old=$(head -c $((at + 1)) img.bxj.image | tail -c 1); new=0; [ "$old" != 0 ] || new=1
+  >   printf $new | dd of=img.bxj.image bs=1 seek=$at conv=notrunc status=none
+  >   kept bx undo -k 0 img > ../out 2>&1 && ! cmp -s img ../begun/img || cat ../out
+  >   bx undo -k 0 --anyway img > ../out 2>&1; [ "$(cat img)" = ABxyEFGH ] || echo $at
+  > done | grep -v '^not as before$' | sort | uniq -c
+      234 bx: the image was changed since
+
+A link and a folder in its place are left alone; one whose bits are wider than the image's is made anew:
+
+  $ again; mv img.bxj.image line; ln -s line img.bxj.image; cp line was; bx undo -k 0 img; cat img; cmp line was; readlink img.bxj.image
+  bx: recovered: change 2 was taken back
+  1
+  ABxyEFGHline
+  $ again; rm img.bxj.image; mkdir img.bxj.image; bx undo -k 0 img; cat img; rmdir img.bxj.image
+  bx: recovered: change 2 was taken back
+  1
+  ABxyEFGH
+  $ again; chmod 600 img img.bxj img.bxj.redo; chmod 644 img.bxj.image; bx undo -k 0 img; cat img; stat -c %a img.bxj.image
+  bx: recovered: change 2 was taken back
+  1
+  ABxyEFGH600
+
+# A text of somebody else behind a stop (wants root strace)
+
+  $ begun() {
+  >   changes '2: 7879'; echo '6: 7a7a' > dump
+  >   { strace -f -o ../calls -e inject=pwrite64:signal=KILL:when=4 bx revert -f dump img; } > ../said 2>&1
+  > }
+  $ begun; chown 54321:54321 img.bxj.image; chmod 666 img.bxj.image; cp img.bxj.image was; bx undo -k 0 img; cat img; cmp was img.bxj.image
+  bx: recovered: change 2 was taken back
+  1
+  ABxyEFGH
+  $ stat -c %u img.bxj.image
+  54321

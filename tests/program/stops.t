@@ -5,7 +5,7 @@ Changes, undos and redos that are stopped, on a full disk and by a kill; and two
 A change, and an undo, which writes the redo file, stop, and opening finds the image.
 
   $ head -c 3000 "$(command -v bx)" > before; mega 5 8000 > digits; cp before img; bx revert -p -f digits img; cp img after; cp img.bxj after.bxj
-  $ restored() { bx undo -k $(bx log img 2> /dev/null | wc -l) img && cmp before img && [ ! -s img.bxj ]; }
+  $ restored() { bx undo -k $(bx undo -k 0 img 2> /dev/null) img && cmp before img && [ ! -s img.bxj ]; }
   $ for most in 1 2 3 4 5 6; do
   >   rm -f img*; cp before img; (ulimit -f $most; bx revert -p -f digits img); restored || echo "$most KiB: not restored"
   > done 2>&1 | sort | uniq -c
@@ -17,6 +17,36 @@ A change, and an undo, which writes the redo file, stop, and opening finds the i
         7 0
         3 bx: interrupted: open again to recover
 
+# A full disk, and a new build once there is room (wants root)
+
+The change stops, in its record or in the image; behind that another image stands there. Nothing but `--fresh` goes on, and then the new
+image can be had back.
+
+  $ mkdir disk other; disk=$PWD/disk; trap 'cd /; umount "$disk" 2> /dev/null' EXIT
+  $ mount -t tmpfs -o size=256k tmpfs disk || left_out 'it cannot be mounted'
+  $ seq 0 4000 99999 | awk '{ printf "%x: 42\n", $1 }' > dump; echo '1: 43' > one; mega n 90000 > new; cd disk
+  $ built() { # KIB TEXTS: a change with so much room, and then a new build
+  >   rm -f * ../other/*; truncate -s 100000 img; echo '8: 41' | bx revert $2 img
+  >   head -c $((($(df --output=avail -k . | tail -n 1) - $1) * 1024)) /dev/zero > fill; bx revert $2 -f ../dump img; rm fill; cp ../new img
+  >   for words in undo 'undo -k 0' redo 'revert -f ../one'; do bx $words $2 img; cmp ../new img; done; bx revert --fresh $2 -f ../one img
+  > }
+  $ for room in 0 4 8 16 32 64; do built $room; bx xxd -l 4 img; bx log img; bx undo img; cmp ../new img; done 2>&1 | sort | uniq -c
+        6 0
+        6 00000000: 6e43 6e6e                                nCnn
+        6 1 90000 1
+        6 bx: interrupted: open again to recover
+       24 bx: the image was changed since
+
+With the texts on another disk, it is 48 too:
+
+  $ for room in 0 4 8 16 32 64; do built $room '-J ../other/j'; cmp ../new img; bx revert --fresh --anyway -J ../other/j -f ../one img
+  >   bx log -J ../other/j img; bx undo -J ../other/j img; cmp ../new img
+  > done 2>&1 | sort | uniq -c
+        6 0
+        6 1 90000 1
+        6 bx: interrupted: open again to recover
+       30 bx: the image was changed since
+
 # Killed at a random moment
 
 The image comes back, and no redo file is then called damaged.
@@ -25,7 +55,7 @@ The image comes back, and no redo file is then called damaged.
   $ other=${patched//0000000000000008/00000000002dc6c0}
   $ cp before img; bx revert -f dump img; cp img changed; cp img.bxj changed.bxj; bx undo img; cp img undone; cp img.bxj.redo undone.redo
   0
-  $ restored() { bx undo -k $(bx log img 2> /dev/null | wc -l) img && cmp before img && [ ! -s img.bxj ]; }
+  $ restored() { bx undo -k $(bx undo -k 0 img 2> /dev/null) img && cmp before img && [ ! -s img.bxj ]; }
   $ killed() { # MILLISECONDS COMMAND ..
   >   { timeout --foreground -s KILL 0.$(printf %03d $1) "${@:2}"; } > /dev/null 2>&1
   >   if [ -e img.bxj ]; then restored; else cmp before img && echo 0; fi
