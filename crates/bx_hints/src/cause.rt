@@ -122,7 +122,7 @@ where
 /// Whether the words of the command line are at fault, which were read.
 pub fn is_of_words(stopped: Stopped<'_>) -> bool {
     let number = stopped.fault.number();
-    let of_words = (20..30).contains(&number) || stopped.fault == Fault::Usage;
+    let of_words = (20..28).contains(&number) || stopped.fault == Fault::Usage;
     of_words && matches!(stopped.reason, Reason::Unknown)
 }
 

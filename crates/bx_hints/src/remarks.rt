@@ -110,12 +110,12 @@ impl Remarks {
         }
     }
 
-    /// Says, before an undo or a redo, that it first takes back what is unfinished, and what it then does.
-    pub fn tell_before_steps<R>(&self, rt: &R, way: Way, job: &StepsJob)
+    /// Says of an undo or a redo, behind a recovery, that this came first, and what it then did.
+    pub fn tell_behind_recovery<R>(&self, rt: &R, way: Way, job: &StepsJob, how: Option<How>)
     where
         R: Eprint + AllocGlobal,
     {
-        if let Some(standing) = &self.standing {
+        if let (Some(standing), Some(How::Dropped | How::Restored { .. })) = (&self.standing, how) {
             tell_of_begun(rt, standing, way, job);
         }
     }

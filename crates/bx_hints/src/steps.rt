@@ -49,7 +49,7 @@ impl Standing {
     }
 }
 
-/// Says, before an undo or a redo, that it first takes back what is unfinished, and what it then does.
+/// Says of an undo or a redo, behind a recovery, that it first took back what was unfinished, and what it then did.
 pub fn tell_of_begun<R: Eprint + AllocGlobal>(
     rt: &R,
     standing: &Standing,

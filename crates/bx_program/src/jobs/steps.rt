@@ -25,7 +25,6 @@ where
     let target = &job.target;
     refuse_without_journal(rt, target)?;
     remarks.look_at_times(rt, target);
-    remarks.tell_before_steps(rt, way, job);
     let names = names_of(rt.alloc(), target)?;
     let progress = progress_of_input(rt, remarks, None);
     let mut world = world_of(rt, target, &progress)?;
@@ -33,6 +32,7 @@ where
     let moved = request_move(&mut world, rt.alloc(), &names, guard, way, job.count);
     drop(names);
     remarks.look_at_recovered(moved.how);
+    remarks.tell_behind_recovery(rt, way, job, moved.how);
     remarks.look_at_note(world.is_without_note);
     match moved.outcome {
         Ok(()) => Ok(()),
