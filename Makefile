@@ -101,9 +101,11 @@ hostile: $(built)
 hints: $(built)
 	tests/hostile.py --bx $(program) hints
 
-# Each command killed before each of its writes and syncs, by strace, and then the next one on the right image and on another one.
+# Each command killed before each of its writes and syncs, by strace, and then the next one on the right image and on another one;
+# and random histories with kills, beside a model.
 stops: $(built)
 	tests/stops.py --bx $(program)
+	tests/histories.py --bx $(program)
 
 # The order in which the files of a command reach the disk, by strace; and losses of power, played on what bx wrote, and (as root)
 # on what the kernel's page cache held back.
