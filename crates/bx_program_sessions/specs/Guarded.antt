@@ -258,7 +258,12 @@ pub record IsLineBehind (old : Contents) (others : ℕ) (line : ImageLine) : Typ
   pub seal : IsSealOf old.image found.standing (min others found.standing.changes)
       (record { least = found.standing.length; most = found.standing.length }) line
 
+-- the line that is put on the disk before a task: where it is kept, the one that was found
+abbrev pub line_to_put : Seal → Option ImageLine → Option ImageLine
+line_to_put Kept found = found
+line_to_put (Line line) found = Some line
+
 -- what the note has, and what may be found of it after a loss of power, where a task begins to write
-abbrev pub IsSealed : Seal → List ℕ → List ℕ → (List ℕ → Type 0) → Type 0
-IsSealed Kept old new found = new ≡ old
-IsSealed (Line line) old new found = ((new ≡ image_line line) × Only (image_line line) found) ⊎ (new ≡ [])
+abbrev pub IsSealed : Option ImageLine → List ℕ → List ℕ → (List ℕ → Type 0) → Type 0
+IsSealed None old new found = new ≡ old
+IsSealed (Some line) old new found = ((new ≡ image_line line) × Only (image_line line) found) ⊎ (new ≡ [])

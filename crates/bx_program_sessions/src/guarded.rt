@@ -6,7 +6,7 @@ ghost use Rattle.bx_cli_commands.specs.declared.fault.Fault.TheVariants.{OpenFai
 ghost use Rattle.bx_program_world.specs.declared.world.Noted.TheVariants.{Stands};
 ghost use Rattle.bx_program_world.specs.World.{NothingNewFound};
 ghost use Rattle.bx_program_sessions.specs.Contents.{AreFresh, AreHonest, AreInPlace, KeepHonesty, held_by};
-ghost use Rattle.bx_program_sessions.specs.Guarded.{AreFew, IsSealed, LookAt, RiseByOne, WasJudged, another};
+ghost use Rattle.bx_program_sessions.specs.Guarded.{AreFew, IsSealed, LookAt, RiseByOne, WasJudged, another, line_to_put};
 ghost use Rattle.bx_program_sessions.specs.Ran.{EndsAs, IsUnbegun, RunsTask};
 ghost use Rattle.bx_program_sessions.specs.Task.{IsNearTask};
 
@@ -17,7 +17,7 @@ use crate::terms::{Terms, told_by};
 use bx_cli_commands::{Fault, Reply};
 use bx_image::Device;
 use bx_journal::{Devices, How, SessionFault};
-use bx_journal_image::write_line;
+use bx_journal_image::{ImageLine, write_line};
 use bx_journal_store::TextStore;
 use bx_program_files::{Guard, Unopened, Which, Why};
 use bx_program_world::{Noted, World};
@@ -46,16 +46,27 @@ fn is_put(noted: Noted) -> bool
     }
 }
 
+/// The line that is put on the disk before a task. One that is kept is put too: a command that syncs nothing may have left it, and
+/// behind a loss of power an older one would be found.
+fn line_to_put(seal: Seal, found: Option<ImageLine>) -> Option<ImageLine>
+    ensures { result ≡ line_to_put seal found }
+{
+    match seal {
+        Seal::Kept => found,
+        Seal::Line(line) => Some(line),
+    }
+}
+
 /// Puts what the note is to have while a task writes, on the disk; says no where it stands as it was.
-fn put_seal<W: World>(world: &mut W, seal: Seal) -> bool
-    ensures sealed { W.honest world.old → result ≡ true → IsSealed seal (W.note world.old) (W.note world.new) (W.note_survives world.new) }
+fn put_seal<W: World>(world: &mut W, line: Option<ImageLine>) -> bool
+    ensures sealed { W.honest world.old → result ≡ true → IsSealed line (W.note world.old) (W.note world.new) (W.note_survives world.new) }
     ensures same { W.honest world.old → W.sight world.new ≡ W.sight world.old }
     ensures survives { W.honest world.old → NothingNewFound (W.survives world.old) (W.survives world.new) }
     ensures honesty { W.honest world.new ↔ W.honest world.old }
 {
-    match seal {
-        Seal::Kept => true,
-        Seal::Line(line) => {
+    match line {
+        None => true,
+        Some(line) => {
             let text = write_line(line);
             is_put(world.put_note(text.as_bytes(), true))
         }
@@ -182,6 +193,7 @@ fn run_looked<W: World, R: Read + Drop>(
     alloc: Global,
     devices: Devices<W::Image, W::Text>,
     looked: Looked,
+    found: Option<ImageLine>,
     task: Task<R>,
 ) -> Ended<W::Image, W::Text>
     requires near { IsNearTask task }
@@ -198,7 +210,7 @@ fn run_looked<W: World, R: Read + Drop>(
     match looked {
         Looked::Another => unbegun(devices),
         Looked::Goes(ready) => {
-            if put_seal(world, ready.seal) {
+            if put_seal(world, line_to_put(ready.seal, found)) {
                 run_sealed(world, alloc, devices, ready, task)
             } else {
                 failed(devices, SessionFault::DeviceFailed)
@@ -243,7 +255,7 @@ pub fn run_guarded<W: World, R: Read + Drop>(
     };
     let mut devices = devices;
     match look_at(&alloc, &mut devices, &terms, &task) {
-        Ok(looked) => run_looked(world, alloc, devices, looked, task),
+        Ok(looked) => run_looked(world, alloc, devices, looked, told.line, task),
         Err(fault) => failed(devices, fault),
     }
 }
