@@ -12,6 +12,7 @@
 //! `docs/FORMATS.md` has the words ("Numbers on the command line"), and `docs/DECISIONS.md` why.
 #![tactic(auto)]
 
+mod dashed;
 mod given;
 mod instead;
 pub mod laws;

@@ -1,6 +1,7 @@
 //! From words to a job.
 ghost use Rattle.std.specs.Prelude.{◌≡◌, IfOk};
 
+use crate::dashed::by_letter;
 use crate::given::Given;
 use crate::options::{Verb, program_behind};
 use bx_cli_commands::{
@@ -20,13 +21,16 @@ use clap::Error;
 use clap::error::ErrorKind;
 use std::alloc::Global;
 
-/// The words as clap takes them, behind the program's name.
+/// The words as clap takes them, behind the program's name: those that xxd has behind one dash, up to a `--`, by their letters.
 pub(crate) fn words_of(alloc: Global, words: &Words) -> Result<Vec<&str>, Fault> {
     let mut texts = Vec::new(alloc);
     texts.push("bx").map_err(|_| Fault::Io(IoFault::NoMemory))?;
+    let mut is_of_xxd = words.get(0) == Some("xxd");
     for i in 0..words.len() {
         if let Some(word) = words.get(i) {
-            texts.push(word).map_err(|_| Fault::Io(IoFault::NoMemory))?;
+            is_of_xxd = is_of_xxd && word != "--";
+            let text = if is_of_xxd { by_letter(word) } else { word };
+            texts.push(text).map_err(|_| Fault::Io(IoFault::NoMemory))?;
         }
     }
     Ok(texts)
@@ -104,6 +108,14 @@ fn name(alloc: Global, m: &Given<'_, '_>, id: &str) -> Result<Option<Name>, Faul
     }
 }
 
+/// The input that is named. Its name `-` is that of standard input, as it is in the tools.
+fn input(alloc: Global, m: &Given<'_, '_>) -> Result<Option<Name>, Fault> {
+    match m.get_str("file") {
+        Some("-") => Ok(None),
+        _ => name(alloc, m, "file"),
+    }
+}
+
 // The image that is named, the texts beside it, and how they are used.
 fn target(alloc: Global, m: &Given<'_, '_>, access: Access) -> Result<Target, Fault> {
     let Some(image) = m.get_str("image") else {
@@ -172,7 +184,7 @@ fn od(alloc: Global, m: &Given<'_, '_>) -> Result<OdJob, Fault> {
             limit: number(m.get_str("limit"), SizeStyle::Count)?,
             all: m.get_flag("all"),
         },
-        file: name(alloc, m, "file")?,
+        file: input(alloc, m)?,
     })
 }
 
@@ -198,7 +210,7 @@ fn xxd(alloc: Global, m: &Given<'_, '_>) -> Result<XxdJob, Fault> {
             shift: number_or(m.get_str("shift"), SizeStyle::Bare, 0)?,
             upper: m.get_flag("upper"),
         },
-        file: name(alloc, m, "file")?,
+        file: input(alloc, m)?,
     })
 }
 

@@ -1,0 +1,17 @@
+//! The options of xxd that are words behind one dash.
+
+/// The option of one letter that such a word stands for, as xxd takes it; any other word as it is.
+pub(crate) fn by_letter(word: &str) -> &str {
+    match word {
+        "-bits" => "-b",
+        "-cols" => "-c",
+        "-group" | "-groupsize" => "-g",
+        "-include" => "-i",
+        "-len" => "-l",
+        "-offset" => "-o",
+        "-plain" | "-postscript" | "-ps" => "-p",
+        "-seek" | "-skip" => "-s",
+        "-uppercase" => "-u",
+        _ => word,
+    }
+}
