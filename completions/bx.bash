@@ -77,7 +77,7 @@ _bx() {
         _bx_words "$commands"
         return
         ;;
-    xxd) options='-b -c -g -i -l -o -p -s -u' ;;
+    xxd) options='-b -c -g -i -l -n -o -p -s -u' ;;
     od) options='-A -N -b -c -d -j -o -s -t -v -x' ;;
     hexdump) options='-C -n -s -v' ;;
     strings) options='-a -n -t' ;;
@@ -95,7 +95,7 @@ _bx() {
     od:-A) _bx_words 'd o x n' ;;
     od:-t) _bx_words 'c d1 d2 d4 d8 o1 o2 o4 o8 u1 u2 u4 u8 x1 x2 x4 x8' ;;
     strings:-t) _bx_words 'd o x' ;;
-    xxd:-[cglos] | od:-[jN] | hexdump:-[ns] | strings:-n | revert:-s | undo:-k | redo:-k | show:-k) ;;
+    xxd:-[cglnos] | od:-[jN] | hexdump:-[ns] | strings:-n | revert:-s | undo:-k | redo:-k | show:-k) ;;
     *:-J | revert:-f | patch:-f) _bx_files ;;
     *)
         case $command:$cur in

@@ -67,6 +67,7 @@ complete -c bx -n '__fish_seen_subcommand_from xxd' -s c -x -d 'Bytes on a line,
 complete -c bx -n '__fish_seen_subcommand_from xxd' -s g -x -d 'Bytes in a group, 0 for one group a line'
 complete -c bx -n '__fish_seen_subcommand_from xxd' -s i -d 'A C array'
 complete -c bx -n '__fish_seen_subcommand_from xxd' -s l -x -d 'Maximum number of bytes to dump'
+complete -c bx -n '__fish_seen_subcommand_from xxd' -s n -x -d 'Name of the C array'
 complete -c bx -n '__fish_seen_subcommand_from xxd' -s o -x -d 'Bytes to add to the addresses shown'
 complete -c bx -n '__fish_seen_subcommand_from xxd' -s p -d 'Digits alone'
 complete -c bx -n '__fish_seen_subcommand_from xxd' -s s -x -d 'Bytes to skip first'

@@ -8,6 +8,7 @@ pub(crate) fn by_letter(word: &str) -> &str {
         "-group" | "-groupsize" => "-g",
         "-include" => "-i",
         "-len" => "-l",
+        "-name" => "-n",
         "-offset" => "-o",
         "-plain" | "-postscript" | "-ps" => "-p",
         "-seek" | "-skip" => "-s",

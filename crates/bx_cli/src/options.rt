@@ -139,6 +139,13 @@ static XXD: [Row; 9] = [
     },
 ];
 
+static XXD_MORE: [Row; 1] = [Row {
+    id: "array",
+    short: 'n',
+    value: Some("NAME"),
+    help: "Name of the C array, with its length [default: that of FILE]",
+}];
+
 static XXD_STYLES: [&str; 3] = ["bits", "plain", "include"];
 
 static XXD_CASES: [&str; 2] = ["include", "upper"];
@@ -356,6 +363,22 @@ fn with_rows<'a>(
     Ok(command)
 }
 
+/// What stands above the options that no first release had: those of the tools which hands type.
+const ALSO: &str = "Also taken";
+
+/// The command with an option or a flag more for each row, under a heading of their own.
+fn with_more<'a>(
+    alloc: Global,
+    command: Command<'a>,
+    rows: &[Row],
+) -> Result<Command<'a>, AllocError> {
+    let mut command = command;
+    for row in rows {
+        command = command.arg(arg_of(alloc, row).help_heading(ALSO))?;
+    }
+    Ok(command)
+}
+
 /// A group: at most one option of it may be given.
 fn group_of<'a>(
     alloc: Global,
@@ -483,7 +506,7 @@ fn xxd<'a>(alloc: Global) -> Result<Command<'a>, AllocError> {
         );
     let styled = one_style(alloc, command)?;
     let grouped = one_case(alloc, styled)?;
-    reader(alloc, grouped, &XXD)
+    with_more(alloc, reader(alloc, grouped, &XXD)?, &XXD_MORE)
 }
 
 // Each of the two groups has a function of its own: a proof that sees one text in both statics takes twenty times as long.

@@ -210,6 +210,7 @@ fn xxd(alloc: Global, m: &Given<'_, '_>) -> Result<XxdJob, Fault> {
             shift: number_or(m.get_str("shift"), SizeStyle::Bare, 0)?,
             upper: m.get_flag("upper"),
         },
+        array: name(alloc, m, "array")?,
         file: input(alloc, m)?,
     })
 }

@@ -18,7 +18,7 @@ use Rattle.bx_dd.specs.Behind.{IsPlanRest}
 use Rattle.bx_dd.specs.declared.operands.plan.Plan.{Plan}
 use Rattle.bx_dd.specs.declared.counts.Counts.{Counts}
 use Rattle.bx_cli_commands.specs.declared.fault.Fault.{Fault}
-use Rattle.bx_cli_commands.specs.jobs.Dump.{IsStyleOf}
+use Rattle.bx_cli_commands.specs.jobs.Dump.{IsStyleOf, array_name}
 use Rattle.bx_cli_commands.specs.jobs.CopyOut.{CopiesOut, StopsOut}
 use Rattle.bx_cli_commands.specs.jobs.JobDump.{CopiesBehind, DumpsHexdumpBehind, DumpsLookBehind, DumpsOdBehind, StopsCopyBehind, StopsHexdumpBehind, StopsLookBehind, StopsOdBehind}
 use Rattle.bx_cli_commands.specs.declared.jobs.dumps.XxdJob.{XxdJob}
@@ -36,12 +36,12 @@ blocks_left n s b whole le =
     less n (s * b) (n / b * b) ((s - n / b) * b) parts (without (n / b * b) (n % b) n (div-add-mod' n b) whole) le
 
 pub look_ok : (n : ℕ) (job : XxdJob) (s : XxdStyle) (rest : XxdOptions) (r0 r1 w0 w1 : Option (List ℕ)) (result : Result ℕ IoFault) →
-    IsXxdRest n job.options rest → IsStyleOf job.look job.file s → IfOk result (WritesAll (xxd_of s rest) r0 r1 w0 w1) → IfOk result (DumpsLookBehind n job r0 r1 w0 w1)
+    IsXxdRest n job.options rest → IsStyleOf job.look (array_name job.array job.file) s → IfOk result (WritesAll (xxd_of s rest) r0 r1 w0 w1) → IfOk result (DumpsLookBehind n job r0 r1 w0 w1)
 look_ok n job s rest r0 r1 w0 w1 (Ok k) is style done = (s, style, subst (λ (d : Dump). WritesAll d r0 r1 w0 w1 k) (xxd_rest n s job.options rest is) done)
 look_ok n job s rest r0 r1 w0 w1 (Err e) is style done = tt
 
 pub look_err : (n : ℕ) (job : XxdJob) (s : XxdStyle) (rest : XxdOptions) (r0 r1 w0 w1 : Option (List ℕ)) (result : Result ℕ IoFault) →
-    IsXxdRest n job.options rest → IsStyleOf job.look job.file s → IfErr result (WritesFrontOf (xxd_of s rest) r0 r1 w0 w1) → IfErr result (StopsLookBehind n job r0 r1 w0 w1)
+    IsXxdRest n job.options rest → IsStyleOf job.look (array_name job.array job.file) s → IfErr result (WritesFrontOf (xxd_of s rest) r0 r1 w0 w1) → IfErr result (StopsLookBehind n job r0 r1 w0 w1)
 look_err n job s rest r0 r1 w0 w1 (Ok k) is style stop = tt
 look_err n job s rest r0 r1 w0 w1 (Err f) is style stop = (s, style, subst (λ (d : Dump). WritesFrontOf d r0 r1 w0 w1 f) (xxd_rest n s job.options rest is) stop)
 

@@ -17,7 +17,7 @@ use Rattle.bx_cli_commands.specs.declared.jobs.dump.Done.{Done}
 use Rattle.bx_cli_commands.specs.declared.jobs.dump.Done.TheVariants.{Dumped, Copied}
 use Rattle.bx_cli_commands.specs.declared.jobs.dumps.DumpJob.{DumpJob}
 use Rattle.bx_cli_commands.specs.declared.jobs.dumps.DumpJob.TheVariants.{Od, Xxd, Hexdump, Strings, Dd}
-use Rattle.bx_cli_commands.specs.jobs.Dump.{IsStyleOf}
+use Rattle.bx_cli_commands.specs.jobs.Dump.{IsStyleOf, array_name}
 
 -- the text that a dump makes of the bytes was written, which shows k of them
 abbrev pub WritesWholeText : Dump → List ℕ → ℕ → Option (List ℕ) → Option (List ℕ) → Type 0
@@ -31,7 +31,7 @@ WritesWholeCopy plan bytes counts old new = (plan.seek ≡ 0) × Appends old new
 -- what the job makes of all the bytes was written
 abbrev pub DumpsWhole : DumpJob → List ℕ → Done → Option (List ℕ) → Option (List ℕ) → Type 0
 DumpsWhole (Od job) bytes (Dumped k) old new = WritesWholeText (od_of job.options) bytes k old new
-DumpsWhole (Xxd job) bytes (Dumped k) old new = (s : XxdStyle) × IsStyleOf job.look job.file s × WritesWholeText (xxd_of s job.options) bytes k old new
+DumpsWhole (Xxd job) bytes (Dumped k) old new = (s : XxdStyle) × IsStyleOf job.look (array_name job.array job.file) s × WritesWholeText (xxd_of s job.options) bytes k old new
 DumpsWhole (Hexdump job) bytes (Dumped k) old new = WritesWholeText (hexdump_of job.options) bytes k old new
 DumpsWhole (Strings job) bytes (Dumped k) old new = WritesWholeText (strings_of job.options) bytes k old new
 DumpsWhole (Dd job) bytes (Copied counts) old new = WritesWholeCopy job.plan bytes counts old new

@@ -5,7 +5,12 @@ use Rattle.bx_dump.specs.declared.xxd.options.XxdStyle.TheVariants as style
 use Rattle.bx_cli_commands.specs.declared.jobs.dumps.XxdLook.{XxdLook}
 use Rattle.bx_cli_commands.specs.declared.jobs.dumps.XxdLook.TheVariants as look
 
--- The style of a look. An array is named as the file, unless no count could say how long the name is.
+-- the name of an array: its own, or else the file's
+abbrev pub array_name : Option (List ℕ) → Option (List ℕ) → Option (List ℕ)
+array_name None file = file
+array_name (Some own) file = Some own
+
+-- The style of a look. An array has this name, unless no count could say how long it is.
 abbrev pub IsStyleOf : XxdLook → Option (List ℕ) → XxdStyle → Type 0
 IsStyleOf look.Normal file s = s ≡ style.Normal
 IsStyleOf look.Plain file s = s ≡ style.Plain

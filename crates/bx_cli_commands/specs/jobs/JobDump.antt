@@ -21,7 +21,7 @@ use Rattle.bx_cli_commands.specs.declared.jobs.dumps.DumpJob.{DumpJob}
 use Rattle.bx_cli_commands.specs.declared.jobs.dumps.DumpJob.TheVariants.{Od, Xxd, Hexdump, Strings, Dd}
 use Rattle.bx_cli_commands.specs.declared.jobs.dumps.XxdJob.{XxdJob}
 use Rattle.bx_cli_commands.specs.jobs.CopyOut.{CopiesOut, StopsOut}
-use Rattle.bx_cli_commands.specs.jobs.Dump.{IsStyleOf}
+use Rattle.bx_cli_commands.specs.jobs.Dump.{IsStyleOf, array_name}
 
 -- ---- what is made of the bytes behind those that were passed
 
@@ -35,11 +35,11 @@ StopsOdBehind n o r0 r1 w0 w1 f = StopsReaching (behind n (od_of o)) r0 r1 w0 w1
 
 -- xxd's text in the style of the job's look
 abbrev pub DumpsLookBehind : ℕ → XxdJob → Option (List ℕ) → Option (List ℕ) → Option (List ℕ) → Option (List ℕ) → ℕ → Type 0
-DumpsLookBehind n job r0 r1 w0 w1 k = (s : XxdStyle) × IsStyleOf job.look job.file s × WritesAll (behind n (xxd_of s job.options)) r0 r1 w0 w1 k
+DumpsLookBehind n job r0 r1 w0 w1 k = (s : XxdStyle) × IsStyleOf job.look (array_name job.array job.file) s × WritesAll (behind n (xxd_of s job.options)) r0 r1 w0 w1 k
 
 -- a front of it
 abbrev pub StopsLookBehind : ℕ → XxdJob → Option (List ℕ) → Option (List ℕ) → Option (List ℕ) → Option (List ℕ) → IoFault → Type 0
-StopsLookBehind n job r0 r1 w0 w1 f = (s : XxdStyle) × IsStyleOf job.look job.file s × WritesFrontOf (behind n (xxd_of s job.options)) r0 r1 w0 w1 f
+StopsLookBehind n job r0 r1 w0 w1 f = (s : XxdStyle) × IsStyleOf job.look (array_name job.array job.file) s × WritesFrontOf (behind n (xxd_of s job.options)) r0 r1 w0 w1 f
 
 -- the text of hexdump -C
 abbrev pub DumpsHexdumpBehind : ℕ → HexdumpOptions → Option (List ℕ) → Option (List ℕ) → Option (List ℕ) → Option (List ℕ) → ℕ → Type 0

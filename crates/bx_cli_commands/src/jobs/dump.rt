@@ -1,6 +1,6 @@
 //! Dumps and copies to a writer, as jobs ask for them.
 ghost use Rattle.std.specs.Prelude.{◌≡◌, ◌+◌, ◌*◌, ◌%◌, ◌^◌, ◌≤◌, IfOk, IfErr};
-ghost use Rattle.bx_cli_commands.specs.jobs.Dump.{IsStyleOf};
+ghost use Rattle.bx_cli_commands.specs.jobs.Dump.{IsStyleOf, array_name};
 ghost use Rattle.bx_cli_commands.specs.jobs.JobDump.{DumpsJob, StopsJob, CopiesBehind, DumpsHexdumpBehind, DumpsLookBehind, DumpsOdBehind, StopsCopyBehind, StopsHexdumpBehind, StopsLookBehind, StopsOdBehind};
 ghost use Rattle.bx_cli_commands.specs.jobs.CopyOut.{CopiesOut, StopsOut};
 ghost use Rattle.bx_cli_commands.specs.jobs.Passing.{CanPass, skip_of};
@@ -82,16 +82,26 @@ fn run_hexdump<R: Read, W: Write>(
     hexdump_c(r, w, &hexdump_rest(o, passed))
 }
 
-/// The style of the look.
-fn xxd_style(look: XxdLook, file: &Option<Name>) -> XxdStyle<'_>
-    ensures style { IsStyleOf look file.now result }
+/// The name of the job's array.
+fn array_name(job: &XxdJob) -> &Option<Name>
+    ensures { result.now ≡ array_name job.now.array job.now.file }
+{
+    match job.array {
+        Some(_) => &job.array,
+        None => &job.file,
+    }
+}
+
+/// The style of the look; an array has this name.
+fn xxd_style(look: XxdLook, array: &Option<Name>) -> XxdStyle<'_>
+    ensures style { IsStyleOf look array.now result }
     ensures countable { IsCountable result }
 {
     match look {
         XxdLook::Normal => XxdStyle::Normal,
         XxdLook::Plain => XxdStyle::Plain,
         XxdLook::Bits => XxdStyle::Bits,
-        XxdLook::Include => match file {
+        XxdLook::Include => match array {
             Some(name) if name.as_str().len() <= MOST_NAME => {
                 XxdStyle::Include(Some(name.as_str()))
             }
@@ -111,7 +121,7 @@ fn run_xxd<R: Read, W: Write>(
     ensures ok { IfOk result (DumpsLookBehind passed job.now (R.remaining r.old) (R.remaining r.new) (W.contents w.old) (W.contents w.new)) }
     ensures err { IfErr result (StopsLookBehind passed job.now (R.remaining r.old) (R.remaining r.new) (W.contents w.old) (W.contents w.new)) }
 {
-    let style = xxd_style(job.look, &job.file);
+    let style = xxd_style(job.look, array_name(job));
     xxd(r, w, style, &xxd_rest(&job.options, passed))
 }
 

@@ -39,6 +39,8 @@ pub struct XxdJob {
     pub look: XxdLook,
     /// The columns, and the bytes that are dumped. At most 2^62 is added to an address.
     pub options: XxdOptions,
+    /// The name of an array of C; none is that of the input.
+    pub array: Option<Name>,
     /// The input's name; none is standard input.
     pub file: Option<Name>,
     ghost near: { options.shift ≤ 2 ^ 62 },

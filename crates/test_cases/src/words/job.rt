@@ -130,6 +130,7 @@ fn xxd_field<'a>(job: &'a XxdJob, name: &str) -> Field<'a> {
         "seek" => Field::Number(job.options.seek),
         "shift" => Field::Number(job.options.shift),
         "upper" => flag(job.options.upper),
+        "array" => file(&job.array),
         "file" => file(&job.file),
         _ => Field::Missing,
     }
