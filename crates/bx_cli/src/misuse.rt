@@ -4,8 +4,8 @@ use crate::instead::{
     has_negative, instead, is_negative, is_unexpected, negative, no_negative, similar,
 };
 use crate::options::program;
-use crate::plan::{kind, words_of};
-use bx_cli_commands::{Fault, MOST_LEAST, MOST_STEPS, columns, count_or, number, radix};
+use crate::plan::{kind, look, words_of};
+use bx_cli_commands::{Fault, MOST_LEAST, MOST_STEPS, count_or, number, radix};
 use bx_dd::DdFault;
 use bx_dump::od::Address;
 use bx_text::{SizeFault, SizeStyle, Words, read_size};
@@ -253,7 +253,7 @@ fn is_value(m: &ArgMatches<'_>, id: &str, style: SizeStyle) -> bool {
         "kind" => kind(&Given::Read(m)).is_ok(),
         "least" => count_or(text, 1, MOST_LEAST).is_ok_and(|n| n > 0),
         "count" => count_or(text, 1, MOST_STEPS).is_ok(),
-        "cols" => columns(text, 16).is_ok(),
+        "cols" => look(&Given::Read(m)).is_ok(),
         _ => number(text, style).is_ok(),
     }
 }

@@ -1,5 +1,5 @@
 //! From words to a job.
-ghost use Rattle.std.specs.Prelude.{◌≡◌, IfOk};
+ghost use Rattle.std.specs.Prelude.{◌≡◌, ◌≤◌, IfOk};
 
 use crate::dashed::by_letter;
 use crate::given::Given;
@@ -188,17 +188,29 @@ fn od(alloc: Global, m: &Given<'_, '_>) -> Result<OdJob, Fault> {
     })
 }
 
-fn xxd(alloc: Global, m: &Given<'_, '_>) -> Result<XxdJob, Fault> {
-    let (look, cols, group) = if m.get_flag("plain") {
-        (XxdLook::Plain, 30, 2)
+/// The look of xxd's dump, and the bytes of a line.
+pub(crate) fn look(m: &Given<'_, '_>) -> Result<(XxdLook, u16), Fault>
+    ensures { IfOk result (λ found. (1 ≤ found.1) × (found.1 ≤ 256)) }
+{
+    let cols = m.get_str("cols");
+    let (look, default) = if m.get_flag("plain") {
+        (XxdLook::Plain, 30)
     } else if m.get_flag("bits") {
-        (XxdLook::Bits, 6, 1)
+        (XxdLook::Bits, 6)
     } else if m.get_flag("include") {
-        (XxdLook::Include, 12, 2)
+        (XxdLook::Include, 12)
     } else {
-        (XxdLook::Normal, 16, 2)
+        (XxdLook::Normal, 16)
     };
-    let cols = columns(m.get_str("cols"), cols)?;
+    if look == XxdLook::Plain && number(cols, SizeStyle::Bare)? == Some(0) {
+        return Ok((XxdLook::Unbroken, 30));
+    }
+    Ok((look, columns(cols, default)?))
+}
+
+fn xxd(alloc: Global, m: &Given<'_, '_>) -> Result<XxdJob, Fault> {
+    let (look, cols) = look(m)?;
+    let group = if look == XxdLook::Bits { 1 } else { 2 };
     let group = number_or(m.get_str("group"), SizeStyle::Bare, group)?.min(MOST_COLUMNS) as u16;
     Ok(XxdJob {
         look,

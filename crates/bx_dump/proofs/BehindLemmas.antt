@@ -11,12 +11,12 @@ use Rattle.bx_dump_columns.specs.Lines.{in_lines}
 use Rattle.bx_text.specs.Dump.{dump_line}
 use Rattle.bx_dump.specs.private.Pages.{limited_to}
 use Rattle.bx_dump.specs.private.Rows.{plain_line}
-use Rattle.bx_dump.specs.private.Styles.{named_text}
+use Rattle.bx_dump.specs.private.Styles.{named_text, unbroken_text}
 use Rattle.bx_dump.specs.declared.hexdump.options.HexdumpOptions.{HexdumpOptions}
 use Rattle.bx_dump.specs.declared.od.options.OdOptions.{OdOptions}
 use Rattle.bx_dump.specs.declared.xxd.options.XxdOptions.{XxdOptions}
 use Rattle.bx_dump.specs.declared.xxd.options.XxdStyle.{XxdStyle}
-use Rattle.bx_dump.specs.declared.xxd.options.XxdStyle.TheVariants.{Normal, Plain, Bits, Include}
+use Rattle.bx_dump.specs.declared.xxd.options.XxdStyle.TheVariants.{Normal, Plain, Bits, Include, Unbroken}
 
 -- what stands behind the front of an input
 past : (front input : List ℕ) (skip : ℕ) → length front ≤ skip → drop (skip - length front) input ≡ drop skip (front ++ input)
@@ -74,6 +74,7 @@ same_text n Bits whole rest is =
     let start : rest.seek + rest.shift ≡ whole.seek + whole.shift = omega (arith, is.seek, is.shift) in
     same_binary rest.cols whole.cols rest.group whole.group _ _ is.shown.0 is.shown.1 start
 same_text n Plain whole rest is = same_digits rest.cols whole.cols rest.upper whole.upper is.shown.0 is.shown.3
+same_text n Unbroken whole rest is = ap unbroken_text is.shown.3
 same_text n (Include None) whole rest is = ap include_items is.shown.0
 same_text n (Include (Some name)) whole rest is = ap (named_text name.now) is.shown.0
 

@@ -7,7 +7,7 @@ use Rattle.bx_dump_columns.specs.Lines.{in_lines}
 use Rattle.bx_dump.specs.Pages.{Dump}
 use Rattle.bx_dump.specs.Xxd.{bits_line}
 use Rattle.bx_dump.specs.declared.xxd.options.XxdStyle.{XxdStyle}
-use Rattle.bx_dump.specs.declared.xxd.options.XxdStyle.TheVariants.{Normal, Plain, Bits, Include}
+use Rattle.bx_dump.specs.declared.xxd.options.XxdStyle.TheVariants.{Normal, Plain, Bits, Include, Unbroken}
 use Rattle.bx_dump.specs.declared.xxd.options.XxdOptions.{XxdOptions}
 use Rattle.bx_dump_columns.specs.Names.{c_name}
 
@@ -28,6 +28,7 @@ abbrev pub styled : XxdStyle → XxdOptions → List ℕ → List ℕ
 styled Normal o bytes = in_lines (dump_line o.upper o.cols (group_of o.cols o.group)) o.cols (o.seek + o.shift) bytes
 styled Bits o bytes = in_lines (bits_line o.cols (group_of o.cols o.group)) o.cols (o.seek + o.shift) bytes
 styled Plain o bytes = in_lines (λ at line. flat_map (pair_of o.upper) line ++ codes "\n") o.cols 0 bytes
+styled Unbroken o bytes = flat_map (pair_of o.upper) bytes ++ codes "\n"
 styled (Include None) o bytes = include_items o.cols bytes
 styled (Include (Some name)) o bytes = (codes "unsigned char " ++ c_name name.now ++ codes "[] = {\n") ++ include_items o.cols bytes
     ++ (codes "};\nunsigned int " ++ c_name name.now ++ codes "_len = " ++ (digits 10 false (length bytes) ++ codes ";\n"))

@@ -15,6 +15,7 @@ abbrev pub IsStyleOf : XxdLook → Option (List ℕ) → XxdStyle → Type 0
 IsStyleOf look.Normal file s = s ≡ style.Normal
 IsStyleOf look.Plain file s = s ≡ style.Plain
 IsStyleOf look.Bits file s = s ≡ style.Bits
+IsStyleOf look.Unbroken file s = s ≡ style.Unbroken
 IsStyleOf look.Include None s = s ≡ style.Include None
 IsStyleOf look.Include (Some name) (style.Include (Some given)) = given.now ≡ name
 IsStyleOf look.Include (Some name) s = 2 ^ 62 < length name

@@ -101,6 +101,7 @@ fn xxd_style(look: XxdLook, array: &Option<Name>) -> XxdStyle<'_>
         XxdLook::Normal => XxdStyle::Normal,
         XxdLook::Plain => XxdStyle::Plain,
         XxdLook::Bits => XxdStyle::Bits,
+        XxdLook::Unbroken => XxdStyle::Unbroken,
         XxdLook::Include => match array {
             Some(name) if name.as_str().len() <= MOST_NAME => {
                 XxdStyle::Include(Some(name.as_str()))

@@ -21,6 +21,8 @@ pub enum XxdLook {
     Bits,
     /// An array of C.
     Include,
+    /// Hexadecimal digits alone, all on one line.
+    Unbroken,
 }
 
 /// `od`: how and what it dumps.

@@ -1,5 +1,7 @@
 -- A whole declaration, columns of digits, and lines of plain digits.
-use Rattle.std.specs.Prelude.{ℕ, ◌+◌, List, ◌++◌, length}
+use Rattle.std.specs.Prelude.{ℕ, ◌+◌, Bool, List, ◌++◌, length, codes}
+use Rattle.std.specs.List.{flat_map}
+use Rattle.bx_text.specs.Dump.{pair_of}
 use Rattle.bx_dump_columns.specs.Lines.{in_lines}
 use Rattle.bx_dump.specs.private.Rows.{plain_line}
 use Rattle.bx_dump.specs.declared.xxd.options.XxdOptions.{XxdOptions}
@@ -15,6 +17,10 @@ named_text name cols bytes = include_head name ++ include_items cols bytes ++ in
 -- lines with columns of digits, the first at the address where the part begins
 abbrev pub columns_text : Digits → XxdOptions → List ℕ → List ℕ
 columns_text digits o bytes = in_lines (columns_line digits o.cols (group_of o.cols o.group)) o.cols (o.seek + o.shift) bytes
+
+-- all digits on one line
+abbrev pub unbroken_text : Bool → List ℕ → List ℕ
+unbroken_text upper bytes = flat_map (pair_of upper) bytes ++ codes "\n"
 
 -- lines of plain digits
 abbrev pub plain_text : XxdOptions → List ℕ → List ℕ

@@ -3,14 +3,14 @@ ghost use Rattle.std.specs.Prelude.{◌≡◌, ◌+◌, ◌^◌, ◌<◌, ◌≤
 ghost use Rattle.bx_dump.specs.Pages.{WritesAll, WritesFrontOf};
 ghost use Rattle.bx_dump.specs.Styles.{group_of, include_items, xxd_of, IsCountable};
 ghost use Rattle.bx_dump.specs.private.Pages.{streams_of};
-ghost use Rattle.bx_dump.specs.private.Styles.{columns_text, named_text, plain_text};
+ghost use Rattle.bx_dump.specs.private.Styles.{columns_text, named_text, plain_text, unbroken_text};
 ghost use Rattle.bx_dump.specs.private.XxdDump.{StopsFront, StopsItems, StopsLines, StopsStyle, WritesLines, WritesStyle, WritesText};
 
 use crate::driver::pages::{Part, dump_part};
 use crate::xxd::columns::{Columns, Digits};
 use crate::xxd::lines::{LineForm, Lines};
 use crate::xxd::options::{XxdOptions, XxdStyle};
-use crate::xxd::rows::{Items, Plain};
+use crate::xxd::rows::{Items, Plain, Unbroken};
 use bx_dump_columns::xxd::names::{emit_head, emit_tail};
 use bx_text::{IoFault, emit_after};
 use std::io::{Read, Write};
@@ -68,6 +68,25 @@ fn dump_plain<R: Read, W: Write>(r: &mut R, w: &mut W, o: &XxdOptions) -> Result
     ensures err { IfErr result (StopsFront (plain_text o.now) o.now (streams_of R.remaining r.old r.new W.contents w.old w.new)) }
 {
     dump_lines(r, w, Plain::new(o.cols as usize, o.upper), 0, o, 0)
+}
+
+/// Writes plain digits on one line, which ends where the input does.
+fn dump_unbroken<R: Read, W: Write>(r: &mut R, w: &mut W, o: &XxdOptions) -> Result<Part, IoFault>
+    ensures ok { IfOk result (WritesText (unbroken_text o.now.upper) o.now (streams_of R.remaining r.old r.new W.contents w.old w.new)) }
+    ensures err { IfErr result (StopsFront (unbroken_text o.now.upper) o.now (streams_of R.remaining r.old r.new W.contents w.old w.new)) }
+{
+    let mut digits = Unbroken { upper: o.upper };
+    let line = match dump_part(r, w, &mut digits, o.seek, o.limit, 0) {
+        Ok(line) => line,
+        Err(fault) => return Err(fault),
+    };
+    if let Err(fault) = emit_after(w, line.written, b"\n") {
+        return Err(fault);
+    }
+    Ok(Part {
+        read: line.read,
+        written: line.written + 1,
+    })
 }
 
 /// Writes the items of a C array, after `before` bytes that were written.
@@ -158,6 +177,7 @@ fn dump_styled<R: Read, W: Write>(
         XxdStyle::Normal => dump_columns(r, w, Digits::Hexadecimal { upper: o.upper }, o),
         XxdStyle::Bits => dump_columns(r, w, Digits::Binary, o),
         XxdStyle::Plain => dump_plain(r, w, o),
+        XxdStyle::Unbroken => dump_unbroken(r, w, o),
         XxdStyle::Include(name) => dump_include(r, w, o, name),
     }
 }
@@ -167,7 +187,7 @@ fn dump_styled<R: Read, W: Write>(
 /// A seek past the end of the input gives no bytes. The input may have 2^40 bytes, those included that are skipped, and no
 /// more of it is read than is needed. Nothing is flushed. After a fault a front of the text of the bytes that were read
 /// was written; `WriteFailed` counts it, and at most 2^14 bytes were read ahead of it. `upper` has no effect on `Bits`
-/// and `Include`, nor have `group` and `shift` on `Plain` and `Include`.
+/// and `Include`, nor have `group` and `shift` on `Plain`, `Include` and `Unbroken`, nor has `cols` on `Unbroken`.
 pub fn xxd<R: Read, W: Write>(
     r: &mut R,
     w: &mut W,

@@ -12,6 +12,8 @@ pub enum XxdStyle<'a> {
     Bits,
     /// The items of a C array, and its declaration where it has a name.
     Include(Option<&'a str>),
+    /// Hexadecimal digits alone, all on one line.
+    Unbroken,
 }
 
 /// What xxd dumps, and how.

@@ -6,6 +6,7 @@ ghost use Rattle.bx_dump.specs.Laws.{items};
 ghost use Rattle.bx_dump_columns.specs.Lines.{in_lines};
 ghost use Rattle.bx_dump.specs.private.Rows.{include_line, next_item, plain_line};
 
+use crate::driver::pages::{BLOCK, Pages, START};
 use crate::xxd::lines::{LineForm, Put};
 use bx_dump_columns::hex_lanes::put_sixteen;
 use bx_dump_columns::xxd::cells::put_pairs;
@@ -114,6 +115,39 @@ impl LineForm for Plain {
     }
 
     fn even(&self) {}
+}
+
+/// Hexadecimal digits alone, with no line's end.
+#[derive(Drop)]
+pub struct Unbroken {
+    pub upper: bool,
+}
+
+impl Pages for Unbroken {
+    ghost written = { λ p. flat_map (pair_of p.upper) };
+
+    ghost Seen = { λ _ _. Unit {0} };
+
+    ghost block = { λ _. 16384 };
+
+    ghost room = { λ _ n. 2 * n };
+
+    fn block_len(&self) -> usize {
+        BLOCK
+    }
+
+    fn start_len(&self) -> usize {
+        START
+    }
+
+    fn put(&mut self, page: &mut [u8], _done: u64, bytes: &[u8]) -> usize {
+        let size = 2 * bytes.len();
+        let (digits, _) = page.split_at_mut(size);
+        put_pairs(digits, bytes, self.upper);
+        size
+    }
+
+    fn grows(&self) {}
 }
 
 /// Puts each byte as an item that follows another.

@@ -118,6 +118,7 @@ fn look<'a>(look: XxdLook) -> Field<'a> {
         XxdLook::Plain => "plain",
         XxdLook::Bits => "bits",
         XxdLook::Include => "include",
+        XxdLook::Unbroken => "unbroken",
     })
 }
 
