@@ -77,7 +77,7 @@ _bx() {
         _bx_words "$commands"
         return
         ;;
-    xxd) options='-b -c -g -i -l -n -o -p -s -u' ;;
+    xxd) options='-b -c -d -e -g -i -l -n -o -p -s -u' ;;
     od) options='-A -N -b -c -d -j -o -s -t -v -x' ;;
     hexdump) options='-C -n -s -v' ;;
     strings) options='-a -n -t' ;;

@@ -64,6 +64,8 @@ complete -c bx -n '__fish_seen_subcommand_from revert undo redo log show patch f
 
 complete -c bx -n '__fish_seen_subcommand_from xxd' -s b -d 'Eight binary digits for each byte'
 complete -c bx -n '__fish_seen_subcommand_from xxd' -s c -x -d 'Bytes on a line, 1 to 256'
+complete -c bx -n '__fish_seen_subcommand_from xxd' -s d -d 'Addresses in decimal'
+complete -c bx -n '__fish_seen_subcommand_from xxd' -s e -d 'Each group as a little-endian number'
 complete -c bx -n '__fish_seen_subcommand_from xxd' -s g -x -d 'Bytes in a group, 0 for one group a line'
 complete -c bx -n '__fish_seen_subcommand_from xxd' -s i -d 'A C array'
 complete -c bx -n '__fish_seen_subcommand_from xxd' -s l -x -d 'Maximum number of bytes to dump'

@@ -141,7 +141,7 @@ What the completion of zsh adds, at a terminal of its own, is written down by a 
 # Options: zsh lists them in its own way (by bash_offers, fish_offers)
 
   $ bx xxd -<TAB>
-  -b -c -g -i -l -n -o -p -s -u
+  -b -c -d -e -g -i -l -n -o -p -s -u
   $ bx od -<TAB>
   -A -N -b -c -d -j -o -s -t -v -x
   $ bx hexdump -<TAB>

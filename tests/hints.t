@@ -220,6 +220,10 @@ Dumps and a patch:
   bx: bad arguments
   hint: 999: a number from 1 to 256; Usage: bx xxd [OPTIONS] [FILE]
   [2]
+  $ bx xxd -e -c 6 img
+  bx: bad arguments
+  hint: -e: -g has to be a power of 2, which is 4 without it, and -c a multiple of that; Usage: bx xxd [OPTIONS] [FILE]
+  [2]
   $ bx xxd -s 1k img
   bx: bad arguments
   hint: 1k: a number as 512, 0x200 or 01000, with nothing behind it; Usage: bx xxd [OPTIONS] [FILE]

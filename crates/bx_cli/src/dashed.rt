@@ -5,6 +5,7 @@ pub(crate) fn by_letter(word: &str) -> &str {
     match word {
         "-bits" => "-b",
         "-cols" => "-c",
+        "-decimal" => "-d",
         "-group" | "-groupsize" => "-g",
         "-include" => "-i",
         "-len" => "-l",

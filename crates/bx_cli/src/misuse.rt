@@ -170,6 +170,10 @@ fn operand<'a>(m: &ArgMatches<'a>, place: u64) -> Option<&'a str> {
 fn missing(name: &str) -> (&'static str, &'static str) {
     match name {
         "hexdump" => ("-C", "it has to be given, since there is no other form"),
+        "xxd" => (
+            "-e",
+            "-g has to be a power of 2, which is 4 without it, and -c a multiple of that",
+        ),
         _ => (
             "-J",
             "the journal is a file of its own: neither the image nor another text beside it",

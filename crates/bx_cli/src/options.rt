@@ -139,14 +139,28 @@ static XXD: [Row; 9] = [
     },
 ];
 
-static XXD_MORE: [Row; 1] = [Row {
-    id: "array",
-    short: 'n',
-    value: Some("NAME"),
-    help: "Name of the C array, with its length [default: that of FILE]",
-}];
+static XXD_MORE: [Row; 3] = [
+    Row {
+        id: "decimal",
+        short: 'd',
+        value: None,
+        help: "Addresses in decimal",
+    },
+    Row {
+        id: "words",
+        short: 'e',
+        value: None,
+        help: "Each group as a little-endian number [-g default: 4]",
+    },
+    Row {
+        id: "array",
+        short: 'n',
+        value: Some("NAME"),
+        help: "Name of the C array, with its length [default: that of FILE]",
+    },
+];
 
-static XXD_STYLES: [&str; 3] = ["bits", "plain", "include"];
+static XXD_STYLES: [&str; 4] = ["bits", "plain", "include", "words"];
 
 static XXD_CASES: [&str; 2] = ["include", "upper"];
 

@@ -8,7 +8,7 @@ use bx_cli_commands::{
     Access, ChangeJob, DdImageJob, DdJob, DiffJob, DumpJob, Durability, Fault, ForgetJob,
     HexdumpJob, Job, LogJob, LookJob, MOST_COLUMNS, MOST_LEAST, MOST_STEPS, OdJob, PatchJob,
     RevertJob, ShowJob, StepsJob, StringsJob, Target, XxdJob, XxdLook, columns, count_or,
-    kind_word, name_of, number, number_or, radix, texts_of,
+    kind_word, name_of, number, number_or, radix, texts_of, word_len,
 };
 use bx_dd::parse;
 use bx_dump::hexdump::HexdumpOptions;
@@ -188,30 +188,59 @@ fn od(alloc: Global, m: &Given<'_, '_>) -> Result<OdJob, Fault> {
     })
 }
 
+/// The look that the flags of xxd ask for, and the bytes of a line without `-c`.
+fn flagged(m: &Given<'_, '_>) -> (XxdLook, u64)
+    ensures { (1 ≤ result.1) × (result.1 ≤ 256) }
+{
+    let decimal = m.get_flag("decimal");
+    if m.get_flag("plain") {
+        (XxdLook::Plain, 30)
+    } else if m.get_flag("include") {
+        (XxdLook::Include, 12)
+    } else if m.get_flag("words") {
+        (XxdLook::Words { decimal }, 16)
+    } else if decimal {
+        let bits = m.get_flag("bits");
+        (XxdLook::Decimal { bits }, if bits { 6 } else { 16 })
+    } else if m.get_flag("bits") {
+        (XxdLook::Bits, 6)
+    } else {
+        (XxdLook::Normal, 16)
+    }
+}
+
 /// The look of xxd's dump, and the bytes of a line.
 pub(crate) fn look(m: &Given<'_, '_>) -> Result<(XxdLook, u16), Fault>
     ensures { IfOk result (λ found. (1 ≤ found.1) × (found.1 ≤ 256)) }
 {
     let cols = m.get_str("cols");
-    let (look, default) = if m.get_flag("plain") {
-        (XxdLook::Plain, 30)
-    } else if m.get_flag("bits") {
-        (XxdLook::Bits, 6)
-    } else if m.get_flag("include") {
-        (XxdLook::Include, 12)
-    } else {
-        (XxdLook::Normal, 16)
-    };
+    let (look, default) = flagged(m);
     if look == XxdLook::Plain && number(cols, SizeStyle::Bare)? == Some(0) {
         return Ok((XxdLook::Unbroken, 30));
     }
     Ok((look, columns(cols, default)?))
 }
 
+/// The bytes of a group in lines of `cols` bytes.
+fn group(m: &Given<'_, '_>, look: XxdLook, cols: u16) -> Result<u16, Fault>
+    requires { 1 ≤ cols }
+    ensures { IfOk result (λ n. n ≤ 256) }
+{
+    let default = match look {
+        XxdLook::Words { .. } => 4,
+        XxdLook::Bits | XxdLook::Decimal { bits: true } => 1,
+        _ => 2,
+    };
+    let group = number_or(m.get_str("group"), SizeStyle::Bare, default)?.min(MOST_COLUMNS) as u16;
+    match look {
+        XxdLook::Words { .. } => word_len(cols, group),
+        _ => Ok(group),
+    }
+}
+
 fn xxd(alloc: Global, m: &Given<'_, '_>) -> Result<XxdJob, Fault> {
     let (look, cols) = look(m)?;
-    let group = if look == XxdLook::Bits { 1 } else { 2 };
-    let group = number_or(m.get_str("group"), SizeStyle::Bare, group)?.min(MOST_COLUMNS) as u16;
+    let group = group(m, look, cols)?;
     Ok(XxdJob {
         look,
         options: XxdOptions {

@@ -29,7 +29,7 @@ pub use jobs::skip::Skip;
 pub use jobs::target::{Access, Durability, Target, Texts};
 pub use jobs::values::{
     MOST_COLUMNS, MOST_LEAST, MOST_STEPS, columns, count_or, kind_word, name_of, number, number_or,
-    radix, texts_of,
+    radix, texts_of, word_len,
 };
 pub use listing::{list_ranges, list_steps, log_text};
 pub use reading::{Form, change_from};

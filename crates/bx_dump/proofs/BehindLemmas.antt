@@ -1,12 +1,13 @@
 -- Dumps of what stands behind bytes that were passed.
-use Rattle.std.proofs.Common.{◌≡◌, ℕ, ◌+◌, ◌-◌, ◌≤◌, Bool, List, ◌++◌, length, drop, Option, None, Some, refl, sym, ap, ◌∙◌, arith}
+use Rattle.std.proofs.Common.{◌≡◌, ℕ, ◌+◌, ◌-◌, ◌≤◌, Bool, true, false, List, ◌++◌, length, drop, Option, None, Some, refl, sym, ap, ◌∙◌, arith}
 use Rattle.std.proofs.lemmas.List.{drop-drop, drop_at}
 use Rattle.bx_dump.specs.Behind.{behind, DumpsBehind, IsOdRest, IsHexdumpRest, IsXxdRest, RestAsksBehind}
 use Rattle.bx_dump.specs.Hexdump.{hexdump_of}
 use Rattle.bx_dump.specs.OdDump.{od_of}
 use Rattle.bx_dump.specs.Pages.{Dump}
 use Rattle.bx_dump.specs.Styles.{group_of, include_items, styled, xxd_of}
-use Rattle.bx_dump.specs.Xxd.{bits_line}
+use Rattle.bx_dump.specs.Xxd.{behind_address, bits_columns, bits_line, byte_columns, words_line}
+use Rattle.bx_dump_columns.specs.Words.{decimal_at}
 use Rattle.bx_dump_columns.specs.Lines.{in_lines}
 use Rattle.bx_text.specs.Dump.{dump_line}
 use Rattle.bx_dump.specs.private.Pages.{limited_to}
@@ -16,7 +17,7 @@ use Rattle.bx_dump.specs.declared.hexdump.options.HexdumpOptions.{HexdumpOptions
 use Rattle.bx_dump.specs.declared.od.options.OdOptions.{OdOptions}
 use Rattle.bx_dump.specs.declared.xxd.options.XxdOptions.{XxdOptions}
 use Rattle.bx_dump.specs.declared.xxd.options.XxdStyle.{XxdStyle}
-use Rattle.bx_dump.specs.declared.xxd.options.XxdStyle.TheVariants.{Normal, Plain, Bits, Include, Unbroken}
+use Rattle.bx_dump.specs.declared.xxd.options.XxdStyle.TheVariants.{Normal, Plain, Bits, Include, Unbroken, Decimal, Words}
 
 -- what stands behind the front of an input
 past : (front input : List ℕ) (skip : ℕ) → length front ≤ skip → drop (skip - length front) input ≡ drop skip (front ++ input)
@@ -56,6 +57,24 @@ binary_text cols group start bytes = in_lines (bits_line cols (group_of cols gro
 digits_text : Bool → ℕ → List ℕ → List ℕ
 digits_text upper cols bytes = in_lines (plain_line upper) cols 0 bytes
 
+decimal_hex_text : ℕ → ℕ → Bool → ℕ → List ℕ → List ℕ
+decimal_hex_text cols group upper start bytes = in_lines (λ at line. decimal_at at ++ behind_address (byte_columns upper cols (group_of cols group) line) line) cols start bytes
+
+decimal_bits_text : ℕ → ℕ → ℕ → List ℕ → List ℕ
+decimal_bits_text cols group start bytes = in_lines (λ at line. decimal_at at ++ behind_address (bits_columns cols (group_of cols group) line) line) cols start bytes
+
+numbers_text : Bool → ℕ → ℕ → Bool → ℕ → List ℕ → List ℕ
+numbers_text decimal cols group upper start bytes = in_lines (words_line decimal upper cols (group_of cols group)) cols start bytes
+
+same_decimal_hex : (a b c d s t : ℕ) (u v : Bool) → a ≡ b → c ≡ d → u ≡ v → s ≡ t → decimal_hex_text a c u s ≡ decimal_hex_text b d v t
+same_decimal_hex a b c d s t u v p q r e = cc
+
+same_decimal_bits : (a b c d s t : ℕ) → a ≡ b → c ≡ d → s ≡ t → decimal_bits_text a c s ≡ decimal_bits_text b d t
+same_decimal_bits a b c d s t p q e = cc
+
+same_numbers : (decimal : Bool) (a b c d s t : ℕ) (u v : Bool) → a ≡ b → c ≡ d → u ≡ v → s ≡ t → numbers_text decimal a c u s ≡ numbers_text decimal b d v t
+same_numbers decimal a b c d s t u v p q r e = cc
+
 same_normal : (a b c d s t : ℕ) (u v : Bool) → a ≡ b → c ≡ d → u ≡ v → s ≡ t → normal_text a c u s ≡ normal_text b d v t
 same_normal a b c d s t u v p q r e = cc
 
@@ -66,7 +85,7 @@ same_digits : (a b : ℕ) (u v : Bool) → a ≡ b → u ≡ v → digits_text u
 same_digits a b u v p q = cc
 
 same_text : (n : ℕ) (style : XxdStyle) (whole rest : XxdOptions) → IsXxdRest n whole rest → styled style rest ≡ styled style whole
-unfolding normal_text binary_text digits_text
+unfolding normal_text binary_text digits_text decimal_hex_text decimal_bits_text numbers_text
 same_text n Normal whole rest is =
     let start : rest.seek + rest.shift ≡ whole.seek + whole.shift = omega (arith, is.seek, is.shift) in
     same_normal rest.cols whole.cols rest.group whole.group _ _ rest.upper whole.upper is.shown.0 is.shown.1 is.shown.3 start
@@ -74,6 +93,15 @@ same_text n Bits whole rest is =
     let start : rest.seek + rest.shift ≡ whole.seek + whole.shift = omega (arith, is.seek, is.shift) in
     same_binary rest.cols whole.cols rest.group whole.group _ _ is.shown.0 is.shown.1 start
 same_text n Plain whole rest is = same_digits rest.cols whole.cols rest.upper whole.upper is.shown.0 is.shown.3
+same_text n (Decimal false) whole rest is =
+    let start : rest.seek + rest.shift ≡ whole.seek + whole.shift = omega (arith, is.seek, is.shift) in
+    same_decimal_hex rest.cols whole.cols rest.group whole.group _ _ rest.upper whole.upper is.shown.0 is.shown.1 is.shown.3 start
+same_text n (Decimal true) whole rest is =
+    let start : rest.seek + rest.shift ≡ whole.seek + whole.shift = omega (arith, is.seek, is.shift) in
+    same_decimal_bits rest.cols whole.cols rest.group whole.group _ _ is.shown.0 is.shown.1 start
+same_text n (Words decimal) whole rest is =
+    let start : rest.seek + rest.shift ≡ whole.seek + whole.shift = omega (arith, is.seek, is.shift) in
+    same_numbers decimal rest.cols whole.cols rest.group whole.group _ _ rest.upper whole.upper is.shown.0 is.shown.1 is.shown.3 start
 same_text n Unbroken whole rest is = ap unbroken_text is.shown.3
 same_text n (Include None) whole rest is = ap include_items is.shown.0
 same_text n (Include (Some name)) whole rest is = ap (named_text name.now) is.shown.0

@@ -12,7 +12,7 @@ use Rattle.bx_text.specs.Field.{char_at, laid_out, hex_text}
 use Rattle.bx_text.specs.Dump.{shown_byte}
 use Rattle.bx_text.proofs.FieldLemmas.{char_at-inside, char_at-below, char_at-above, div_mono}
 use Rattle.bx_dump_columns.specs.Cells.{piece_at, grouped}
-use Rattle.bx_dump.specs.private.Xxd.{columns_line, cell_of, cell_width, columns_place, columns_width, columns}
+use Rattle.bx_dump.specs.private.Xxd.{columns_line, cell_of, cell_width, laid_columns, columns_place, columns_width, columns}
 use Rattle.bx_dump.specs.declared.xxd.columns.Columns.{Columns}
 use Rattle.bx_dump.specs.declared.xxd.columns.Digits.{Digits}
 use Rattle.bx_dump.specs.declared.xxd.columns.Digits.TheVariants.{Hexadecimal, Binary}
@@ -192,6 +192,13 @@ digits_even Binary b = refl
 pub digits_some : (digits : Digits) → 0 < cell_width digits
 digits_some (Hexadecimal upper) = omega arith
 digits_some Binary = omega arith
+
+-- the digits in their columns
+pub columns_are : (digits : Digits) (cols group : ℕ) (bytes cells : List ℕ) (field piece : ℕ) → 0 < group → columns_place (cell_width digits) group (length bytes) ≤ field →
+    field ≡ columns_width (cell_width digits) cols group → piece ≡ cell_width digits * group → cells ≡ flat_map (cell_of digits) bytes → grouped piece cells field ≡ laid_columns digits cols group bytes
+columns_are digits cols group bytes cells field piece some fits wide whole digits_are =
+    let laid = grouped_laid (cell_of digits) (cell_width digits) group (digits_even digits) some bytes field (digits_some digits) fits in
+    ap (λ n. grouped n cells field) whole ∙ ap (λ t. grouped (cell_width digits * group) t field) digits_are ∙ laid ∙ ap (λ n. columns digits group bytes n) wide
 
 -- a line by its parts
 pub line_whole : (digits : Digits) (cols group at : ℕ) (bytes cells address body : List ℕ) (field piece : ℕ) → 0 < group → columns_place (cell_width digits) group (length bytes) ≤ field →

@@ -1,9 +1,11 @@
 //! xxd: its lines and its dump.
 mod columns;
+mod decimal;
 mod dump;
 mod lines;
 mod options;
 mod rows;
+mod words;
 
 pub use columns::Digits;
 pub use dump::xxd;

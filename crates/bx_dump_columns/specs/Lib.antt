@@ -8,3 +8,4 @@ pub mod Decimal
 pub mod Emitting
 pub mod Hexdump
 pub mod Printing
+pub mod Words

@@ -3,3 +3,4 @@ pub mod binary;
 pub mod cells;
 pub mod names;
 mod tables;
+pub mod words;

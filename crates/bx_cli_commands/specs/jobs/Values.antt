@@ -1,5 +1,5 @@
 -- What the values of options are, by their words.
-use Rattle.std.specs.Prelude.{◌≡◌, ◌<◌, ℕ, Bool, true, false, ◌++◌, ◌^◌, ◌==◌, ◌&&◌, nat_le, if◌then◌else◌, List, [], ◌∷◌, Option, None, Some, Result, Ok, Err, codes}
+use Rattle.std.specs.Prelude.{◌≡◌, ◌<◌, ℕ, Bool, true, false, ◌++◌, ◌^◌, ◌%◌, ◌==◌, ◌&&◌, ◌||◌, nat_le, nat_lt, if◌then◌else◌, List, [], ◌∷◌, Option, None, Some, Result, Ok, Err, codes}
 use Rattle.std.specs.Str.Parse.{IsNumeral, digits_value}
 use Rattle.bx_text.specs.declared.number.size.SizeFault.{SizeFault}
 use Rattle.bx_text.specs.declared.number.size.SizeStyle.{SizeStyle}
@@ -46,6 +46,18 @@ few_columns (Err e) = Err e
 -- the columns that a word gives, which has no suffix; the default where there is no word
 abbrev pub columns_of : ℕ → Option (List ℕ) → Result ℕ Fault
 columns_of default text = few_columns (option_value_or Bare default text)
+
+-- a power of 2 up to 256
+abbrev pub is_size : ℕ → Bool
+is_size n = (n == 1) || (n == 2) || (n == 4) || (n == 8) || (n == 16) || (n == 32) || (n == 64) || (n == 128) || (n == 256)
+
+-- a size of numbers, where it is a power of 2 that divides the line
+abbrev pub size_in : ℕ → ℕ → Result ℕ Fault
+size_in cols n = if is_size n && (cols % n == 0) then Ok n else Err Usage
+
+-- the bytes of a little-endian number: those of a group, or of the whole line where that has no more
+abbrev pub word_len : ℕ → ℕ → Result ℕ Fault
+word_len cols group = size_in cols (if (group == 0) || nat_lt cols group then cols else group)
 
 -- a word is read as the number that its decimal digits write, at most another; any other word is refused
 abbrev pub IsCount : ℕ → List ℕ → Result ℕ Fault → Type 0

@@ -102,6 +102,8 @@ fn xxd_style(look: XxdLook, array: &Option<Name>) -> XxdStyle<'_>
         XxdLook::Plain => XxdStyle::Plain,
         XxdLook::Bits => XxdStyle::Bits,
         XxdLook::Unbroken => XxdStyle::Unbroken,
+        XxdLook::Decimal { bits } => XxdStyle::Decimal { bits },
+        XxdLook::Words { decimal } => XxdStyle::Words { decimal },
         XxdLook::Include => match array {
             Some(name) if name.as_str().len() <= MOST_NAME => {
                 XxdStyle::Include(Some(name.as_str()))

@@ -23,6 +23,16 @@ pub enum XxdLook {
     Include,
     /// Hexadecimal digits alone, all on one line.
     Unbroken,
+    /// As `Normal`, or as `Bits`, with addresses in decimal.
+    Decimal {
+        /// Whether bytes are binary digits.
+        bits: bool,
+    },
+    /// As `Normal`, with each group as a little-endian number.
+    Words {
+        /// Whether addresses are decimal.
+        decimal: bool,
+    },
 }
 
 /// `od`: how and what it dumps.

@@ -1,7 +1,7 @@
 //! The values of options, read from their words.
-ghost use Rattle.std.specs.Prelude.{◌≡◌, ◌⊎◌, ◌≤◌, ◌^◌, IfOk, IfErr, IfSome, IsErrOf, string_bytes};
+ghost use Rattle.std.specs.Prelude.{◌≡◌, ◌⊎◌, ◌<◌, ◌≤◌, ◌^◌, IfOk, IfErr, IfSome, IsErrOf, string_bytes};
 ghost use Rattle.std.specs.Option.{option_copied};
-ghost use Rattle.bx_cli_commands.specs.jobs.Values.{IsApart, IsCountOf, base_in, columns_of, journal_of, kind_in, option_value, option_value_or};
+ghost use Rattle.bx_cli_commands.specs.jobs.Values.{IsApart, IsCountOf, base_in, columns_of, journal_of, kind_in, option_value, option_value_or, word_len};
 ghost use Rattle.bx_text.specs.declared.fault.IoFault.{IoFault};
 
 use crate::{Fault, Texts};
@@ -73,6 +73,24 @@ pub fn columns(text: Option<&str>, default: u64) -> Result<u16, Fault>
 {
     match number_or(text, SizeStyle::Bare, default)? {
         n @ 1..=MOST_COLUMNS => Ok(n as u16),
+        _ => Err(Fault::Usage),
+    }
+}
+
+/// The bytes of a little-endian number in a line of `cols` bytes: those of a group, or all of the line where it has no more.
+/// They are a power of 2, and the line is a multiple of them.
+pub fn word_len(cols: u16, group: u16) -> Result<u16, Fault>
+    requires some { 0 < cols }
+    ensures value { result ≡ word_len cols group }
+    ensures range { IfOk result (λ n. (1 ≤ n) × (n ≤ 256)) }
+{
+    let size = if group == 0 || cols < group {
+        cols
+    } else {
+        group
+    };
+    match size {
+        1 | 2 | 4 | 8 | 16 | 32 | 64 | 128 | 256 if cols % size == 0 => Ok(size),
         _ => Err(Fault::Usage),
     }
 }

@@ -4,6 +4,8 @@ use Rattle.bx_text.specs.Field.{hex_text, laid_out}
 use Rattle.bx_text.specs.Dump.{shown_byte, pair_of}
 use Rattle.bx_dump_columns.specs.Cells.{bits_of}
 use Rattle.bx_dump_columns.specs.Lines.{in_lines}
+use Rattle.bx_dump_columns.specs.Words.{decimal_at}
+use Rattle.bx_dump.specs.Xxd.{behind_address}
 use Rattle.bx_dump.specs.declared.xxd.columns.Digits.{Digits}
 use Rattle.bx_dump.specs.declared.xxd.columns.Digits.TheVariants.{Hexadecimal, Binary}
 
@@ -41,3 +43,11 @@ columns digits group bytes width = laid_out (columns_place (cell_width digits) g
 -- the first n lines of some bytes
 abbrev pub columns_lines : Digits → ℕ → ℕ → ℕ → List ℕ → ℕ → List ℕ
 columns_lines digits cols group at bytes n = in_lines (columns_line digits cols group) cols at (take (cols * n) bytes)
+
+-- the digits of the bytes in a field for `cols` bytes
+abbrev pub laid_columns : Digits → ℕ → ℕ → List ℕ → List ℕ
+laid_columns digits cols group bytes = columns digits group bytes (columns_width (cell_width digits) cols group)
+
+-- a line with these columns, whose address is decimal
+abbrev pub decimal_line : Digits → ℕ → ℕ → ℕ → List ℕ → List ℕ
+decimal_line digits cols group at bytes = decimal_at at ++ behind_address (laid_columns digits cols group bytes) bytes

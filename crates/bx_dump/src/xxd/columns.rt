@@ -1,7 +1,8 @@
 //! Lines of xxd with columns.
 ghost use Rattle.std.specs.Prelude.{◌≡◌, ℕ, ◌+◌, ◌-◌, ◌*◌, ◌/◌, ◌^◌, ◌<◌, ◌≤◌, length, take};
 ghost use Rattle.std.specs.List.{flat_map};
-ghost use Rattle.bx_dump.specs.private.Xxd.{cell_of, cell_width, columns_line, columns_width, columns_lines};
+ghost use Rattle.bx_dump.specs.private.Xxd.{cell_of, cell_width, columns_line, laid_columns, columns_width, columns_lines};
+ghost use Rattle.bx_dump.specs.Xxd.{behind_address};
 
 use crate::xxd::lines::{LineForm, Put};
 use bx_dump_columns::xxd::binary::put_six;
@@ -62,6 +63,24 @@ impl Columns {
             whole: cols / group,
             field: digits.width() * cols + (cols + group - 1) / group,
         }
+    }
+}
+
+impl Columns {
+    /// Puts what stands behind the address of a line at the front, and answers how long it is.
+    pub fn put_behind(&self, text: &mut [u8], bytes: &[u8], cells: &[u8]) -> usize
+        requires room { self.now.field + length bytes.now + 4 ≤ length text.old }
+        requires fits { length bytes.now ≤ self.now.cols }
+        requires cells { cells.now ≡ flat_map (cell_of self.now.digits) bytes.now }
+        ensures most { result ≡ self.now.field + length bytes.now + 4 }
+        ensures text { take result text.new ≡ behind_address (laid_columns self.now.digits self.now.cols self.now.group bytes.now) bytes.now }
+    {
+        let size = self.field + bytes.len() + 4;
+        let (body, _) = text.split_at_mut(size);
+        let count = self.groups_in(bytes.len());
+        let piece = self.digits.width() * self.group;
+        put_body(body, bytes, cells, self.field, piece, count);
+        size
     }
 }
 

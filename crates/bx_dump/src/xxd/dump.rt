@@ -3,14 +3,16 @@ ghost use Rattle.std.specs.Prelude.{◌≡◌, ◌+◌, ◌^◌, ◌<◌, ◌≤
 ghost use Rattle.bx_dump.specs.Pages.{WritesAll, WritesFrontOf};
 ghost use Rattle.bx_dump.specs.Styles.{group_of, include_items, xxd_of, IsCountable};
 ghost use Rattle.bx_dump.specs.private.Pages.{streams_of};
-ghost use Rattle.bx_dump.specs.private.Styles.{columns_text, named_text, plain_text, unbroken_text};
+ghost use Rattle.bx_dump.specs.private.Styles.{columns_text, decimal_text, named_text, numbers_text, plain_text, unbroken_text};
 ghost use Rattle.bx_dump.specs.private.XxdDump.{StopsFront, StopsItems, StopsLines, StopsStyle, WritesLines, WritesStyle, WritesText};
 
 use crate::driver::pages::{Part, dump_part};
 use crate::xxd::columns::{Columns, Digits};
+use crate::xxd::decimal::Decimal;
 use crate::xxd::lines::{LineForm, Lines};
 use crate::xxd::options::{XxdOptions, XxdStyle};
 use crate::xxd::rows::{Items, Plain, Unbroken};
+use crate::xxd::words::Words;
 use bx_dump_columns::xxd::names::{emit_head, emit_tail};
 use bx_text::{IoFault, emit_after};
 use std::io::{Read, Write};
@@ -60,6 +62,34 @@ fn dump_columns<R: Read, W: Write>(
     let group = group_len(o);
     let form = Columns::new(digits, o.cols as usize, group);
     dump_lines(r, w, form, o.seek + o.shift, o, 0)
+}
+
+/// Writes lines with columns of digits, and addresses in decimal.
+fn dump_decimal<R: Read, W: Write>(
+    r: &mut R,
+    w: &mut W,
+    digits: Digits,
+    o: &XxdOptions,
+) -> Result<Part, IoFault>
+    ensures ok { IfOk result (WritesText (decimal_text digits o.now) o.now (streams_of R.remaining r.old r.new W.contents w.old w.new)) }
+    ensures err { IfErr result (StopsFront (decimal_text digits o.now) o.now (streams_of R.remaining r.old r.new W.contents w.old w.new)) }
+{
+    let columns = Columns::new(digits, o.cols as usize, group_len(o));
+    dump_lines(r, w, Decimal { columns }, o.seek + o.shift, o, 0)
+}
+
+/// Writes lines of little-endian numbers.
+fn dump_words<R: Read, W: Write>(
+    r: &mut R,
+    w: &mut W,
+    decimal: bool,
+    o: &XxdOptions,
+) -> Result<Part, IoFault>
+    ensures ok { IfOk result (WritesText (numbers_text decimal o.now) o.now (streams_of R.remaining r.old r.new W.contents w.old w.new)) }
+    ensures err { IfErr result (StopsFront (numbers_text decimal o.now) o.now (streams_of R.remaining r.old r.new W.contents w.old w.new)) }
+{
+    let words = Words::new(decimal, o.upper, o.cols as usize, group_len(o));
+    dump_lines(r, w, words, o.seek + o.shift, o, 0)
 }
 
 /// Writes lines of plain digits.
@@ -178,6 +208,11 @@ fn dump_styled<R: Read, W: Write>(
         XxdStyle::Bits => dump_columns(r, w, Digits::Binary, o),
         XxdStyle::Plain => dump_plain(r, w, o),
         XxdStyle::Unbroken => dump_unbroken(r, w, o),
+        XxdStyle::Decimal { bits: false } => {
+            dump_decimal(r, w, Digits::Hexadecimal { upper: o.upper }, o)
+        }
+        XxdStyle::Decimal { bits: true } => dump_decimal(r, w, Digits::Binary, o),
+        XxdStyle::Words { decimal } => dump_words(r, w, decimal, o),
         XxdStyle::Include(name) => dump_include(r, w, o, name),
     }
 }

@@ -14,6 +14,16 @@ pub enum XxdStyle<'a> {
     Include(Option<&'a str>),
     /// Hexadecimal digits alone, all on one line.
     Unbroken,
+    /// As `Normal`, or as `Bits`, with addresses in decimal.
+    Decimal {
+        /// Whether bytes are binary digits.
+        bits: bool,
+    },
+    /// As `Normal`, with each group as a number whose first byte is the lowest (little-endian), at the right of its column.
+    Words {
+        /// Whether addresses are decimal.
+        decimal: bool,
+    },
 }
 
 /// What xxd dumps, and how.

@@ -4,10 +4,12 @@ ghost use Rattle.std.specs.List.{flat_map, range_with_len};
 ghost use Rattle.bx_text.specs.Dump.{pair_of, shown_byte};
 ghost use Rattle.bx_text.specs.Field.{hex_text};
 ghost use Rattle.bx_dump_columns.specs.Cells.{bits_of, piece_at, grouped};
+ghost use Rattle.bx_dump_columns.specs.Words.{decimal_at};
 
 use crate::hex_lanes::{put_fours, put_shown_bytes, put_sixteen};
+use crate::od::decimal::put_eight;
 use crate::xxd::tables::bits;
-use bx_text::{blank, hex_digit, hex_field, put_address};
+use bx_text::{blank, dec_field, hex_digit, hex_field, put_address};
 
 /// Puts the two digits of each byte, byte by byte.
 fn put_few_pairs(cells: &mut [u8], bytes: &[u8], upper: bool)
@@ -135,6 +137,24 @@ pub fn put_at(line: &mut [u8], at: u64) -> usize
         return 8;
     }
     let field = hex_field(at, 8, false);
+    let text = field.as_bytes();
+    line[..text.len()].copy_from_slice(text);
+    text.len()
+}
+
+/// Puts a decimal address of at least 8 digits at the front, and answers how long it is.
+#[inline]
+pub fn put_decimal_at(line: &mut [u8], at: u64) -> usize
+    requires { 22 ≤ length line.old }
+    ensures most { result ≤ 22 }
+    ensures text { take result line.new ≡ decimal_at at }
+{
+    if at < 100_000_000 {
+        let (front, _) = line.split_at_mut(8);
+        put_eight(front, at as u32);
+        return 8;
+    }
+    let field = dec_field(at as i128, 8, b'0');
     let text = field.as_bytes();
     line[..text.len()].copy_from_slice(text);
     text.len()

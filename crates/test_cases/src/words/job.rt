@@ -119,6 +119,10 @@ fn look<'a>(look: XxdLook) -> Field<'a> {
         XxdLook::Bits => "bits",
         XxdLook::Include => "include",
         XxdLook::Unbroken => "unbroken",
+        XxdLook::Decimal { bits: false } => "decimal",
+        XxdLook::Decimal { bits: true } => "decimal-bits",
+        XxdLook::Words { decimal: false } => "words",
+        XxdLook::Words { decimal: true } => "decimal-words",
     })
 }
 
