@@ -151,6 +151,26 @@ def length_cases(tool):
         yield Case(tool, line.split(), data, line or "a length")
 
 
+# What hands type to xxd beside what is drawn: on some lengths, and words behind one dash on one.
+HAND_LENGTHS = [0, 1, 2, 3, 5, 8, 15, 16, 17, 31, 32, 33, 64, 255, 256, 257, 511, 512, 513]
+HAND_LINES = ["-p -c 0", "-p -c 0 -u", "-p -c 0 -s 3 -l 40 in.bin", "-i -n name", "-i -n 9.a-b in.bin", "-n name",
+              "-d", "-d -b", "-d -c 5 -g 3 -o 99999980", "-d -o 4294967290", "-e", "-e -u", "-e -g 2", "-e -g 8 -c 24", "-e -g 0 -c 32",
+              "-e -g 1 -c 5", "-e -d -c 4", "-e -o 4294967290 -s 1 in.bin"]
+HAND_WORDS = ["-ps", "-plain", "-postscript -uppercase", "-bits", "-cols 8", "-group 4", "-groupsize 4 -cols 12", "-decimal", "-include", "-len 5",
+              "-include -name a.b", "-offset 16", "-seek 2 in.bin", "-skip 0x2 in.bin", "-uppercase -", "-ps in.bin", "-"]
+
+
+def hand_cases(tool, rng):
+    """All cases of what hands type."""
+    yield from (Case(tool, line.split(), some_row(rng, size), line) for line in HAND_LINES for size in HAND_LENGTHS)
+    yield from (Case(tool, line.split(), some_row(rng, 21), line) for line in HAND_WORDS)
+
+
+def some_row(rng, size):
+    """So many bytes, half of which print."""
+    return bytes(rng.randrange(256) if rng.randrange(2) else rng.randrange(32, 127) for _ in range(size))
+
+
 def refused_cases(tool):
     for (name, *words), fault in ((words.split(" "), fault) for words, fault in rows(read("tools/record/refused.txt"))):
         if name == tool:
@@ -253,7 +273,7 @@ def differs(tools, bx, case):
 
 # Each file: its name, kind, tool, and what makes its cases.
 FILES = [*((tool, "words", tool, word_cases) for tool in ("xxd", "od", "hexdump", "strings", "dd")),
-         ("dd_images", "commands", "dd", image_cases)]
+         ("dd_images", "commands", "dd", image_cases), ("xxd_hands", "words", "xxd", hand_cases)]
 
 
 def run(options):
