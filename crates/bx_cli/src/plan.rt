@@ -12,7 +12,7 @@ use bx_cli_commands::{
 };
 use bx_dd::parse;
 use bx_dump::hexdump::HexdumpOptions;
-use bx_dump::od::{Address, Kind, OdOptions};
+use bx_dump::od::{Address, Endian, Kind, OdOptions};
 use bx_dump::strings::StringsOptions;
 use bx_dump::xxd::XxdOptions;
 use bx_journal::Way;
@@ -179,6 +179,8 @@ fn od(alloc: Global, m: &Given<'_, '_>) -> Result<OdJob, Fault> {
         options: OdOptions {
             address: radix(m.get_str("radix"), Address::Octal, true)?,
             kind: kind(m)?,
+            endian: Endian::Little,
+            width: 16,
             first: 0,
             skip: number_or(m.get_str("skip"), SizeStyle::Count, 0)?,
             limit: number(m.get_str("limit"), SizeStyle::Count)?,

@@ -261,6 +261,19 @@ part_along text other skip limit r0 r1 w0 w1 read written same d =
       long = rw e d.long;
     }
 
+pub rest_along : (text other : List ℕ → List ℕ) (from : ℕ) (limit : Option ℕ) (r0 r1 w0 w1 : Option (List ℕ)) (read written : ℕ) → ((xs : List ℕ) → text xs ≡ other xs) →
+    WritesRest text from limit (streams r0 r1 w0 w1) read written → WritesRest other from limit (streams r0 r1 w0 w1) read written
+rest_along text other from limit r0 r1 w0 w1 read written same d =
+    let e : other d.input ≡ text d.input = sym (same d.input) in record {
+      input = d.input;
+      consumed = d.consumed;
+      ends = d.ends;
+      few = d.few;
+      dumped = d.dumped;
+      appended = rw e d.appended;
+      long = rw e d.long;
+    }
+
 pub front_along : (slack wide : ℕ) (text other : List ℕ → List ℕ) (skip : ℕ) (limit : Option ℕ) (from before : ℕ) (r0 r1 w0 w1 : Option (List ℕ)) (fault : IoFault) → ((xs : List ℕ) → text xs ≡ other xs) →
     slack ≤ wide → WritesFrontBut slack text skip limit from before (streams r0 r1 w0 w1) fault → WritesFrontBut wide other skip limit from before (streams r0 r1 w0 w1) fault
 front_along slack wide text other skip limit from before r0 r1 w0 w1 fault same wider d =

@@ -13,7 +13,7 @@ Reaches count r0 r1 = (input : List ℕ) × Consumes r0 r1 input × (count ≤ l
 
 -- the dump that the options ask for
 abbrev pub od_of : OdOptions → Dump
-od_of o = record { text = od_text o.address o.kind o.all (o.first + o.skip); skip = o.skip; limit = o.limit }
+od_of o = record { text = od_text o.address o.kind o.endian o.width o.all (o.first + o.skip); skip = o.skip; limit = o.limit }
 
 -- the input ended before `count` bytes
 abbrev pub EndsBefore : ℕ → Option (List ℕ) → Option (List ℕ) → Type 0

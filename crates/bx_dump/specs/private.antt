@@ -1,5 +1,6 @@
 -- What the functions of this crate need among themselves.
 pub mod Dumped
+pub mod FoldBy
 pub mod Folded
 pub mod Hexdump
 pub mod OdDump

@@ -1,16 +1,17 @@
 -- Numbers in fields of a fixed width.
-use Rattle.std.proofs.Common.{◌≡◌, ℕ, zero, suc, ◌+◌, ◌-◌, ◌*◌, ◌/◌, ◌^◌, ◌<◌, ◌≤◌, List, [], ◌∷◌, ◌++◌, length, min, replicate, get_or, take, drop, refl, sym, ap, ◌∙◌, arith, add-one, Fits, w8, w32, w64}
+use Rattle.std.proofs.Common.{◌≡◌, ℕ, zero, suc, ◌+◌, ◌-◌, ◌*◌, ◌/◌, ◌^◌, ◌<◌, ◌≤◌, List, [], ◌∷◌, ◌++◌, length, min, replicate, get_or, take, drop, reverse, refl, sym, ap, ◌∙◌, arith, add-one, Fits, w8, w32, w64}
 use Rattle.std.proofs.Math.ListN.{set}
 use Rattle.std.specs.Int.{from_le_bytes}
 use Rattle.std.proofs.Math.Nat.{mul-le-mul_left, pow-suc, pow-zero, pow-le-pow_right}
 use Rattle.std.proofs.lemmas.Nat.{div_below}
-use Rattle.std.proofs.lemmas.List.{get_or-drop, length-drop, length-append, length-take-le, take_more_set}
+use Rattle.std.proofs.lemmas.List.{get_or-drop, length-drop, length-append, length-take-le, reverse-append, take_more, take_more_set}
 use borrow.Rule.Slice.PartMut.{put_mid, post_of}
 use Rattle.bx_text.specs.Field.{left_filled}
 use Rattle.bx_text.proofs.KnownLemmas.{take-put_mid_more}
-use Rattle.bx_dump_columns.specs.Values.{value_of, width_of, size_of, field_width, value_text}
+use Rattle.bx_dump_columns.specs.Values.{value_of, width_of, size_of, field_width, value_text_in}
 use Rattle.bx_dump_columns.specs.Lines.{in_lines}
 use Rattle.bx_dump_columns.proofs.LinesLemmas.{line_begin, lines_next_at}
+use Rattle.bx_dump_columns.specs.declared.od.options.Endian.{Endian}
 use Rattle.bx_dump_columns.specs.declared.od.options.NumForm.TheVariants as form
 use Rattle.bx_dump_columns.specs.declared.od.options.Size.{Size}
 use Rattle.bx_dump_columns.specs.declared.od.options.Size.TheVariants.{One, Two, Four, Eight}
@@ -114,23 +115,64 @@ values_fit (Number form.Signed Two) n few = omega arith
 values_fit (Number form.Signed Four) n few = omega arith
 values_fit (Number form.Signed Eight) n few = omega arith
 
+-- at most 5 characters for each byte, and for those that fill up the last value
+pub values_few : (kind : Kind) (n : ℕ) → n ≤ 256 → (field_width kind + 1) * ((n + width_of kind - 1) / width_of kind) ≤ 1280
+values_few Chars n few = omega arith
+values_few (Number form.Hexadecimal One) n few = omega arith
+values_few (Number form.Hexadecimal Two) n few = omega arith
+values_few (Number form.Hexadecimal Four) n few = omega arith
+values_few (Number form.Hexadecimal Eight) n few = omega arith
+values_few (Number form.Octal One) n few = omega arith
+values_few (Number form.Octal Two) n few = omega arith
+values_few (Number form.Octal Four) n few = omega arith
+values_few (Number form.Octal Eight) n few = omega arith
+values_few (Number form.Unsigned One) n few = omega arith
+values_few (Number form.Unsigned Two) n few = omega arith
+values_few (Number form.Unsigned Four) n few = omega arith
+values_few (Number form.Unsigned Eight) n few = omega arith
+values_few (Number form.Signed One) n few = omega arith
+values_few (Number form.Signed Two) n few = omega arith
+values_few (Number form.Signed Four) n few = omega arith
+values_few (Number form.Signed Eight) n few = omega arith
+
+pub some_width : (kind : Kind) → 0 < width_of kind
+some_width Chars = omega arith
+some_width (Number form One) = omega arith
+some_width (Number form Two) = omega arith
+some_width (Number form Four) = omega arith
+some_width (Number form Eight) = omega arith
+
 -- one value more, behind those of a line so far
-pub value_next : (kind : Kind) (bytes text new : List ℕ) (k width used n : ℕ) → length bytes ≤ 16 → 80 ≤ length text → width ≡ width_of kind → 0 < width_of kind
+pub value_next : (kind : Kind) (endian : Endian) (bytes text new : List ℕ) (k width used n : ℕ) → (field_width kind + 1) * ((length bytes + width_of kind - 1) / width_of kind) ≤ length text
+    → width ≡ width_of kind → 0 < width_of kind
     → k < (length bytes + width_of kind - 1) / width_of kind → used ≡ (field_width kind + 1) * k → length new ≡ length (take (length text - used) (drop used text)) → n ≡ field_width kind + 1
-    → take used text ≡ in_lines (value_text kind) (width_of kind) 0 (take (width_of kind * k) bytes)
-    → take n new ≡ value_text kind (0 + width * k) (take (min (width * k + width_of kind) (length bytes) - width * k) (drop (width * k) bytes))
-    → (used + n ≡ (field_width kind + 1) * (k + 1)) × (take (used + n) (put_mid used (length text - used) text new) ≡ in_lines (value_text kind) (width_of kind) 0 (take (width_of kind * (k + 1)) bytes))
-value_next kind bytes text new k width used n few room value pos below at long one before put =
+    → take used text ≡ in_lines (value_text_in endian kind) (width_of kind) 0 (take (width_of kind * k) bytes)
+    → take n new ≡ value_text_in endian kind (0 + width * k) (take (min (width * k + width_of kind) (length bytes) - width * k) (drop (width * k) bytes))
+    → (used + n ≡ (field_width kind + 1) * (k + 1)) × (take (used + n) (put_mid used (length text - used) text new) ≡ in_lines (value_text_in endian kind) (width_of kind) 0 (take (width_of kind * (k + 1)) bytes))
+value_next kind endian bytes text new k width used n fits value pos below at long one before put =
     let W = width_of kind in
     let F = field_width kind + 1 in
     let inside : W * k < length bytes = line_begin (length bytes) W k pos below in
     let begin : width * k ≡ W * k = ap (λ n. n * k) value in
     let count : F * (k + 1) ≤ F * ((length bytes + W - 1) / W) = mul-le-mul_left {m = k + 1} {n = (length bytes + W - 1) / W} F (omega arith) in
-    let fits : F * ((length bytes + W - 1) / W) ≤ 80 = values_fit kind (length bytes) few in
     let more_used : F * (k + 1) ≡ F * k + F = omega arith in
     let left : length new ≡ length text - used = long ∙ length-take-le (length text - used) (drop used text) (omega (arith, length-drop used text)) in
-    let more = take-put_mid_more text new used (length text - used) n (omega (arith, at, count, fits, more_used, room)) (omega (arith, left, one, at, count, fits, more_used, room)) in
-    (omega (arith, at, one, more_used), more ∙ lines_next_at (value_text kind) W 0 k (width * k) bytes _ _ pos begin (omega (arith, inside, begin)) before put)
+    let more = take-put_mid_more text new used (length text - used) n (omega (arith, at, count, fits, more_used)) (omega (arith, left, one, at, count, fits, more_used)) in
+    (omega (arith, at, one, more_used), more ∙ lines_next_at (value_text_in endian kind) W 0 k (width * k) bytes _ _ pos begin (omega (arith, inside, begin)) before put)
+
+-- the value of a byte more, behind those that count more than it
+pub value_behind : (xs : List ℕ) (k : ℕ) → k < length xs → value_of (reverse (take (k + 1) xs)) ≡ 256 * value_of (reverse (take k xs)) + get_or xs k 0
+value_behind xs k inside =
+    let step : reverse (take (k + 1) xs) ≡ get_or xs k 0 ∷ reverse (take k xs) = ap reverse (take_more xs k 0 inside) ∙ reverse-append (take k xs) (get_or xs k 0 ∷ []) in
+    ap value_of step ∙ omega arith
+
+-- zeros behind bytes are what is read behind them
+pub get_or-zeros : (xs : List ℕ) (m k : ℕ) → get_or (xs ++ replicate m 0) k 0 ≡ get_or xs k 0
+get_or-zeros [] zero k = refl
+get_or-zeros [] (suc m) zero = refl
+get_or-zeros [] (suc m) (suc k) = get_or-zeros [] m k
+get_or-zeros (x ∷ xs) m zero = refl
+get_or-zeros (x ∷ xs) m (suc k) = get_or-zeros xs m k
 
 -- all bytes of each value of a full line are there
 pub whole_value : (kind : Kind) (k : ℕ) → k < (16 + width_of kind - 1) / width_of kind → width_of kind * k + width_of kind ≤ 16

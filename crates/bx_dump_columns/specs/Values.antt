@@ -1,8 +1,10 @@
 -- What od shows of bytes: values and characters in their fields.
-use Rattle.std.specs.Prelude.{ℕ, ◌+◌, ◌-◌, ◌*◌, ◌^◌, false, ◌&&◌, nat_le, nat_lt, ◌==◌, if◌then◌else◌, List, [], ◌∷◌, slice_index, codes}
+use Rattle.std.specs.Prelude.{ℕ, ◌+◌, ◌-◌, ◌*◌, ◌^◌, false, ◌&&◌, nat_le, nat_lt, ◌==◌, if◌then◌else◌, List, [], ◌∷◌, ◌++◌, length, replicate, reverse, slice_index, codes}
 use Rattle.std.specs.Fmt.{digits}
 use Rattle.bx_text.specs.Ascii.{is_printable}
 use Rattle.bx_text.specs.Field.{left_filled}
+use Rattle.bx_dump_columns.specs.declared.od.options.Endian.{Endian}
+use Rattle.bx_dump_columns.specs.declared.od.options.Endian.TheVariants.{Little, Big}
 use Rattle.bx_dump_columns.specs.declared.od.options.NumForm.TheVariants as form
 use Rattle.bx_dump_columns.specs.declared.od.options.Size.{Size}
 use Rattle.bx_dump_columns.specs.declared.od.options.Size.TheVariants.{One, Two, Four, Eight}
@@ -15,6 +17,11 @@ use Rattle.bx_dump_columns.specs.declared.od.options.NumForm.{NumForm}
 abbrev pub value_of : List ℕ → ℕ
 value_of [] = 0
 value_of (b ∷ bs) = b + 256 * value_of bs
+
+-- the value of n bytes, the lowest or the highest first; those that are absent behind them count as 0
+abbrev pub value_in : Endian → ℕ → List ℕ → ℕ
+value_in Little n bytes = value_of bytes
+value_in Big n bytes = value_of (reverse (bytes ++ replicate (n - length bytes) 0))
 
 -- of four numbers, that for values of one, two, four or eight bytes
 abbrev pub by_size : Size → ℕ → ℕ → ℕ → ℕ → ℕ
@@ -69,6 +76,10 @@ field_width (Number form size) = number_width form size
 -- a space and the field, wherever it stands
 abbrev pub value_text : Kind → ℕ → List ℕ → List ℕ
 value_text kind at bytes = 32 ∷ field_text kind (value_of bytes)
+
+-- the same where the value's bytes stand in an order
+abbrev pub value_text_in : Endian → Kind → ℕ → List ℕ → List ℕ
+value_text_in endian kind at bytes = 32 ∷ field_text kind (value_in endian (width_of kind) bytes)
 
 -- the values of some bytes
 abbrev pub values_text : Kind → List ℕ → List ℕ

@@ -2,8 +2,10 @@
 use Rattle.std.specs.Prelude.{◌≡◌, ℕ, ◌+◌, ◌^◌, ◌⊎◌, List, Option}
 use Rattle.bx_text.specs.declared.fault.IoFault.{IoFault}
 use Rattle.bx_text.specs.declared.fault.IoFault.TheVariants.{SkipPastEnd}
-use Rattle.bx_text.specs.Fold.{folded}
 use Rattle.bx_text.specs.private.Stream.{StopsAfter}
+use Rattle.bx_dump_columns.specs.declared.od.options.Endian.TheVariants.{Little}
+use Rattle.bx_text.specs.Fold.{folded}
+use Rattle.bx_dump.specs.FoldBy.{folded_by}
 use Rattle.bx_dump.specs.Od.{od_line}
 use Rattle.bx_dump.specs.OdDump.{EndsBefore}
 use Rattle.bx_dump.specs.private.Pages.{StopsNext, Streams, WritesNext}
@@ -12,7 +14,7 @@ use Rattle.bx_dump.specs.declared.od.options.OdOptions.{OdOptions}
 
 -- od's lines of some bytes
 abbrev pub od_lines : OdOptions → List ℕ → List ℕ
-od_lines o bytes = folded (od_line o.address o.kind) o.all (o.first + o.skip) bytes
+od_lines o bytes = folded_by o.width (od_line o.address o.kind o.endian) o.all (o.first + o.skip) bytes
 
 -- the lines of what comes behind the bytes that were taken were written
 abbrev pub WritesOdLines : OdOptions → ℕ → Streams → Part → Type 0
@@ -21,6 +23,16 @@ WritesOdLines o taken io part = WritesNext (od_lines o) taken o.limit io part
 -- a front of them was written
 abbrev pub StopsOdLines : OdOptions → ℕ → Streams → IoFault → Type 0
 StopsOdLines o taken io fault = StopsNext (od_lines o) taken o.limit 0 io fault
+
+-- the same of lines of 16 bytes, numbers the lowest byte first
+abbrev pub plain_lines : OdOptions → List ℕ → List ℕ
+plain_lines o bytes = folded (od_line o.address o.kind Little) o.all (o.first + o.skip) bytes
+
+abbrev pub WritesPlainLines : OdOptions → ℕ → Streams → Part → Type 0
+WritesPlainLines o taken io part = WritesNext (plain_lines o) taken o.limit io part
+
+abbrev pub StopsPlainLines : OdOptions → ℕ → Streams → IoFault → Type 0
+StopsPlainLines o taken io fault = StopsNext (plain_lines o) taken o.limit 0 io fault
 
 -- the input ended among the bytes to skip, or a read stopped
 abbrev pub StopsShort : ℕ → Option (List ℕ) → Option (List ℕ) → IoFault → Type 0

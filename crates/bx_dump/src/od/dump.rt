@@ -3,13 +3,15 @@ ghost use Rattle.std.specs.Prelude.{◌≡◌, ◌⊎◌, ℕ, ◌+◌, ◌^◌,
 ghost use Rattle.bx_text.specs.Stream.{Skips};
 ghost use Rattle.bx_dump.specs.OdDump.{Reaches, StopsOd, od_of};
 ghost use Rattle.bx_dump.specs.private.Pages.{streams_of};
-ghost use Rattle.bx_dump.specs.private.OdDump.{StopsOdLines, StopsShort, WritesOdLines};
+ghost use Rattle.bx_dump.specs.private.OdDump.{StopsOdLines, StopsPlainLines, StopsShort, WritesOdLines, WritesPlainLines};
 ghost use Rattle.bx_dump.specs.Pages.{WritesAll};
 
 use crate::driver::folded::FoldedPages;
 use crate::driver::pages::{LIMIT, Part, dump_pages, skip_front};
-use crate::od::lines::{OdLines, end_line};
+use crate::driver::wide::WidePages;
+use crate::od::lines::{OdLines, OdWide, end_line};
 use crate::od::options::OdOptions;
+use bx_dump_columns::od::options::Endian;
 use bx_text::{IoFault, Meter, State, emit_after};
 use std::io::{Read, Write};
 
@@ -44,11 +46,74 @@ fn dump_lines<R: Read, W: Write>(
     ensures few { IfOk result (λ part. part.written ≤ 2 ^ 60) }
     ensures count { IfOk result (λ part. part.read ≤ 2 ^ 40) }
 {
+    match o.endian {
+        Endian::Little if o.width == 16 => dump_sixteen(meter, r, w, o),
+        _ => dump_wide(meter, r, w, o),
+    }
+}
+
+/// The same of lines of 16 bytes, numbers the lowest byte first.
+fn dump_sixteen<R: Read, W: Write>(
+    meter: &mut Meter,
+    r: &mut R,
+    w: &mut W,
+    o: &OdOptions,
+) -> Result<Part, IoFault>
+    requires open { meter.old.state ≡ State.Open }
+    requires limit { meter.old.limit ≡ 2 ^ 40 }
+    requires endian { o.now.endian ≡ Endian.Little }
+    requires width { o.now.width ≡ 16 }
+    ensures ok { IfOk result (WritesOdLines o.now meter.old.taken (streams_of R.remaining r.old r.new W.contents w.old w.new)) }
+    ensures err { IfErr result (StopsOdLines o.now meter.old.taken (streams_of R.remaining r.old r.new W.contents w.old w.new)) }
+    ensures few { IfOk result (λ part. part.written ≤ 2 ^ 60) }
+    ensures count { IfOk result (λ part. part.read ≤ 2 ^ 40) }
+{
+    dump_plain(meter, r, w, o)
+}
+
+/// Writes the lines of 16 bytes by code of their own.
+fn dump_plain<R: Read, W: Write>(
+    meter: &mut Meter,
+    r: &mut R,
+    w: &mut W,
+    o: &OdOptions,
+) -> Result<Part, IoFault>
+    requires open { meter.old.state ≡ State.Open }
+    requires limit { meter.old.limit ≡ 2 ^ 40 }
+    ensures ok { IfOk result (WritesPlainLines o.now meter.old.taken (streams_of R.remaining r.old r.new W.contents w.old w.new)) }
+    ensures err { IfErr result (StopsPlainLines o.now meter.old.taken (streams_of R.remaining r.old r.new W.contents w.old w.new)) }
+    ensures few { IfOk result (λ part. part.written ≤ 2 ^ 60) }
+    ensures count { IfOk result (λ part. part.read ≤ 2 ^ 40) }
+{
     let lines = OdLines {
         address: o.address,
         kind: o.kind,
     };
     let mut pages = FoldedPages::new(lines, o.all, o.first + o.skip);
+    dump_pages(meter, r, w, &mut pages, o.limit, 0)
+}
+
+/// The same of any lines.
+fn dump_wide<R: Read, W: Write>(
+    meter: &mut Meter,
+    r: &mut R,
+    w: &mut W,
+    o: &OdOptions,
+) -> Result<Part, IoFault>
+    requires open { meter.old.state ≡ State.Open }
+    requires limit { meter.old.limit ≡ 2 ^ 40 }
+    ensures ok { IfOk result (WritesOdLines o.now meter.old.taken (streams_of R.remaining r.old r.new W.contents w.old w.new)) }
+    ensures err { IfErr result (StopsOdLines o.now meter.old.taken (streams_of R.remaining r.old r.new W.contents w.old w.new)) }
+    ensures few { IfOk result (λ part. part.written ≤ 2 ^ 60) }
+    ensures count { IfOk result (λ part. part.read ≤ 2 ^ 40) }
+{
+    let lines = OdWide {
+        address: o.address,
+        kind: o.kind,
+        endian: o.endian,
+        width: o.width,
+    };
+    let mut pages = WidePages::new(lines, o.all, o.first + o.skip);
     dump_pages(meter, r, w, &mut pages, o.limit, 0)
 }
 

@@ -1,11 +1,14 @@
 //! od's lines.
-ghost use Rattle.std.specs.Prelude.{◌≡◌, ℕ, ◌+◌, ◌-◌, ◌^◌, ◌<◌, ◌≤◌, length, take};
+ghost use Rattle.std.specs.Prelude.{◌≡◌, ℕ, ◌+◌, ◌-◌, ◌*◌, ◌/◌, ◌^◌, ◌<◌, ◌≤◌, length, take};
+ghost use Rattle.bx_dump_columns.specs.Values.{field_width, width_of};
+ghost use Rattle.bx_dump_columns.specs.declared.od.options.Endian.TheVariants.{Little};
 ghost use Rattle.bx_dump.specs.Od.{address_text, od_line, od_end};
 
 use crate::driver::folded::Form;
+use crate::driver::wide::WideForm;
 use bx_dump_columns::od::octal::{put_eight, put_nine, put_seven};
-use bx_dump_columns::od::options::{Address, Kind};
-use bx_dump_columns::od::values::put_any;
+use bx_dump_columns::od::options::{Address, Endian, Kind};
+use bx_dump_columns::od::values::{put_any, put_values};
 use bx_text::{ShortText, dec_field, hex_field, oct_field};
 
 /// An address in digits.
@@ -102,7 +105,7 @@ pub fn end_line(address: Address, at: u64) -> ShortText<24>
     line
 }
 
-/// od's lines.
+/// od's lines of 16 bytes, numbers the lowest byte first.
 #[derive(Drop)]
 pub struct OdLines {
     pub address: Address,
@@ -110,11 +113,46 @@ pub struct OdLines {
 }
 
 impl Form for OdLines {
-    ghost line = { λ l. od_line l.address l.kind };
+    ghost line = { λ l. od_line l.address l.kind Little };
 
     fn put(&self, page: &mut [u8], at: u64, bytes: &[u8]) -> usize {
         let start = put_start(page, self.address, at);
         let used = put_any(&mut page[start..], self.kind, bytes);
+        page[start + used] = b'\n';
+        start + used + 1
+    }
+}
+
+/// od's lines of any length.
+#[derive(Drop)]
+pub struct OdWide {
+    pub address: Address,
+    pub kind: Kind,
+    pub endian: Endian,
+    pub width: u16,
+    ghost some: { 0 < width },
+    ghost narrow: { width ≤ 256 },
+}
+
+impl WideForm for OdWide {
+    ghost line = { λ l. od_line l.address l.kind l.endian };
+
+    ghost cols = { λ l. l.width };
+
+    ghost room = { λ l. 23 + (field_width l.kind + 1) * ((l.width + width_of l.kind - 1) / width_of l.kind) };
+
+    fn line_len(&self) -> usize {
+        self.width as usize
+    }
+
+    fn room_len(&self) -> usize {
+        let size = self.kind.width();
+        23 + (self.kind.field() + 1) * ((self.width as usize + size - 1) / size)
+    }
+
+    fn put(&self, page: &mut [u8], at: u64, bytes: &[u8]) -> usize {
+        let start = put_start(page, self.address, at);
+        let used = put_values(&mut page[start..], self.kind, self.endian, bytes);
         page[start + used] = b'\n';
         start + used + 1
     }

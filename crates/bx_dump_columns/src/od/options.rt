@@ -25,13 +25,22 @@ pub enum NumForm {
     Hexadecimal,
 }
 
-/// The bytes of a number, the lowest first (little-endian).
+/// The bytes of a number.
 #[derive(Clone, Copy, Debug, PartialEq, Eq)]
 pub enum Size {
     One,
     Two,
     Four,
     Eight,
+}
+
+/// Which byte of a number is the first.
+#[derive(Clone, Copy, Debug, PartialEq, Eq)]
+pub enum Endian {
+    /// The lowest.
+    Little,
+    /// The highest.
+    Big,
 }
 
 /// What the bytes are shown as.
@@ -82,7 +91,7 @@ impl Kind {
 
     /// The bytes of a value.
     #[inline(always)]
-    pub(crate) fn width(self) -> usize
+    pub fn width(self) -> usize
         ensures value { result ≡ width_of self }
         ensures some { 0 < result }
         ensures most { result ≤ 8 }
@@ -95,7 +104,7 @@ impl Kind {
 
     /// The characters of a value.
     #[inline(always)]
-    pub(crate) fn field(self) -> usize
+    pub fn field(self) -> usize
         ensures value { result ≡ field_width self }
         ensures most { result ≤ 22 }
     {

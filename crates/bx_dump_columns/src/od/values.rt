@@ -1,7 +1,7 @@
 //! The values of a line.
-ghost use Rattle.std.specs.Prelude.{◌≡◌, ℕ, ◌+◌, ◌-◌, ◌*◌, ◌^◌, ◌<◌, ◌≤◌, ◌∷◌, length, take, drop, min};
+ghost use Rattle.std.specs.Prelude.{◌≡◌, ℕ, ◌+◌, ◌-◌, ◌*◌, ◌^◌, ◌/◌, ◌<◌, ◌≤◌, ◌∷◌, length, take, drop, get_or, min};
 ghost use Rattle.bx_dump_columns.specs.Lines.{in_lines};
-ghost use Rattle.bx_dump_columns.specs.Values.{value_of, width_of, field_text, field_width, value_text, values_text};
+ghost use Rattle.bx_dump_columns.specs.Values.{value_of, value_in, width_of, field_text, field_width, value_text, value_text_in, values_text};
 
 use crate::od::byte_tables::char_of;
 use crate::od::decimal_fours::{put_signed_fours, put_unsigned_fours};
@@ -9,7 +9,7 @@ use crate::od::decimal_twos::{put_signed_twos, put_unsigned_twos};
 use crate::od::fixed::put_cell;
 use crate::od::hexadecimal::put_hexadecimal_line;
 use crate::od::octal_lanes::put_octal_twos;
-use crate::od::options::{Kind, NumForm, Size};
+use crate::od::options::{Endian, Kind, NumForm, Size};
 
 /// The value of bytes, the lowest first (little-endian).
 #[inline(always)]
@@ -35,14 +35,53 @@ fn value_of(bytes: &[u8]) -> u64
     value
 }
 
+/// The value of bytes, the highest first (big-endian); those that are absent behind them count as 0.
+fn big_value(bytes: &[u8], width: usize) -> u64
+    requires few { length bytes.now ≤ width }
+    requires most { width ≤ 8 }
+    ensures value { result ≡ value_in Endian.Big width bytes.now }
+    ensures below { result < 256 ^ width }
+{
+    let mut value = 0u64;
+    for place in 0..width {
+        value = 256 * value + byte_at(bytes, place) as u64;
+    }
+    value
+}
+
+/// The byte at a place, and 0 behind the last.
+#[inline(always)]
+fn byte_at(bytes: &[u8], place: usize) -> u8
+    ensures { result ≡ get_or bytes.now place 0 }
+{
+    if place < bytes.len() {
+        return bytes[place];
+    }
+    0
+}
+
+/// The value of at most `width` bytes in an order; those that are absent count as 0.
+#[inline(always)]
+fn value_in(bytes: &[u8], endian: Endian, width: usize) -> u64
+    requires few { length bytes.now ≤ width }
+    requires most { width ≤ 8 }
+    ensures value { result ≡ value_in endian width bytes.now }
+    ensures below { result < 256 ^ width }
+{
+    match endian {
+        Endian::Little => value_of(bytes),
+        Endian::Big => big_value(bytes, width),
+    }
+}
+
 /// Puts a space and the field for the bytes of one value.
 #[inline(always)]
-fn put_value(text: &mut [u8], kind: Kind, bytes: &[u8])
+fn put_value(text: &mut [u8], kind: Kind, endian: Endian, bytes: &[u8])
     requires room { length text.old ≡ field_width kind + 1 }
     requires fits { length bytes.now ≤ width_of kind }
-    ensures { text.new ≡ 32 ∷ field_text kind (value_of bytes.now) }
+    ensures { text.new ≡ 32 ∷ field_text kind (value_in endian (width_of kind) bytes.now) }
 {
-    let value = value_of(bytes);
+    let value = value_in(bytes, endian, kind.width());
     match kind {
         Kind::Chars => text.copy_from_slice(&char_of(value as u8)),
         Kind::Number { form, size } => put_cell(text, form, size, value),
@@ -51,32 +90,32 @@ fn put_value(text: &mut [u8], kind: Kind, bytes: &[u8])
 
 /// Puts the value that begins at place `begin` of the bytes, and answers how long its text is.
 #[inline(always)]
-fn put_next(text: &mut [u8], kind: Kind, bytes: &[u8], begin: usize) -> usize
+fn put_next(text: &mut [u8], kind: Kind, endian: Endian, bytes: &[u8], begin: usize) -> usize
     requires room { field_width kind + 1 ≤ length text.old }
     requires inside { begin < length bytes.now }
-    requires few { length bytes.now ≤ 16 }
+    requires few { length bytes.now ≤ 4096 }
     ensures value { result ≡ field_width kind + 1 }
-    ensures text { take result text.new ≡ value_text kind (0 + begin) (take (min (begin + width_of kind) (length bytes.now) - begin) (drop begin bytes.now)) }
+    ensures text { take result text.new ≡
+        value_text_in endian kind (0 + begin) (take (min (begin + width_of kind) (length bytes.now) - begin) (drop begin bytes.now)) }
 {
     let end = (begin + kind.width()).min(bytes.len());
     let (value, _) = text.split_at_mut(kind.field() + 1);
-    put_value(value, kind, &bytes[begin..end]);
+    put_value(value, kind, endian, &bytes[begin..end]);
     kind.field() + 1
 }
 
-/// Puts the values of a line, and answers how long their text is.
-#[inline(always)]
-fn put_values(text: &mut [u8], kind: Kind, bytes: &[u8]) -> usize
-    requires room { 80 ≤ length text.old }
-    requires few { length bytes.now ≤ 16 }
-    ensures most { result ≤ 80 }
-    ensures text { take result text.new ≡ in_lines (value_text kind) (width_of kind) 0 bytes.now }
+/// Puts the values of a line whose bytes stand in an order, and answers how long their text is.
+pub fn put_values(text: &mut [u8], kind: Kind, endian: Endian, bytes: &[u8]) -> usize
+    requires room { (field_width kind + 1) * ((length bytes.now + width_of kind - 1) / width_of kind) ≤ length text.old }
+    requires few { length bytes.now ≤ 4096 }
+    ensures most { result ≤ (field_width kind + 1) * ((length bytes.now + width_of kind - 1) / width_of kind) }
+    ensures text { take result text.new ≡ in_lines (value_text_in endian kind) (width_of kind) 0 bytes.now }
 {
     let width = kind.width();
     let count = (bytes.len() + width - 1) / width;
     let mut used = 0;
     for k in 0..count {
-        used += put_next(&mut text[used..], kind, bytes, width * k);
+        used += put_next(&mut text[used..], kind, endian, bytes, width * k);
     }
     used
 }
@@ -91,7 +130,7 @@ fn put_exact(text: &mut [u8], kind: Kind, bytes: &[u8], begin: usize) -> usize
 {
     let end = begin + kind.width();
     let (value, _) = text.split_at_mut(kind.field() + 1);
-    put_value(value, kind, &bytes[begin..end]);
+    put_value(value, kind, Endian::Little, &bytes[begin..end]);
     kind.field() + 1
 }
 
@@ -186,6 +225,6 @@ pub fn put_any(text: &mut [u8], kind: Kind, bytes: &[u8]) -> usize
 {
     match bytes.first_chunk::<16>() {
         Some(full) => put_full(text, kind, full),
-        None => put_values(text, kind, bytes),
+        None => put_values(text, kind, Endian::Little, bytes),
     }
 }

@@ -1,17 +1,18 @@
 use Rattle.std.proofs.Common.{◌≡◌, ℕ, ◌+◌, ◌^◌, true, Option, Result, Err, List, [], ◌++◌, length, arith, refl, sym, ap, ◌∙◌, subst, inl, inr}
 use Rattle.std.proofs.lemmas.List.{length-append}
 use Rattle.bx_text.proofs.KnownLemmas.{Consumes-trans}
-use Rattle.bx_text.specs.Fold.{folded}
+use Rattle.bx_dump.specs.FoldBy.{folded_by}
 use Rattle.bx_dump.specs.Od.{od_line, od_end, od_text}
 use Rattle.std.specs.Io.KnownBytes.{Consumes}
 use Rattle.bx_text.specs.declared.fault.IoFault.{IoFault}
 use Rattle.bx_text.specs.declared.fault.IoFault.TheVariants.{WriteFailed, SkipPastEnd}
 use Rattle.bx_text.specs.Stream.{IsReadCause, Skips}
-use Rattle.bx_dump.specs.OdDump.{Reaches, od_of}
+use Rattle.bx_dump.specs.OdDump.{Reaches, StopsOd, od_of}
+use Rattle.bx_dump.specs.declared.od.options.OdOptions.{OdOptions}
 use Rattle.bx_dump.specs.private.OdDump.{StopsShort}
 use Rattle.bx_dump.specs.Pages.{bytes_dumped}
 use Rattle.bx_dump.proofs.EndLemmas.{od_end_few}
-use Rattle.bx_dump.proofs.PagesLemmas.{all_of, front_of, part_whole, part_then, stop_then, front_then, front_behind}
+use Rattle.bx_dump.proofs.PagesLemmas.{all_of, front_of, part_whole, part_then, stop_then, front_then, front_behind, front_skip}
 use Rattle.bx_dump.proofs.od.dump.od.Goals as goal
 
 same_fault : (a b : IoFault) → ◌≡◌ {A = Result ℕ IoFault} (Err a) (Err b) → a ≡ b
@@ -30,12 +31,21 @@ reaches_behind count r0 r1 r2 input front rest = (
   omega (arith, length-append front.input input, front.whole refl),
 )
 
+-- what stopped among the bytes to skip
+short_stop : (o : OdOptions) (r0 r1 w : Option (List ℕ)) (fault : IoFault) → StopsShort o.skip r0 r1 fault → StopsOd o r0 r1 w w fault
+short_stop o r0 r1 w fault (inl short) = inl (short.0, short.1, refl)
+short_stop o r0 r1 w fault (inr stop) =
+    inr (front_of (od_of o) r0 r1 w w fault (front_skip (2 ^ 7) (λ xs. (od_of o).text (bytes_dumped o.skip o.limit xs)) o.skip o.limit 0 r0 r1 w fault stop))
+
+pub returns-in-Err-clause-err : goal.returns-in-Err-clause-err
+returns-in-Err-clause-err g c = short_stop c.args.o.now _ _ _ c.in-Err.fault c.in-Err.ensures.err
+
 pub returns-in-Err-dump_lines-clause-err : goal.returns-in-Err-dump_lines-clause-err
 returns-in-Err-dump_lines-clause-err g c =
     let o = c.args.o.now in
-    let lines = folded (od_line o.address o.kind) o.all (o.first + o.skip) in
+    let lines = folded_by o.width (od_line o.address o.kind o.endian) o.all (o.first + o.skip) in
     let text = λ (xs : List ℕ). lines (bytes_dumped o.skip o.limit xs) in
-    let other = λ (xs : List ℕ). od_text o.address o.kind o.all (o.first + o.skip) (bytes_dumped o.skip o.limit xs) in
+    let other = λ (xs : List ℕ). od_text o.address o.kind o.endian o.width o.all (o.first + o.skip) (bytes_dumped o.skip o.limit xs) in
     let rest = rw c.in_default.ensures.open.1 at c.in-Err-dump_lines.ensures.err in
     inr (front_of (od_of o) _ _ _ _ c.in-Err-dump_lines.fault (front_then 0 (2 ^ 7) text other o.skip o.limit 0 0 _ _ _ _ c.in-Err-dump_lines.fault (λ xs. (od_end o.address (o.first + o.skip + length (bytes_dumped o.skip o.limit xs)), refl))
     (λ xs. omega (
@@ -49,9 +59,9 @@ returns-in-Err-dump_lines-clause-err g c =
 pub returns-in-Err-emit_after-clause-err : goal.returns-in-Err-emit_after-clause-err
 returns-in-Err-emit_after-clause-err g c =
     let o = c.args.o.now in
-    let lines = folded (od_line o.address o.kind) o.all (o.first + o.skip) in
+    let lines = folded_by o.width (od_line o.address o.kind o.endian) o.all (o.first + o.skip) in
     let text = λ (xs : List ℕ). lines (bytes_dumped o.skip o.limit xs) in
-    let other = λ (xs : List ℕ). od_text o.address o.kind o.all (o.first + o.skip) (bytes_dumped o.skip o.limit xs) in
+    let other = λ (xs : List ℕ). od_text o.address o.kind o.endian o.width o.all (o.first + o.skip) (bytes_dumped o.skip o.limit xs) in
     let done = c.in-Ok.lines in
     let whole = part_whole lines o.skip o.limit _ _ _ _ _ done.read done.written c.in_default.ensures.ok (rw c.in_default.ensures.open.1 at c.in-Ok.ensures.ok) in
     let line = rw (c.as_bytes.ensures.value, c.end_line-end.ensures) at c.in-Err-emit_after.ensures.err in
@@ -62,9 +72,9 @@ returns-in-Err-emit_after-clause-err g c =
 pub returns-clause-ok : goal.returns-clause-ok
 returns-clause-ok g c =
     let o = c.args.o.now in
-    let lines = folded (od_line o.address o.kind) o.all (o.first + o.skip) in
+    let lines = folded_by o.width (od_line o.address o.kind o.endian) o.all (o.first + o.skip) in
     let text = λ (xs : List ℕ). lines (bytes_dumped o.skip o.limit xs) in
-    let other = λ (xs : List ℕ). od_text o.address o.kind o.all (o.first + o.skip) (bytes_dumped o.skip o.limit xs) in
+    let other = λ (xs : List ℕ). od_text o.address o.kind o.endian o.width o.all (o.first + o.skip) (bytes_dumped o.skip o.limit xs) in
     let done = c.in-Ok.lines in
     let whole = part_whole lines o.skip o.limit _ _ _ _ _ done.read done.written c.in_default.ensures.ok (rw c.in_default.ensures.open.1 at c.in-Ok.ensures.ok) in
     let line = rw (c.as_bytes.ensures.value, c.end_line-end.ensures) at c.in_default-emit_after.ensures.ok in
