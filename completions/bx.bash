@@ -78,7 +78,7 @@ _bx() {
         return
         ;;
     xxd) options='-b -c -d -e -g -i -l -n -o -p -s -u' ;;
-    od) options='-A -N -b -c -d -j -o -s -t -v -x' ;;
+    od) options='-A -N -b -c -d -i -j -l -o -s -t -v -w -x --endian --width' ;;
     hexdump) options='-C -n -s -v' ;;
     strings) options='-a -n -t' ;;
     dd) options='-J -U -n --anyway --dry-run --fresh --mounted' ;;
@@ -93,6 +93,7 @@ _bx() {
     esac
     case $command:$prev in
     od:-A) _bx_words 'd o x n' ;;
+    od:--endian) _bx_words 'big little' ;;
     od:-t) _bx_words 'c d1 d2 d4 d8 o1 o2 o4 o8 u1 u2 u4 u8 x1 x2 x4 x8' ;;
     strings:-t) _bx_words 'd o x' ;;
     xxd:-[cglnos] | od:-[jN] | hexdump:-[ns] | strings:-n | revert:-s | undo:-k | redo:-k | show:-k) ;;

@@ -143,7 +143,7 @@ What the completion of zsh adds, at a terminal of its own, is written down by a 
   $ bx xxd -<TAB>
   -b -c -d -e -g -i -l -n -o -p -s -u
   $ bx od -<TAB>
-  -A -N -b -c -d -j -o -s -t -v -x
+  --endian --width -A -N -b -c -d -i -j -l -o -s -t -v -w -x
   $ bx hexdump -<TAB>
   -C -n -s -v
   $ bx strings -<TAB>

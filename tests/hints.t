@@ -230,7 +230,7 @@ Dumps and a patch:
   [2]
   $ bx od -N 4q img
   bx: bad arguments
-  hint: 4q: a number as 512, 0x200 or 01000, with b, k or m behind it; Usage: bx od [OPTIONS] [FILE]
+  hint: 4q: a number as 512, 0x200 or 01000, with b, k or m behind it, or K, M, G, T, P, kB or KiB; Usage: bx od [OPTIONS] [FILE]
   [2]
   $ bx od -A q img
   bx: bad arguments
@@ -238,7 +238,7 @@ Dumps and a patch:
   [2]
   $ bx od -t x3 img
   bx: bad arguments
-  hint: x3: c, or one of d, o, u and x with one of 1, 2, 4 and 8; Usage: bx od [OPTIONS] [FILE]
+  hint: x3: c, or one of d, o, u and x with one of 1, 2, 4 and 8, or C, S, I and L; Usage: bx od [OPTIONS] [FILE]
   [2]
   $ bx strings -n 0 img
   bx: bad arguments

@@ -43,7 +43,7 @@ What bx takes is found by trying: each letter as an option, and the names of GNU
   >   case $command in xxd | od | strings | dd) words=$command ;; hexdump) words='hexdump -C' ;; *) words="$command image" ;; esac
   >   bx $command --help > help; letters $words $([ $command != diff ] || echo other) > taken
   >   sed -nE 's/^ +(-\w, )?(--[a-z-]+).*/\2/p' help | grep -vx -e --help > long; sed -nE 's/^ +-\w, (--[a-z-]+).*/\1/p' help > lettered
-  >   for name in $(cat long); do takes $words $name || echo "$command: $name isn't taken"; done
+  >   for name in $(cat long); do takes $words $name || takes $words $name=big || echo "$command: $name isn't taken"; done
   >   cat taken long | sort > bx
   >   { grep '^  -' help | sed 's/^  //; s/  .*//' | grep -oP "$flag" | sed 's/ .*/=/'; cat long; } | same "help of $command"
   >   sed -n "/^\.Ss bx $command\$/,/^\.S[sh] /p" $man | grep -oP '^\.It Fl \K(\w( Ar)?( , -[\w-]+)?|-[\w-]+)' | sed 's/ , /\n/' |

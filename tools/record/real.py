@@ -71,7 +71,14 @@ def told_count(case):
     if not last or radix == "n":
         return None
     skipped = value(case.words, "-j" if case.tool == "od" else "-s", "0")
-    return int(last[0], {"d": 10, "o": 8, "x": 16}[radix]) - int(re.sub(r"^0(?=\d)", "0o", skipped), 0)
+    return int(last[0], {"d": 10, "o": 8, "x": 16}[radix]) - skipped_bytes(skipped)
+
+
+def skipped_bytes(text):
+    """The bytes that od's -j names: a number, and perhaps a unit, as k, KiB or kB."""
+    digits, letter, end = re.fullmatch(r"(0[xX][0-9a-fA-F]+|\d+)(?:([kKmMGTP])(iB|B)?)?", text).groups()
+    unit = (1000 if end == "B" else 1024) ** (1 + "kmgtp".index(letter.lower())) if letter else 1
+    return int(re.sub(r"^0(?=\d)", "0o", digits), 0) * unit
 
 
 def told_records(said):

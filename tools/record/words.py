@@ -137,6 +137,13 @@ OF_EACH_LENGTH = {"xxd": ["", "-b", "-p", "-i"], "od": [""], "hexdump": ["-C"], 
 # among them.
 LINES = {"od": ["-b", "-o", "-t x1", "-t x2", "-t x4", "-t x8"], "hexdump": ["-C"]}
 ROWS = bytes(itertools.accumulate(range(599), lambda byte, _: (byte * 5 + 37) % 256, initial=11))
+# Options that od has beside POSIX': what is read in lines of each, the last of them perhaps cut, and with lines that repeat.
+MORE = {"od": ["-i", "-l", "-t x", "-t d", "-t oC", "-t dS", "-t uI", "-t xL", "--endian=big", "--endian=little -t x8",
+               "--endian big -t x4", "--endian=big -t d2", "--endian=big -c", "-w4 -t x2", "--width=3 -b", "-w", "-cvw", "-w1 -c",
+               "-w8 -t o8", "-w20 -t u4 -A n", "-w16", "-w256 -t d1", "-w24 --endian=big -t x8", "-w2 -A x -v", "-Ad -w6 -d",
+               "-N 1kB -b", "-N 1K", "-N 1MiB -x", "-j 0G -N 0x1kB -l", "-N 1TB -c", "-N 0P", "-N 1m"]}
+BEHIND = {"od": ["-j 1kB", "-j 1K -w32 -t x1", "-j 1KiB -N 1kB -i", "-j 1k --endian=big -t x2"]}
+FOLDS = b"abcdefgh" * 9 + b"ABCD" * 40 + bytes(300) + b"end"
 # Conversions of each front of a text.
 TEXT = b"one\ntwo  \n\na longer Line with  spaces   \nq\xe9\xff\0\n\nlast"
 OF_EACH_FRONT = ["ibs=7 conv=sync,ucase", "ibs=1 cbs=5 conv=block", "ibs=16 cbs=5 conv=unblock,lcase",
@@ -189,6 +196,9 @@ def word_cases(tool, rng):
     yield from refused_cases(tool)
     yield from (Case(tool, line.split(), ROWS[:size], f"lines, {line}") for line in LINES.get(tool, [])
                 for size in [*range(17, 33), 600])
+    yield from (Case(tool, line.split(), data, f"more, {line}") for line in MORE.get(tool, [])
+                for data in (b"", ROWS[:7], ROWS[:33], ROWS[:100], FOLDS))
+    yield from (Case(tool, line.split(), bytes(1000) + ROWS[:80], f"more, {line}") for line in BEHIND.get(tool, []))
 
 
 # dd: operands, and words of one conv=.

@@ -5,7 +5,9 @@ use crate::instead::{
 };
 use crate::options::program;
 use crate::plan::{kind, look, words_of};
-use bx_cli_commands::{Fault, MOST_LEAST, MOST_STEPS, count_or, number, radix};
+use bx_cli_commands::{
+    Fault, MOST_LEAST, MOST_STEPS, bytes, count_or, endian, line_width, number, radix,
+};
 use bx_dd::DdFault;
 use bx_dump::od::Address;
 use bx_text::{SizeFault, SizeStyle, Words, read_size};
@@ -181,9 +183,9 @@ fn missing(name: &str) -> (&'static str, &'static str) {
     }
 }
 
-static VALUES: [&str; 12] = [
-    "radix", "kind", "offsets", "least", "count", "cols", "group", "seek", "shift", "offset",
-    "skip", "limit",
+static VALUES: [&str; 14] = [
+    "radix", "kind", "endian", "width", "offsets", "least", "count", "cols", "group", "seek",
+    "shift", "offset", "skip", "limit",
 ];
 
 /// The first value that isn't one of its option, and what those are.
@@ -193,9 +195,9 @@ fn wrong_value<'a>(name: &str, m: &ArgMatches<'a>) -> Option<(&'a str, &'static 
         _ => SizeStyle::Bare,
     };
     for id in &VALUES {
-        if !is_value(m, id, style) {
+        if !is_value(name, m, id, style) {
             let value = m.get_str(id)?;
-            let form = form_of(id, style);
+            let form = form_of(name, id, style);
             return Some((
                 value,
                 if is_negative(value) {
@@ -233,14 +235,19 @@ fn is_block_operand(operand: &str) -> bool {
 }
 
 /// What the values of an option are.
-fn form_of(id: &str, style: SizeStyle) -> &'static str {
+fn form_of(name: &str, id: &str, style: SizeStyle) -> &'static str {
     match id {
         "radix" => "one of d, o, x and n",
         "offsets" => "one of d, o and x",
-        "kind" => "c, or one of d, o, u and x with one of 1, 2, 4 and 8",
+        "kind" => "c, or one of d, o, u and x with one of 1, 2, 4 and 8, or C, S, I and L",
+        "endian" => "big or little",
+        "width" => "a decimal number from 1 to 256, and a multiple of the bytes of a value",
         "least" => "a decimal number from 1 to 4096",
         "count" => "a decimal number from 0 to 65535",
         "cols" => "a number from 1 to 256",
+        _ if name == "od" => {
+            "a number as 512, 0x200 or 01000, with b, k or m behind it, or K, M, G, T, P, kB or KiB"
+        }
         _ => match style {
             SizeStyle::Count => "a number as 512, 0x200 or 01000, with b, k or m behind it",
             _ => "a number as 512, 0x200 or 01000, with nothing behind it",
@@ -249,15 +256,18 @@ fn form_of(id: &str, style: SizeStyle) -> &'static str {
 }
 
 /// Whether an option has a value of its own, or none was given.
-fn is_value(m: &ArgMatches<'_>, id: &str, style: SizeStyle) -> bool {
+fn is_value(name: &str, m: &ArgMatches<'_>, id: &str, style: SizeStyle) -> bool {
     let text = m.get_str(id);
     match id {
         "radix" => radix(text, Address::Octal, true).is_ok(),
         "offsets" => radix(text, Address::Without, false).is_ok(),
         "kind" => kind(&Given::Read(m)).is_ok(),
+        "endian" => endian(text).is_ok(),
+        "width" => kind(&Given::Read(m)).is_ok_and(|kind| line_width(text, kind).is_ok()),
         "least" => count_or(text, 1, MOST_LEAST).is_ok_and(|n| n > 0),
         "count" => count_or(text, 1, MOST_STEPS).is_ok(),
         "cols" => look(&Given::Read(m)).is_ok(),
+        _ if name == "od" => bytes(text).is_ok(),
         _ => number(text, style).is_ok(),
     }
 }

@@ -80,7 +80,23 @@ static OD: [Row; 11] = [
     },
 ];
 
-static OD_TYPES: [&str; 7] = ["kind", "o1", "chars", "u2", "o2", "d2", "x2"];
+/// What GNU's od has beside POSIX' options.
+static OD_MORE: [Row; 2] = [
+    Row {
+        id: "d4",
+        short: 'i',
+        value: None,
+        help: "Signed decimal of 4 bytes, as -t d4",
+    },
+    Row {
+        id: "d8",
+        short: 'l',
+        value: None,
+        help: "Signed decimal of 8 bytes, as -t d8",
+    },
+];
+
+static OD_TYPES: [&str; 9] = ["kind", "o1", "chars", "u2", "o2", "d2", "x2", "d4", "d8"];
 
 static XXD: [Row; 9] = [
     Row {
@@ -506,10 +522,35 @@ fn od<'a>(alloc: Global) -> Result<Command<'a>, AllocError> {
     let command = Command::new(alloc, "od")
         .about("Dump bytes as numbers or characters")
         .after_help(
-            "COUNT: decimal, 0x and hexadecimal, or 0 and octal;\nthen b (512), k (1024) or m (1048576).\n\nEXAMPLES:\n  bx od -A x -t x1 disk.img     bytes in hexadecimal, with hexadecimal addresses\n  bx od -c -N 64 notes.txt      the first 64 bytes as characters\n  bx od -t u4 -j 1k disk.img    numbers of 4 bytes, from byte 1024 on",
+            "COUNT: decimal, 0x and hexadecimal, or 0 and octal; then b (512), k (1024) or\nm (1048576). As GNU od has them also K, M, G, T and P, and kB (1000), MB and so\non; a TYPE may be a letter alone (4 bytes), or have C, S, I or L for its size.\n\nEXAMPLES:\n  bx od -A x -t x1 disk.img     bytes in hexadecimal, with hexadecimal addresses\n  bx od -c -N 64 notes.txt      the first 64 bytes as characters\n  bx od -t u4 -j 1k disk.img    numbers of 4 bytes, from byte 1024 on",
         );
     let typed = with_group(alloc, command, "type", &OD_TYPES)?;
-    reader(alloc, typed, &OD)
+    let posix = reader(alloc, typed, &OD)?;
+    let more = with_rows(
+        alloc,
+        posix.next_help_heading("Options of GNU od"),
+        &OD_MORE,
+    )?;
+    more.arg(endian(alloc))?.arg(width(alloc))
+}
+
+/// For numbers of other machines.
+fn endian<'a>(alloc: Global) -> Arg<'a> {
+    Arg::new(alloc, "endian")
+        .long("endian")
+        .action(ArgAction::Set)
+        .value_name("ORDER")
+        .help("Order of a number's bytes, big or little [default: little]")
+}
+
+/// For lines as long as a record.
+fn width<'a>(alloc: Global) -> Arg<'a> {
+    Arg::new(alloc, "width")
+        .short('w')
+        .long("width")
+        .action(ArgAction::Set)
+        .value_name("BYTES")
+        .help("Bytes on a line, 1 to 256; -w alone is 32 [default: 16]")
 }
 
 fn xxd<'a>(alloc: Global) -> Result<Command<'a>, AllocError> {

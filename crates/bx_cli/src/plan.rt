@@ -7,12 +7,12 @@ use crate::options::{Verb, program_behind};
 use bx_cli_commands::{
     Access, ChangeJob, DdImageJob, DdJob, DiffJob, DumpJob, Durability, Fault, ForgetJob,
     HexdumpJob, Job, LogJob, LookJob, MOST_COLUMNS, MOST_LEAST, MOST_STEPS, OdJob, PatchJob,
-    RevertJob, ShowJob, StepsJob, StringsJob, Target, XxdJob, XxdLook, columns, count_or,
-    kind_word, name_of, number, number_or, radix, texts_of, word_len,
+    RevertJob, ShowJob, StepsJob, StringsJob, Target, XxdJob, XxdLook, bytes, columns, count_or,
+    endian, kind_word, line_width, name_of, number, number_or, radix, texts_of, word_len,
 };
 use bx_dd::parse;
 use bx_dump::hexdump::HexdumpOptions;
-use bx_dump::od::{Address, Endian, Kind, OdOptions};
+use bx_dump::od::{Address, Kind, OdOptions};
 use bx_dump::strings::StringsOptions;
 use bx_dump::xxd::XxdOptions;
 use bx_journal::Way;
@@ -29,11 +29,34 @@ pub(crate) fn words_of(alloc: Global, words: &Words) -> Result<Vec<&str>, Fault>
     for i in 0..words.len() {
         if let Some(word) = words.get(i) {
             is_of_xxd = is_of_xxd && word != "--";
-            let text = if is_of_xxd { by_letter(word) } else { word };
-            texts.push(text).map_err(|_| Fault::Io(IoFault::NoMemory))?;
+            push_word(&mut texts, if is_of_xxd { by_letter(word) } else { word })?;
         }
     }
     Ok(texts)
+}
+
+/// Puts a word behind the others, and behind od's -w without a number its own.
+fn push_word<'a>(texts: &mut Vec<&'a str>, word: &'a str) -> Result<(), Fault> {
+    let bare = texts.get(1) == Some(&"od") && is_bare_width(word) && !texts.contains(&"--");
+    texts.push(word).map_err(|_| Fault::Io(IoFault::NoMemory))?;
+    if bare {
+        texts.push("32").map_err(|_| Fault::Io(IoFault::NoMemory))?;
+    }
+    Ok(())
+}
+
+/// Whether a word ends in od's -w, behind flags alone.
+fn is_bare_width(word: &str) -> bool {
+    if word == "--width" {
+        return true;
+    }
+    match word.strip_prefix('-') {
+        Some(letters) => match letters.strip_suffix('w') {
+            Some(flags) => flags.bytes().all(|flag| b"bcdilosvx".contains(&flag)),
+            None => false,
+        },
+        None => false,
+    }
 }
 
 /// The job that the words ask for; the words are those behind the program's name.
@@ -163,7 +186,7 @@ pub(crate) fn kind(m: &Given<'_, '_>) -> Result<Kind, Fault> {
     if let Some(text) = m.get_str("kind") {
         return kind_word(text);
     }
-    for short in ["o1", "u2", "o2", "d2", "x2"] {
+    for short in ["o1", "u2", "o2", "d2", "x2", "d4", "d8"] {
         if m.get_flag(short) {
             return kind_word(short);
         }
@@ -175,15 +198,16 @@ pub(crate) fn kind(m: &Given<'_, '_>) -> Result<Kind, Fault> {
 }
 
 fn od(alloc: Global, m: &Given<'_, '_>) -> Result<OdJob, Fault> {
+    let kind = kind(m)?;
     Ok(OdJob {
         options: OdOptions {
             address: radix(m.get_str("radix"), Address::Octal, true)?,
-            kind: kind(m)?,
-            endian: Endian::Little,
-            width: 16,
+            kind,
+            endian: endian(m.get_str("endian"))?,
+            width: line_width(m.get_str("width"), kind)?,
             first: 0,
-            skip: number_or(m.get_str("skip"), SizeStyle::Count, 0)?,
-            limit: number(m.get_str("limit"), SizeStyle::Count)?,
+            skip: bytes(m.get_str("skip"))?.unwrap_or(0),
+            limit: bytes(m.get_str("limit"))?,
             all: m.get_flag("all"),
         },
         file: input(alloc, m)?,

@@ -1,12 +1,15 @@
 -- What the values of options are, by their words.
-use Rattle.std.specs.Prelude.{◌≡◌, ◌<◌, ℕ, Bool, true, false, ◌++◌, ◌^◌, ◌%◌, ◌==◌, ◌&&◌, ◌||◌, nat_le, nat_lt, if◌then◌else◌, List, [], ◌∷◌, Option, None, Some, Result, Ok, Err, codes}
+use Rattle.std.specs.Prelude.{◌≡◌, ◌<◌, ◌≤◌, ℕ, Bool, true, false, ◌++◌, ◌*◌, ◌%◌, ◌^◌, ◌==◌, ◌&&◌, ◌||◌, nat_le, nat_lt, if◌then◌else◌, List, [], ◌∷◌, length, take, drop, Option, None, Some, Result, Ok, Err, codes, bytes_eq}
+use Rattle.std.specs.List.{prefix_len}
 use Rattle.std.specs.Str.Parse.{IsNumeral, digits_value}
 use Rattle.bx_text.specs.declared.number.size.SizeFault.{SizeFault}
 use Rattle.bx_text.specs.declared.number.size.SizeStyle.{SizeStyle}
-use Rattle.bx_text.specs.declared.number.size.SizeStyle.TheVariants.{Bare}
+use Rattle.bx_text.specs.declared.number.size.SizeStyle.TheVariants.{Bare, Count}
 use Rattle.bx_text.specs.Number.{read_size}
 use Rattle.bx_dump.specs.Address.{Address}
 use Rattle.bx_dump.specs.Address.TheVariants.{Octal, Decimal, Hexadecimal, Without}
+use Rattle.bx_dump.specs.Endian.{Endian}
+use Rattle.bx_dump.specs.Endian.TheVariants.{Little, Big}
 use Rattle.bx_dump.specs.Kind.{Kind}
 use Rattle.bx_dump.specs.Kind.TheVariants.{Chars, Number}
 use Rattle.bx_dump.specs.NumForm.{NumForm}
@@ -69,6 +72,46 @@ abbrev pub IsCountOf : ℕ → ℕ → Option (List ℕ) → Result ℕ Fault �
 IsCountOf default most None count = count ≡ Ok default
 IsCountOf default most (Some text) count = IsCount most text count
 
+-- which power of 1024, or of 1000, the letter of a unit stands for; 0 for another character
+abbrev pub power_of : ℕ → ℕ
+power_of c = if c == 107 || c == 75 then 1 else if c == 109 || c == 77 then 2 else if c == 71 then 3 else if c == 84 then 4 else if c == 80 then 5 else 0
+
+-- what a unit counts, as GNU od has them: k or K alone or as KiB is 1024, kB is 1000, and so on with m, M, G, T and P
+abbrev pub unit_in : List ℕ → Option ℕ
+unit_in (c ∷ []) = Some (1024 ^ power_of c)
+unit_in (c ∷ d ∷ []) = if d == 66 then Some (1000 ^ power_of c) else None
+unit_in (c ∷ d ∷ e ∷ []) = if d == 105 && (e == 66) then Some (1024 ^ power_of c) else None
+unit_in text = None
+
+-- so many units, at most 2 ^ 62
+abbrev pub units : Option ℕ → Result ℕ SizeFault → Result (Option ℕ) Fault
+units (Some unit) (Ok n) = number_in (Ok (n * unit))
+units unit n = Err Usage
+
+-- how many characters stand in front of the letter of a unit
+abbrev pub digits_len : List ℕ → ℕ
+digits_len text = prefix_len (λ c. power_of c == 0) text
+
+-- a number of bytes: up to the letter of a unit without a suffix, and where there is none with POSIX' suffix b
+abbrev pub bytes_in : List ℕ → Result (Option ℕ) Fault
+bytes_in text = let n = digits_len text in
+    if n == length text then number_in (read_size Count text) else units (unit_in (drop n text)) (read_size Bare (take n text))
+
+-- the number of bytes that a word writes; none where there is no word
+abbrev pub bytes_value : Option (List ℕ) → Result (Option ℕ) Fault
+bytes_value None = Ok None
+bytes_value (Some text) = bytes_in text
+
+-- the bytes of a line of values: a multiple of a value's, 1 to 256, in decimal digits alone
+abbrev pub IsLineWidth : ℕ → List ℕ → Result ℕ Fault → Type 0
+IsLineWidth size text (Ok n) = IsNumeral 10 text × (n ≡ digits_value 10 text) × (0 < n) × (n ≤ 256) × (n % size ≡ 0)
+IsLineWidth size text (Err e) = (e ≡ Usage) × (IsNumeral 10 text → 0 < digits_value 10 text → digits_value 10 text ≤ 256 → digits_value 10 text % size ≡ 0 → ⊥)
+
+-- the same of a word that may be missing: 16 bytes then
+abbrev pub IsLineWidthOf : ℕ → Option (List ℕ) → Result ℕ Fault → Type 0
+IsLineWidthOf size None width = width ≡ Ok 16
+IsLineWidthOf size (Some text) width = IsLineWidth size text width
+
 -- ---- letters
 
 -- the base that a letter names: d, o, x, or where it may be n
@@ -82,24 +125,29 @@ base_in none with_n None = Ok none
 base_in none with_n (Some (c ∷ [])) = base_named with_n c
 base_in none with_n (Some text) = Err Usage
 
+-- the order of a number's bytes that a word names: big or little; little where there is no word
+abbrev pub endian_in : Option (List ℕ) → Result Endian Fault
+endian_in None = Ok Little
+endian_in (Some text) = if bytes_eq text (codes "little") then Ok Little else if bytes_eq text (codes "big") then Ok Big else Err Usage
+
 -- how numbers are written: d, o, u or x
 abbrev pub form_named : ℕ → Option NumForm
 form_named c = if c == 100 then Some form.Signed else if c == 111 then Some form.Octal else if c == 117 then Some form.Unsigned else
     if c == 120 then Some form.Hexadecimal else None
 
--- how many bytes a number has: 1, 2, 4 or 8
+-- how many bytes a number has: 1, 2, 4 or 8, or as C has a char (C), a short (S), an int (I) and a long (L)
 abbrev pub size_named : ℕ → Option Size
-size_named c = if c == 49 then Some size.One else if c == 50 then Some size.Two else if c == 52 then Some size.Four else
-    if c == 56 then Some size.Eight else None
+size_named c = if c == 49 || c == 67 then Some size.One else if c == 50 || c == 83 then Some size.Two else
+    if c == 52 || c == 73 then Some size.Four else if c == 56 || c == 76 then Some size.Eight else None
 
 -- numbers of a form and a size
 abbrev pub kind_named : Option NumForm → Option Size → Result Kind Fault
 kind_named (Some f) (Some s) = Ok (Number f s)
 kind_named f s = Err Usage
 
--- the values that a word names: c, or a letter and a digit
+-- the values that a word names: c, or a letter and a size, which is an int's where it is left out
 abbrev pub kind_in : List ℕ → Result Kind Fault
-kind_in (c ∷ []) = if c == 99 then Ok Chars else Err Usage
+kind_in (c ∷ []) = if c == 99 then Ok Chars else kind_named (form_named c) (Some size.Four)
 kind_in (c ∷ d ∷ []) = kind_named (form_named c) (size_named d)
 kind_in text = Err Usage
 

@@ -1,11 +1,13 @@
 //! The values of options, read from their words.
-ghost use Rattle.std.specs.Prelude.{◌≡◌, ◌⊎◌, ◌<◌, ◌≤◌, ◌^◌, IfOk, IfErr, IfSome, IsErrOf, string_bytes};
+ghost use Rattle.std.specs.Prelude.{◌≡◌, ◌⊎◌, ◌<◌, ◌≤◌, ◌^◌, ◌%◌, IfOk, IfErr, IfSome, IsErrOf, length, string_bytes};
 ghost use Rattle.std.specs.Option.{option_copied};
-ghost use Rattle.bx_cli_commands.specs.jobs.Values.{IsApart, IsCountOf, base_in, columns_of, journal_of, kind_in, option_value, option_value_or, word_len};
+ghost use Rattle.bx_cli_commands.specs.jobs.Values.{IsApart, IsCountOf, IsLineWidthOf, base_in, bytes_in, bytes_value, columns_of, digits_len, endian_in, journal_of, kind_in, option_value, option_value_or, power_of, unit_in, units, word_len};
+ghost use Rattle.bx_dump.specs.Values.{width_of};
+ghost use Rattle.bx_text.specs.Number.{read_size};
 ghost use Rattle.bx_text.specs.declared.fault.IoFault.{IoFault};
 
 use crate::{Fault, Texts};
-use bx_dump::od::{Address, Kind, NumForm, Size};
+use bx_dump::od::{Address, Endian, Kind, NumForm, Size};
 use bx_text::{Name, SizeStyle, read_size};
 use std::alloc::{AllocError, Global};
 
@@ -95,6 +97,125 @@ pub fn word_len(cols: u16, group: u16) -> Result<u16, Fault>
     }
 }
 
+/// The number of bytes that a text is, at most 2^62: as POSIX has it, or with a unit of GNU's od, as K, kB or KiB; none where
+/// there is no text.
+pub fn bytes(text: Option<&str>) -> Result<Option<u64>, Fault>
+    ensures value { result ≡ bytes_value (option_copied text.entry) }
+    ensures most { IfOk result (λ o. IfSome o (λ n. n ≤ 2 ^ 62)) }
+{
+    match text {
+        None => Ok(None),
+        Some(text) => bytes_in(text),
+    }
+}
+
+/// The number of bytes that a word writes.
+fn bytes_in(text: &str) -> Result<Option<u64>, Fault>
+    ensures value { result ≡ bytes_in text.now }
+    ensures most { IfOk result (λ o. IfSome o (λ n. n ≤ 2 ^ 62)) }
+{
+    let all = text.as_bytes();
+    let count = digits_len(all);
+    if count == all.len() {
+        return number(Some(text), SizeStyle::Count);
+    }
+    units(&all[..count], unit_in(&all[count..]))
+}
+
+/// How many bytes stand in front of the letter of a unit.
+fn digits_len(text: &[u8]) -> usize
+    ensures value { result ≡ digits_len text.now }
+    ensures within { result ≤ length text.now }
+{
+    text.iter().take_while(|byte| power_of(**byte) == 0).count()
+}
+
+/// The number that digits write of a unit.
+fn units(digits: &[u8], unit: Option<u64>) -> Result<Option<u64>, Fault>
+    ensures value { result ≡ units unit (read_size SizeStyle.Bare digits.now) }
+    ensures most { IfOk result (λ o. IfSome o (λ n. n ≤ 2 ^ 62)) }
+{
+    let Some(unit) = unit else {
+        return Err(Fault::Usage);
+    };
+    match read_size(digits, SizeStyle::Bare) {
+        Ok(n) => match n.checked_mul(unit) {
+            Some(all) if all <= MOST_NUMBER => Ok(Some(all)),
+            _ => Err(Fault::Usage),
+        },
+        Err(_) => Err(Fault::Usage),
+    }
+}
+
+/// What a unit counts: a letter, and perhaps B or iB.
+fn unit_in(text: &[u8]) -> Option<u64>
+    ensures { result ≡ unit_in text.now }
+{
+    match text {
+        [letter] | [letter, b'i', b'B'] => Some(binary_unit(*letter)),
+        [letter, b'B'] => Some(decimal_unit(*letter)),
+        _ => None,
+    }
+}
+
+/// The power of 1024 that the letter of a unit stands for.
+fn binary_unit(letter: u8) -> u64
+    ensures { result ≡ 1024 ^ power_of letter }
+{
+    match power_of(letter) {
+        0 => 1,
+        1 => 1 << 10,
+        2 => 1 << 20,
+        3 => 1 << 30,
+        4 => 1 << 40,
+        _ => 1 << 50,
+    }
+}
+
+/// The power of 1000 that the letter of a unit stands for.
+fn decimal_unit(letter: u8) -> u64
+    ensures { result ≡ 1000 ^ power_of letter }
+{
+    match power_of(letter) {
+        0 => 1,
+        1 => 1_000,
+        2 => 1_000_000,
+        3 => 1_000_000_000,
+        4 => 1_000_000_000_000,
+        _ => 1_000_000_000_000_000,
+    }
+}
+
+/// Which power the letter of a unit stands for; 0 for another byte.
+fn power_of(letter: u8) -> u8
+    ensures value { result ≡ power_of letter }
+    ensures most { result ≤ 5 }
+{
+    match letter {
+        b'k' | b'K' => 1,
+        b'm' | b'M' => 2,
+        b'G' => 3,
+        b'T' => 4,
+        b'P' => 5,
+        _ => 0,
+    }
+}
+
+/// The bytes on a line of `od`, 1 to 256 and a multiple of a value's; 16 where there is no text.
+pub fn line_width(text: Option<&str>, kind: Kind) -> Result<u16, Fault>
+    ensures value { IsLineWidthOf (width_of kind) (option_copied text.entry) result }
+    ensures range { IfOk result (λ n. (1 ≤ n) × (n ≤ 256)) }
+{
+    if text.is_none() {
+        return Ok(16);
+    }
+    let n = count_or(text, 16, MOST_COLUMNS)?;
+    if n == 0 || n % kind.width() as u64 != 0 {
+        return Err(Fault::Usage);
+    }
+    Ok(n as u16)
+}
+
 /// The base of a letter, d, o or x, or with `with_n` n for no numbers; `none` where there is no text.
 pub fn radix(text: Option<&str>, none: Address, with_n: bool) -> Result<Address, Fault>
     ensures { result ≡ base_in none with_n (option_copied text.entry) }
@@ -111,12 +232,27 @@ pub fn radix(text: Option<&str>, none: Address, with_n: bool) -> Result<Address,
     }
 }
 
-/// The values that the word of a type names, as c or x1.
+/// The order of a number's bytes, big or little; little where there is no text.
+pub fn endian(text: Option<&str>) -> Result<Endian, Fault>
+    ensures { result ≡ endian_in (option_copied text.entry) }
+{
+    let Some(text) = text else {
+        return Ok(Endian::Little);
+    };
+    match text.as_bytes() {
+        b"little" => Ok(Endian::Little),
+        b"big" => Ok(Endian::Big),
+        _ => Err(Fault::Usage),
+    }
+}
+
+/// The values that the word of a type names, as c, x1 or dL; a letter alone has numbers of 4 bytes.
 pub fn kind_word(text: &str) -> Result<Kind, Fault>
     ensures { result ≡ kind_in text.now }
 {
     let (form, size) = match text.as_bytes() {
         [b'c'] => return Ok(Kind::Chars),
+        [form] => (*form, b'I'),
         [form, size] => (*form, *size),
         _ => return Err(Fault::Usage),
     };
@@ -128,10 +264,10 @@ pub fn kind_word(text: &str) -> Result<Kind, Fault>
         _ => return Err(Fault::Usage),
     };
     let size = match size {
-        b'1' => Size::One,
-        b'2' => Size::Two,
-        b'4' => Size::Four,
-        b'8' => Size::Eight,
+        b'1' | b'C' => Size::One,
+        b'2' | b'S' => Size::Two,
+        b'4' | b'I' => Size::Four,
+        b'8' | b'L' => Size::Eight,
         _ => return Err(Fault::Usage),
     };
     Ok(Kind::Number { form, size })

@@ -5,7 +5,7 @@ use bx_cli::{
     XxdLook,
 };
 use bx_dd::{Letters, Plan, Shape};
-use bx_dump::od::{Address, Kind, NumForm, Size};
+use bx_dump::od::{Address, Endian, Kind, NumForm, Size};
 use bx_journal::Way;
 use bx_text::{Name, Words};
 use std::alloc::{AllocError, Global};
@@ -99,10 +99,19 @@ fn kind<'a>(kind: Kind) -> Field<'a> {
     Field::Form(letter, bytes)
 }
 
+fn endian<'a>(endian: Endian) -> Field<'a> {
+    Field::Text(match endian {
+        Endian::Little => "little",
+        Endian::Big => "big",
+    })
+}
+
 fn od_field<'a>(job: &'a OdJob, name: &str) -> Field<'a> {
     match name {
         "address" => address(job.options.address),
         "kind" => kind(job.options.kind),
+        "endian" => endian(job.options.endian),
+        "width" => Field::Number(job.options.width as u64),
         "first" => Field::Number(job.options.first),
         "skip" => Field::Number(job.options.skip),
         "limit" => limit(job.options.limit),
