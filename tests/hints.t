@@ -240,6 +240,14 @@ Dumps and a patch:
   bx: bad arguments
   hint: x3: c, or one of d, o, u and x with one of 1, 2, 4 and 8, or C, S, I and L; Usage: bx od [OPTIONS] [FILE]
   [2]
+  $ bx od -w3 img
+  bx: bad arguments
+  hint: 3: a decimal number from 1 to 256, and a multiple of the bytes of a value; Usage: bx od [OPTIONS] [FILE]
+  [2]
+  $ bx od --endian=middle img
+  bx: bad arguments
+  hint: middle: big or little; Usage: bx od [OPTIONS] [FILE]
+  [2]
   $ bx strings -n 0 img
   bx: bad arguments
   hint: 0: a decimal number from 1 to 4096; Usage: bx strings [OPTIONS] [FILE]
