@@ -840,7 +840,7 @@ fn verbose<'a>(alloc: Global) -> Arg<'a> {
         .short('v')
         .long("verbose")
         .action(ArgAction::SetTrue)
-        .help("Write hints wherever standard error leads, not only to a terminal")
+        .help("Write hints to a file or a pipe too, not only to a terminal")
 }
 
 /// The program with these subcommands.

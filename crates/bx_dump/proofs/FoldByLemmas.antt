@@ -8,7 +8,7 @@ use Rattle.std.proofs.Math.Seq.{drop-append-add}
 use Rattle.bx_text.specs.Fold.{line_text, folded, is_hidden, show_at}
 use Rattle.bx_text.proofs.RangeLemmas.{flat_map_along, flat_map_split}
 use Rattle.bx_dump.specs.FoldBy.{line_bytes_by, is_hidden_by, show_by, line_text_by, folded_by}
-use Rattle.bx_dump.specs.private.FoldBy.{HasTakenBy, IsTakenBy, line_count_by, lines_to_by}
+use Rattle.bx_dump.specs.private.FoldBy.{HasTakenBy, IsTakenInLines, line_count_by, lines_to_by}
 use Rattle.bx_dump.specs.declared.driver.wide.fold.WideFold.{WideFold}
 
 -- what stands in front stays the same
@@ -54,7 +54,7 @@ module _ (n : ℕ) (pos : 0 < n) (xs ys : List ℕ) (m : ℕ) (whole : length xs
       let cut : min n (length (drop begin ys)) ≡ size = omega (arith, length-drop begin ys) in
       sym (rw (place, drop-append-add xs ys begin) (sym (take_min n (drop begin ys)) ∙ ap (λ t. take t (drop begin ys)) cut))
 
-  pub taken_stay_by : (all : Bool) (fold : WideFold) → IsTakenBy n all fold xs m → IsTakenBy n all fold (xs ++ ys) m
+  pub taken_stay_by : (all : Bool) (fold : WideFold) → IsTakenInLines n all fold xs m → IsTakenInLines n all fold (xs ++ ys) m
   taken_stay_by true fold taken = tt
   taken_stay_by false fold taken = stay m fold (omega arith) taken
     where
@@ -80,7 +80,7 @@ more_text_by n line all at m xs ys pos whole =
     )
 
 -- none of no lines were taken
-pub none_taken_by : (n : ℕ) (all : Bool) (fold : WideFold) → fold.len ≡ 0 → IsTakenBy n all fold [] 0
+pub none_taken_by : (n : ℕ) (all : Bool) (fold : WideFold) → fold.len ≡ 0 → IsTakenInLines n all fold [] 0
 none_taken_by n true fold new = tt
 none_taken_by n false fold new = new
 

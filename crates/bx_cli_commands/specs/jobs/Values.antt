@@ -83,7 +83,7 @@ unit_in (c ∷ d ∷ []) = if d == 66 then Some (1000 ^ power_of c) else None
 unit_in (c ∷ d ∷ e ∷ []) = if d == 105 && (e == 66) then Some (1024 ^ power_of c) else None
 unit_in text = None
 
--- so many units, at most 2 ^ 62
+-- a number of units, at most 2 ^ 62
 abbrev pub units : Option ℕ → Result ℕ SizeFault → Result (Option ℕ) Fault
 units (Some unit) (Ok n) = number_in (Ok (n * unit))
 units unit n = Err Usage

@@ -12,9 +12,9 @@ HasTakenBy n fold bytes zero = fold.len ≡ 0
 HasTakenBy n fold bytes (suc k) = (take fold.len fold.last ≡ line_bytes_by n bytes k) × (fold.hidden ≡ is_hidden_by n bytes k)
 
 -- the same where lines are folded
-abbrev pub IsTakenBy : ℕ → Bool → WideFold → List ℕ → ℕ → Type 0
-IsTakenBy n true fold bytes k = Unit {0}
-IsTakenBy n false fold bytes k = HasTakenBy n fold bytes k
+abbrev pub IsTakenInLines : ℕ → Bool → WideFold → List ℕ → ℕ → Type 0
+IsTakenInLines n true fold bytes k = Unit {0}
+IsTakenInLines n false fold bytes k = HasTakenBy n fold bytes k
 
 -- how many lines there are
 abbrev pub line_count_by : ℕ → List ℕ → ℕ
@@ -27,27 +27,27 @@ lines_to_by n line all at bytes m = flat_map (line_text_by n line all at bytes) 
 -- what stands for the next line
 abbrev pub ShowsBy : ℕ → Bool → WideFold → List ℕ → Show → Type 0
 ShowsBy n all fold bytes shown =
-    (whole : List ℕ) (k : ℕ) → bytes ≡ line_bytes_by n whole k → IsTakenBy n all fold whole k → shown ≡ (if all then Line else show_by n whole k)
+    (whole : List ℕ) (k : ℕ) → bytes ≡ line_bytes_by n whole k → IsTakenInLines n all fold whole k → shown ≡ (if all then Line else show_by n whole k)
 
 -- a line more was taken
 abbrev pub TakesBy : ℕ → Bool → WideFold → WideFold → List ℕ → Type 0
 TakesBy n all fold0 fold1 bytes =
-    (whole : List ℕ) (k : ℕ) → bytes ≡ line_bytes_by n whole k → IsTakenBy n all fold0 whole k → IsTakenBy n all fold1 whole (suc k)
+    (whole : List ℕ) (k : ℕ) → bytes ≡ line_bytes_by n whole k → IsTakenInLines n all fold0 whole k → IsTakenInLines n all fold1 whole (suc k)
 
 -- the text is that of the next line
 abbrev pub PutsBy : ℕ → (ℕ → List ℕ → List ℕ) → Bool → WideFold → ℕ → List ℕ → List ℕ → Type 0
 PutsBy n line all fold at bytes text =
-    (whole : List ℕ) (k start : ℕ) → at ≡ start + n * k → bytes ≡ line_bytes_by n whole k → IsTakenBy n all fold whole k →
+    (whole : List ℕ) (k start : ℕ) → at ≡ start + n * k → bytes ≡ line_bytes_by n whole k → IsTakenInLines n all fold whole k →
     text ≡ line_text_by n line all start whole k
 
 -- the text is that of the next lines
 abbrev pub PutsLinesBy : ℕ → (ℕ → List ℕ → List ℕ) → Bool → WideFold → ℕ → List ℕ → List ℕ → Type 0
 PutsLinesBy n line all fold at bytes text =
-    (input : List ℕ) (m start : ℕ) → length input ≡ n * m → at ≡ start + n * m → IsTakenBy n all fold input m →
+    (input : List ℕ) (m start : ℕ) → length input ≡ n * m → at ≡ start + n * m → IsTakenInLines n all fold input m →
     folded_by n line all start (input ++ bytes) ≡ folded_by n line all start input ++ text
 
 -- full lines more were taken
 abbrev pub TakesLinesBy : ℕ → Bool → WideFold → WideFold → List ℕ → Type 0
 TakesLinesBy n all fold0 fold1 bytes =
-    (input : List ℕ) (m lines : ℕ) → length input ≡ n * m → length bytes ≡ n * lines → IsTakenBy n all fold0 input m →
-    IsTakenBy n all fold1 (input ++ bytes) (m + lines)
+    (input : List ℕ) (m lines : ℕ) → length input ≡ n * m → length bytes ≡ n * lines → IsTakenInLines n all fold0 input m →
+    IsTakenInLines n all fold1 (input ++ bytes) (m + lines)

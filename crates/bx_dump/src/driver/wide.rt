@@ -1,7 +1,7 @@
 //! Lines of any length, those that repeat the line before folded.
 ghost use Rattle.std.specs.Prelude.{◌≡◌, ℕ, ◌+◌, ◌-◌, ◌*◌, ◌/◌, ◌^◌, ◌<◌, ◌≤◌, List, [], length, take};
 ghost use Rattle.bx_dump.specs.FoldBy.{folded_by};
-ghost use Rattle.bx_dump.specs.private.FoldBy.{IsTakenBy, PutsBy, PutsLinesBy, ShowsBy, TakesBy, TakesLinesBy, line_count_by};
+ghost use Rattle.bx_dump.specs.private.FoldBy.{IsTakenInLines, PutsBy, PutsLinesBy, ShowsBy, TakesBy, TakesLinesBy, line_count_by};
 
 mod fold;
 
@@ -142,7 +142,7 @@ impl<F: WideForm> WidePages<F> {
         ensures form { result.form ≡ form }
         ensures all { result.all ≡ all }
         ensures start { result.start ≡ start }
-        ensures fresh { IsTakenBy (F.cols result.form) result.all result.fold [] 0 }
+        ensures fresh { IsTakenInLines (F.cols result.form) result.all result.fold [] 0 }
     {
         let lines = (PAGE / form.room_len()).min(BLOCK / form.line_len());
         WidePages {
@@ -158,7 +158,7 @@ impl<F: WideForm> WidePages<F> {
 impl<F: WideForm> Pages for WidePages<F> {
     ghost written = { λ p. folded_by (F.cols p.form) (F.line p.form) p.all p.start };
 
-    ghost Seen = { λ p input. (k : ℕ) × (length input ≡ F.cols p.form * k) × IsTakenBy (F.cols p.form) p.all p.fold input k };
+    ghost Seen = { λ p input. (k : ℕ) × (length input ≡ F.cols p.form * k) × IsTakenInLines (F.cols p.form) p.all p.fold input k };
 
     ghost block = { λ p. F.cols p.form * p.lines };
 
