@@ -1,5 +1,5 @@
 //! A range of an image, and the line that ends an entry.
-ghost use Rattle.std.specs.Prelude.{◌≡◌, ◌^◌, ◌<◌, IfSome, IfNone};
+ghost use Rattle.std.specs.Prelude.{◌≡◌, ◌^◌, ◌<◌, ℕ, IfSome, IfNone};
 ghost use Rattle.bx_journal_image.specs.Ranges.{EndsIn, ending_line};
 
 use crate::line::{LineText, number_behind, push_field};
