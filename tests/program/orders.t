@@ -48,13 +48,13 @@ save line:
   $ given 0 0; synced dd if=dump obs=1 seek=100 OF
   FINFJDRJJRDJ
   $ given 1 0; synced undo -k 0 IMAGE
-  FIJDR
+  FINJDR
   $ given 1 0; synced undo IMAGE
   FINJDRJDRJJ
   $ given 4 0; synced undo -k 3 IMAGE
   FINJDRJDRJJDRJJDRJ
   $ given 2 1; synced redo -k 0 IMAGE
-  FIJDR
+  FINJDR
   $ given 1 1; synced redo IMAGE
   FINJDRJJDRJ
   $ given 4 4; synced redo -k 3 IMAGE
@@ -66,17 +66,17 @@ save line:
   FINJDRRDJ
   [1]
   $ given 1 0; synced undo -k 9 IMAGE
-  FI
+  FIN
   [1]
   $ given 1 0; synced redo IMAGE
-  FI
+  FIN
   [1]
   $ given 0 0; synced revert -f bad IMAGE
   FI
   [1]
   $ given 3 0; synced log IMAGE
   $ given 1 0 "$head"; synced log IMAGE
-  FIJDRRJJDR
+  FINJDRRJJDR
   $ given 0 0 "$head"; synced log IMAGE
   FIJDRRJJJDR
   $ given 0 0 "$saved"; synced log IMAGE
@@ -86,9 +86,9 @@ save line:
   $ given 2 1; synced forget IMAGE
   JDRRJF
   $ given 1 0 "$saved"; synced forget IMAGE
-  JDRFIJDRRDJJDRJDRRJF
+  JDRFINJDRRDJJDRJDRRJF
   $ given 2 1; synced revert --fresh -f dump IMAGE
-  FIJDRJDRRJFINJDRJJRDJ
+  FINJDRJDRRJFINJDRJJRDJ
   $ given 0 0; synced xxd images/image
   $ given 0 0; synced dd if=images/image
   $ given 0 0; rm -r images/* texts/*; synced revert -U -f dump IMAGE

@@ -540,7 +540,7 @@ fn endian<'a>(alloc: Global) -> Arg<'a> {
         .long("endian")
         .action(ArgAction::Set)
         .value_name("ORDER")
-        .help("Order of a number's bytes, big or little [default: little]")
+        .help("Bytes of a number: big or little [default: little]")
 }
 
 /// For lines as long as a record.
