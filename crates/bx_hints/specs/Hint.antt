@@ -7,7 +7,7 @@ use Rattle.bx_patch.specs.declared.read.fault.PatchFault.TheVariants as patch
 use Rattle.bx_journal.specs.SessionFault.TheVariants as session
 use Rattle.bx_cli_commands.specs.declared.fault.Fault.{Fault}
 use Rattle.bx_cli_commands.specs.declared.fault.Fault.TheVariants.{Io, Read, Dd, Patch, Disagrees, NotReversible, NothingToWrite, Session, ChangedSince}
-use Rattle.bx_hints.specs.declared.hint.Known.{Known}
+use Rattle.bx_hints.specs.declared.fault.hint.Known.{Known}
 
 -- two parts with a text between them, where neither is empty
 abbrev pub with_between : List ℕ → List ℕ → List ℕ → List ℕ

@@ -4,28 +4,16 @@
 //! `docs/DECISIONS.md` argues for it ("The program and runs of commands").
 #![tactic(auto)]
 
-mod audience;
-mod beside;
-mod cause;
-mod commands;
-mod cost;
-mod effect;
-mod hint;
-mod names;
-mod products;
-mod quoted;
+mod fault;
 mod remarks;
-mod seen;
-mod steps;
-mod stopped;
-mod typed;
+mod text;
 
-pub use audience::{Audience, Terminals, asks_for_hints};
-pub use beside::unlike_line;
-pub use cause::{is_of_words, show_cause, show_misuse};
-pub use cost::{saved_by_dd, saved_by_patch, tell_of_cost};
-pub use hint::{Known, hint_text};
+pub use fault::cause::{is_of_words, show_cause, show_misuse};
+pub use fault::hint::{Known, hint_text};
+pub use fault::stopped::{Reason, Row, STANDARD_INPUT, STANDARD_OUTPUT, Stopped};
 pub use remarks::Remarks;
-pub use seen::{Seen, Watched};
-pub use steps::{Standing, Tail};
-pub use stopped::{Reason, Row, STANDARD_INPUT, STANDARD_OUTPUT, Stopped};
+pub use remarks::audience::{Audience, Terminals, asks_for_hints};
+pub use remarks::beside::unlike_line;
+pub use remarks::cost::{saved_by_dd, saved_by_patch, tell_of_cost};
+pub use remarks::seen::{Seen, Watched};
+pub use text::steps::{Standing, Tail};

@@ -1,14 +1,22 @@
 //! What a person may want to know after a success.
-use crate::audience::Audience;
-use crate::commands::operands_of;
-use crate::cost::tell_of_cost;
-use crate::effect::Effect;
-use crate::names::is_of_text;
-use crate::products::tell_of_products;
-use crate::quoted::quoted;
-use crate::seen::Seen;
-use crate::steps::{Standing, tell_of_begun, tell_of_dropped, tell_of_steps};
-use crate::typed::tell_of_typing;
+pub mod audience;
+pub mod beside;
+pub mod cost;
+pub mod effect;
+pub mod products;
+pub mod seen;
+pub mod typed;
+
+use crate::fault::names::is_of_text;
+use crate::remarks::audience::Audience;
+use crate::remarks::cost::tell_of_cost;
+use crate::remarks::effect::Effect;
+use crate::remarks::products::tell_of_products;
+use crate::remarks::seen::Seen;
+use crate::remarks::typed::tell_of_typing;
+use crate::text::commands::operands_of;
+use crate::text::quoted::quoted;
+use crate::text::steps::{Standing, tell_of_begun, tell_of_dropped, tell_of_steps};
 use bx_cli_commands::{ChangeJob, Job, StepsJob, Target};
 use bx_dd::Counts;
 use bx_image::Change;

@@ -1,7 +1,7 @@
 use Rattle.std.proofs.Common.{rules, arith, ◌≡◌, ◌≢◌, length, ℕ, ◌<◌, slice_index}
 use Rattle.std.proofs.lemmas.List.{take_rest}
 use Rattle.bx_hints.proofs.AgreeingLemmas.{agreeing_same, agreeing_other}
-use Rattle.bx_hints.proofs.beside.+agreeing.Goals as goal
+use Rattle.bx_hints.proofs.remarks.beside.+agreeing.Goals as goal
 
 pub returns-then-shown-text-clause-count : goal.returns-then-shown-text-clause-count
 returns-then-shown-text-clause-count t c =

@@ -1,6 +1,6 @@
 //! How many changes stand and are undone: before a command, behind it, and where it was stopped.
-use crate::commands::operands_of;
-use crate::quoted::quoted;
+use crate::text::commands::operands_of;
+use crate::text::quoted::quoted;
 use bx_cli_commands::{ChangeJob, Job, StepsJob, Target};
 use bx_journal::Way;
 use std::alloc::{AllocError, Global};
@@ -105,7 +105,7 @@ where
     }
 }
 
-/// What is said of as many changes that were taken back, before which this many stand.
+/// What is said of `count` changes that were taken back, before which `left` stand.
 fn undone_text(alloc: Global, left: u32, count: u32) -> Result<String, AllocError> {
     let last = left.saturating_add(1);
     let first = left.saturating_add(count);

@@ -1,6 +1,6 @@
 //! What is said of the names of files.
-use crate::quoted::quoted;
-use crate::stopped::{STANDARD_INPUT, STANDARD_OUTPUT};
+use crate::fault::stopped::{STANDARD_INPUT, STANDARD_OUTPUT};
+use crate::text::quoted::quoted;
 use std::alloc::{AllocError, Global};
 
 /// What is said where a file is named as standard input is in other programs.

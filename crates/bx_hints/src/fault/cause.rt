@@ -1,10 +1,10 @@
 //! The hint on what stopped a job: the file that did it, why it did, and what can be done.
-use crate::commands::{is_named, operands_of, push_word, words_of};
-use crate::hint::{Known, hint_text};
-use crate::names::{name_hint, subject};
-use crate::quoted::{printed, quoted};
-use crate::steps::stopped_text;
-use crate::stopped::{Reason, Row, Stopped};
+use crate::fault::hint::{Known, hint_text};
+use crate::fault::names::{name_hint, subject};
+use crate::fault::stopped::{Reason, Row, Stopped};
+use crate::text::commands::{is_named, operands_of, push_word, words_of};
+use crate::text::quoted::{printed, quoted};
+use crate::text::steps::stopped_text;
 use bx_cli_commands::{ChangeJob, Fault, Job, Target};
 use bx_image::FailedCall;
 use std::alloc::{AllocError, Global};

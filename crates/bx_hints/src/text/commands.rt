@@ -1,5 +1,5 @@
 //! Commands that a hint gives, with the user's own names, so that they can be pasted into a shell.
-use crate::quoted::push_name;
+use crate::text::quoted::push_name;
 use bx_cli_commands::{Fault, Job, Target};
 use bx_journal::SessionFault;
 use std::alloc::{AllocError, Global};

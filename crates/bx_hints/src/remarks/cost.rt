@@ -1,5 +1,5 @@
 //! What a change will cost, where that is much.
-use crate::quoted::quoted;
+use crate::text::quoted::quoted;
 use bx_cli_commands::Target;
 use bx_dd::Plan;
 use bx_patch::Patch;

@@ -1,5 +1,5 @@
 //! What is seen of a dump while it is read, for the hints behind a revert.
-use crate::beside::unlike_line;
+use crate::remarks::beside::unlike_line;
 use std::alloc::Global;
 use std::io::{self, Read};
 

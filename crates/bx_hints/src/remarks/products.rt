@@ -1,5 +1,5 @@
 //! Numbers of dd that are 0 as products, where hexadecimal may be meant.
-use crate::quoted::printed;
+use crate::text::quoted::printed;
 use bx_cli_commands::{ChangeJob, DumpJob, Job};
 use bx_text::Words;
 use std::alloc::{AllocError, Global};
