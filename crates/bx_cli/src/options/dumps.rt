@@ -1,0 +1,310 @@
+//! The commands that dump FILE, or standard input.
+use crate::options::rows::{Row, with_group, with_more, with_rows};
+use clap::{Arg, ArgAction, Command};
+use std::alloc::{AllocError, Global};
+
+static OD: [Row; 11] = [
+    Row {
+        id: "radix",
+        short: 'A',
+        value: Some("RADIX"),
+        help: "Base of the addresses: d, o, x, or n for none [default: o]",
+    },
+    Row {
+        id: "skip",
+        short: 'j',
+        value: Some("COUNT"),
+        help: "Bytes to skip first [default: 0]",
+    },
+    Row {
+        id: "limit",
+        short: 'N',
+        value: Some("COUNT"),
+        help: "Maximum number of bytes to dump [default: all]",
+    },
+    Row {
+        id: "kind",
+        short: 't',
+        value: Some("TYPE"),
+        help: "Values: c, or d o u x and 1 2 4 8 bytes, as in x1 [default: o2]",
+    },
+    Row {
+        id: "o1",
+        short: 'b',
+        value: None,
+        help: "Octal bytes, as -t o1",
+    },
+    Row {
+        id: "chars",
+        short: 'c',
+        value: None,
+        help: "Characters, as -t c",
+    },
+    Row {
+        id: "u2",
+        short: 'd',
+        value: None,
+        help: "Unsigned decimal of 2 bytes, as -t u2",
+    },
+    Row {
+        id: "o2",
+        short: 'o',
+        value: None,
+        help: "Octal of 2 bytes, as -t o2",
+    },
+    Row {
+        id: "d2",
+        short: 's',
+        value: None,
+        help: "Signed decimal of 2 bytes, as -t d2",
+    },
+    Row {
+        id: "x2",
+        short: 'x',
+        value: None,
+        help: "Hexadecimal of 2 bytes, as -t x2",
+    },
+    Row {
+        id: "all",
+        short: 'v',
+        value: None,
+        help: "Show every line [default: lines equal to the one before are one *]",
+    },
+];
+
+/// What GNU's od has beside POSIX' options.
+static OD_MORE: [Row; 2] = [
+    Row {
+        id: "d4",
+        short: 'i',
+        value: None,
+        help: "Signed decimal of 4 bytes, as -t d4",
+    },
+    Row {
+        id: "d8",
+        short: 'l',
+        value: None,
+        help: "Signed decimal of 8 bytes, as -t d8",
+    },
+];
+
+static OD_TYPES: [&str; 9] = ["kind", "o1", "chars", "u2", "o2", "d2", "x2", "d4", "d8"];
+
+static XXD: [Row; 9] = [
+    Row {
+        id: "bits",
+        short: 'b',
+        value: None,
+        help: "Eight binary digits for each byte",
+    },
+    Row {
+        id: "cols",
+        short: 'c',
+        value: Some("COLS"),
+        help: "Bytes on a line, 1 to 256 [default: 16; -b 6, -i 12, -p 30]",
+    },
+    Row {
+        id: "group",
+        short: 'g',
+        value: Some("BYTES"),
+        help: "Bytes in a group, 0 for one group a line [default: 2; -b 1]",
+    },
+    Row {
+        id: "include",
+        short: 'i',
+        value: None,
+        help: "A C array, with FILE as its name",
+    },
+    Row {
+        id: "limit",
+        short: 'l',
+        value: Some("COUNT"),
+        help: "Maximum number of bytes to dump [default: all]",
+    },
+    Row {
+        id: "shift",
+        short: 'o',
+        value: Some("OFFSET"),
+        help: "Bytes to add to the addresses shown [default: 0]",
+    },
+    Row {
+        id: "plain",
+        short: 'p',
+        value: None,
+        help: "Digits alone",
+    },
+    Row {
+        id: "seek",
+        short: 's',
+        value: Some("OFFSET"),
+        help: "Bytes to skip first [default: 0]",
+    },
+    Row {
+        id: "upper",
+        short: 'u',
+        value: None,
+        help: "Digits in upper case",
+    },
+];
+
+static XXD_MORE: [Row; 3] = [
+    Row {
+        id: "decimal",
+        short: 'd',
+        value: None,
+        help: "Addresses in decimal",
+    },
+    Row {
+        id: "words",
+        short: 'e',
+        value: None,
+        help: "Each group as a little-endian number [-g default: 4]",
+    },
+    Row {
+        id: "array",
+        short: 'n',
+        value: Some("NAME"),
+        help: "Name of the C array, with its length [default: that of FILE]",
+    },
+];
+
+static XXD_STYLES: [&str; 4] = ["bits", "plain", "include", "words"];
+
+static XXD_CASES: [&str; 2] = ["include", "upper"];
+
+static HEXDUMP: [Row; 4] = [
+    Row {
+        id: "canonical",
+        short: 'C',
+        value: None,
+        help: "The canonical form, the only one; must be given",
+    },
+    Row {
+        id: "limit",
+        short: 'n',
+        value: Some("COUNT"),
+        help: "Maximum number of bytes to dump [default: all]",
+    },
+    Row {
+        id: "skip",
+        short: 's',
+        value: Some("COUNT"),
+        help: "Bytes to skip first [default: 0]",
+    },
+    Row {
+        id: "all",
+        short: 'v',
+        value: None,
+        help: "Show every line [default: lines equal to the one before are one *]",
+    },
+];
+
+static STRINGS: [Row; 3] = [
+    Row {
+        id: "whole",
+        short: 'a',
+        value: None,
+        help: "Read the whole file, as is always done",
+    },
+    Row {
+        id: "least",
+        short: 'n',
+        value: Some("COUNT"),
+        help: "Minimum run length, 1 to 4096 [default: 4]",
+    },
+    Row {
+        id: "offsets",
+        short: 't',
+        value: Some("RADIX"),
+        help: "Show where each run begins, in d, o or x [default: no offsets]",
+    },
+];
+
+/// A command that reads FILE, or standard input.
+fn reader<'a>(
+    alloc: Global,
+    command: Command<'a>,
+    rows: &[Row],
+) -> Result<Command<'a>, AllocError> {
+    let command = with_rows(alloc, command, rows)?;
+    let file = Arg::new(alloc, "file")
+        .value_name("FILE")
+        .help("File to read [default: standard input]");
+    command.arg(file)
+}
+
+pub fn od<'a>(alloc: Global) -> Result<Command<'a>, AllocError> {
+    let command = Command::new(alloc, "od")
+        .about("Dump bytes as numbers or characters")
+        .after_help(
+            "COUNT: decimal, 0x and hexadecimal, or 0 and octal; then b (512), k (1024) or\nm (1048576). As GNU od has them also K, M, G, T and P, and kB (1000), MB and so\non; a TYPE may be a letter alone (4 bytes), or have C, S, I or L for its size.\n\nEXAMPLES:\n  bx od -A x -t x1 disk.img     bytes in hexadecimal, with hexadecimal addresses\n  bx od -c -N 64 notes.txt      the first 64 bytes as characters\n  bx od -t u4 -j 1k disk.img    numbers of 4 bytes, from byte 1024 on",
+        );
+    let typed = with_group(alloc, command, "type", &OD_TYPES)?;
+    let posix = reader(alloc, typed, &OD)?;
+    let more = with_rows(
+        alloc,
+        posix.next_help_heading("Options of GNU od"),
+        &OD_MORE,
+    )?;
+    more.arg(endian(alloc))?.arg(width(alloc))
+}
+
+/// For numbers of other machines.
+fn endian<'a>(alloc: Global) -> Arg<'a> {
+    Arg::new(alloc, "endian")
+        .long("endian")
+        .action(ArgAction::Set)
+        .value_name("ORDER")
+        .help("Bytes of a number: big or little [default: little]")
+}
+
+/// For lines as long as a record.
+fn width<'a>(alloc: Global) -> Arg<'a> {
+    Arg::new(alloc, "width")
+        .short('w')
+        .long("width")
+        .action(ArgAction::Set)
+        .value_name("BYTES")
+        .help("Bytes on a line, 1 to 256; -w alone is 32 [default: 16]")
+}
+
+pub fn xxd<'a>(alloc: Global) -> Result<Command<'a>, AllocError> {
+    let command = Command::new(alloc, "xxd")
+        .about("Dump bytes in hexadecimal")
+        .after_help(
+            "Numbers: decimal, 0x and hexadecimal, or 0 and octal.\n\nEXAMPLES:\n  bx xxd -l 512 disk.img                   the first 512 bytes\n  bx xxd -s 0x1000 -c 8 -g 1 disk.img      from byte 4096 on, 8 bytes on a line\n  bx xxd -p key.bin | bx revert -p image   the bytes of one file onto another",
+        );
+    let styled = one_style(alloc, command)?;
+    let grouped = one_case(alloc, styled)?;
+    with_more(alloc, reader(alloc, grouped, &XXD)?, &XXD_MORE)
+}
+
+// Each of the two groups has a function of its own: a proof that sees one text in both statics takes twenty times as long.
+
+/// One style at a time.
+fn one_style<'a>(alloc: Global, command: Command<'a>) -> Result<Command<'a>, AllocError> {
+    with_group(alloc, command, "style", &XXD_STYLES)
+}
+
+/// The C array has no upper case.
+fn one_case<'a>(alloc: Global, command: Command<'a>) -> Result<Command<'a>, AllocError> {
+    with_group(alloc, command, "case", &XXD_CASES)
+}
+
+pub fn hexdump<'a>(alloc: Global) -> Result<Command<'a>, AllocError> {
+    let command = Command::new(alloc, "hexdump")
+        .about("Dump bytes in hexadecimal beside their characters")
+        .after_help(
+            "COUNT: decimal, 0x and hexadecimal, or 0 and octal;\nthen b (512), k (1024) or m (1048576).\n\nEXAMPLES:\n  bx hexdump -C disk.img\n  bx hexdump -C -s 1m -n 256 disk.img    256 bytes, from byte 1048576 on",
+        );
+    reader(alloc, command, &HEXDUMP)
+}
+
+pub fn strings<'a>(alloc: Global) -> Result<Command<'a>, AllocError> {
+    let command = Command::new(alloc, "strings")
+        .about("Show the printable runs of a file")
+        .after_help(
+            "COUNT: decimal.\n\nEXAMPLES:\n  bx strings program\n  bx strings -n 8 -t x program    runs of 8 bytes and more, with their places",
+        );
+    reader(alloc, command, &STRINGS)
+}
