@@ -45,7 +45,7 @@ IsFaultOfLine before number line (BadCount n) = (n ≡ number) × TellsLines lin
 abbrev pub HasNoLineEnd : List ℕ → Type 0
 HasNoLineEnd text = All (λ c. c ≢ 10) text
 
--- Behind this many lines, which ask this, the rest begins with a whole line that isn't the last one and has the fault.
+-- Behind `count` lines, which ask `before`, the rest begins with a whole line that isn't the last one and has the fault.
 pub record BeginsWrong (before : Asked) (count : ℕ) (rest : List ℕ) (fault : PatchFault) : Type 0 where
   pub line : List ℕ
   pub later : List ℕ
@@ -54,7 +54,7 @@ pub record BeginsWrong (before : Asked) (count : ℕ) (rest : List ℕ) (fault :
   pub no_end : IsPatchEnd count line → ⊥
   pub is : IsFaultOfLine before (count + 1) line fault
 
--- Behind this many lines the rest begins with the last one, and more stands behind that: the line there is of no kind.
+-- Behind `count` lines the rest begins with the last one, and more stands behind that: the line there is of no kind.
 abbrev pub GoesOnBehind : ℕ → List ℕ → PatchFault → Type 0
 GoesOnBehind count rest (OfNoKind n) =
     (n ≡ count + 2) × ((last more : List ℕ) × IsPatchEnd count last × (rest ≡ last ++ 10 ∷ more) × (0 < length more))
@@ -65,7 +65,7 @@ abbrev pub IsCutOff : List ℕ → PatchFault → Type 0
 IsCutOff rest NoEnd = HasNoLineEnd rest
 IsCutOff rest fault = ⊥
 
--- The fault of what stands behind this many lines, which ask this.
+-- The fault of what stands behind `count` lines, which ask `before`.
 abbrev pub IsFaultOfRest : Asked → ℕ → List ℕ → PatchFault → Type 0
 IsFaultOfRest before count rest fault = IsCutOff rest fault ⊎ (GoesOnBehind count rest fault ⊎ BeginsWrong before count rest fault)
 

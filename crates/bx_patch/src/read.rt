@@ -23,7 +23,7 @@ use std::alloc::Allocator;
 /// The last line, where it doesn't tell how many stand before it.
 const END: &[u8] = b"end";
 
-/// Whether a line is the last one of a text that has this many lines before it.
+/// Whether a line is the last one of a text that has `count` lines before it.
 fn is_end(line: &[u8], count: u64) -> bool
     ensures { IsTrue result ↔ IsPatchEnd count line.now }
 {
@@ -44,7 +44,7 @@ fn first_line(text: &[u8]) -> Option<(&[u8], &[u8])>
     Some((&text[..end], &text[end + 1..]))
 }
 
-/// What stands behind the last line, which has this many lines before it: nothing may.
+/// What stands behind the last line, which has `count` lines before it: nothing may.
 fn finish(later: &[u8], count: u64) -> Result<(), PatchFault>
     requires { count + 2 ≤ u64.MAX }
     ensures { MatchResult result (λ _. later.now ≡ []) (λ e. (e ≡ PatchFault.OfNoKind (count + 2)) × (0 < length later.now)) }

@@ -33,7 +33,7 @@ fn newlines(text: &[u8]) -> u64
     count
 }
 
-/// The last line of a text that has this many lines before it, with its newline.
+/// The last line of a text that has `number` lines before it, with its newline.
 fn end_line(number: u64) -> ShortText<32>
     ensures { result ≡ patch_end number ++ codes "\n" }
 {
@@ -136,7 +136,7 @@ fn put_lines<W: Write, A: Allocator>(out: &mut W, writing: &mut Writing<A>) -> R
     }
 }
 
-/// Writes the last line of a text that has this many lines before it, behind them, which have `written` bytes.
+/// Writes the last line of a text that has `number` lines before it, behind them, which have `written` bytes.
 pub fn put_end<W: Write>(out: &mut W, number: u64, written: u64) -> Result<(), DiffFault>
     ensures put { OnOk result (Appends (W.contents out.old) (W.contents out.new) (patch_end number ++ codes "\n")) }
     ensures part { IfErr result (PutsPart written (W.contents out.old) (W.contents out.new) (patch_end number ++ codes "\n")) }
