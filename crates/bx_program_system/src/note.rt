@@ -6,7 +6,7 @@ use crate::facts::alias::is_same;
 use crate::facts::dev::is_among_devices;
 use crate::facts::stat::{is_group_given, stat_of};
 use crate::files::mode::Permits;
-use crate::files::open::{open_regular, open_there, take_away};
+use crate::files::open::{open_there, take_away};
 use crate::folders::{folder_of, sync_folder};
 use crate::note::text::{WORD, has_own_name, is_note, is_own, put_in_place, read_front};
 use bx_program_world::{Classes, Stat, Unfit, text_unfit};
@@ -174,12 +174,21 @@ fn regular<R: Files<File = File>>(rt: &R, name: &str) -> io::Result<Option<Metad
     }
 }
 
-/// Opens a file of a note's name, to write it too where that is asked for.
-fn open_as<R: Files<File = File>>(rt: &R, name: &str, writes: bool) -> io::Result<File> {
-    if writes {
-        open_there(rt, name, true)
-    } else {
-        open_regular(rt, name)
+/// A file of a note's name that is open.
+#[derive(Drop)]
+struct Opened {
+    file: File,
+    fitness: Fitness,
+    writes: bool,
+}
+
+/// Opens a file of a note's name to read it, and to write it too where it may be written, and says whether it may. One that is to be
+/// written is opened so, or not at all.
+fn open_as<R: Files<File = File>>(rt: &R, name: &str, writes: bool) -> io::Result<(File, bool)> {
+    match open_there(rt, name, true) {
+        Ok(file) => Ok((file, true)),
+        Err(error) if writes || error.kind() == ErrorKind::NotFound => Err(error),
+        Err(_) => Ok((open_there(rt, name, false)?, false)),
     }
 }
 
@@ -192,55 +201,72 @@ fn opened<R: Files<File = File>>(
     rt: &R,
     place: &Place<'_>,
     writes: bool,
-) -> io::Result<Option<(File, Fitness)>> {
+) -> io::Result<Option<Opened>> {
     let Some(looked) = regular(rt, place.name())? else {
         return Ok(None);
     };
-    let file = match open_as(rt, place.name(), writes) {
-        Ok(file) => file,
+    let (file, writes) = match open_as(rt, place.name(), writes) {
+        Ok(opened) => opened,
         Err(_) if fitness_of(rt, place, &looked) == Fitness::Another => return Ok(None),
         Err(error) => return Err(error),
     };
     let Some(named) = regular(rt, place.name())? else {
         return Ok(None);
     };
-    match fitness_of(rt, place, &named) {
-        Fitness::Another => Ok(None),
-        fitness if is_same(&file.metadata()?, &named) => Ok(Some((file, fitness))),
-        Fitness::Fit | Fitness::TooRead | Fitness::TooWide => Ok(None),
+    let fitness = fitness_of(rt, place, &named);
+    if fitness == Fitness::Another || !is_same(&file.metadata()?, &named) {
+        return Ok(None);
+    }
+    Ok(Some(Opened {
+        file,
+        fitness,
+        writes,
+    }))
+}
+
+/// Keeps a note open that may be written in place.
+fn keep(opened: Opened, open: &mut Option<File>) {
+    if opened.writes && opened.fitness == Fitness::Fit {
+        *open = Some(opened.file);
     }
 }
 
-/// Reads the first bytes of a note into a buffer, and says how many. What is none says nothing, and so does one that has no more
-/// than its first word.
+/// Reads the first bytes of a note into a buffer, and says how many; one that may be written in place stays open. What is none says
+/// nothing, and so does one that has no more than its first word.
 ///
 /// # Errors
 /// Where it can't be opened or read.
-pub fn read<R>(rt: &R, place: &Place<'_>, buf: &mut [u8]) -> io::Result<usize>
+pub fn read<R>(
+    rt: &R,
+    place: &Place<'_>,
+    buf: &mut [u8],
+    open: &mut Option<File>,
+) -> io::Result<usize>
 where
     R: Files<File = File> + AllocGlobal,
 {
-    let file = match opened(rt, place, false) {
-        Ok(Some((file, Fitness::Fit | Fitness::TooRead))) => file,
-        Ok(Some((_, Fitness::TooWide | Fitness::Another)) | None) => return Ok(0),
+    let opened = match opened(rt, place, false) {
+        Ok(Some(opened)) => opened,
+        Ok(None) => return Ok(0),
         Err(error) if error.kind() == ErrorKind::NotFound => return Ok(0),
         Err(error) => return Err(error),
     };
-    if is_among_devices(rt, folder_of(place.name())) {
+    if opened.fitness == Fitness::TooWide || is_among_devices(rt, folder_of(place.name())) {
         return Ok(0);
     }
-    let count = read_front(&file, buf)?;
-    if count <= WORD || !buf.get(..count).is_some_and(|text| is_note(text)) {
+    let count = read_front(&opened.file, buf)?;
+    if !buf.get(..count).is_some_and(|text| is_note(text)) {
         return Ok(0);
     }
-    Ok(count)
+    keep(opened, open);
+    Ok(if count <= WORD { 0 } else { count })
 }
 
 /// Whether a file that can't be opened to be written is a note: by what it has, or where it can't be read, by its name. Not known
 /// where that tells nothing.
 fn is_closed_note<R: Files<File = File>>(rt: &R, place: &Place<'_>) -> Option<bool> {
     match opened(rt, place, false) {
-        Ok(Some((file, _))) => is_own(&file, place.name()).ok(),
+        Ok(Some(opened)) => is_own(&opened.file, place.name()).ok(),
         Ok(None) => Some(false),
         Err(_) if has_own_name(place.name()) => Some(true),
         Err(_) => None,
@@ -268,14 +294,14 @@ fn closed<R: Files<File = File>>(rt: &R, place: &Place<'_>) -> Stands {
 fn standing<R: Files<File = File>>(rt: &R, place: &Place<'_>) -> Stands {
     match opened(rt, place, true) {
         Ok(None) => Stands::Another,
-        Ok(Some((file, Fitness::Fit))) => match is_own(&file, place.name()) {
-            Ok(true) => Stands::Note(file),
-            Ok(false) => Stands::Another,
-            Err(_) => Stands::Unknown,
-        },
-        Ok(Some((_, Fitness::TooRead | Fitness::TooWide | Fitness::Another))) | Err(_) => {
-            closed(rt, place)
+        Ok(Some(opened)) if opened.fitness == Fitness::Fit => {
+            match is_own(&opened.file, place.name()) {
+                Ok(true) => Stands::Note(opened.file),
+                Ok(false) => Stands::Another,
+                Err(_) => Stands::Unknown,
+            }
         }
+        Ok(Some(_)) | Err(_) => closed(rt, place),
     }
 }
 
@@ -332,7 +358,7 @@ fn written(file: &File, bytes: &[u8], syncs: bool) -> io::Result<()> {
 
 /// Makes a note beside the image, with its bits, and puts it and its name on the disk where that is asked for. One that can't be
 /// written is taken away again.
-fn make<R>(rt: &R, place: &Place<'_>, bytes: &[u8], syncs: bool) -> io::Result<()>
+fn make<R>(rt: &R, place: &Place<'_>, bytes: &[u8], syncs: bool) -> io::Result<File>
 where
     R: Files<File = File> + AllocGlobal,
 {
@@ -342,54 +368,86 @@ where
         Ok(()) if syncs => sync_folder(rt, folder_of(name)),
         outcome => outcome,
     };
-    if outcome.is_err() {
-        let _ = file.set_len(0);
-        take_away(rt, name, &file);
+    match outcome {
+        Ok(()) => Ok(file),
+        Err(error) => {
+            let _ = file.set_len(0);
+            take_away(rt, name, &file);
+            Err(error)
+        }
     }
-    outcome
 }
 
-/// What is left where bytes are put under a name that no file has. No bytes need no note.
-fn put_new<R>(rt: &R, place: &Place<'_>, bytes: &[u8], syncs: bool) -> Put
+/// What is left where bytes are put under a name that no file has; a note that is made stays open. No bytes need no note.
+fn put_new<R>(rt: &R, place: &Place<'_>, bytes: &[u8], syncs: bool, open: &mut Option<File>) -> Put
 where
     R: Files<File = File> + AllocGlobal,
 {
-    if !bytes.is_empty() && make(rt, place, bytes, syncs).is_ok() {
-        return Put::Made;
+    if bytes.is_empty() {
+        return Put::Without;
     }
-    Put::Without
+    match make(rt, place, bytes, syncs) {
+        Ok(file) => {
+            *open = Some(file);
+            Put::Made
+        }
+        Err(_) => Put::Without,
+    }
 }
 
-/// What is left where bytes are put over a note that is open. No bytes take it away, and so does a write or a sync that fails: an old
-/// line beside newer changes would be wrong of the image.
+/// What is left where bytes are put over a note that is open, and stays so. No bytes take it away, and so does a write or a sync that
+/// fails: an old line beside newer changes would be wrong of the image.
 fn put_over<R: Files<File = File>>(
     rt: &R,
     name: &str,
-    file: &File,
+    file: File,
     bytes: &[u8],
     syncs: bool,
+    open: &mut Option<File>,
 ) -> Put {
-    if !bytes.is_empty() && written(file, bytes, syncs).is_ok() {
+    if !bytes.is_empty() && written(&file, bytes, syncs).is_ok() {
+        *open = Some(file);
         return Put::InPlace;
     }
-    drop_note(rt, name, file, syncs)
+    drop_note(rt, name, &file, syncs)
+}
+
+/// The note that is open, if it has its name still.
+fn still_open<R: Files<File = File>>(rt: &R, name: &str, open: &mut Option<File>) -> Option<File> {
+    let file = open.take()?;
+    let named = fs::symlink_metadata(rt, name).ok()?;
+    if is_same(&file.metadata().ok()?, &named) {
+        Some(file)
+    } else {
+        None
+    }
 }
 
 /// Puts bytes in place of a note, and on the disk too where `syncs` says so. One that can't be written is taken away and made anew,
-/// and so is one of the caller's own whose bits are wider than the image's. No bytes take it away.
-pub fn put_note<R>(rt: &R, place: &Place<'_>, bytes: &[u8], syncs: bool) -> Put
+/// and so is one of the caller's own whose bits are wider than the image's. No bytes take it away. `open` has the note where it was
+/// read or put by this run: it was judged then, and is judged again only where another file has taken its name.
+pub fn put_note<R>(
+    rt: &R,
+    place: &Place<'_>,
+    bytes: &[u8],
+    syncs: bool,
+    open: &mut Option<File>,
+) -> Put
 where
     R: Files<File = File> + AllocGlobal,
 {
     let name = place.name();
+    if let Some(file) = still_open(rt, name, open) {
+        return put_over(rt, name, file, bytes, syncs, open);
+    }
     if is_among_devices(rt, folder_of(name)) {
         return Put::Without;
     }
     match standing(rt, place) {
-        Stands::Nothing => put_new(rt, place, bytes, syncs),
-        Stands::Note(file) => put_over(rt, name, &file, bytes, syncs),
+        Stands::Nothing => put_new(rt, place, bytes, syncs, open),
+        Stands::Note(file) => put_over(rt, name, file, bytes, syncs, open),
         Stands::Closed(found, fitness) => match remove(rt, name, &found) {
-            Ok(()) => put_new(rt, place, bytes, syncs),
+            Ok(()) => put_new(rt, place, bytes, syncs, open),
             Err(_) if fitness == Fitness::TooWide => Put::Without,
             Err(_) => cut(rt, name, &found, syncs),
         },

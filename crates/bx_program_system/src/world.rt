@@ -73,6 +73,8 @@ pub struct SystemWorld<'p, 'r, R> {
     note: Option<NoteNames>,
     // what the system had of the image that was lent last, where a note is kept
     image: Option<Metadata>,
+    // the note, once it was read or put, where it may be written in place
+    open_note: Option<File>,
     /// What the devices of the last session said.
     pub left: Left,
     /// Whether a name was refused its place on the disk.
@@ -111,6 +113,7 @@ where
             locks: Locks::PASSING,
             note: None,
             image: None,
+            open_note: None,
             left: Left::NOTHING,
             is_unkept: false,
             unwritten: None,
@@ -604,15 +607,21 @@ where
         let Some(place) = self.place() else {
             return Ok(0);
         };
-        let count = note::read(self.rt, &place, buf).map_err(refused)?;
+        let mut open = None;
+        let count = note::read(self.rt, &place, buf, &mut open).map_err(refused)?;
+        self.open_note = open;
         Ok(count.min(buf.len()))
     }
 
     fn put_note(&mut self, bytes: &[u8], synced: bool) -> bx_program_world::Noted {
+        let mut open = self.open_note.take();
         let put = match self.place() {
-            Some(place) => note::put_note(self.rt, &place, bytes, synced && self.waits),
+            Some(place) => {
+                note::put_note(self.rt, &place, bytes, synced && self.waits, &mut open)
+            }
             None => Put::Without,
         };
+        self.open_note = open;
         self.is_without_note = put == Put::Without && !bytes.is_empty();
         match put {
             Put::InPlace => bx_program_world::Noted::Put,
