@@ -31,7 +31,7 @@ pub are_over-first : (s : Span) (spans : List Span) (i : ℕ) → are_over (s �
 unfolding are_over
 are_over-first s spans i = refl
 
-are_over-push : (spans : List Span) (s : Span) (i : ℕ) → are_over (spans ++ s ∷ []) i ≡ (are_over spans i || is_between s.at s.end i)
+pub are_over-push : (spans : List Span) (s : Span) (i : ℕ) → are_over (spans ++ s ∷ []) i ≡ (are_over spans i || is_between s.at s.end i)
 unfolding are_over
 are_over-push spans s i =
     list_any-append (λ (v : Span). is_between v.at v.end i) spans (s ∷ [])

@@ -28,3 +28,4 @@ pub use record::Saved;
 pub use record::fill::{room, room_to_restore, zeros_over};
 pub use record::save::save;
 pub use record::spans::{Span, touched_by, touched_to_restore};
+pub use record::zeros::touched_but_zeros;

@@ -1,5 +1,5 @@
 -- Ranges of addresses.
-use Rattle.std.specs.Prelude.{◌<◌, ℕ, Bool, ◌&&◌, nat_le, nat_lt, ◌+◌, ◌≡◌, List, [], ◌∷◌, ◌++◌, length, if◌then◌else◌}
+use Rattle.std.specs.Prelude.{◌⊎◌, ◌<◌, ℕ, Bool, true, ◌&&◌, ◌||◌, slice_index, nat_le, nat_lt, ◌+◌, ◌≡◌, List, [], ◌∷◌, ◌++◌, length, if◌then◌else◌}
 use Rattle.std.specs.List.{list_any}
 use Rattle.bx_text.specs.declared.owned.pieces.Piece.{Piece}
 use Rattle.bx_image.specs.declared.record.spans.Span.{Span}
@@ -32,3 +32,11 @@ StandOver [] [] = Unit {0}
 StandOver [] (run ∷ runs) = ⊥
 StandOver (s ∷ spans) [] = ⊥
 StandOver (s ∷ spans) (run ∷ runs) = (run.at ≡ s.at) × (run.at + length run.bytes ≡ s.end) × StandOver spans runs
+
+-- from one address up to another each address is had too, or has a zero in x
+abbrev pub HasAllButZero : List ℕ → ℕ → ℕ → ℕ → Bool → Bool → Type 0
+HasAllButZero x from to i old new = (new ≡ (old || is_between from to i)) ⊎ ((is_between from to i ≡ true) × (new ≡ old) × (slice_index x i ≡ 0))
+
+-- so the ranges have more than others
+abbrev pub AddAllButZeros : List ℕ → ℕ → ℕ → List Span → List Span → Type 0
+AddAllButZeros x from to old new = (i : ℕ) → HasAllButZero x from to i (are_over old i) (are_over new i)

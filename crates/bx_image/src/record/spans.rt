@@ -101,7 +101,11 @@ fn clipped_end<A: Allocator>(write: &Piece<A>, len: u64) -> u64
 }
 
 // Adds the addresses from `at` up to before `end`, if there are any.
-fn push<A: Allocator>(spans: &mut Vec<Span, A>, at: u64, end: u64) -> Result<(), AllocError>
+pub(crate) fn push<A: Allocator>(
+    spans: &mut Vec<Span, A>,
+    at: u64,
+    end: u64,
+) -> Result<(), AllocError>
     ensures { OnOk result (spans.new.items ≡ with_span at end spans.old.items) }
 {
     if at < end {
