@@ -52,6 +52,9 @@ pub fn change_from<R: Read + Drop, A: Allocator + Clone>(
     ensures stopped { IfErr result (λ e. (fault : IoFault) → e ≡ Fault.Io fault
         → StopsIn source.old.meter (R.remaining source.old.reader) (R.remaining source.new.reader) (IsRestCause fault)) }
 
+    // Where memory is refused, nothing was done, or reading has failed: what is left isn't taken for the whole text.
+    ensures memory { IsErrOf result (Fault.Io IoFault.NoMemory) → (source.new ≡ source.old) ⊎ (source.new.meter.state ≡ State.Failed) }
+
     // Where nothing more can be read, nothing is: no text is left.
     ensures none_left { source.old.meter.state ≡ State.Ended → IfOk result (λ read. MatchResult read (IsSomeChangeOf form [] at) (IsTextFault form [])) }
     ensures lasting { IfSome (fault_of source.old.meter.state) (λ e. IsErrOf result (Fault.Io e) ⊎ IsErrOf result (Fault.Io IoFault.NoMemory)) }
@@ -117,6 +120,7 @@ fn read_change<R: Read + Drop, A: Allocator + Clone>(
     ensures end { OnOk result (source.old.meter.state ≡ State.Open → IsAtEnd (R.remaining source.new.reader)) }
     ensures err { IfErr result (λ e. (e ≡ IoFault.NoMemory) ⊎ (fault_of source.new.meter.state ≡ Some e)) }
     ensures stopped { IfErr result (λ e. StopsIn source.old.meter (R.remaining source.old.reader) (R.remaining source.new.reader) (IsRestCause e)) }
+    ensures memory { IsErrOf result IoFault.NoMemory → (source.new ≡ source.old) ⊎ (source.new.meter.state ≡ State.Failed) }
     ensures none_left { source.old.meter.state ≡ State.Ended → IfOk result (λ read. MatchResult read (IsChangeOf form [] at) (IsTextFault form [])) }
     ensures lasting { IfSome (fault_of source.old.meter.state) (λ e. IsErrOf result e ⊎ IsErrOf result IoFault.NoMemory) }
     ensures closed { source.old.meter.state ≢ State.Open → source.new.reader ≡ source.old.reader }
@@ -139,6 +143,7 @@ fn dump_from<R: Read + Drop, A: Allocator + Clone>(
     ensures end { OnOk result (source.old.meter.state ≡ State.Open → IsAtEnd (R.remaining source.new.reader)) }
     ensures err { IfErr result (λ e. (e ≡ IoFault.NoMemory) ⊎ (fault_of source.new.meter.state ≡ Some e)) }
     ensures stopped { IfErr result (λ e. StopsIn source.old.meter (R.remaining source.old.reader) (R.remaining source.new.reader) (IsRestCause e)) }
+    ensures memory { IsErrOf result IoFault.NoMemory → (source.new ≡ source.old) ⊎ (source.new.meter.state ≡ State.Failed) }
     ensures none_left { source.old.meter.state ≡ State.Ended
         → IfOk result (λ read. MatchResult read (IsChangeOf Form.Dump [] offset) (IsTextFault Form.Dump [])) }
     ensures lasting { IfSome (fault_of source.old.meter.state) (λ e. IsErrOf result e ⊎ IsErrOf result IoFault.NoMemory) }
@@ -164,6 +169,7 @@ fn plain_from<R: Read + Drop, A: Allocator + Clone>(
     ensures end { OnOk result (source.old.meter.state ≡ State.Open → IsAtEnd (R.remaining source.new.reader)) }
     ensures err { IfErr result (λ e. (e ≡ IoFault.NoMemory) ⊎ (fault_of source.new.meter.state ≡ Some e)) }
     ensures stopped { IfErr result (λ e. StopsIn source.old.meter (R.remaining source.old.reader) (R.remaining source.new.reader) (IsRestCause e)) }
+    ensures memory { IsErrOf result IoFault.NoMemory → (source.new ≡ source.old) ⊎ (source.new.meter.state ≡ State.Failed) }
     ensures none_left { source.old.meter.state ≡ State.Ended → IfOk result (λ read. MatchResult read (IsChangeOf Form.Plain [] at) (IsTextFault Form.Plain [])) }
     ensures lasting { IfSome (fault_of source.old.meter.state) (λ e. IsErrOf result e ⊎ IsErrOf result IoFault.NoMemory) }
     ensures closed { source.old.meter.state ≢ State.Open → source.new.reader ≡ source.old.reader }
@@ -174,7 +180,10 @@ fn plain_from<R: Read + Drop, A: Allocator + Clone>(
     match read_plain_from(memory, source, expected) {
         Ok(Ok(bytes)) => match change_of_bytes(alloc, bytes, at) {
             Ok(change) => Ok(Ok(change)),
-            Err(_) => Err(IoFault::NoMemory),
+            Err(_) => {
+                source.give_up();
+                Err(IoFault::NoMemory)
+            }
         },
         Ok(Err(ReadFault::NoMemory)) => Err(IoFault::NoMemory),
         Ok(Err(fault)) => Ok(Err(fault)),

@@ -1,6 +1,8 @@
 -- A dump that is read window by window.
-use Rattle.std.specs.Prelude.{◌≡◌, ◌≢◌, ◌⊎◌, ℕ, List, [], ◌∷◌, ◌++◌, length, All, Option, None, Some, Ok, Err}
+use Rattle.std.specs.Prelude.{◌≡◌, ◌≢◌, ◌⊎◌, ℕ, List, [], ◌∷◌, ◌++◌, length, All, Option, None, Some, Result, Ok, Err, IsErrOf}
 use Rattle.bx_text.specs.declared.owned.pieces.Piece.{Piece}
+use Rattle.bx_text.specs.declared.fault.IoFault.{IoFault}
+use Rattle.bx_text.specs.declared.fault.IoFault.TheVariants.{NoMemory as OutOfMemory}
 use Rattle.bx_read.specs.Runs.{joined}
 use Rattle.bx_read.specs.Text.{lines_of, answers, gathered, dump_pieces, contents}
 use Rattle.bx_read.specs.declared.fault.ReadFault.{ReadFault}
@@ -29,6 +31,11 @@ ArePiecesRuns text runs = GivesRuns text (contents runs)
 -- Memory was refused, or this is the text's fault.
 abbrev pub IsDumpFault : List ℕ → ReadFault → Type 0
 IsDumpFault text fault = (fault ≡ NoMemory) ⊎ (dump_pieces text ≡ Err fault)
+
+-- Memory was refused for a text, to its source or behind that.
+abbrev pub IsRefused : {V : Type 0} → Result (Result V ReadFault) IoFault → Type 0
+IsRefused (Ok read) = IsErrOf read NoMemory
+IsRefused (Err fault) = fault ≡ OutOfMemory
 
 -- Memory was refused, or this is the fault of each text that begins so.
 abbrev pub IsFaultBehind : List ℕ → ReadFault → Type 0

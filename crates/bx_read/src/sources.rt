@@ -6,7 +6,8 @@ ghost use Rattle.bx_text.specs.declared.stream.State.{State};
 ghost use Rattle.bx_text.specs.declared.fault.IoFault.{IoFault};
 ghost use Rattle.bx_read.specs.Plain.{plain_answer};
 ghost use Rattle.bx_read.specs.PlainWindow.{HasReadPlain, IsPlainFault};
-ghost use Rattle.bx_read.specs.Window.{ArePiecesRuns, HasReadDump, IsDumpFault};
+ghost use Rattle.bx_read.specs.Window.{ArePiecesRuns, HasReadDump, IsDumpFault, IsRefused};
+ghost use Rattle.bx_read.specs.declared.fault.ReadFault.{ReadFault};
 
 use crate::fault::ReadFault;
 use crate::plain_window::PlainRead;
@@ -67,7 +68,27 @@ fn has_memory(fault: Option<ReadFault>) -> bool {
     !matches!(fault, Some(ReadFault::NoMemory))
 }
 
-/// Reads a text up to the source's end, a window at a time. Where memory is refused, nothing more is read.
+/// Stops a source whose text memory was refused for.
+fn stop<R: Read + Drop>(source: &mut Source<R>)
+    ensures reader { source.new.reader ≡ source.old.reader }
+    ensures state { source.new.meter.state ≡ State.Failed }
+{
+    source.give_up();
+}
+
+/// Gives up the source where memory was refused for its text: nobody takes what is left, which is nothing, for the text.
+fn give_up_refused<R: Read + Drop, V>(source: &mut Source<R>, read: &Result<V, ReadFault>)
+    ensures reader { source.new.reader ≡ source.old.reader }
+    ensures memory { IsErrOf read.now ReadFault.NoMemory → source.new.meter.state ≡ State.Failed }
+    ensures kept { (IsErrOf read.now ReadFault.NoMemory → ⊥) → source.new ≡ source.old }
+{
+    if let Err(ReadFault::NoMemory) = read {
+        stop(source);
+    }
+}
+
+/// Reads a text up to the source's end, a window at a time. Where memory is refused, nothing more is read, and reading has failed from
+/// then on.
 fn read_all<R: Read + Drop, T: ReadsText>(
     source: &mut Source<R>,
     reader: &mut T,
@@ -80,6 +101,7 @@ fn read_all<R: Read + Drop, T: ReadsText>(
     ensures end { OnOk result (source.old.meter.state ≡ State.Open → IsAtEnd (R.remaining source.new.reader)) }
     ensures err { IfErr result (λ e. (e ≡ IoFault.NoMemory) ⊎ (fault_of source.new.meter.state ≡ Some e)) }
     ensures stopped { IfErr result (λ e. StopsIn source.old.meter (R.remaining source.old.reader) (R.remaining source.new.reader) (IsRestCause e)) }
+    ensures memory { IsErrOf result IoFault.NoMemory → source.new.meter.state ≡ State.Failed }
 
     // Where nothing more can be read, nothing is.
     ensures none_left { source.old.meter.state ≡ State.Ended → OnOk result (T.HasRead reader.new []) }
@@ -94,6 +116,7 @@ fn read_all<R: Read + Drop, T: ReadsText>(
         };
         let _taken = source.taken();
         if !reader.read_next(&window[..count]) {
+            stop(source);
             return Err(IoFault::NoMemory);
         }
         if count < WINDOW {
@@ -104,7 +127,8 @@ fn read_all<R: Read + Drop, T: ReadsText>(
 
 /// Reads the text of a dump up to the source's end: what `read_runs` answers of it. Of the text no more is held than a window and
 /// what can still matter of a line, which is at most 1024 bytes. A fault of the text is answered once the source is at its end; one
-/// of the source, or want of memory, as soon as it comes.
+/// of the source, or want of memory, as soon as it comes. Where memory is refused once a byte was read, later calls answer that reading
+/// failed: what is left isn't taken for the whole text.
 pub fn read_runs_from<R: Read + Drop, A: Allocator + Clone>(
     alloc: &A,
     source: &mut Source<R>,
@@ -118,6 +142,9 @@ pub fn read_runs_from<R: Read + Drop, A: Allocator + Clone>(
     // A fault of the source is the same from then on.
     ensures err { IfErr result (λ e. (e ≡ IoFault.NoMemory) ⊎ (fault_of source.new.meter.state ≡ Some e)) }
     ensures stopped { IfErr result (λ e. StopsIn source.old.meter (R.remaining source.old.reader) (R.remaining source.new.reader) (IsRestCause e)) }
+
+    // Where memory is refused, nothing was done, or reading has failed.
+    ensures memory { IsRefused result → (source.new ≡ source.old) ⊎ (source.new.meter.state ≡ State.Failed) }
 
     // Where nothing more can be read, nothing is: no text is left.
     ensures none_left { source.old.meter.state ≡ State.Ended → IfOk result (λ read. MatchResult read (λ v. ArePiecesRuns [] v.items) (IsDumpFault [])) }
@@ -133,7 +160,9 @@ pub fn read_runs_from<R: Read + Drop, A: Allocator + Clone>(
         Err(fault) => return Err(fault),
     }
     let DumpWindows { read, .. } = windows;
-    Ok(read.finish(alloc))
+    let runs = read.finish(alloc);
+    give_up_refused(source, &runs);
+    Ok(runs)
 }
 
 /// Reads plain hexadecimal up to the source's end: what `read_plain` answers of it. Of the text no more is held than a window.
@@ -151,6 +180,9 @@ pub fn read_plain_from<R: Read + Drop, A: Allocator>(
     ensures err { IfErr result (λ e. (e ≡ IoFault.NoMemory) ⊎ (fault_of source.new.meter.state ≡ Some e)) }
     ensures stopped { IfErr result (λ e. StopsIn source.old.meter (R.remaining source.old.reader) (R.remaining source.new.reader) (IsRestCause e)) }
 
+    // Where memory is refused, nothing was done, or reading has failed.
+    ensures memory { IsRefused result → (source.new ≡ source.old) ⊎ (source.new.meter.state ≡ State.Failed) }
+
     // Where nothing more can be read, nothing is: no text is left.
     ensures none_left { source.old.meter.state ≡ State.Ended → IfOk result (λ read. MatchResult read (λ v. plain_answer [] ≡ Ok v.items) (IsPlainFault [])) }
     ensures lasting { IfSome (fault_of source.old.meter.state) (λ e. IsErrOf result e ⊎ IsErrOf result IoFault.NoMemory) }
@@ -161,5 +193,7 @@ pub fn read_plain_from<R: Read + Drop, A: Allocator>(
         Ok(()) => {}
         Err(fault) => return Err(fault),
     }
-    Ok(read.finish())
+    let bytes = read.finish();
+    give_up_refused(source, &bytes);
+    Ok(bytes)
 }

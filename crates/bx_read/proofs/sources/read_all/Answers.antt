@@ -80,6 +80,6 @@ returns-then-not-read_next-clause-stopped g c was_open =
     let part = take c.in-Ok.count c.fill.new.buf in
     let long = length-take-le c.in-Ok.count c.fill.new.buf read.bound.0 in (
       before.text ++ part,
-      Consumes-trans _ _ _ _ _ before.bytes read.bytes,
+      rw c.stop.ensures.reader (Consumes-trans _ _ _ _ _ before.bytes read.bytes),
       omega (arith, before.taken, before.limit, read.taken, read.limit, c.fill.new.self.meter.within, long, length-append before.text part),
     )

@@ -1,7 +1,7 @@
-use Rattle.std.proofs.Common.{rules, ◌≡◌, ℕ, ◌+◌, ◌++◌, length, take, arith, ap, ◌∙◌}
+use Rattle.std.proofs.Common.{rules, ◌≡◌, ℕ, ◌+◌, ◌++◌, length, take, arith, ◌∙◌}
 use Rattle.std.proofs.lemmas.List.{length-take-le, length-append}
 use Rattle.bx_text.proofs.KnownLemmas.{Consumes-trans}
-use Rattle.bx_text.specs.Stream.{SourceView, IsReadCause, IsRestCause}
+use Rattle.bx_text.specs.Stream.{IsReadCause, IsRestCause}
 use Rattle.bx_text.specs.declared.fault.IoFault.{IoFault}
 use Rattle.bx_text.specs.declared.fault.IoFault.TheVariants.{NoMemory, ReadFailed, WriteFailed, InputTooLong, SkipPastEnd}
 use Rattle.bx_text.proofs.stream.Source.rest.Goals as goal
@@ -42,7 +42,7 @@ returns-then-is_err-clause-stops g c =
           let before = c.loop-count.invariant in
           let read = c.in-Ok.ensures in
           let part = take c.in-Ok.count c.fill.new.buf in
-          let same : c.self.inside.reader ≡ c.fill.new.self.reader = ap (λ (v : SourceView _). v.reader) c.self.view_is in (
+          let same = c.give_up.ensures.reader in (
             c.loop-count.bytes.items ++ part,
             rw same (Consumes-trans _ _ _ _ _ before.bytes read.bytes),
             omega (arith, length-append c.loop-count.bytes.items part, length-take-le c.in-Ok.count c.fill.new.buf read.bound.0, before.taken, before.limit, read.taken, read.limit, c.fill.new.self.meter.within),
@@ -52,10 +52,9 @@ returns-then-is_err-clause-stops g c =
           let read = c.in-Ok.ensures in
           let front = c.loop-count.bytes.items in
           let part = take c.in-Ok.count c.fill.new.buf in
-          let same : c.self.inside.reader ≡ c.fill.new.self.reader = ap (λ (v : SourceView _). v.reader) c.self.view_is in
-          let as_read : c.self.inside.meter.taken ≡ c.fill.new.self.meter.taken = ap (λ (v : SourceView _). v.meter.taken) c.self.view_is in (
+          let same = c.give_up.ensures.reader in (
             front ++ part,
             rw same (Consumes-trans _ _ _ _ _ before.bytes read.bytes),
-            omega (arith, length-append front part, length-take-le c.in-Ok.count c.fill.new.buf read.bound.0, before.taken, before.limit, read.taken, read.limit, c.stop.ensures.taken, as_read, c.fill.new.self.meter.within),
+            omega (arith, length-append front part, length-take-le c.in-Ok.count c.fill.new.buf read.bound.0, before.taken, before.limit, read.taken, read.limit, c.give_up.ensures.taken, c.fill.new.self.meter.within),
           );
     }
