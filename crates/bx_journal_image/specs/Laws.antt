@@ -1,5 +1,5 @@
 -- What is never refused.
-use Rattle.std.specs.Prelude.{ℕ, ◌≡◌, ◌+◌, ◌<◌, ◌≤◌, List, ◌++◌, length, Option, true}
+use Rattle.std.specs.Prelude.{ℕ, ◌≡◌, ◌+◌, ◌<◌, ◌≤◌, List, ◌++◌, length, Option, true, false}
 use Rattle.bx_journal_image.specs.declared.line.ImageLine.{ImageLine}
 use Rattle.bx_journal_image.specs.declared.advice.Standing.{Standing}
 use Rattle.bx_journal_image.specs.Digest.{image_digest}
@@ -7,17 +7,30 @@ use Rattle.bx_journal_image.specs.declared.judge.Verdict.{Verdict}
 use Rattle.bx_journal_image.specs.declared.judge.Verdict.TheVariants.{Other}
 use Rattle.bx_journal_image.specs.declared.ranges.Range.{Range}
 use Rattle.bx_journal_image.specs.Blocks.{AreTrueMarks, AreStruck, DiffersWithin, IsInBlock, IsJudged, IsOther}
-use Rattle.bx_journal_image.specs.Advice.{is_redo_refused, is_undo_refused}
+use Rattle.bx_journal_image.specs.Advice.{is_older, is_redo_refused, is_undo_refused, on_no_texts}
 
--- An undo that leaves the changes for another image alone is refused only where the bytes differ from those that the line was written on.
+-- An undo that leaves the changes for another image alone is refused only where the bytes differ from those that the line was written on, or the texts are
+-- older than the line.
 abbrev pub RefusedOnlyIfChanged : Type 0
 RefusedOnlyIfChanged = (line : ImageLine) (now : Standing) (count : ℕ) (left found : List ℕ) → line.last ≡ image_digest left → now.last ≡ image_digest found
-    → line.others + count ≤ now.changes → is_undo_refused line now count ≡ true → left ≡ found → ⊥
+    → line.others + count ≤ now.changes → is_undo_refused line now count ≡ true → left ≡ found → is_older line now ≡ true
 
 -- the same of a redo
 abbrev pub RedoRefusedOnlyIfChanged : Type 0
 RedoRefusedOnlyIfChanged = (line : ImageLine) (now : Standing) (count : ℕ) (left found : List ℕ) → line.next ≡ image_digest left → now.next ≡ image_digest found
-    → is_redo_refused line now count ≡ true → left ≡ found → ⊥
+    → is_redo_refused line now count ≡ true → left ≡ found → is_older line now ≡ true
+
+-- Nothing that a stopped command leaves is older than its line. An undo, which alone takes changes from a journal one by one, puts a line on no texts before;
+-- behind any other as many changes stand as its line counts, or the history is dropped.
+pub record NothingStoppedIsOlder : Type 0 where
+  pub undo : (line : ImageLine) (before now : Standing) → line.changes ≡ (on_no_texts before).changes → is_older line now ≡ false
+  pub others : (line : ImageLine) (now : Standing) → line.changes ≤ now.changes → is_older line now ≡ false
+  pub dropped : (line : ImageLine) (now : Standing) → now.changes ≡ 0 → now.undone ≡ 0 → is_older line now ≡ false
+
+-- Texts that are older are told: each undo and each redo of some of them is refused.
+abbrev pub OlderIsRefused : Type 0
+OlderIsRefused = (line : ImageLine) (now : Standing) (count : ℕ) → is_older line now ≡ true → 0 < count
+    → (count ≤ now.changes → is_undo_refused line now count ≡ true) × (count ≤ now.undone → is_redo_refused line now count ≡ true)
 
 -- The right image is never refused: let a line say nothing wrong of the image x, and let the blocks that some ranges touch be struck. Then an image that
 -- differs from x within these ranges, and whose length is between the line's two, isn't another one.

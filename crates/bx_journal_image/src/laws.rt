@@ -1,16 +1,26 @@
 //! Laws of the advice, over definitions alone.
-ghost use Rattle.bx_journal_image.specs.Laws.{NeverRefusesBehindSteps, NeverRefusesTheRightImage, RedoRefusedOnlyIfChanged, RefusedOnlyIfChanged, RefusesAnother, SmallAreWhole};
+ghost use Rattle.bx_journal_image.specs.Laws.{NeverRefusesBehindSteps, NeverRefusesTheRightImage, NothingStoppedIsOlder, OlderIsRefused, RedoRefusedOnlyIfChanged, RefusedOnlyIfChanged, RefusesAnother, SmallAreWhole};
 ghost use Rattle.bx_journal_image.specs.Unfinished.{NeverRefusesWhatIsRecovered};
 
 /// An undo that leaves those changes alone that stand for another image is refused only where the image has other bytes in the ranges of
-/// the last change than the command left that wrote the line.
+/// the last change than the command left that wrote the line, or the texts are older than it.
 pub fn refused_only_if_changed()
     ensures { RefusedOnlyIfChanged }
 {}
 
-/// A redo is refused only where it has other bytes in the ranges of the change that was undone last.
+/// A redo is refused only where it has other bytes in the ranges of the change that was undone last, or the texts are older.
 pub fn redo_refused_only_if_changed()
     ensures { RedoRefusedOnlyIfChanged }
+{}
+
+/// Texts that a stopped command left are never older than its line.
+pub fn nothing_stopped_is_older()
+    ensures { NothingStoppedIsOlder }
+{}
+
+/// Of texts that are older each undo and each redo is refused, as far as there are as many steps.
+pub fn older_is_refused()
+    ensures { OlderIsRefused }
 {}
 
 /// An image that a stopped command may have made of the one that the line is of isn't another one.

@@ -22,7 +22,10 @@ mod summed;
 mod unfinished;
 mod written;
 
-pub use advice::{Standing, is_about, is_changed, is_redo_refused, is_undo_refused, others_after};
+pub use advice::{
+    NO_CHANGES, Standing, is_about, is_changed, is_older, is_redo_refused, is_undo_refused,
+    others_after,
+};
 pub use blocks::{block_at, block_len, strike, strike_from};
 pub use digest::{Digest, digest_of, is_same};
 pub use finding::{AtRest, stand};

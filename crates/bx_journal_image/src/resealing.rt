@@ -6,6 +6,7 @@ ghost use Rattle.bx_journal_read.specs.scan.Looking.{LooksAt, LooksThrough};
 ghost use Rattle.bx_journal_read.specs.scan.Recovery.{FindFault};
 ghost use Rattle.bx_journal_image.specs.Seal.{AreKeptAt, AreKeptBehind, IsOpenSeal, bare_line, open_line};
 
+use crate::advice::NO_CHANGES;
 use crate::digest::Digest;
 use crate::line::ImageLine;
 use crate::marks::Marks;
@@ -16,9 +17,6 @@ use std::alloc::Allocator;
 
 /// How many bytes of a text are read at a time.
 const WINDOW: usize = 65_536;
-
-/// A count of changes that no journal has: a line with it is on no texts.
-const NO_CHANGES: u32 = u32::MAX;
 
 /// The line that says nothing of an image.
 fn bare_line() -> ImageLine

@@ -2,9 +2,10 @@
 //! missing, or anything else than the line of these files, says nothing, and nothing that fails here stops a command.
 use crate::files::names::{names_of, world_of};
 use bx_cli::Target;
+use bx_hints::Since;
 use bx_journal::Way;
 use bx_journal_image::{
-    ImageLine, LINE, Standing, Verdict, is_changed, is_redo_refused, is_undo_refused,
+    ImageLine, LINE, Standing, Verdict, is_changed, is_older, is_redo_refused, is_undo_refused,
     judge_unfinished, others_after, read_line, stand,
 };
 use bx_program_files::{Looked, open_to_look};
@@ -75,11 +76,27 @@ impl Advice {
         }
     }
 
-    /// Whether an undo or a redo of one change would find another image.
-    pub fn is_other(&self, way: Way) -> bool {
-        match way {
+    /// Whether the texts are older than what is known.
+    fn is_behind(&self) -> bool {
+        match &self.known {
+            Known::AtRest(line, now) => is_older(line, now),
+            Known::Nothing | Known::Unfinished(_) => false,
+        }
+    }
+
+    /// What tells an undo or a redo that is refused that the image is another one.
+    pub fn since(&self, way: Way) -> Since {
+        if self.is_behind() {
+            return Since::Behind;
+        }
+        let is_other = match way {
             Way::Undo => self.is_changed(),
             Way::Redo => self.refuses(way, 1),
+        };
+        if is_other {
+            Since::Changed
+        } else {
+            Since::Between
         }
     }
 

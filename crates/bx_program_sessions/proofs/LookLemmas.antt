@@ -33,7 +33,7 @@ use Rattle.bx_program_sessions.specs.declared.looked.Looked.{Looked}
 use Rattle.bx_program_sessions.specs.declared.looked.Looked.TheVariants.{Another, Goes}
 use Rattle.bx_program_sessions.specs.declared.task.Task.{Task}
 use Rattle.bx_program_sessions.specs.declared.terms.Terms.{Terms}
-use Rattle.bx_program_sessions.specs.Guarded.{EndsLine, IsFoundAtRest, IsJudgedBeside, IsKeptOff, IsLineOn, IsLookedAt, IsReadyBehind, IsSure, LookAt, Spans, is_kept_off, standing_of}
+use Rattle.bx_program_sessions.specs.Guarded.{EndsLine, IsFoundAtRest, IsJudgedBeside, IsKeptOff, IsLineOn, IsLookedAt, IsReadyBehind, IsSure, LookAt, Spans, is_kept_off}
 
 -- of a text that is accepted a fault of reading is a device's
 pub finds_device : (honest : Type 0) (text : List ℕ) (e : SessionFault) → honest → IsAccepted text → FindFault honest text e → DeviceFault e
@@ -79,12 +79,12 @@ module _ {D T : Type 0} (d : DeviceViews D) (t : StoreViews T) where
   honest_on old new looks honest = (looks.honesty.0.1 honest.0, looks.honesty.1.1 honest.1, looks.honesty.2.1 honest.2)
 
 -- the line before one step
-pub line_of_one : (r : Result ImageLine SessionFault) (old : Contents) (found : Option AtRest) (now : Standing) (others : ℕ) (span : Span) (way : Option Way)
-    → way ≡ None → now ≡ standing_of found → IfSome found (λ f. Spans f.standing.length span) → IfOk r (IsSealOf old.image now others span)
-    → IfOk r (IsLineOn way old found others)
-line_of_one (Ok line) old found now others span way one is spans seal =
+pub line_of_one : (r : Result ImageLine SessionFault) (old : Contents) (found : Option AtRest) (now told : Standing) (others : ℕ) (span : Span)
+    (way : Option Way) → way ≡ None → now ≡ told → IfSome found (λ f. Spans f.standing.length span) → IfOk r (IsSealOf old.image now others span)
+    → IfOk r (IsLineOn way old found told others)
+line_of_one (Ok line) old found now told others span way one is spans seal =
     rw one (span, spans, subst (λ (s : Standing). IsSealOf old.image s others span line) is seal)
-line_of_one (Err e) old found now others span way one is spans seal = tt
+line_of_one (Err e) old found now told others span way one is spans seal = tt
 
 -- what was judged kept the task off, or not
 pub kept_off : (terms : Terms) (old : Contents) (verdict : Option Verdict) → IsJudgedBeside terms.line old.journal old.image verdict

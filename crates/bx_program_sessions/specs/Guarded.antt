@@ -18,7 +18,7 @@ use Rattle.bx_journal_image.specs.declared.line.ImageLine.{ImageLine}
 use Rattle.bx_journal_image.specs.declared.advice.Standing.{Standing}
 use Rattle.bx_journal_image.specs.declared.sealing.Span.{Span}
 use Rattle.bx_journal_image.specs.declared.finding.AtRest.{AtRest}
-use Rattle.bx_journal_image.specs.Advice.{is_redo_refused, is_undo_refused, others_after}
+use Rattle.bx_journal_image.specs.Advice.{is_redo_refused, is_undo_refused, on_no_texts, others_after}
 use Rattle.bx_journal_image.specs.Digest.{image_digest}
 use Rattle.bx_journal_image.specs.Line.{FitsPlaces, image_line}
 use Rattle.bx_journal_image.specs.Seal.{IsOpenSeal, IsSealOf, IsStepsSealOf}
@@ -112,6 +112,12 @@ abbrev pub standing_of : Option AtRest → Standing
 standing_of (Some found) = found.standing
 standing_of None = record { changes = 2 ^ 32 - 1; undone = 0; length = 0; last = image_digest []; next = image_digest [] }
 
+-- What the line tells of the texts before a task. Of an undo, which takes changes from the journal one by one, it is on no texts: else what is left where that is
+-- stopped could be taken for older texts
+abbrev pub standing_before : {R : Type 0} → Task R → Option AtRest → Standing
+standing_before (Run (Undo k)) found = on_no_texts (standing_of found)
+standing_before task found = standing_of found
+
 -- how many of the oldest changes stand for another image, by a line and what is found
 abbrev pub others_of : Option ImageLine → Option AtRest → ℕ
 others_of (Some line) (Some found) = others_after line found.standing
@@ -200,17 +206,17 @@ pub record RiseByOne {D T : Type 0} (d : DeviceViews D) (t : StoreViews T) (old 
 abbrev pub Spans : ℕ → Span → Type 0
 Spans n span = (span.least ≤ n) × (n ≤ span.most)
 
--- The line on an image as it is, with what is found of its texts: before steps over the entries of a text without the blocks that their saved lines
+-- The line on an image as it is, with what it tells of its texts: before steps over the entries of a text without the blocks that their saved lines
 -- touch, and before one step between lengths among which the image's is
-abbrev pub IsLineOn : Option Way → Contents → Option AtRest → ℕ → ImageLine → Type 0
-IsLineOn None old found others line = (span : Span) × IfSome found (λ f. Spans f.standing.length span) × IsSealOf old.image (standing_of found) others span line
-IsLineOn (Some Backward) old found others line = IsStepsSealOf old.image old.journal (standing_of found) others line
-IsLineOn (Some Onward) old found others line = IsStepsSealOf old.image old.redo (standing_of found) others line
+abbrev pub IsLineOn : Option Way → Contents → Option AtRest → Standing → ℕ → ImageLine → Type 0
+IsLineOn None old found now others line = (span : Span) × IfSome found (λ f. Spans f.standing.length span) × IsSealOf old.image now others span line
+IsLineOn (Some Backward) old found now others line = IsStepsSealOf old.image old.journal now others line
+IsLineOn (Some Onward) old found now others line = IsStepsSealOf old.image old.redo now others line
 
 -- What the note is to have before a task on finished texts: what it has, where the task writes nothing, or is refused as there are fewer steps; and else the line on the image as it is
 abbrev pub IsSealAtRest : {R : Type 0} → Contents → Task R → Option AtRest → ℕ → Seal → Type 0
 IsSealAtRest old task found others Kept = (is_writing task ≡ false) ⊎ (is_too_many task found ≡ true)
-IsSealAtRest old task found others (Line line) = IsLineOn (steps_of task) old found others line
+IsSealAtRest old task found others (Line line) = IsLineOn (steps_of task) old found (standing_before task found) others line
 
 -- the line that is on an image which was judged so
 abbrev pub known_by : Option ImageLine → Verdict → Option ImageLine

@@ -17,7 +17,7 @@ use crate::terms::{Terms, told_by};
 use bx_cli_commands::{Fault, Reply};
 use bx_image::Device;
 use bx_journal::{Devices, How, SessionFault};
-use bx_journal_image::{ImageLine, write_line};
+use bx_journal_image::{ImageLine, NO_CHANGES, write_line};
 use bx_journal_store::TextStore;
 use bx_program_files::{Guard, Unopened, Which, Why};
 use bx_program_world::{Noted, World};
@@ -81,6 +81,14 @@ fn is_sealed(seal: Seal) -> bool {
     }
 }
 
+/// Whether the note tells nothing of the texts while a task writes, as before an undo.
+fn is_on_no_texts(seal: Seal) -> bool {
+    match seal {
+        Seal::Kept => false,
+        Seal::Line(line) => line.changes == NO_CHANGES,
+    }
+}
+
 /// Whether opening wrote something.
 fn is_recovered(how: Option<How>) -> bool {
     match how {
@@ -89,15 +97,16 @@ fn is_recovered(how: Option<How>) -> bool {
     }
 }
 
-/// Whether a command ended that changed something, and no device stopped it in the middle.
-fn is_ended(reply: &Reply, how: Option<How>, writes: bool) -> bool {
+/// Whether a command ended whose line has to be written once more: it changed something, or the line before it tells nothing of the texts,
+/// and no device stopped it in the middle.
+fn is_ended(reply: &Reply, how: Option<How>, seal: Seal) -> bool {
     match reply {
         Reply::Refused(Fault::Session(SessionFault::Interrupted)) => false,
-        Reply::Refused(_) => is_recovered(how),
+        Reply::Refused(_) => is_on_no_texts(seal) || is_recovered(how),
         Reply::Changed { .. }
         | Reply::Copied { .. }
         | Reply::Undone { .. }
-        | Reply::Redone { .. } => writes || is_recovered(how),
+        | Reply::Redone { .. } => is_sealed(seal) || is_recovered(how),
     }
 }
 
@@ -176,7 +185,7 @@ fn run_sealed<W: World, R: Read + Drop>(
         reply,
         how,
     } = closed;
-    if is_ended(&reply, how, is_sealed(ready.seal)) {
+    if is_ended(&reply, how, ready.seal) {
         put_end(world, &alloc, &mut devices, ready.others);
     }
     Ended {

@@ -9,7 +9,7 @@ ghost use Rattle.bx_journal_read.specs.scan.Looking.{OnlyReadsText};
 ghost use Rattle.bx_journal_read.specs.model.Fault.{DeviceFault};
 ghost use Rattle.bx_journal_read.specs.scan.Recovery.{FindFault};
 ghost use Rattle.bx_program_sessions.specs.Contents.{AreHonest, held_by};
-ghost use Rattle.bx_program_sessions.specs.Guarded.{AreFew, CountLooks, EndsLine, EndsWhole, IsFoundAtRest, IsJudgedBeside, IsLineBehind, IsLineOn, IsLookedAt, IsReadyBehind, IsSealAtRest, LookAt, RiseByOne, Spans, is_other, is_too_many, is_writing, known_by, others_of, standing_of, steps_of};
+ghost use Rattle.bx_program_sessions.specs.Guarded.{AreFew, CountLooks, EndsLine, EndsWhole, IsFoundAtRest, IsJudgedBeside, IsLineBehind, IsLineOn, IsLookedAt, IsReadyBehind, IsSealAtRest, LookAt, RiseByOne, Spans, is_other, is_too_many, is_writing, known_by, others_of, standing_before, standing_of, steps_of};
 
 use crate::task::Task;
 use crate::terms::{Terms, is_kept_off, is_moved_off};
@@ -183,6 +183,25 @@ fn standing_of(found: &Option<AtRest>) -> Standing
     }
 }
 
+/// The same before a task: before an undo, which takes changes from the journal one by one, it is on no texts.
+fn standing_before<R: Read>(task: &Task<R>, found: &Option<AtRest>) -> Standing
+    ensures { result ≡ standing_before task.now found.now }
+{
+    let now = standing_of(found);
+    match task {
+        Task::Run(Command::Undo { .. }) => now.on_no_texts(),
+        Task::Run(
+            Command::Redo { .. }
+            | Command::Revert { .. }
+            | Command::RevertPlain { .. }
+            | Command::Dd { .. }
+            | Command::Copy { .. }
+            | Command::Patch { .. },
+        )
+        | Task::Put(_) => now,
+    }
+}
+
 /// How many of the oldest changes stand for another image, by a line and what is found.
 fn others_of(line: &Option<ImageLine>, found: &Option<AtRest>) -> u32
     ensures { result ≡ others_of line.now found.now }
@@ -339,12 +358,13 @@ fn line_on<D: Device, T: TextStore, R: Read>(
 ) -> Result<ImageLine, SessionFault>
     requires few { AreFew D.Device T.TextStore devices.old }
     ensures line { AreHonest D.Device T.TextStore devices.old
-        → IfOk result (IsLineOn (steps_of task.now) (held_by D.Device T.TextStore devices.old) found.now others) }
+        → IfOk result (IsLineOn (steps_of task.now) (held_by D.Device T.TextStore devices.old) found.now
+        (standing_before task.now found.now) others) }
     ensures fault { IfErr result DeviceFault }
     ensures looks { LookAt D.Device T.TextStore devices.old devices.new }
     ensures counts { CountLooks D.Device T.TextStore result devices.old devices.new }
 {
-    let now = standing_of(found);
+    let now = standing_before(task, found);
     match steps_of(task) {
         Some(Way::Undo) => seal_back(alloc, devices, now, others),
         Some(Way::Redo) => seal_again(alloc, devices, now, others),

@@ -20,8 +20,23 @@ const OTHER: &str = "it hasn't the bytes that the last command left";
 /// What is said of an image whose older changes stand for another one.
 const OLDER: &str = "it was changed between these changes, by another program";
 
+/// What is said of an image whose journal is older than the text beside it.
+const BEHIND: &str =
+    "its journal is older than the text beside it, as if an old copy had been put back";
+
 /// What is said of a dump whose lines end in CR LF.
 const RETURNS: &str = "its lines end in CR LF; tr -d '\\r' takes the CR off";
+
+/// What tells that an image isn't the one that the last command on it left.
+#[derive(Clone, Copy, PartialEq, Eq)]
+pub enum Since {
+    /// It has other bytes.
+    Changed,
+    /// It was changed between those changes that would be undone.
+    Between,
+    /// Its journal is older than the text beside it.
+    Behind,
+}
 
 /// Why a file stopped a job.
 #[derive(Clone, Copy)]
@@ -257,9 +272,13 @@ impl<'a> Stopped<'a> {
         }
     }
 
-    /// By an image that isn't the one that the last command on it left, or whose older changes stand for another one.
-    pub fn since(file: &'a str, is_other: bool) -> Stopped<'a> {
-        let why = if is_other { OTHER } else { OLDER };
+    /// By an image that isn't the one that the last command on it left.
+    pub fn since(file: &'a str, since: Since) -> Stopped<'a> {
+        let why = match since {
+            Since::Changed => OTHER,
+            Since::Between => OLDER,
+            Since::Behind => BEHIND,
+        };
         Stopped {
             fault: Fault::ChangedSince,
             file: Some(file),

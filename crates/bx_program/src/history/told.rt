@@ -22,7 +22,7 @@ where
     }
     let advice = Advice::of(rt, target);
     if advice.is_at_rest() {
-        return Stopped::since(image, advice.is_other(way));
+        return Stopped::since(image, advice.since(way));
     }
     Stopped {
         reason: Reason::Another {
