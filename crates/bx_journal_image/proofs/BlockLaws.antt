@@ -6,10 +6,10 @@ use Rattle.std.proofs.lemmas.List.{ext_get_or, get_or-take, get_or-drop, length-
 use Rattle.std.proofs.lemmas.Nat.{mul-le}
 use Rattle.std.proofs.lemmas.Grind.{common_steps}
 use Rattle.bx_journal_image.proofs.BlockLemmas.{struck_both}
-use Rattle.bx_journal_image.specs.declared.judge.Verdict.{Verdict}
-use Rattle.bx_journal_image.specs.declared.judge.Verdict.TheVariants.{Same, Other, Untold}
-use Rattle.bx_journal_image.specs.declared.ranges.Range.{Range}
-use Rattle.bx_journal_image.specs.declared.line.ImageLine.{ImageLine}
+use Rattle.bx_journal_image.specs.declared.judging.judge.Verdict.{Verdict}
+use Rattle.bx_journal_image.specs.declared.judging.judge.Verdict.TheVariants.{Same, Other, Untold}
+use Rattle.bx_journal_image.specs.declared.line.ranges.Range.{Range}
+use Rattle.bx_journal_image.specs.declared.line.form.ImageLine.{ImageLine}
 use Rattle.bx_journal_image.specs.Blocks.{AreTrueMarks, AreRead, AreStruck, DiffersWithin, HasOtherOutside, IsInBlock, IsJudged, IsMarkOf, IsOther, IsBlockThere, block, block_at, block_digest, block_len, is_in, is_in_one, is_one_touched, is_touched, mark_at, spread_at, short_digest}
 
 -- a byte of a block is in a range only if that touches the block

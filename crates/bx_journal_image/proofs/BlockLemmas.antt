@@ -10,7 +10,7 @@ use Rattle.bx_journal_format.specs.Line.{saved_in}
 use Rattle.bx_journal_format.specs.Text.{split}
 use Rattle.bx_journal_format.specs.read.Plain.{HasNoNewline}
 use Rattle.bx_journal_format.proofs.Splits.{split-append, split-ended, split-plain}
-use Rattle.bx_journal_image.specs.declared.ranges.Range.{Range}
+use Rattle.bx_journal_image.specs.declared.line.ranges.Range.{Range}
 use Rattle.bx_journal_image.specs.Blocks.{AreStruck, is_one_touched, is_touched, mark_at, range_of, ranges_in}
 use Rattle.bx_journal_image.proofs.RangeLemmas.{lines_behind}
 

@@ -2,8 +2,8 @@
 use Rattle.std.proofs.Common.{◌≡◌, ◌≢◌, ◌⊎◌, inl, inr, ℕ, ◌+◌, ◌<◌, Option, None, Some, List, arith, subst, sym, ◌∙◌, refl}
 use Rattle.std.proofs.lemmas.Bool.{cases_eq}
 use Rattle.bx_journal_image.specs.Blocks.{AreRead, HasNoOther, IsBlockRead, IsBlockThere, block_digest, mark_at}
-use Rattle.bx_journal_image.specs.declared.judge.Verdict.{Verdict}
-use Rattle.bx_journal_image.specs.declared.judge.Verdict.TheVariants.{Same, Other, Untold}
+use Rattle.bx_journal_image.specs.declared.judging.judge.Verdict.{Verdict}
+use Rattle.bx_journal_image.specs.declared.judging.judge.Verdict.TheVariants.{Same, Other, Untold}
 
 module _ (k n : ℕ) (marks : List (Option ℕ)) (x : List ℕ) where
   -- so far none is another one

@@ -28,9 +28,9 @@ use Rattle.bx_journal_read.specs.scan.Recovery.{HasMark, IsTorn, IsTornIn}
 use Rattle.bx_journal_read.specs.scan.Restoring.{StandsAt}
 use Rattle.bx_journal_read.specs.scan.Windows.{rest_to}
 use Rattle.bx_journal_read.proofs.RestoreLemmas.{lines_more}
-use Rattle.bx_journal_image.specs.declared.judge.Verdict.TheVariants.{Other, Untold}
-use Rattle.bx_journal_image.specs.declared.line.ImageLine.{ImageLine}
-use Rattle.bx_journal_image.specs.declared.ranges.Range.{Range}
+use Rattle.bx_journal_image.specs.declared.judging.judge.Verdict.TheVariants.{Other, Untold}
+use Rattle.bx_journal_image.specs.declared.line.form.ImageLine.{ImageLine}
+use Rattle.bx_journal_image.specs.declared.line.ranges.Range.{Range}
 use Rattle.bx_journal_image.specs.Blocks.{AreTrueMarks, AreStruck, DiffersWithin, is_in, is_in_one, ranges_in, rest_from}
 use Rattle.bx_journal_image.specs.Unfinished.{AreAllIn, IsJudgedWithout, IsUnfinishedJudged, HasLongSavedLine}
 use Rattle.bx_journal_image.proofs.BlockLaws.{right_line}

@@ -13,8 +13,8 @@ use Rattle.bx_journal_format.proofs.Splits.{split-append}
 use Rattle.bx_journal_format.proofs.TallyLemmas.{IsFirstLine}
 use Rattle.bx_journal_read.specs.scan.Windows.{rest_to}
 use Rattle.bx_journal_read.proofs.AddedLemmas.{added_next}
-use Rattle.bx_journal_image.specs.declared.near.Near.{Near}
-use Rattle.bx_journal_image.specs.declared.summed.Sum.{Sum}
+use Rattle.bx_journal_image.specs.declared.finding.near.Near.{Near}
+use Rattle.bx_journal_image.specs.declared.finding.summed.Sum.{Sum}
 use Rattle.bx_journal_image.specs.Written.{HasNear, HasSummed, IsInPage, Sums, at_line, at_lines, at_run}
 use Rattle.bx_journal_image.proofs.BlockLemmas.{nothing_to, seam}
 

@@ -1,11 +1,11 @@
 -- The blocks of an image whose digests the line has.
 use Rattle.std.specs.Prelude.{ℕ, ◌≡◌, ◌≢◌, ◌+◌, ◌-◌, ◌*◌, ◌/◌, ◌%◌, ◌^◌, ◌<◌, ◌≤◌, ◌⊎◌, Bool, false, ◌&&◌, nat_lt, nat_le, Option, None, Some, List, [], ◌∷◌, ◌++◌, length, take, drop, min, slice_index_or, if◌then◌else◌}
 use Rattle.std.specs.List.{list_any}
-use Rattle.bx_journal_image.specs.declared.ranges.Range.{Range}
+use Rattle.bx_journal_image.specs.declared.line.ranges.Range.{Range}
 use Rattle.bx_journal_image.specs.Digest.{image_digest}
-use Rattle.bx_journal_image.specs.declared.line.ImageLine.{ImageLine}
-use Rattle.bx_journal_image.specs.declared.judge.Verdict.{Verdict}
-use Rattle.bx_journal_image.specs.declared.judge.Verdict.TheVariants.{Same, Other, Untold}
+use Rattle.bx_journal_image.specs.declared.line.form.ImageLine.{ImageLine}
+use Rattle.bx_journal_image.specs.declared.judging.judge.Verdict.{Verdict}
+use Rattle.bx_journal_image.specs.declared.judging.judge.Verdict.TheVariants.{Same, Other, Untold}
 use Rattle.bx_image.specs.declared.change.TheConstants.{MAX_LEN}
 use Rattle.bx_image.specs.declared.device.Device.{Ghosts as DeviceViews}
 use Rattle.bx_image.specs.Device.{GoesOn}

@@ -2,7 +2,7 @@
 use Rattle.std.specs.Prelude.{ℕ, ◌+◌, Bool, ◌&&◌, ◌==◌, List, [], ◌∷◌, slice_index}
 use Rattle.std.specs.Int.{from_be_bytes, w64}
 use Rattle.md5.specs.Md5.{md5}
-use Rattle.bx_journal_image.specs.declared.digest.Digest.{Digest}
+use Rattle.bx_journal_image.specs.declared.line.digest.Digest.{Digest}
 
 -- eight bytes of a list from a place on, as a number
 abbrev pub eight_at : ℕ → List ℕ → ℕ

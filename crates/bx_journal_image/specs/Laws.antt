@@ -1,11 +1,11 @@
 -- What is never refused.
 use Rattle.std.specs.Prelude.{ℕ, ◌≡◌, ◌+◌, ◌<◌, ◌≤◌, List, ◌++◌, length, Option, true, false}
-use Rattle.bx_journal_image.specs.declared.line.ImageLine.{ImageLine}
+use Rattle.bx_journal_image.specs.declared.line.form.ImageLine.{ImageLine}
 use Rattle.bx_journal_image.specs.declared.advice.Standing.{Standing}
 use Rattle.bx_journal_image.specs.Digest.{image_digest}
-use Rattle.bx_journal_image.specs.declared.judge.Verdict.{Verdict}
-use Rattle.bx_journal_image.specs.declared.judge.Verdict.TheVariants.{Other}
-use Rattle.bx_journal_image.specs.declared.ranges.Range.{Range}
+use Rattle.bx_journal_image.specs.declared.judging.judge.Verdict.{Verdict}
+use Rattle.bx_journal_image.specs.declared.judging.judge.Verdict.TheVariants.{Other}
+use Rattle.bx_journal_image.specs.declared.line.ranges.Range.{Range}
 use Rattle.bx_journal_image.specs.Blocks.{AreTrueMarks, AreStruck, DiffersWithin, IsInBlock, IsJudged, IsOther}
 use Rattle.bx_journal_image.specs.Advice.{is_older, is_redo_refused, is_undo_refused, on_no_texts}
 

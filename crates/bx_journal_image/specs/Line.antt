@@ -2,7 +2,7 @@
 use Rattle.std.specs.Prelude.{ℕ, ◌≡◌, ◌^◌, ◌<◌, ◌==◌, ◌||◌, ◌&&◌, not, nat_le, Bool, Option, None, Some, IfSome, List, [], ◌++◌, length, drop, slice_index_or, codes, replicate}
 use Rattle.std.specs.List.{flat_map, list_all, starts_with}
 use Rattle.bx_journal_format.specs.Hex.{hex_digits}
-use Rattle.bx_journal_image.specs.declared.line.ImageLine.{ImageLine}
+use Rattle.bx_journal_image.specs.declared.line.form.ImageLine.{ImageLine}
 
 -- a word, and a number in `width` lower-case digits
 abbrev pub field : List ℕ → ℕ → ℕ → List ℕ

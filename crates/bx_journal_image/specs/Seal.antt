@@ -5,8 +5,8 @@ use Rattle.bx_journal_read.specs.declared.scan.mark.Mark.{Mark}
 use Rattle.bx_journal_read.specs.declared.scan.torn.Torn.{Torn}
 use Rattle.bx_journal_read.specs.scan.Recovery.{IsTornIn}
 use Rattle.bx_journal_image.specs.declared.advice.Standing.{Standing}
-use Rattle.bx_journal_image.specs.declared.line.ImageLine.{ImageLine}
-use Rattle.bx_journal_image.specs.declared.sealing.Span.{Span}
+use Rattle.bx_journal_image.specs.declared.line.form.ImageLine.{ImageLine}
+use Rattle.bx_journal_image.specs.declared.sealing.seal.Span.{Span}
 use Rattle.bx_journal_image.specs.Blocks.{AreStruck, AreTrueMarks, AreWholeMarks, HasLongLine, mark_at, ranges_in}
 use Rattle.bx_journal_image.specs.Unfinished.{HasLongSavedLine, LeavesImage, touched_at}
 

@@ -1,8 +1,8 @@
 -- What is found of an image beside two finished texts.
 use Rattle.std.specs.Prelude.{ℕ, ◌≡◌, ◌≢◌, ◌⊎◌, ◌+◌, ◌-◌, min, Option, None, Some, List, [], ◌++◌, length, drop}
-use Rattle.bx_journal_image.specs.declared.digest.Digest.{Digest}
-use Rattle.bx_journal_image.specs.declared.finding.AtRest.{AtRest}
-use Rattle.bx_journal_image.specs.declared.finding.Last.{Last}
+use Rattle.bx_journal_image.specs.declared.line.digest.Digest.{Digest}
+use Rattle.bx_journal_image.specs.declared.finding.rest.AtRest.{AtRest}
+use Rattle.bx_journal_image.specs.declared.finding.rest.Last.{Last}
 use Rattle.bx_journal_image.specs.Blocks.{HasLongLine}
 use Rattle.bx_journal_image.specs.Digest.{image_digest}
 use Rattle.bx_journal_image.specs.Entry.{IsBefore, IsLastEntryAt}

@@ -11,10 +11,10 @@ use Rattle.bx_journal_read.specs.declared.scan.torn.Torn.{Torn}
 use Rattle.bx_journal_read.specs.model.Redo.{IsClean}
 use Rattle.bx_journal_read.specs.scan.Recovery.{IsTornIn}
 use Rattle.bx_journal_read.specs.scan.Windows.{rest_to}
-use Rattle.bx_journal_image.specs.declared.judge.Verdict.{Verdict}
-use Rattle.bx_journal_image.specs.declared.judge.Verdict.TheVariants.{Other, Untold}
-use Rattle.bx_journal_image.specs.declared.line.ImageLine.{ImageLine}
-use Rattle.bx_journal_image.specs.declared.ranges.Range.{Range}
+use Rattle.bx_journal_image.specs.declared.judging.judge.Verdict.{Verdict}
+use Rattle.bx_journal_image.specs.declared.judging.judge.Verdict.TheVariants.{Other, Untold}
+use Rattle.bx_journal_image.specs.declared.line.form.ImageLine.{ImageLine}
+use Rattle.bx_journal_image.specs.declared.line.ranges.Range.{Range}
 use Rattle.bx_journal_image.specs.Blocks.{AreTrueMarks, AreStruck, HasLongLine, IsJudged, is_in_one, ranges_in, rest_from}
 
 -- what a change may touch whose record stands at a mark of a text: what its saved lines name, and all behind the length that it restores

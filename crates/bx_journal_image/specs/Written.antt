@@ -5,8 +5,8 @@ use Rattle.bx_image.specs.declared.change.TheConstants.{MAX_LEN}
 use Rattle.bx_journal_format.specs.Kept.{Run}
 use Rattle.bx_journal_format.specs.Line.{saved_in}
 use Rattle.bx_journal_format.specs.Text.{split}
-use Rattle.bx_journal_image.specs.declared.near.Near.{Near}
-use Rattle.bx_journal_image.specs.declared.summed.Sum.{Sum}
+use Rattle.bx_journal_image.specs.declared.finding.near.Near.{Near}
+use Rattle.bx_journal_image.specs.declared.finding.summed.Sum.{Sum}
 
 -- the bytes of a run's addresses, as far as the image x has these; none without a run
 abbrev pub at_run : List ℕ → Option Run → List ℕ

@@ -2,9 +2,9 @@
 ghost use Rattle.std.specs.Prelude.{◌≡◌};
 ghost use Rattle.bx_journal_image.specs.Advice.{is_about, is_changed, is_older, is_redo_refused, is_undo_refused, on_no_texts, others_after};
 
-use crate::digest::{Digest, is_same};
-use crate::line::ImageLine;
-use crate::marks::Marks;
+use crate::line::digest::{Digest, is_same};
+use crate::line::form::ImageLine;
+use crate::line::marks::Marks;
 
 /// A count of changes that no journal has: a line with it is on no texts.
 pub const NO_CHANGES: u32 = u32::MAX;

@@ -8,9 +8,9 @@ use Rattle.bx_image.specs.declared.device.Device.{Ghosts as DeviceViews}
 use Rattle.bx_journal_store.specs.declared.store.TextStore.{Ghosts as StoreViews}
 use Rattle.bx_journal_image.specs.Ranges.{EndsIn, ending_line}
 use Rattle.bx_journal_image.specs.Unfinished.{IsOpenJudged}
-use Rattle.bx_journal_image.specs.declared.line.ImageLine.{ImageLine}
-use Rattle.bx_journal_image.specs.declared.judge.Verdict.{Verdict}
-use Rattle.bx_journal_image.specs.declared.judge.Verdict.TheVariants.{Same, Other, Untold}
+use Rattle.bx_journal_image.specs.declared.line.form.ImageLine.{ImageLine}
+use Rattle.bx_journal_image.specs.declared.judging.judge.Verdict.{Verdict}
+use Rattle.bx_journal_image.specs.declared.judging.judge.Verdict.TheVariants.{Same, Other, Untold}
 use Rattle.bx_journal.specs.Calls.{AfterFault}
 use Rattle.bx_journal.specs.Devices.{Devices}
 use Rattle.bx_journal.specs.Opened.{OpensDevices}

@@ -4,7 +4,7 @@ use Rattle.std.specs.Prelude.{codes}
 use Rattle.bx_journal_format.proofs.HexLemmas.{length-hex_digits}
 use Rattle.bx_journal_format.specs.Hex.{hex_digits}
 use Rattle.bx_journal_image.specs.Line.{FitsPlaces, field, image_line, mark_text, marks_text}
-use Rattle.bx_journal_image.specs.declared.line.ImageLine.{ImageLine}
+use Rattle.bx_journal_image.specs.declared.line.form.ImageLine.{ImageLine}
 use Rattle.bx_program_world.specs.World.{IsFrontRead}
 
 field_length : (word : List ℕ) (width n : ℕ) → length (field word width n) ≡ length word + width

@@ -11,9 +11,9 @@ use Rattle.bx_journal.specs.SessionFault.TheVariants.{Damaged, DeviceFailed, Int
 use Rattle.bx_journal_image.specs.Line.{FitsPlaces, image_line}
 use Rattle.bx_journal_image.specs.Ranges.{EndsIn}
 use Rattle.bx_journal_image.specs.Unfinished.{IsOpenJudged, LeavesImage}
-use Rattle.bx_journal_image.specs.declared.judge.Verdict.{Verdict}
-use Rattle.bx_journal_image.specs.declared.judge.Verdict.TheVariants.{Same, Other, Untold}
-use Rattle.bx_journal_image.specs.declared.line.ImageLine.{ImageLine}
+use Rattle.bx_journal_image.specs.declared.judging.judge.Verdict.{Verdict}
+use Rattle.bx_journal_image.specs.declared.judging.judge.Verdict.TheVariants.{Same, Other, Untold}
+use Rattle.bx_journal_image.specs.declared.line.form.ImageLine.{ImageLine}
 use Rattle.bx_cli_commands.specs.declared.fault.Fault.TheVariants.{Session}
 use Rattle.bx_program_world.specs.World.{IsNoText, NothingNewFound, ReadFiles, Sight, Spares, bytes_if, held}
 use Rattle.bx_program_files.specs.Reading.{AreReadable, LeadToRead, MayRefuseForgetting}

@@ -21,9 +21,9 @@ use Rattle.bx_program_sessions.specs.declared.task.Task.{Task}
 use Rattle.bx_journal.specs.Images.{Images}
 use Rattle.bx_journal.specs.Phase.{IsAtRest}
 use Rattle.bx_journal.specs.Redo.{IsClean}
-use Rattle.bx_journal_image.specs.declared.finding.AtRest.{AtRest}
-use Rattle.bx_journal_image.specs.declared.judge.Verdict.{Verdict}
-use Rattle.bx_journal_image.specs.declared.line.ImageLine.{ImageLine}
+use Rattle.bx_journal_image.specs.declared.finding.rest.AtRest.{AtRest}
+use Rattle.bx_journal_image.specs.declared.judging.judge.Verdict.{Verdict}
+use Rattle.bx_journal_image.specs.declared.line.form.ImageLine.{ImageLine}
 use Rattle.bx_journal_image.specs.Unfinished.{IsUnfinishedJudged}
 use Rattle.bx_cli_commands.specs.declared.command.Command.TheVariants.{Undo}
 use Rattle.bx_program_sessions.specs.declared.task.Task.TheVariants.{Run}

@@ -28,8 +28,8 @@ use Rattle.bx_journal_format.proofs.StepLemmas.{stops}
 use Rattle.bx_journal.specs.Redo.{IsClean}
 use Rattle.bx_journal_image.specs.Ranges.{ending_line}
 use Rattle.bx_journal.specs.SessionFault.{SessionFault}
-use Rattle.bx_journal_image.specs.declared.judge.Verdict.{Verdict}
-use Rattle.bx_journal_image.specs.declared.line.ImageLine.{ImageLine}
+use Rattle.bx_journal_image.specs.declared.judging.judge.Verdict.{Verdict}
+use Rattle.bx_journal_image.specs.declared.line.form.ImageLine.{ImageLine}
 use Rattle.bx_journal_image.specs.Unfinished.{IsUnfinishedJudged}
 use Rattle.bx_program_sessions.specs.Guarded.{EndsLine, EndsWhole, IsJudgedBeside}
 

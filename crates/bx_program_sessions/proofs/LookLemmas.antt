@@ -21,12 +21,12 @@ use Rattle.bx_cli_commands.specs.declared.fault.Fault.TheVariants.{Session}
 use Rattle.bx_program_sessions.specs.Contents.{AreHonest, Contents}
 use Rattle.bx_journal.specs.Way.{Way}
 use Rattle.bx_journal_image.specs.declared.advice.Standing.{Standing}
-use Rattle.bx_journal_image.specs.declared.finding.AtRest.{AtRest}
-use Rattle.bx_journal_image.specs.declared.line.ImageLine.{ImageLine}
-use Rattle.bx_journal_image.specs.declared.sealing.Span.{Span}
+use Rattle.bx_journal_image.specs.declared.finding.rest.AtRest.{AtRest}
+use Rattle.bx_journal_image.specs.declared.line.form.ImageLine.{ImageLine}
+use Rattle.bx_journal_image.specs.declared.sealing.seal.Span.{Span}
 use Rattle.bx_journal_image.specs.Seal.{IsSealOf}
 use Rattle.bx_journal_image.specs.Unfinished.{IsOpenJudged}
-use Rattle.bx_journal_image.specs.declared.judge.Verdict.{Verdict}
+use Rattle.bx_journal_image.specs.declared.judging.judge.Verdict.{Verdict}
 use Rattle.bx_journal_image.specs.Ranges.{EndsIn, ending_line}
 use Rattle.bx_program_sessions.specs.declared.looked.Ready.{Ready}
 use Rattle.bx_program_sessions.specs.declared.looked.Looked.{Looked}

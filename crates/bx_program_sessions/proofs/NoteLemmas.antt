@@ -4,7 +4,7 @@ use Rattle.std.specs.Prelude.{IfNone, IfSome, codes, min}
 use Rattle.std.proofs.lemmas.List.{length-take, take_all, take_min}
 use Rattle.bx_journal_format.proofs.HexLemmas.{length-hex_digits}
 use Rattle.bx_journal_format.specs.Hex.{hex_digits}
-use Rattle.bx_journal_image.specs.declared.line.ImageLine.{ImageLine}
+use Rattle.bx_journal_image.specs.declared.line.form.ImageLine.{ImageLine}
 use Rattle.bx_program_world.specs.World.{IsFrontRead}
 use Rattle.bx_program_sessions.specs.Guarded.{NoteSays}
 use Rattle.bx_journal_image.specs.Line.{FitsPlaces, field, image_line, mark_text, marks_text}

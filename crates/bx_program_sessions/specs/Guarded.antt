@@ -12,12 +12,12 @@ use Rattle.bx_journal.specs.Power.{FoundBefore}
 use Rattle.bx_journal.specs.SessionFault.{SessionFault}
 use Rattle.bx_journal.specs.Way.{Way}
 use Rattle.bx_journal.specs.Way.TheVariants.{Redo as Onward, Undo as Backward}
-use Rattle.bx_journal_image.specs.declared.judge.Verdict.{Verdict}
-use Rattle.bx_journal_image.specs.declared.judge.Verdict.TheVariants.{Other, Same, Untold}
-use Rattle.bx_journal_image.specs.declared.line.ImageLine.{ImageLine}
+use Rattle.bx_journal_image.specs.declared.judging.judge.Verdict.{Verdict}
+use Rattle.bx_journal_image.specs.declared.judging.judge.Verdict.TheVariants.{Other, Same, Untold}
+use Rattle.bx_journal_image.specs.declared.line.form.ImageLine.{ImageLine}
 use Rattle.bx_journal_image.specs.declared.advice.Standing.{Standing}
-use Rattle.bx_journal_image.specs.declared.sealing.Span.{Span}
-use Rattle.bx_journal_image.specs.declared.finding.AtRest.{AtRest}
+use Rattle.bx_journal_image.specs.declared.sealing.seal.Span.{Span}
+use Rattle.bx_journal_image.specs.declared.finding.rest.AtRest.{AtRest}
 use Rattle.bx_journal_image.specs.Advice.{is_redo_refused, is_undo_refused, on_no_texts, others_after}
 use Rattle.bx_journal_image.specs.Digest.{image_digest}
 use Rattle.bx_journal_image.specs.Line.{FitsPlaces, image_line}
