@@ -1,6 +1,9 @@
 -- What callers see of an image behind changes that are made one after another.
-use Rattle.std.specs.Prelude.{◌≡◌, ◌≤◌, ℕ, List, [], ◌∷◌, length}
+use Rattle.std.specs.Prelude.{◌≡◌, ◌≤◌, ℕ, Bool, true, false, List, [], ◌∷◌, length}
 use Rattle.bx_image.specs.declared.change.Change.{Change}
+use Rattle.bx_image.specs.declared.device.Device.{Ghosts as DeviceViews}
+use Rattle.bx_image.specs.declared.device.ImageFault.{ImageFault}
+use Rattle.bx_image.specs.declared.device.ImageFault.TheVariants.{DeviceFailed, NoMemory, TooLarge}
 use Rattle.bx_image.specs.Change.{effect, Fits}
 
 -- the image that changes make of x, one after another
@@ -31,3 +34,31 @@ pub record AreLengthsOf {A : Type 0} (cs : List (Change A)) (x : List ℕ) (befo
 pub record AreBeforeAndBehind {A : Type 0} (cs : List (Change A)) (before : ℕ) (x y : List ℕ) : Type 0 where
   pub before_is : before ≡ length x
   pub behind : y ≡ effects cs x
+
+-- whether there is no image behind changes because the device failed
+abbrev pub is_of_device : ImageFault → Bool
+is_of_device DeviceFailed = true
+is_of_device NoMemory = false
+is_of_device TooLarge = false
+
+-- Of an image behind changes on a device.
+module _ {D A : Type 0} (d : DeviceViews D) where
+  -- what the changes make of the device's image
+  abbrev pub image_behind : Changed D A → List ℕ
+  image_behind c = effects c.changes (d.image c.device)
+
+  -- the device is honest, and the lengths are those of its image before and behind the changes
+  abbrev pub honest_behind : Changed D A → Type 0
+  honest_behind c = d.honest c.device × AreLengthsOf c.changes (d.image c.device) c.before c.len
+
+  -- no other image is found after a loss of power
+  abbrev pub found_behind : Changed D A → List ℕ → Type 0
+  found_behind c y = y ≡ image_behind c
+
+-- its own length, which no call makes longer
+abbrev pub room_behind : {D A : Type 0} → Changed D A → ℕ
+room_behind c = c.len
+
+-- how many of its own calls have failed
+abbrev pub failures_behind : {D A : Type 0} → Changed D A → ℕ
+failures_behind c = c.failures

@@ -1,8 +1,8 @@
 //! An image behind changes that aren't made.
-ghost use Rattle.std.specs.Prelude.{◌≡◌, ◌⊎◌, ◌↔◌, ◌+◌, ◌<◌, ◌≤◌, ℕ, List, length, take, drop, IfErr, IfOk, IsOk, OnOk, is_err, refl};
+ghost use Rattle.std.specs.Prelude.{◌≡◌, ◌⊎◌, ◌↔◌, ◌+◌, ◌<◌, ◌≤◌, ℕ, List, length, take, drop, min, IfErr, IfOk, IsOk, OnErr, OnOk, MatchResult, false, is_err, refl};
 ghost use Rattle.bx_image.specs.declared.change.TheConstants.{MAX_LEN};
 ghost use Rattle.bx_patch.specs.Diff.{OnlyReads};
-ghost use Rattle.bx_patch_preview.specs.Changed.{AreLengthsOf, FitInTurn, AreBeforeAndBehind, effects};
+ghost use Rattle.bx_patch_preview.specs.Changed.{FitInTurn, AreBeforeAndBehind, effects, is_of_device};
 
 mod window;
 
@@ -36,7 +36,8 @@ impl<'a, D: Device, A: Allocator> Model for ChangedImage<'a, D, A> {
 }
 
 impl<'a, D: Device, A: Allocator> ChangedImage<'a, D, A> {
-    /// The image on a device, behind changes in their order; behind none it is the device's. The device is asked for its length once.
+    /// The image on a device, behind changes in their order; behind none it is the device's. The device is asked for its length once, and
+    /// is only read, here and by each call.
     ///
     /// # Errors
     /// `TooLarge` where a length, a base or the end of a write is over `MAX_LEN`, as `check` of `bx_image` says of each change in turn;
@@ -51,6 +52,10 @@ impl<'a, D: Device, A: Allocator> ChangedImage<'a, D, A> {
         ensures failures { IfOk result (λ c. ⟦<ChangedImage<'a, D, A> as Device>⟧.failures c ≡ 0) }
         ensures fault { D.honest device → IfErr result (λ e. (e.1 ≡ ImageFault.DeviceFailed)
             ⊎ ((e.1 ≡ ImageFault.TooLarge) × (FitInTurn changes.now (D.image device) MAX_LEN → ⊥))) }
+
+        // The device is only read, and its failures rise exactly where the fault says that it failed.
+        ensures device { MatchResult result (λ c. OnlyReads D.honest D.image D.room D.failures D.survives false device c.device)
+            (λ e. OnlyReads D.honest D.image D.room D.failures D.survives (is_of_device e.1) device e.0) }
     {
         let mut device = device;
         let Ok(before) = device.len() else {
@@ -133,45 +138,104 @@ fn read_changed<D: Device, A: Allocator>(
     }
 }
 
+// What the trait says of each call, and what becomes of the device within: it is read, and no more.
 impl<D: Device, A: Allocator> Device for ChangedImage<'_, D, A> {
-    ghost image = { λ c. effects c.changes (D.image c.device) };
+    ghost use Rattle.bx_image.specs.Device.{GoesOn, IsPartlyCut, IsPartlyWritten};
+    ghost use Rattle.bx_image.specs.Image.{cut, place};
+    ghost use Rattle.bx_image.specs.Power.{Follows, KeepsBelow, KeepsOutside, NoMore, Only};
+    ghost use Rattle.bx_patch_preview.specs.Changed.{failures_behind, found_behind, honest_behind, image_behind, room_behind};
 
-    ghost honest = { λ c. D.honest c.device × AreLengthsOf c.changes (D.image c.device) c.before c.len };
+    ghost image = { image_behind D.Device };
 
-    ghost room = { λ c. c.len };
+    ghost honest = { honest_behind D.Device };
 
-    ghost failures = { λ c. c.failures };
+    ghost room = { room_behind };
 
-    ghost survives = { λ c y. y ≡ effects c.changes (D.image c.device) };
+    ghost failures = { failures_behind };
+
+    ghost survives = { found_behind D.Device };
 
     ghost within_room = { λ c honest. honest.1.within };
 
     ghost present = { λ c _. refl };
 
-    fn len(&mut self) -> Result<u64, DeviceFailed> {
+    fn len(&mut self) -> Result<u64, DeviceFailed>
+        requires { failures_behind self.old < u64.MAX }
+        ensures len { honest_behind D.Device self.old → IfOk result (λ n. n ≡ length (image_behind D.Device self.old)) }
+        ensures image { honest_behind D.Device self.old → image_behind D.Device self.new ≡ image_behind D.Device self.old }
+        ensures survives { honest_behind D.Device self.old → NoMore (found_behind D.Device self.old) (found_behind D.Device self.new) }
+        ensures goes_on { GoesOn (honest_behind D.Device) room_behind failures_behind (is_err result) self.old self.new }
+        ensures device { self.new.device ≡ self.old.device }
+    {
         Ok(self.len)
     }
 
-    fn read_at(&mut self, at: u64, buf: &mut [u8]) -> Result<(), DeviceFailed> {
+    fn read_at(&mut self, at: u64, buf: &mut [u8]) -> Result<(), DeviceFailed>
+        requires countable { failures_behind self.old < u64.MAX }
+        requires range { honest_behind D.Device self.old → at + length buf.old ≤ length (image_behind D.Device self.old) }
+        ensures bytes { honest_behind D.Device self.old
+            → OnOk result (buf.new ≡ take (length buf.old) (drop at (image_behind D.Device self.old))) }
+        ensures image { honest_behind D.Device self.old → image_behind D.Device self.new ≡ image_behind D.Device self.old }
+        ensures survives { honest_behind D.Device self.old → NoMore (found_behind D.Device self.old) (found_behind D.Device self.new) }
+        ensures goes_on { GoesOn (honest_behind D.Device) room_behind failures_behind (is_err result) self.old self.new }
+        ensures device { OnlyReads D.honest D.image D.room D.failures D.survives (is_err result) self.old.device self.new.device }
+    {
         match read_changed(&mut self.device, &self.known, at, buf) {
             Ok(()) => Ok(()),
             Err(_) => Err(failed(&mut self.failures)),
         }
     }
 
-    fn write_at(&mut self, _at: u64, _bytes: &[u8]) -> Result<(), DeviceFailed> {
+    fn write_at(&mut self, at: u64, bytes: &[u8]) -> Result<(), DeviceFailed>
+        requires countable { failures_behind self.old < u64.MAX }
+        requires range { at + length bytes.now ≤ room_behind self.old }
+        ensures ok { honest_behind D.Device self.old
+            → OnOk result (image_behind D.Device self.new ≡ place (image_behind D.Device self.old) at bytes.now) }
+        ensures failed { honest_behind D.Device self.old
+            → OnErr result (IsPartlyWritten at (length bytes.now) (image_behind D.Device self.old) (image_behind D.Device self.new)) }
+        ensures survives { honest_behind D.Device self.old
+            → Follows (KeepsOutside at (length bytes.now)) (found_behind D.Device self.old) (found_behind D.Device self.new) }
+        ensures goes_on { GoesOn (honest_behind D.Device) room_behind failures_behind (is_err result) self.old self.new }
+        ensures device { self.new.device ≡ self.old.device }
+    {
         Err(failed(&mut self.failures))
     }
 
-    fn set_len(&mut self, _n: u64) -> Result<(), DeviceFailed> {
+    fn set_len(&mut self, n: u64) -> Result<(), DeviceFailed>
+        requires countable { failures_behind self.old < u64.MAX }
+        requires range { n ≤ room_behind self.old }
+        ensures ok { honest_behind D.Device self.old
+            → OnOk result (image_behind D.Device self.new ≡ cut (image_behind D.Device self.old) n) }
+        ensures failed { honest_behind D.Device self.old
+            → OnErr result (IsPartlyCut n (image_behind D.Device self.old) (image_behind D.Device self.new)) }
+        ensures survives { honest_behind D.Device self.old
+            → Follows (KeepsBelow (min n (length (image_behind D.Device self.old)))) (found_behind D.Device self.old) (found_behind D.Device self.new) }
+        ensures goes_on { GoesOn (honest_behind D.Device) room_behind failures_behind (is_err result) self.old self.new }
+        ensures device { self.new.device ≡ self.old.device }
+    {
         Err(failed(&mut self.failures))
     }
 
-    fn sync(&mut self) -> Result<(), DeviceFailed> {
+    fn sync(&mut self) -> Result<(), DeviceFailed>
+        requires { failures_behind self.old < u64.MAX }
+        ensures settled { honest_behind D.Device self.old → OnOk result (Only (image_behind D.Device self.old) (found_behind D.Device self.new)) }
+        ensures image { honest_behind D.Device self.old → image_behind D.Device self.new ≡ image_behind D.Device self.old }
+        ensures survives { honest_behind D.Device self.old → NoMore (found_behind D.Device self.old) (found_behind D.Device self.new) }
+        ensures goes_on { GoesOn (honest_behind D.Device) room_behind failures_behind (is_err result) self.old self.new }
+        ensures device { self.new.device ≡ self.old.device }
+    {
         Ok(())
     }
 
-    fn reserve(&mut self, n: u64) -> Result<(), NoMemory> {
+    fn reserve(&mut self, n: u64) -> Result<(), NoMemory>
+        ensures within { n ≤ room_behind self.old → IsOk result }
+        ensures ok { OnOk result (n ≤ room_behind self.new) }
+        ensures err { OnErr result (room_behind self.new ≡ room_behind self.old) }
+        ensures image { honest_behind D.Device self.old → image_behind D.Device self.new ≡ image_behind D.Device self.old }
+        ensures survives { honest_behind D.Device self.old → NoMore (found_behind D.Device self.old) (found_behind D.Device self.new) }
+        ensures goes_on { GoesOn (honest_behind D.Device) room_behind failures_behind false self.old self.new }
+        ensures device { self.new.device ≡ self.old.device }
+    {
         if n <= self.len { Ok(()) } else { Err(NoMemory) }
     }
 
