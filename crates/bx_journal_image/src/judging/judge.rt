@@ -149,6 +149,52 @@ fn mark_all<D: Device>(image: &mut D, total: u64, room: &mut [u8]) -> Result<Mar
     Ok(marks)
 }
 
+/// The digests of the blocks of an image that is here as a whole.
+fn mark_bytes(bytes: &[u8]) -> Marks
+    requires { length bytes.now ≤ 4096 }
+    ensures { AreWholeMarks bytes.now result }
+{
+    let total = bytes.len() as u64;
+    let size = block_len(total);
+    let mut marks: Marks = [None; 32];
+    for block in 0..BLOCKS {
+        let at = block_at(total, block) as usize;
+        marks[block] = Some(short_digest(&bytes[at..at + size]));
+    }
+    marks
+}
+
+/// Reads an image that is no longer than the room at once: its blocks are next to one another, and each read is a call of the system.
+fn mark_short<D: Device>(image: &mut D, total: u64, room: &mut [u8]) -> Result<Marks, DeviceFailed>
+    requires countable { D.failures image.old < u64.MAX }
+    requires room { length room.old ≡ 4096 }
+    requires few { total ≤ 4096 }
+    requires long { D.honest image.old → total ≡ length (D.image image.old) }
+    ensures marks { D.honest image.old → IfOk result (AreWholeMarks (D.image image.old)) }
+    ensures room { length room.new ≡ 4096 }
+    ensures reads { OnlyReadsImage D.Device (is_err result) image.old image.new }
+{
+    let (bytes, _) = room.split_at_mut(total as usize);
+    image.read_at(0, bytes)?;
+    Ok(mark_bytes(bytes))
+}
+
+/// The digests of the blocks of an image of `total` bytes.
+fn mark_blocks<D: Device>(image: &mut D, total: u64, room: &mut [u8]) -> Result<Marks, DeviceFailed>
+    requires countable { D.failures image.old < u64.MAX }
+    requires room { length room.old ≡ 4096 }
+    requires long { D.honest image.old → total ≡ length (D.image image.old) }
+    ensures marks { D.honest image.old → IfOk result (AreWholeMarks (D.image image.old)) }
+    ensures room { length room.new ≡ 4096 }
+    ensures reads { OnlyReadsImage D.Device (is_err result) image.old image.new }
+{
+    if total <= 4096 {
+        mark_short(image, total, room)
+    } else {
+        mark_all(image, total, room)
+    }
+}
+
 /// The blocks of an image, which is only read.
 pub fn mark_image<D: Device>(image: &mut D, room: &mut [u8]) -> Result<Blocks, DeviceFailed>
     requires countable { D.failures image.old < u64.MAX }
@@ -159,6 +205,6 @@ pub fn mark_image<D: Device>(image: &mut D, room: &mut [u8]) -> Result<Blocks, D
     ensures reads { OnlyReadsImage D.Device (is_err result) image.old image.new }
 {
     let total = image.len()?;
-    let marks = mark_all(image, total, room)?;
+    let marks = mark_blocks(image, total, room)?;
     Ok(Blocks { total, marks })
 }
