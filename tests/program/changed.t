@@ -141,6 +141,104 @@ What a redo would cut off, and what counts of more:
   0
   abCDefgh
 
+# A journal that is older than its text
+
+An old copy of the journal is put back, in which fewer changes stand than the text counts: neither way it is undone, and each look says so.
+
+  $ older() { # DUMP ..: the changes, and the journal that stood before the last of them
+  >   local last=${!#}
+  >   changes "${@:1:$#-1}"; cp img.bxj ../older; echo "$last" | bx revert img; cp ../older img.bxj
+  > }
+  $ older '2: 7879' '4: 7a7a'; refused 'the image was changed since' << .
+  > undo img
+  > undo -k 1 img
+  > .
+  $ kept bx undo -k 0 img; kept bx undo -k 2 img
+  1
+  bx: only 1 changes to undo
+  [1]
+  $ bx show img | head -1; bx show -k 0 img | head -1; bx log -v img
+  # the image was changed since
+  # the image was changed since
+  # the image was changed since
+  1 8 8 2 2-3
+  $ bx undo --anyway img; cat img; cut -c 1-25 img.bxj.image
+  0
+  ABCDzzGHimage3 00000000 00000001 
+
+And so where the redo file is older too, or the journal alone, beside the redo file of today:
+
+  $ changes '2: 7879' '4: 7a7a'; bx undo img; cp img.bxj* ..; rm ../img.bxj.image; bx redo img; echo '6: 7171' | bx revert img; cp ../img.bxj* .
+  1
+  2
+  $ refused 'the image was changed since' <<< 'undo img'
+  $ kept bx redo img; bx show -r img | head -1
+  bx: the image was changed since
+  # the image was changed since
+  $ changes '2: 7879'; cp img.bxj ..; echo '4: 7a7a' | bx revert img; echo '6: 7171' | bx revert img; bx undo img; cp ../img.bxj .
+  2
+  $ refused 'the image was changed since' << .
+  > undo img
+  > redo img
+  > .
+  $ bx redo --anyway img; cat img
+  2
+  ABxyzzqq
+
+A change goes on, and the changes before it stand for another image; to drop the history leaves the image:
+
+  $ older '2: 7879' '4: 7a7a'; echo '6: 7171' | bx revert img; cat img; cut -c 1-25 img.bxj.image; cut -c 109-116 img.bxj.image
+  ABxyzzqqimage3 00000002 00000000 
+  00000001
+  $ bx undo img; cat img
+  1
+  ABxyzzGH
+  $ refused 'the image was changed since' <<< 'undo img'
+  $ older '2: 7879' '4: 7a7a'; bx forget img; cat img; ls img*
+  ABxyzzGHimg
+  img.bxj
+  img.bxj.redo
+  $ older '2: 7879' '4: 7a7a'; echo '6: 7171' | bx revert --fresh img; bx log img; bx undo img; cat img
+  1 8 2
+  0
+  ABxyzzGH
+
+Beside an empty journal, and an older one with as many changes, nothing is older; the bytes of that one's last change tell it:
+
+  $ changes '2: 7879'; : > img.bxj; echo '4: 7a7a' | bx revert img; bx undo img; cat img
+  0
+  ABxyEFGH
+  $ changes '2: 7879' '4: 7a7a'; cp img.bxj ..; bx undo img; echo '6: 7171' | bx revert img; cp ../img.bxj .
+  1
+  $ bx undo img; cat img
+  bx: the image was changed since
+  ABxyEFqq
+
+# What a stop leaves is never older (wants strace)
+
+An undo that is killed at its syncs, and then what recovers it or drops its history, killed at each sync too: the next undo is never refused
+for another image.
+
+  $ killed() { # N WORDS ..: bx, killed at its sync N
+  >   { strace -f -o ../calls -e inject=fsync:signal=KILL:when=$1 bx "${@:2}"; } > ../said 2>&1
+  > }
+  $ for first in 6 8 9 10; do
+  >   changes '2: 7879' '4: 7a7a' '6: 7171'; killed $first undo -k 2 img; rm -rf ../left; mkdir ../left; cp -p img* ../left
+  >   for words in 'log img' 'forget img'; do
+  >     for next in $(seq 9); do
+  >       rm -rf img*; cp -p ../left/* .; killed $next $words
+  >       bx undo img > ../said 2>&1 || grep since ../said
+  >     done
+  >   done
+  > done
+
+Behind an undo that a device refused the text tells of the journal again:
+
+  $ changes '2: 7879'; { strace -f -o ../calls -e inject=fsync:error=EIO:when=3 bx undo img; } 2>&1; cut -c 1-25 img.bxj.image
+  bx: device failed
+  image3 00000001 00000000 
+  $ printf abcdefgh > img; refused 'the image was changed since' <<< 'undo img'
+
 # What leaves the bytes
 
 It is refused nowhere: a newer time, bytes that no change wrote, no text, and the four files in another place; there too another

@@ -27,7 +27,7 @@ pub record NothingStoppedIsOlder : Type 0 where
   pub others : (line : ImageLine) (now : Standing) → line.changes ≤ now.changes → is_older line now ≡ false
   pub dropped : (line : ImageLine) (now : Standing) → now.changes ≡ 0 → now.undone ≡ 0 → is_older line now ≡ false
 
--- Texts that are older are told: each undo and each redo of some of them is refused.
+-- Of texts that are older each undo and each redo of some changes is refused.
 abbrev pub OlderIsRefused : Type 0
 OlderIsRefused = (line : ImageLine) (now : Standing) (count : ℕ) → is_older line now ≡ true → 0 < count
     → (count ≤ now.changes → is_undo_refused line now count ≡ true) × (count ≤ now.undone → is_redo_refused line now count ≡ true)
