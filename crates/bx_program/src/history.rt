@@ -3,15 +3,13 @@ pub mod changes;
 pub mod forget;
 pub mod told;
 
-use crate::devices::left::stopped;
+use crate::devices::left::{is_unfinished, stopped};
 use crate::files::look::is_missing;
 use crate::files::names::{guard_to_recover, names_of, world_of};
-use crate::requests::{request_change, request_report};
 use bx_cli::{Command, Fault, Target};
 use bx_hints::Stopped;
 use bx_journal::{Steps, Way};
-use bx_program_commands::Report;
-use bx_program_looks::Unseen;
+use bx_program_commands::{Report, Request, run_request};
 use bx_program_sessions::Task;
 use bx_program_system::{Progress, is_untouched, lock, open_there};
 use std::fs::{self, File};
@@ -38,14 +36,18 @@ where
     let names = names_of(rt.alloc(), target)?;
     let mut world = world_of(rt, target, progress)?;
     let none: Task<Empty> = Task::Run(Command::Undo { k: 0 });
-    let guard = guard_to_recover(target, anyway);
-    let answer = request_change(&mut world, rt.alloc(), &names, guard, none);
+    let request = Request::Change {
+        names: &names,
+        guard: guard_to_recover(target, anyway),
+        task: none,
+    };
+    let answer = run_request(&mut world, rt.alloc(), request, &mut io::sink());
     if is_made {
         take_empty(rt, redo);
     }
-    match answer.reply.standing() {
+    match answer {
         Ok(_) => Ok(()),
-        Err(fault) => Err(stopped(rt, target, &world, answer.unopened, fault).unrecovered()),
+        Err(failure) => Err(stopped(rt, target, &world, failure).unrecovered()),
     }
 }
 
@@ -70,12 +72,18 @@ where
     });
     let names = names_of(rt.alloc(), target)?;
     let mut world = world_of(rt, target, progress)?;
-    match request_report(&mut world, rt.alloc(), &names, nothing, &mut io::sink()) {
-        Err(Unseen::Unfinished) => match recover_image(rt, target, false, progress) {
-            Err(stopped) if stopped.fault == Fault::ChangedSince => Ok(()),
-            outcome => outcome,
-        },
-        Ok(()) | Err(Unseen::Unopened(_) | Unseen::Another | Unseen::Stopped(_)) => Ok(()),
+    let request: Request<'_, Empty> = Request::Look {
+        names: &names,
+        report: nothing,
+    };
+    match run_request(&mut world, rt.alloc(), request, &mut io::sink()) {
+        Err(failure) if is_unfinished(failure) => {
+            match recover_image(rt, target, false, progress) {
+                Err(stopped) if stopped.fault == Fault::ChangedSince => Ok(()),
+                outcome => outcome,
+            }
+        }
+        Ok(_) | Err(_) => Ok(()),
     }
 }
 

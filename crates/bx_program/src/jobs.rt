@@ -1,4 +1,6 @@
 //! The jobs, and one run of the program.
+ghost use Rattle.std.specs.Prelude.{◌≡◌};
+
 mod copies;
 mod diff;
 mod looks;
@@ -22,12 +24,10 @@ use crate::jobs::steps::take_steps;
 use crate::progress::{
     progress_of_dump, progress_of_dumped, progress_of_input, progress_of_standard,
 };
-use crate::requests::{request_dump, request_input};
 use crate::streams::closed::Held;
 use crate::streams::input::{MOST_INPUT, Placed, whole};
 use bx_cli::{
-    ChangeJob, DdImageJob, Done, DumpJob, Fault, ForgetJob, Form, Job, RevertJob, change_from,
-    plan_words,
+    ChangeJob, DdImageJob, DumpJob, Fault, ForgetJob, Form, Job, RevertJob, change_from, plan_words,
 };
 use bx_dd::Counts;
 use bx_hints::{
@@ -35,7 +35,8 @@ use bx_hints::{
 };
 use bx_image::Change;
 use bx_journal::Way;
-use bx_program_dumps::Undumped;
+use bx_program_commands::{Cause, Done, Failure, Request, run_request};
+use bx_program_files::Why;
 use bx_program_sessions::Task;
 use bx_program_system::{Counted, Noted, Progress, SystemWorld, Tally};
 use bx_read::ReadFault;
@@ -378,9 +379,9 @@ where
         Some(name) => dump_named(rt, job, name.as_str(), out, remarks)?,
         None => dump_standard(rt, job, out, remarks)?,
     };
-    match done {
-        Done::Dumped(_) => Ok(None),
-        Done::Copied(counts) => Ok((!is_quiet(job)).then_some(counts)),
+    match done.counts {
+        Some(counts) if !is_quiet(job) => Ok(Some(counts)),
+        Some(_) | None => Ok(None),
     }
 }
 
@@ -397,17 +398,25 @@ where
 {
     let progress = progress_of_dump(rt, remarks, None);
     let mut world = SystemWorld::reading(rt, &progress, most_of(job));
-    match request_dump(&mut world, rt.alloc(), job, name, out) {
+    let request: Request<'_, Empty> = Request::Dump { job, name };
+    match run_request(&mut world, rt.alloc(), request, out) {
         Ok(done) => Ok(done),
-        Err(Undumped::Unopened(refusal)) => {
-            Err(Stopped::by(Fault::OpenFailed, name, number_of(refusal)))
-        }
-        Err(Undumped::Unplaced(refusal)) => {
-            let fault = Fault::Io(IoFault::ReadFailed);
-            Err(Stopped::by(fault, name, number_of(refusal)))
-        }
-        Err(Undumped::Stopped(fault)) => Err(Stopped::from(fault).on_input(name, world.unread)),
+        Err(failure) => Err(cut_off(name, world.unread, failure)),
     }
+}
+
+/// What stopped a dump of this file, whose reading was refused with the system's number.
+fn cut_off(name: &str, unread: Option<i32>, failure: Failure) -> Stopped<'_>
+    ensures { result.fault ≡ failure.fault }
+{
+    let fault = failure.fault;
+    let by = match failure.stop.map(|stop| stop.cause) {
+        Some(Cause::Unopened(Why::System(refusal)) | Cause::Unplaced(refusal)) => {
+            Stopped::by(fault, name, number_of(refusal))
+        }
+        Some(_) | None => Stopped::from(fault).on_input(name, unread),
+    };
+    Stopped { fault, ..by }
 }
 
 /// Dumps or copies standard input, which has no seek: what is skipped is read.
@@ -424,11 +433,15 @@ where
     let mut reader = Noted::new(rt.reader());
     let counted = Counted::new(&mut reader, &progress);
     let mut world = SystemWorld::new(rt, &progress, false);
-    let outcome = request_input(&mut world, rt.alloc(), job, counted, out);
+    let request = Request::DumpInput {
+        job,
+        input: counted,
+    };
+    let answer = run_request(&mut world, rt.alloc(), request, out);
     progress.end();
-    match outcome {
+    match answer {
         Ok(done) => Ok(done),
-        Err(fault) => Err(Stopped::from(fault).on_input(STANDARD_INPUT, reader.error)),
+        Err(failure) => Err(cut_off(STANDARD_INPUT, reader.error, failure)),
     }
 }
 

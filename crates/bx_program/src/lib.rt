@@ -10,7 +10,6 @@ mod files;
 mod history;
 mod jobs;
 mod progress;
-mod requests;
 mod streams;
 
 pub use bx_hints::{Reason, Stopped, Terminals};

@@ -1,3 +1,4 @@
+pub mod Ending
 pub mod Proposing
 pub mod Previewing
 pub mod Renewing

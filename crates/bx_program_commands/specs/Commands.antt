@@ -5,10 +5,10 @@ use Rattle.bx_dd.specs.declared.counts.Counts.{Counts}
 use Rattle.bx_patch.specs.declared.diff.row.Extent.{Extent}
 use Rattle.bx_journal.specs.Images.{Images}
 use Rattle.bx_journal.specs.Way.{Way}
-use Rattle.bx_cli_commands.specs.declared.fault.Fault.TheVariants.{OpenFailed}
-use Rattle.bx_cli_commands.specs.declared.jobs.dump.Done.{Done}
+use Rattle.bx_cli_commands.specs.declared.jobs.dump.Done.{Done as DumpDone}
 use Rattle.bx_cli_commands.specs.declared.jobs.dumps.DumpJob.{DumpJob}
 use Rattle.bx_program_world.specs.World.{NothingNewFound, Sight, Spares}
+use Rattle.bx_program_world.specs.declared.world.Outgrown.{Outgrown}
 use Rattle.bx_program_files.specs.Files.{LeavesFiles}
 use Rattle.bx_program_files.specs.Fit.{AreFit}
 use Rattle.bx_program_files.specs.Reading.{AreReadable, MayRefuseForgetting, MayRefuseReading}
@@ -27,11 +27,14 @@ use Rattle.bx_program_dumps.specs.declared.undumped.Undumped.{Undumped}
 use Rattle.bx_program_looks.specs.Forgetting.{IsNoTextNamed, SurvivesForgetting}
 use Rattle.bx_program_commands.specs.Changing.{DoesChange, DoesForget}
 use Rattle.bx_program_commands.specs.Diffs.{StopsDiff, WritesDiff}
-use Rattle.bx_program_commands.specs.Outcome.{ended_by}
+use Rattle.bx_program_commands.specs.Answer.{answer_by}
+use Rattle.bx_program_commands.specs.Outcome.{ended_by, unopened_by, unopened_fault}
 use Rattle.bx_program_commands.specs.Previews.{StopsPreview, WritesPreview}
 use Rattle.bx_program_commands.specs.Renewal.{DoesRenew, KeepsNamed, SurvivesRenewal, TellsOpening}
 use Rattle.bx_program_commands.specs.Reports.{Reports}
 use Rattle.bx_program_commands.specs.Scene.{Scene}
+use Rattle.bx_program_commands.specs.declared.answer.Done.{Done}
+use Rattle.bx_program_commands.specs.declared.answer.Failure.{Failure}
 use Rattle.bx_program_commands.specs.declared.diff.Undiffed.{Undiffed}
 use Rattle.bx_program_commands.specs.declared.outcome.Outcome.{Outcome}
 use Rattle.bx_program_commands.specs.declared.outcome.Outcome.TheVariants as of
@@ -54,13 +57,13 @@ pub record DoesMove (names : Names) (way : Way) (count : ℕ) (moved : Moved (Un
 
 -- A dump writes the job's text of all bytes of the file, or a front of it and says why; a file that isn't opened is missing, or the system counted
 -- a call that it refused
-pub record DoesDump (job : DumpJob) (name : List ℕ) (outcome : Result Done Undumped) (old new : Scene) : Type 0 where
+pub record DoesDump (job : DumpJob) (name : List ℕ) (outcome : Result DumpDone Undumped) (old new : Scene) : Type 0 where
   pub text : MatchResult outcome (λ done. DumpsNamed job name old.sight done old.written new.written)
       (λ e. StopsNamed job name old.sight e old.written new.written)
   pub counted : CountsUndumped outcome old.refusals new.refusals
 
 -- A dump of an input writes the job's text of all bytes that it gives from where it stands, or a front of it and says why
-pub record DoesDumpInput (job : DumpJob) (input : Option (List ℕ)) (outcome : Result Done Undumped) (old new : Scene) : Type 0 where
+pub record DoesDumpInput (job : DumpJob) (input : Option (List ℕ)) (outcome : Result DumpDone Undumped) (old new : Scene) : Type 0 where
   pub text : MatchResult outcome (λ done. DumpsInput job input done old.written new.written) (StopsInput job input old.written new.written)
   pub counted : new.refusals ≡ old.refusals
 
@@ -166,9 +169,9 @@ WereJudged (Change names guard task) (of.Changed answer) old = WasJudged guard (
     (contents_of names.now old.sight) task answer.unopened answer.how
 WereJudged request outcome old = Unit {0}
 
--- A file of an image wasn't opened: the fault says so, all files are as they were, nothing is written, and there is a reason
+-- A file of an image wasn't opened, or it isn't the image: the fault says so, all files are as they were, nothing is written, and there is a reason
 pub record StopsUnopened {R : Type 0} (request : Request R) (outcome : Outcome) (old new : Scene) (file : Unopened) : Type 0 where
-  pub fault : ended_by outcome ≡ Err OpenFailed
+  pub fault : ended_by outcome ≡ Err (unopened_fault file.why)
   pub files : LeavesFiles old.sight new.sight
   pub why : MayRefuseFile request (old.refusals < new.refusals) old.note old.sight file
 
@@ -180,3 +183,19 @@ Writes (Move names guard way count) (of.Moved moved) old new =
 Writes (Change names guard task) (of.Changed answer) old new = SaysRecovered answer.how old.sight new.sight × (new.written ≡ old.written)
 Writes (Renew names guard task) (of.Renewed renewed) old new = TellsOpening renewed old.sight new.sight × (new.written ≡ old.written)
 Writes request outcome old new = (new.sight.output ≡ old.sight.output) × (new.sight.errors ≡ old.sight.errors)
+
+-- What a command did that ended so, on the files as they were before it: it did what it is to do, on an image that was judged, in a way that a loss of
+-- power leaves to be found, on files that may be opened; where one wasn't opened all are as they were; and what it wrote stands where it is to
+pub record HasRun {R : Type 0} (remaining : R → Option (List ℕ)) (request : Request R) (outcome : Outcome) (old new : Scene)
+    (found left : ℕ → List ℕ → Type 0) : Type 0 where
+  pub does : Fulfills remaining request outcome old new
+  pub judged : WereJudged request outcome old
+  pub survives : SurvivesLoss remaining request outcome old.sight new.sight found left
+  pub fit : unopened_by outcome ≡ None → MayOpen request old.sight
+  pub unopened : IfSome (unopened_by outcome) (StopsUnopened request outcome old new)
+  pub streams : Writes request outcome old new
+
+-- An answer stands for how a command ended: its fault is the one that this ended in
+pub record StandsAs {R : Type 0} (request : Request R) (outcome : Outcome) (outgrown : Option Outgrown) (answer : Result Done Failure) : Type 0 where
+  pub answers : Answers request outcome
+  pub answer_is : answer ≡ answer_by outgrown outcome

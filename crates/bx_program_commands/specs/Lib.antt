@@ -1,5 +1,6 @@
 pub mod Scene
 pub mod Outcome
+pub mod Answer
 pub mod Diffs
 pub mod Previews
 pub mod Proposed

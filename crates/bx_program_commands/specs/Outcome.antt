@@ -1,5 +1,5 @@
 -- How a command ended.
-use Rattle.std.specs.Prelude.{Option, None, Result, Ok, Err}
+use Rattle.std.specs.Prelude.{Option, None, Some, Result, Ok, Err}
 use Rattle.bx_text.specs.declared.fault.IoFault.TheVariants as stream
 use Rattle.bx_patch.specs.declared.diff.fault.DiffFault.{DiffFault}
 use Rattle.bx_patch.specs.declared.diff.fault.DiffFault.TheVariants.{NoMemory, TooLarge, OldFailed, NewFailed, WriteFailed}
@@ -10,6 +10,9 @@ use Rattle.bx_cli_commands.specs.declared.fault.Fault.TheVariants.{ChangedSince,
 use Rattle.bx_program_dumps.specs.declared.undumped.Undumped.{Undumped}
 use Rattle.bx_program_dumps.specs.declared.undumped.Undumped.TheVariants as dump
 use Rattle.bx_program_files.specs.declared.unopened.Unopened.{Unopened}
+use Rattle.bx_program_files.specs.declared.unopened.Why.{Why}
+use Rattle.bx_program_files.specs.declared.unopened.Why.TheVariants.{System, Unfit, Alias, Another}
+use Rattle.bx_program_world.specs.declared.world.Outgrown.{Outgrown}
 use Rattle.bx_program_looks.specs.Looks.{unopened_in}
 use Rattle.bx_program_looks.specs.declared.unseen.Unseen.{Unseen}
 use Rattle.bx_program_looks.specs.declared.unseen.Unseen.TheVariants as look
@@ -22,6 +25,23 @@ use Rattle.bx_program_commands.specs.declared.proposal.Unpreviewed.TheVariants a
 use Rattle.bx_program_commands.specs.declared.renewed.Renewed.{Renewed as Renewal}
 use Rattle.bx_program_commands.specs.declared.renewed.Renewed.TheVariants as renewal
 
+-- the fault of a file that wasn't opened, or isn't the image that its journal was written beside
+abbrev pub unopened_fault : Why → Fault
+unopened_fault (System refusal) = OpenFailed
+unopened_fault (Unfit unfit) = OpenFailed
+unopened_fault Alias = OpenFailed
+unopened_fault Another = ChangedSince
+
+-- the fault of a task on files, which is that of a file that wasn't opened, where one wasn't
+abbrev pub task_fault : Option Unopened → Fault → Fault
+task_fault None fault = fault
+task_fault (Some file) fault = unopened_fault file.why
+
+-- the fault where an image was refused a length that it can't have: no memory is short then, but the change is too large
+abbrev pub grown_fault : Option Outgrown → Fault → Fault
+grown_fault (Some outgrown) (Session session.NoMemory) = Session session.TooLarge
+grown_fault outgrown fault = fault
+
 -- the fault of a dump that is not whole
 abbrev pub dump_fault : Undumped → Fault
 dump_fault (dump.Unopened refusal) = OpenFailed
@@ -30,15 +50,15 @@ dump_fault (dump.Stopped fault) = fault
 
 -- the fault of a report that is not whole
 abbrev pub look_fault : Unseen → Fault
-look_fault (look.Unopened file) = OpenFailed
+look_fault (look.Unopened file) = unopened_fault file.why
 look_fault look.Unfinished = Session session.Interrupted
 look_fault look.Another = ChangedSince
 look_fault (look.Stopped fault) = fault
 
 -- the fault of a patch that is not whole
 abbrev pub diff_fault : Undiffed → Fault
-diff_fault (diff.OldUnopened why) = OpenFailed
-diff_fault (diff.NewUnopened why) = OpenFailed
+diff_fault (diff.OldUnopened why) = unopened_fault why
+diff_fault (diff.NewUnopened why) = unopened_fault why
 diff_fault (diff.Stopped NoMemory) = Io stream.NoMemory
 diff_fault (diff.Stopped TooLarge) = Session session.TooLarge
 diff_fault (diff.Stopped OldFailed) = Io stream.ReadFailed
@@ -55,7 +75,7 @@ stop_fault (WriteFailed written) = Io (stream.WriteFailed written)
 
 -- the fault of the patch of a change that isn't made
 abbrev pub preview_fault : Unpreviewed → Fault
-preview_fault (preview.Unopened why) = OpenFailed
+preview_fault (preview.Unopened why) = unopened_fault why
 preview_fault (preview.Refused fault) = fault
 preview_fault (preview.Unfitting has wanted) = Session session.TooLarge
 preview_fault (preview.Stopped fault) = stop_fault fault
@@ -67,14 +87,14 @@ ended_with fault (Err e) = Err (fault e)
 
 -- that a change with which the history begins anew is done, or the fault of the step that it ended in
 abbrev pub renewed_end : Renewal → Result (Unit {0}) Fault
-renewed_end (renewal.Kept answer) = ended_with (λ fault. fault) (stands_by answer.reply)
+renewed_end (renewal.Kept answer) = ended_with (task_fault answer.unopened) (stands_by answer.reply)
 renewed_end (renewal.Undropped unseen) = Err (look_fault unseen)
-renewed_end (renewal.Changed answer) = ended_with (λ fault. fault) (stands_by answer.reply)
+renewed_end (renewal.Changed answer) = ended_with (task_fault answer.unopened) (stands_by answer.reply)
 
 -- that the command is done, or the fault that it ended in
 abbrev pub ended_by : Outcome → Result (Unit {0}) Fault
-ended_by (Moved moved) = moved.outcome
-ended_by (Changed answer) = ended_with (λ fault. fault) (stands_by answer.reply)
+ended_by (Moved moved) = ended_with (task_fault moved.unopened) moved.outcome
+ended_by (Changed answer) = ended_with (task_fault answer.unopened) (stands_by answer.reply)
 ended_by (Dumped outcome) = ended_with dump_fault outcome
 ended_by (Compared outcome) = ended_with diff_fault outcome
 ended_by (Previewed outcome) = ended_with preview_fault outcome

@@ -11,7 +11,7 @@ use Rattle.bx_cli_commands.specs.Replies.{stands_by}
 use Rattle.bx_cli_commands.specs.declared.command.Command.TheVariants.{Undo}
 use Rattle.bx_cli_commands.specs.declared.command.Reply.{Reply}
 use Rattle.bx_cli_commands.specs.declared.command.Reply.TheVariants.{Refused}
-use Rattle.bx_cli_commands.specs.declared.fault.Fault.TheVariants.{OpenFailed, Session}
+use Rattle.bx_cli_commands.specs.declared.fault.Fault.TheVariants.{Session}
 use Rattle.bx_program_world.specs.World.{Sight, Spares, Trio, held}
 use Rattle.bx_program_files.specs.Files.{LeadsToMade, LeavesFiles}
 use Rattle.bx_program_files.specs.declared.guard.Guard.{Guard}
@@ -28,7 +28,7 @@ use Rattle.bx_program_looks.specs.Forgetting.{Held, IsNoTextNamed, IsOfTexts, Lo
 use Rattle.bx_program_looks.specs.declared.unseen.Unseen.{Unseen}
 use Rattle.bx_program_looks.specs.declared.unseen.Unseen.TheVariants.{Stopped}
 use Rattle.bx_program_commands.specs.Changing.{DoesChange, DoesForget}
-use Rattle.bx_program_commands.specs.Outcome.{renewed_end}
+use Rattle.bx_program_commands.specs.Outcome.{renewed_end, unopened_fault}
 use Rattle.bx_program_commands.specs.Scene.{Scene}
 use Rattle.bx_program_commands.specs.declared.renewed.Renewed.{Renewed}
 use Rattle.bx_program_commands.specs.declared.renewed.Renewed.TheVariants.{Kept, Undropped, Changed}
@@ -183,9 +183,9 @@ pub record KeepsNamed (names : Names) (old new : Sight) : Type 0 where
   pub named : (m : List ℕ) (n : ℕ) → old.named m ≡ Some n → new.named m ≡ Some n
   pub made : new.stuck ≡ old.stuck → (m : List ℕ) → LeadsToMade (IsNamedBy names new) (old.named m) (new.named m)
 
--- files weren't opened: the fault says so, and all files are as they were
-abbrev pub NothingRenewed : Renewed → Sight → Sight → Type 0
-NothingRenewed renewed old new = (renewed_end renewed ≡ Err OpenFailed) × LeavesFiles old new
+-- a file wasn't opened: the fault says so, and all files are as they were
+abbrev pub NothingRenewed : Renewed → Sight → Sight → Unopened → Type 0
+NothingRenewed renewed old new file = (renewed_end renewed ≡ Err (unopened_fault file.why)) × LeavesFiles old new
 
 -- nothing is written but what the first step recovered
 abbrev pub TellsOpening : Renewed → Sight → Sight → Type 0

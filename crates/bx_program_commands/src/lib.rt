@@ -3,6 +3,8 @@
 //! `docs/HEADLINE.md` begins with its contract.
 #![tactic(auto)]
 
+mod answer;
+mod answered;
 mod diff;
 mod made;
 mod named;
@@ -14,9 +16,7 @@ mod report;
 mod request;
 mod running;
 
-pub use diff::Undiffed;
-pub use outcome::Outcome;
-pub use proposal::{Proposal, Unpreviewed};
-pub use renewed::Renewed;
+pub use answer::{Cause, Done, Failure, FileRole, Step, Stop};
+pub use proposal::Proposal;
 pub use request::{Report, Request};
 pub use running::run_request;

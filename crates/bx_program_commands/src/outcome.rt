@@ -1,20 +1,22 @@
-//! How a command ended.
+//! How a command ended, as the crate says it that did it, and in which fault.
 ghost use Rattle.std.specs.Prelude.{◌≡◌};
-ghost use Rattle.bx_program_commands.specs.Outcome.{diff_fault, ended_by, look_fault, dump_fault, preview_fault, renewed_end, stop_fault};
+ghost use Rattle.bx_cli_commands.specs.Replies.{stands_by};
+ghost use Rattle.bx_program_commands.specs.Outcome.{diff_fault, ended_by, ended_with, look_fault, dump_fault, preview_fault, renewed_end, stop_fault, task_fault, unopened_fault};
 
 use crate::diff::Undiffed;
 use crate::proposal::Unpreviewed;
 use crate::renewed::Renewed;
-use bx_cli_commands::{Done, Fault};
+use bx_cli_commands::{Done as Dump, Fault};
 use bx_dd::Counts;
 use bx_journal::SessionFault;
 use bx_patch::DiffFault;
 use bx_program_dumps::Undumped;
+use bx_program_files::{Unopened, Why};
 use bx_program_looks::Unseen;
 use bx_program_sessions::{Answer, Moved};
 use bx_text::IoFault;
 
-/// What a command answers.
+/// How a command ended.
 #[derive(Drop)]
 pub enum Outcome {
     /// Of an undo or a redo.
@@ -22,7 +24,7 @@ pub enum Outcome {
     /// Of a change.
     Changed(Answer),
     /// Of a dump: what was dumped, or why it is not whole.
-    Dumped(Result<Done, Undumped>),
+    Dumped(Result<Dump, Undumped>),
     /// Of a comparison: that the patch is whole, or why not.
     Compared(Result<(), Undiffed>),
     /// Of a change that isn't made: dd's counts, where it is dd's, or why its patch is not whole.
@@ -33,6 +35,46 @@ pub enum Outcome {
     Forgotten(Result<(), Unseen>),
     /// Of a change with which a history begins anew.
     Renewed(Renewed),
+}
+
+/// The fault of a file that was not opened, or is another image.
+fn fault_of_unopened(why: Why) -> Fault
+    ensures { result ≡ unopened_fault why }
+{
+    match why {
+        Why::System(_) | Why::Unfit(_) | Why::Alias => Fault::OpenFailed,
+        Why::Another => Fault::ChangedSince,
+    }
+}
+
+/// The fault of a task on files, which is that of a file that was not opened, where one wasn't.
+fn fault_of_task(unopened: Option<Unopened>, fault: Fault) -> Fault
+    ensures { result ≡ task_fault unopened fault }
+{
+    match unopened {
+        None => fault,
+        Some(file) => fault_of_unopened(file.why),
+    }
+}
+
+/// How a task on files ended.
+fn end_of_task(answer: Answer) -> Result<(), Fault>
+    ensures { result ≡ ended_with (task_fault answer.unopened) (stands_by answer.reply) }
+{
+    match answer.reply.standing() {
+        Ok(_) => Ok(()),
+        Err(fault) => Err(fault_of_task(answer.unopened, fault)),
+    }
+}
+
+/// How an undo or a redo ended.
+fn end_of_move(moved: &Moved<()>) -> Result<(), Fault>
+    ensures { result ≡ ended_with (task_fault moved.now.unopened) moved.now.outcome }
+{
+    match moved.outcome {
+        Ok(()) => Ok(()),
+        Err(fault) => Err(fault_of_task(moved.unopened, fault)),
+    }
 }
 
 /// The fault of a dump that is not whole.
@@ -51,7 +93,7 @@ fn fault_of_diff(undiffed: Undiffed) -> Fault
     ensures { result ≡ diff_fault undiffed }
 {
     match undiffed {
-        Undiffed::OldUnopened(_) | Undiffed::NewUnopened(_) => Fault::OpenFailed,
+        Undiffed::OldUnopened(why) | Undiffed::NewUnopened(why) => fault_of_unopened(why),
         Undiffed::Stopped(DiffFault::NoMemory) => Fault::Io(IoFault::NoMemory),
         Undiffed::Stopped(DiffFault::TooLarge) => Fault::Session(SessionFault::TooLarge),
         Undiffed::Stopped(DiffFault::OldFailed | DiffFault::NewFailed) => {
@@ -80,7 +122,7 @@ fn fault_of_preview(unpreviewed: Unpreviewed) -> Fault
     ensures { result ≡ preview_fault unpreviewed }
 {
     match unpreviewed {
-        Unpreviewed::Unopened(_) => Fault::OpenFailed,
+        Unpreviewed::Unopened(why) => fault_of_unopened(why),
         Unpreviewed::Refused(fault) => fault,
         Unpreviewed::Unfitting { .. } => Fault::Session(SessionFault::TooLarge),
         Unpreviewed::Stopped(fault) => fault_of_stop(fault),
@@ -92,7 +134,7 @@ fn fault_of_look(unseen: Unseen) -> Fault
     ensures { result ≡ look_fault unseen }
 {
     match unseen {
-        Unseen::Unopened(_) => Fault::OpenFailed,
+        Unseen::Unopened(file) => fault_of_unopened(file.why),
         Unseen::Unfinished => Fault::Session(SessionFault::Interrupted),
         Unseen::Another => Fault::ChangedSince,
         Unseen::Stopped(fault) => fault,
@@ -104,26 +146,19 @@ fn end_of_renewal(renewed: Renewed) -> Result<(), Fault>
     ensures { result ≡ renewed_end renewed }
 {
     match renewed {
-        Renewed::Kept(answer) | Renewed::Changed(answer) => match answer.reply.standing() {
-            Ok(_) => Ok(()),
-            Err(fault) => Err(fault),
-        },
+        Renewed::Kept(answer) | Renewed::Changed(answer) => end_of_task(answer),
         Renewed::Undropped(unseen) => Err(fault_of_look(unseen)),
     }
 }
 
 impl Outcome {
-    /// That the command is done, or the fault that it ended in. The program makes its status of the
-    /// answer by other code; the cases hold both against what they expect.
+    /// That the command is done, or the fault that it ended in.
     pub fn ended(&self) -> Result<(), Fault>
         ensures { result ≡ ended_by self.now }
     {
         match self {
-            Outcome::Moved(moved) => moved.outcome,
-            Outcome::Changed(answer) => match answer.reply.standing() {
-                Ok(_) => Ok(()),
-                Err(fault) => Err(fault),
-            },
+            Outcome::Moved(moved) => end_of_move(moved),
+            Outcome::Changed(answer) => end_of_task(*answer),
             Outcome::Renewed(renewed) => end_of_renewal(*renewed),
             Outcome::Dumped(Ok(_))
             | Outcome::Compared(Ok(()))

@@ -159,7 +159,7 @@ pub fn renew_files<W: World, R: Read + Drop>(
         (W.survives world.old) (W.survives world.new) }
 
     // Files that are not opened are as they were, and why they are not; others may be changed.
-    ensures unopened { W.honest world.old → IfSome (first_unopened result) (λ _. NothingRenewed result (W.sight world.old) (W.sight world.new)) }
+    ensures unopened { W.honest world.old → IfSome (first_unopened result) (NothingRenewed result (W.sight world.old) (W.sight world.new)) }
     ensures why_unopened { W.honest world.old → IfSome (first_unopened result)
         (MayRefuseOpening names.now guard.mounted true (W.refusals world.old < W.refusals world.new) (W.sight world.old)) }
     ensures fit { W.honest world.old → first_unopened result ≡ None → AreFit names.now guard.mounted (W.sight world.old) }

@@ -1,9 +1,13 @@
 //! The one call.
-ghost use Rattle.std.specs.Prelude.{◌≡◌, ◌↔◌, None, IfSome};
-ghost use Rattle.bx_program_commands.specs.Commands.{Answers, Fulfills, IsNearRequest, LeavesOthers, MayOpen, StopsUnopened, SurvivesLoss, WereJudged, Writes};
+ghost use Rattle.std.specs.Prelude.{◌≡◌, ◌↔◌, ◌<◌, Option, None, IfSome};
+ghost use Rattle.bx_program_world.specs.declared.world.Outgrown.{Outgrown};
+ghost use Rattle.bx_program_commands.specs.Commands.{Answers, Fulfills, IsNearRequest, LeavesOthers, MayOpen, HasRun, StandsAs, StopsUnopened, SurvivesLoss, WereJudged, Writes};
 ghost use Rattle.bx_program_commands.specs.Outcome.{unopened_by};
 ghost use Rattle.bx_program_commands.specs.Scene.{scene};
+ghost use Rattle.bx_program_commands.specs.declared.outcome.Outcome.{Outcome};
 
+use crate::answer::{Done, Failure};
+use crate::answered::answer_of;
 use crate::diff::write_diff;
 use crate::outcome::Outcome;
 use crate::preview::write_preview;
@@ -17,9 +21,8 @@ use bx_program_world::World;
 use std::alloc::Global;
 use std::io::{Read, Write};
 
-/// Runs a command on named files. An undo or a redo writes its number on standard output; dumps, patches and reports are written
-/// to `out`; what was recovered is said on standard error.
-pub fn run_request<W: World, R: Read + Drop, O: Write>(
+/// Runs a command, and says how it ended as the crate says it that did it.
+fn run_command<W: World, R: Read + Drop, O: Write>(
     world: &mut W,
     alloc: Global,
     request: Request<'_, R>,
@@ -27,30 +30,17 @@ pub fn run_request<W: World, R: Read + Drop, O: Write>(
 ) -> Outcome
     requires near { IsNearRequest request }
     requires free { W.honest world.old → (W.sight world.old).lent ≡ None }
-
     ensures answers { Answers request.entry result }
-
-    // Each command does what it is to, or is refused and says why; after a crash it does so on what is recovered.
     ensures does { W.honest world.old → Fulfills R.remaining request.entry result
         (scene W.sight W.refusals W.note O.contents world.old out.old) (scene W.sight W.refusals W.note O.contents world.new out.new) }
-
-    // Nothing is recovered onto another image, nor is one undone or changed: it is judged before, by the line that the note had.
     ensures judged { W.honest world.old → WereJudged request.entry result
         (scene W.sight W.refusals W.note O.contents world.old out.old) }
-
-    // After a loss of power, too, opening finds an end of it, or the images behind some of its steps.
     ensures survives { W.honest world.old → SurvivesLoss R.remaining request.entry result
         (W.sight world.old) (W.sight world.new) (W.survives world.old) (W.survives world.new) }
-
-    // Whatever becomes of it, no file is changed but the three of an undo, a redo or a change, and the texts of a history that is dropped.
     ensures others { W.honest world.old → LeavesOthers request.entry (W.sight world.old) (W.sight world.new) }
-
-    // No file is opened to be changed, and no text to be read, that the rule refuses; where one isn't opened, all are as they were.
     ensures fit { W.honest world.old → unopened_by result ≡ None → MayOpen request.entry (W.sight world.old) }
     ensures unopened { W.honest world.old → IfSome (unopened_by result) (StopsUnopened request.entry result
         (scene W.sight W.refusals W.note O.contents world.old out.old) (scene W.sight W.refusals W.note O.contents world.new out.new)) }
-
-    // What is written stands where it is to.
     ensures streams { W.honest world.old → Writes request.entry result
         (scene W.sight W.refusals W.note O.contents world.old out.old) (scene W.sight W.refusals W.note O.contents world.new out.new) }
     ensures free { W.honest world.old → (W.sight world.new).lent ≡ None }
@@ -84,4 +74,34 @@ pub fn run_request<W: World, R: Read + Drop, O: Write>(
             world, alloc, names, guard, task,
         )),
     }
+}
+
+/// Runs a command on named files. An undo or a redo writes its number on standard output; dumps, patches and reports are written
+/// to `out`; what was recovered is said on standard error.
+///
+/// # Errors
+/// The fault that the command ended in, with the file that stopped it.
+pub fn run_request<W: World, R: Read + Drop, O: Write>(
+    world: &mut W,
+    alloc: Global,
+    request: Request<'_, R>,
+    out: &mut O,
+) -> Result<Done, Failure>
+    requires near { IsNearRequest request }
+    requires free { W.honest world.old → (W.sight world.old).lent ≡ None }
+
+    // The answer stands for how the command ended, fault for fault: it did what it is to, or it was refused or stopped, and says why; after
+    // a crash it did so on what is recovered, and after a loss of power opening finds an end of it, or the images behind some of its steps.
+    ensures runs { (outcome : Outcome) × (outgrown : Option Outgrown) × StandsAs request.entry outcome outgrown result × (W.honest world.old
+        → IfSome outgrown (λ o. o.has < o.wanted)
+        × HasRun R.remaining request.entry outcome (scene W.sight W.refusals W.note O.contents world.old out.old)
+        (scene W.sight W.refusals W.note O.contents world.new out.new) (W.survives world.old) (W.survives world.new)) }
+
+    // Whatever becomes of it, no file is changed but the three of an undo, a redo or a change, and the texts of a history that is dropped.
+    ensures others { W.honest world.old → LeavesOthers request.entry (W.sight world.old) (W.sight world.new) }
+    ensures free { W.honest world.old → (W.sight world.new).lent ≡ None }
+    ensures honesty { W.honest world.new ↔ W.honest world.old }
+{
+    let outcome = run_command(world, alloc, request, out);
+    answer_of(&outcome, world.outgrown())
 }

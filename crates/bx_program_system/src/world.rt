@@ -22,7 +22,7 @@ use crate::refusal::{refused, unmade, unopened};
 use crate::tally::Tally;
 use bx_image::FileImage;
 use bx_journal_store::{FileText, TextStore};
-use bx_program_world::{Look, Refusal, Stat, Unwritten, World};
+use bx_program_world::{Look, Outgrown, Refusal, Stat, Unwritten, World};
 use bx_text::{IoFault, emit};
 use std::alloc::AllocError;
 use std::cell::Cell;
@@ -319,6 +319,10 @@ where
         let caller = caller_of(self.rt);
         self.caller.set(Some(caller));
         caller
+    }
+
+    fn outgrown(&self) -> Option<Outgrown> {
+        self.left.outgrown
     }
 
     fn open_image(&mut self, name: &str, _: bool) -> Result<OpenFile<'p, 'r, R>, Refusal> {

@@ -9,4 +9,4 @@ mod world;
 pub use laws::readers_and_writers;
 pub use rule::{Unfit, image_unfit, read_unfit, text_unfit};
 pub use stat::{Classes, Kind, Look, Stat};
-pub use world::{Noted, Refusal, Unwritten, World};
+pub use world::{Noted, Outgrown, Refusal, Unwritten, World};

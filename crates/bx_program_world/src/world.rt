@@ -33,6 +33,15 @@ pub struct Unwritten {
     pub written: u64,
 }
 
+/// An image that can't grow, and was to have a length beyond that.
+#[derive(Clone, Copy, Debug, PartialEq, Eq)]
+pub struct Outgrown {
+    /// How many bytes it can have.
+    pub has: u64,
+    /// How many it was to have.
+    pub wanted: u64,
+}
+
 /// What stands of the note behind a call that was to put bytes in its place.
 #[derive(Clone, Copy, Debug, PartialEq, Eq)]
 pub enum Noted {
@@ -101,6 +110,10 @@ pub trait World {
     /// The user who runs the program.
     fn caller(&self) -> u32
         ensures { honest self.now → result ≡ (sight self.now).caller };
+
+    /// The length that the image that was lent last was refused, as one that can't grow so far; none where it was refused none.
+    fn outgrown(&self) -> Option<Outgrown>
+        ensures { honest self.now → IfSome result (λ o. o.has < o.wanted) };
 
     /// Opens an image that is there, to read and to change it. `mounted` says whether it may be a device that is mounted.
     fn open_image(&mut self, name: &str, mounted: bool) -> Result<Self::File, Refusal>

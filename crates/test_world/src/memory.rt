@@ -23,7 +23,7 @@ use crate::memory::refusals::Refusals;
 use crate::memory::text::LentText;
 use bx_image::{Device, Fuse, FuseImage, Part};
 use bx_journal_store::{CountedText, FuseText, TextStore};
-use bx_program_world::{Classes, Kind, Look, Noted, Refusal, Stat, Unwritten, World};
+use bx_program_world::{Classes, Kind, Look, Noted, Outgrown, Refusal, Stat, Unwritten, World};
 use bx_text::Name;
 use std::alloc::Global;
 
@@ -494,6 +494,10 @@ impl World for MemoryWorld {
 
     fn caller(&self) -> u32 {
         self.run.caller
+    }
+
+    fn outgrown(&self) -> Option<Outgrown> {
+        None::<Outgrown>
     }
 
     fn open_image(&mut self, name: &str, _: bool) -> Result<OpenFile, Refusal> {

@@ -327,9 +327,9 @@ impl<'a> Stopped<'a> {
     }
 
     /// By two files that aren't equal, where no more was asked of them.
-    pub fn differing() -> Stopped<'a> {
+    pub fn differing(fault: Fault) -> Stopped<'a> {
         Stopped {
-            fault: Fault::Io(IoFault::WriteFailed { written: 0 }),
+            fault,
             file: None,
             reason: Reason::Silent,
         }

@@ -1,12 +1,16 @@
 //! What stopped a command on the files of an image: the file that wasn't opened, or the device, by what the three said of their calls.
-use crate::files::unopened::not_opened;
+ghost use Rattle.std.specs.Prelude.{◌≡◌};
+
+use crate::files::unopened::{Blame, another, not_opened, number_of};
 use bx_cli::{Fault, Target};
 use bx_hints::{Reason, Row, STANDARD_OUTPUT, Stopped};
-use bx_journal::SessionFault;
+use bx_image::FailedCall;
+use bx_journal::{How, SessionFault};
 use bx_patch::Other;
-use bx_program_files::{Unopened, Why};
-use bx_program_looks::Unseen;
+use bx_program_commands::{Cause, Done, Failure, FileRole, Stop};
+use bx_program_files::{Unopened, Which};
 use bx_program_system::{Left, SystemWorld, open_to_read};
+use bx_program_world::Outgrown;
 use bx_text::IoFault;
 use std::fs::File;
 use std::io::{self, ErrorKind, Seek, SeekFrom};
@@ -14,28 +18,83 @@ use std::os::unix::fs::FileExt;
 use std::rt::Files;
 use std::time::Clock;
 
-/// What stopped a command, and the file or the stream that did it.
+/// What stopped a command on an image, and the file or the stream that did it. The fault is the failure's own.
 pub fn stopped<'a, R>(
     rt: &R,
     target: &'a Target,
     world: &SystemWorld<'_, '_, R>,
-    unopened: Option<Unopened>,
+    failure: Failure,
+) -> Stopped<'a>
+where
+    R: Files<File = File> + Print + Eprint + Clock + AllocGlobal,
+    ensures { result.fault ≡ failure.fault }
+{
+    let fault = failure.fault;
+    let by = match failure.stop {
+        Some(stop) => return blamed(rt, target, world, stop).with(fault),
+        None => by_fault(rt, target, world, fault),
+    };
+    Stopped { fault, ..by }
+}
+
+/// The file of an image that stopped a command.
+fn blamed<'a, R>(
+    rt: &R,
+    target: &'a Target,
+    world: &SystemWorld<'_, '_, R>,
+    stop: Stop,
+) -> Blame<'a>
+where
+    R: Files<File = File> + Print + Eprint + Clock + AllocGlobal,
+{
+    let image = target.image.as_str();
+    let reason = match stop.cause {
+        Cause::Unopened(why) => {
+            let which = which_of(stop.file);
+            return not_opened(rt, target, Unopened { which, why }, world);
+        }
+        Cause::Unplaced(refusal) => return Blame::by(image, number_of(refusal)),
+        Cause::Failed => reason_of(world.left.image.call),
+        Cause::Unfinished => Reason::Unknown,
+        Cause::Another => return another(image),
+        Cause::Outgrown(Outgrown { has, wanted }) => Reason::Fixed { has, wanted },
+    };
+    Blame {
+        file: image,
+        reason,
+    }
+}
+
+/// Which file of an image has a part in a command.
+fn which_of(file: FileRole) -> Which {
+    match file {
+        FileRole::Image | FileRole::Old | FileRole::New => Which::Image,
+        FileRole::Journal => Which::Journal,
+        FileRole::Redo => Which::Redo,
+    }
+}
+
+/// What is known of a call of a device that failed.
+pub fn reason_of(call: Option<FailedCall>) -> Reason<'static> {
+    match call {
+        Some(call) => Reason::Call(call),
+        None => Reason::Unknown,
+    }
+}
+
+/// What stopped a command, where the fault says all but the file or the stream that did it.
+fn by_fault<'a, R>(
+    rt: &R,
+    target: &'a Target,
+    world: &SystemWorld<'_, '_, R>,
     fault: Fault,
 ) -> Stopped<'a>
 where
     R: Files<File = File> + Print + Eprint + Clock + AllocGlobal,
 {
     let image = target.image.as_str();
-    if let Some(unopened) = unopened {
-        return match unopened.why {
-            Why::Another => Stopped::another(image),
-            Why::System(_) | Why::Unfit(_) | Why::Alias => {
-                not_opened(rt, target, unopened, world)
-            }
-        };
-    }
     match fault {
-        Fault::Io(IoFault::WriteFailed { .. }) => {
+        Fault::Io(IoFault::WriteFailed { .. }) if world.unwritten.is_some() => {
             Stopped::by(fault, STANDARD_OUTPUT, world.unwritten)
         }
         Fault::Session(SessionFault::LengthDiffers { expected })
@@ -47,41 +106,33 @@ where
     }
 }
 
-/// What stopped a look at an image's changes, and the file that did it; `unwritten` is what stopped its output.
-pub fn not_seen<'a, R>(
-    rt: &R,
-    target: &'a Target,
-    world: &SystemWorld<'_, '_, R>,
-    unseen: Unseen,
-    unwritten: Option<IoFault>,
-) -> Stopped<'a>
-where
-    R: Files<File = File> + Print + Eprint + Clock + AllocGlobal,
-{
-    let fault = match unseen {
-        Unseen::Unopened(unopened) => return not_opened(rt, target, unopened, world),
-        Unseen::Unfinished => {
-            let fault = Fault::Session(SessionFault::Interrupted);
-            return Stopped::by(fault, target.image.as_str(), None);
-        }
-        Unseen::Another => return Stopped::another(target.image.as_str()),
-        Unseen::Stopped(fault) => fault,
-    };
-    if let Some(unwritten) = unwritten {
-        return Stopped::from(Fault::Io(unwritten));
+/// Whether a command was stopped since a change is unfinished that it may not recover.
+pub fn is_unfinished(failure: Failure) -> bool {
+    matches!(
+        failure.stop,
+        Some(Stop {
+            cause: Cause::Unfinished,
+            ..
+        })
+    )
+}
+
+/// What a command recovered of the image.
+pub fn recovered(answer: &Result<Done, Failure>) -> Option<How> {
+    match answer {
+        Ok(done) => done.how,
+        Err(failure) => failure.how,
     }
-    stopped(rt, target, world, None, fault)
 }
 
 /// What stopped a session on the files of a target, whose devices said this.
-pub fn stopped_by<'a>(target: &'a Target, left: &Left, fault: Fault) -> Stopped<'a> {
+fn stopped_by<'a>(target: &'a Target, left: &Left, fault: Fault) -> Stopped<'a> {
     let Fault::Session(why) = fault else {
         return Stopped::from(fault);
     };
     let texts = &target.texts;
     match why {
         SessionFault::DeviceFailed | SessionFault::Interrupted => failed(target, left, fault),
-        SessionFault::NoMemory => unfitting(target, left, fault),
         SessionFault::Damaged { .. } => Stopped::by(fault, texts.journal.as_str(), None),
         SessionFault::RedoDamaged { .. } => Stopped::by(fault, texts.redo.as_str(), None),
         SessionFault::LengthDiffers { .. }
@@ -89,6 +140,7 @@ pub fn stopped_by<'a>(target: &'a Target, left: &Left, fault: Fault) -> Stopped<
         | SessionFault::TooFew { .. }
         | SessionFault::JournalFull
         | SessionFault::Broken
+        | SessionFault::NoMemory
         | SessionFault::NothingToRedo { .. } => Stopped::from(fault),
     }
 }
@@ -104,21 +156,6 @@ fn failed<'a>(target: &'a Target, left: &Left, fault: Fault) -> Stopped<'a> {
         Stopped::failed(fault, texts.redo.as_str(), left.redo.call)
     } else {
         Stopped::from(fault)
-    }
-}
-
-/// The image, where it can't grow and the change doesn't fit.
-fn unfitting<'a>(target: &'a Target, left: &Left, fault: Fault) -> Stopped<'a> {
-    match left.wanted {
-        Some(wanted) => Stopped {
-            fault: Fault::from(SessionFault::TooLarge),
-            file: Some(target.image.as_str()),
-            reason: Reason::Fixed {
-                has: left.most,
-                wanted,
-            },
-        },
-        None => Stopped::from(fault),
     }
 }
 

@@ -1,5 +1,6 @@
 //! One file alone, as it is opened beside others that read it.
 use crate::files::unfit::unfit_image;
+use bx_cli::Fault;
 use bx_hints::Stopped;
 use bx_program_system::{open_to_read, stat_of};
 use bx_program_world::read_unfit;
@@ -19,7 +20,11 @@ where
     match fs::metadata(rt, name) {
         Ok(found) => {
             if let Some(unfit) = read_unfit(&stat_of(&found, false)) {
-                return Err(unfit_image(name, unfit));
+                return Err(Stopped {
+                    fault: Fault::OpenFailed,
+                    file: Some(name),
+                    reason: unfit_image(unfit),
+                });
             }
         }
         Err(error) => return Err(Stopped::unopened(name, error)),

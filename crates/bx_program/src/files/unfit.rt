@@ -1,6 +1,5 @@
 //! What is said of a file that may not be opened.
-use bx_cli::Fault;
-use bx_hints::{Reason, Stopped};
+use bx_hints::Reason;
 use bx_program_world::{Classes, Stat, Unfit};
 use std::fs::Metadata;
 use std::os::unix::fs::MetadataExt;
@@ -30,17 +29,17 @@ const GROUP_AND_OTHERS: u32 = 0o066;
 /// What is said of a device that can't be written.
 const IS_READ_ONLY: &str = "the device is read-only; blockdev --setrw may change that";
 
-/// By an image that may not be opened.
-pub fn unfit_image<'a>(name: &'a str, unfit: Unfit) -> Stopped<'a> {
+/// Why an image may not be opened.
+pub fn unfit_image(unfit: Unfit) -> Reason<'static> {
     if unfit == Unfit::Kind {
-        return Stopped::refused(name, NO_IMAGE);
+        return Reason::Told(NO_IMAGE);
     }
-    unfit_text(name, unfit, 0)
+    unfit_text(unfit, 0)
 }
 
-/// By a text that may not be opened. It may have at most these permission bits.
-pub fn unfit_text<'a>(name: &'a str, unfit: Unfit, bits: u32) -> Stopped<'a> {
-    let reason = match unfit {
+/// Why a text may not be opened. It may have at most these permission bits.
+pub fn unfit_text(unfit: Unfit, bits: u32) -> Reason<'static> {
+    match unfit {
         Unfit::Link => Reason::Told(IS_LINK),
         Unfit::Kind => Reason::Told(NO_TEXT),
         Unfit::Names => Reason::Told(HAS_NAMES),
@@ -48,11 +47,6 @@ pub fn unfit_text<'a>(name: &'a str, unfit: Unfit, bits: u32) -> Stopped<'a> {
         Unfit::Readers | Unfit::Writers => Reason::Wide { bits },
         Unfit::Mounted => Reason::Told(IS_MOUNTED),
         Unfit::ReadOnly => Reason::Told(IS_READ_ONLY),
-    };
-    Stopped {
-        fault: Fault::OpenFailed,
-        file: Some(name),
-        reason,
     }
 }
 

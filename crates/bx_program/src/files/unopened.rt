@@ -1,7 +1,9 @@
-//! What is said of the files of a session that weren't opened, by what opening them answered.
+//! What is said of files that weren't opened, by what opening them answered. The fault is the failure's own.
+ghost use Rattle.std.specs.Prelude.{◌≡◌};
+
 use crate::files::unfit::{bits_left, unfit_image, unfit_text};
 use bx_cli::{Fault, Target};
-use bx_hints::Stopped;
+use bx_hints::{Reason, Stopped};
 use bx_program_files::{Unopened, Which, Why};
 use bx_program_system::{
     Misplaced, SystemWorld, Unknown, folder_of, is_among_devices, is_mounted, stat_of,
@@ -42,13 +44,52 @@ const MISSING: i32 = 2;
 
 const IS_THERE: i32 = 17;
 
-/// What stopped a command whose files weren't opened in this world.
+/// A file that stopped a command, and why it did.
+#[derive(Clone, Copy)]
+pub struct Blame<'a> {
+    /// Its name.
+    pub file: &'a str,
+    /// Why it did.
+    pub reason: Reason<'a>,
+}
+
+impl<'a> Blame<'a> {
+    /// For what is said of it in words.
+    fn told(file: &'a str, why: &'static str) -> Blame<'a> {
+        Blame {
+            file,
+            reason: Reason::Told(why),
+        }
+    }
+
+    /// For an error that the system has this number for, where it has one.
+    pub fn by(file: &'a str, error: Option<i32>) -> Blame<'a> {
+        let reason = match error {
+            Some(code) => Reason::System(code),
+            None => Reason::Unknown,
+        };
+        Blame { file, reason }
+    }
+
+    /// What stopped the command, which ended in this fault.
+    pub fn with(self, fault: Fault) -> Stopped<'a>
+        ensures { result.fault ≡ fault }
+    {
+        Stopped {
+            fault,
+            file: Some(self.file),
+            reason: self.reason,
+        }
+    }
+}
+
+/// The file of an image that wasn't opened in this world.
 pub fn not_opened<'a, R>(
     rt: &R,
     target: &'a Target,
     unopened: Unopened,
     world: &SystemWorld<'_, '_, R>,
-) -> Stopped<'a>
+) -> Blame<'a>
 where
     R: Files<File = File> + AllocGlobal,
 {
@@ -59,16 +100,25 @@ where
     };
     match unopened.why {
         Why::System(Refusal::Missing) if is_gone(rt, target, unopened.which) => {
-            Stopped::gone(Fault::OpenFailed, name)
+            Blame {
+                file: name,
+                reason: Reason::Gone,
+            }
         }
-        Why::System(Refusal::Other(code)) if world.is_unkept => {
-            Stopped::by(Fault::OpenFailed, folder_of(name), code)
-        }
+        Why::System(Refusal::Other(code)) if world.is_unkept => { Blame::by(folder_of(name), code) }
         Why::System(Refusal::Other(None)) => unmade(rt, name, unopened.which, world.misplaced),
         Why::System(refusal) => refused(rt, name, unopened.which, refusal),
         Why::Unfit(unfit) => unfit_file(rt, target.image.as_str(), name, unopened.which, unfit),
-        Why::Alias => Stopped::refused(name, IS_ALIAS),
-        Why::Another => Stopped::another(name),
+        Why::Alias => Blame::told(name, IS_ALIAS),
+        Why::Another => another(name),
+    }
+}
+
+/// The image, where it isn't the one that its journal was written beside, or on which what is unfinished was begun.
+pub fn another(image: &str) -> Blame<'_> {
+    Blame {
+        file: image,
+        reason: Reason::Another { is_told: true },
     }
 }
 
@@ -78,16 +128,19 @@ fn is_gone<R: Files<File = File>>(rt: &R, target: &Target, which: Which) -> bool
     which == Which::Image && fs::metadata(rt, journal).is_ok_and(|found| found.len() > 0)
 }
 
-/// What stopped a command whose file wasn't opened, which is only read and no file of a session.
-pub fn not_opened_alone<'a, R>(rt: &R, name: &'a str, why: Why) -> Stopped<'a>
+/// A file that wasn't opened, which is only read and no file of a session.
+pub fn not_opened_alone<'a, R>(rt: &R, name: &'a str, why: Why) -> Blame<'a>
 where
     R: Files<File = File> + AllocGlobal,
 {
     match why {
         Why::System(refusal) => refused(rt, name, Which::Image, refusal),
-        Why::Unfit(unfit) => unfit_image(name, unfit),
-        Why::Alias => Stopped::refused(name, IS_ALIAS),
-        Why::Another => Stopped::another(name),
+        Why::Unfit(unfit) => Blame {
+            file: name,
+            reason: unfit_image(unfit),
+        },
+        Why::Alias => Blame::told(name, IS_ALIAS),
+        Why::Another => another(name),
     }
 }
 
@@ -101,34 +154,32 @@ pub fn number_of(refusal: Refusal) -> Option<i32> {
     }
 }
 
-/// By a file that the system refused, or has none of this name.
-fn refused<'a, R>(rt: &R, name: &'a str, which: Which, refusal: Refusal) -> Stopped<'a>
+/// A file that the system refused, or has none of this name.
+fn refused<'a, R>(rt: &R, name: &'a str, which: Which, refusal: Refusal) -> Blame<'a>
 where
     R: Files<File = File> + AllocGlobal,
 {
     match refusal {
-        Refusal::Missing if which == Which::Journal => Stopped::refused(name, NO_JOURNAL),
-        Refusal::Missing => Stopped::by(Fault::OpenFailed, name, Some(MISSING)),
-        Refusal::Taken => Stopped::by(Fault::OpenFailed, name, Some(IS_THERE)),
-        Refusal::Locked => Stopped::refused(name, HELD),
-        Refusal::Moved => Stopped::refused(name, IS_MOVED),
-        Refusal::Other(code) => Stopped::by(Fault::OpenFailed, name, code),
+        Refusal::Missing if which == Which::Journal => Blame::told(name, NO_JOURNAL),
+        Refusal::Missing => Blame::by(name, Some(MISSING)),
+        Refusal::Taken => Blame::by(name, Some(IS_THERE)),
+        Refusal::Locked => Blame::told(name, HELD),
+        Refusal::Moved => Blame::told(name, IS_MOVED),
+        Refusal::Other(code) => Blame::by(name, code),
     }
 }
 
-/// By a file that is missing and isn't made, since its place is none for it.
-fn unmade<'a, R>(rt: &R, name: &'a str, which: Which, misplaced: Option<Misplaced>) -> Stopped<'a>
+/// A file that is missing and isn't made, since its place is none for it.
+fn unmade<'a, R>(rt: &R, name: &'a str, which: Which, misplaced: Option<Misplaced>) -> Blame<'a>
 where
     R: Files<File = File> + AllocGlobal,
 {
     match (which, misplaced) {
-        (Which::Image, Some(misplaced)) => Stopped::refused(name, told(misplaced)),
+        (Which::Image, Some(misplaced)) => Blame::told(name, told(misplaced)),
         (Which::Journal | Which::Redo, _) if is_among_devices(rt, folder_of(name)) => {
-            Stopped::refused(name, NO_TEXT)
+            Blame::told(name, NO_TEXT)
         }
-        (Which::Image | Which::Journal | Which::Redo, _) => {
-            Stopped::by(Fault::OpenFailed, name, None)
-        }
+        (Which::Image | Which::Journal | Which::Redo, _) => Blame::by(name, None),
     }
 }
 
@@ -140,18 +191,19 @@ fn told(misplaced: Misplaced) -> &'static str {
     }
 }
 
-/// By a file that may not be opened; `image` is the name of the image.
-fn unfit_file<'a, R>(rt: &R, image: &str, name: &'a str, which: Which, unfit: Unfit) -> Stopped<'a>
+/// A file that may not be opened; `image` is the name of the image.
+fn unfit_file<'a, R>(rt: &R, image: &str, name: &'a str, which: Which, unfit: Unfit) -> Blame<'a>
 where
     R: Files<File = File> + AllocGlobal,
 {
-    match which {
+    let reason = match which {
         Which::Image if unfit == Unfit::Mounted && is_unknown(rt, name) => {
-            Stopped::refused(name, IS_UNKNOWN)
+            Reason::Told(IS_UNKNOWN)
         }
-        Which::Image => unfit_image(name, unfit),
-        Which::Journal | Which::Redo => unfit_text(name, unfit, bits_of(rt, image, name)),
-    }
+        Which::Image => unfit_image(unfit),
+        Which::Journal | Which::Redo => unfit_text(unfit, bits_of(rt, image, name)),
+    };
+    Blame { file: name, reason }
 }
 
 /// Whether the system doesn't tell if a device is in use, which then counts as mounted.

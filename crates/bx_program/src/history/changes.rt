@@ -1,25 +1,23 @@
 //! Changes of an image by the names of its files.
 ghost use Rattle.bx_program_sessions.specs.Task.{IsNearTask};
 
-use crate::devices::left::{not_seen, stopped};
+use crate::devices::left::{is_unfinished, recovered, stopped};
 use crate::files::look::{is_missing, refuse_without_journal};
 use crate::files::names::{guard_of, names_of, world_of};
 use crate::files::unopened::not_opened;
 use crate::history::forget::forget_line;
 use crate::history::take_empty;
 use crate::history::told::told;
-use crate::requests::{request_change, request_renewal};
-use bx_cli::{Fault, Reply, Target};
+use bx_cli::{Fault, Target};
 use bx_hints::{Remarks, Stopped};
 use bx_journal::{How, SessionFault, Way};
-use bx_program_commands::Renewed;
-use bx_program_files::Which;
-use bx_program_looks::Unseen;
-use bx_program_sessions::{Answer, Task};
+use bx_program_commands::{Done, Failure, Request, Step, run_request};
+use bx_program_files::{Names, Which};
+use bx_program_sessions::Task;
 use bx_program_system::{OpenFile, Progress, SystemWorld};
 use bx_program_world::World;
 use std::fs::{self, File};
-use std::io::{Empty, ErrorKind, Read};
+use std::io::{self, Empty, ErrorKind, Read};
 use std::rt::Files;
 use std::time::Clock;
 
@@ -30,7 +28,7 @@ pub fn change_image<'a, R, I: Read + Drop>(
     task: Task<I>,
     progress: &Progress<'_, R>,
     remarks: &mut Remarks,
-) -> Result<Reply, Stopped<'a>>
+) -> Result<Done, Stopped<'a>>
 where
     R: Files<File = File> + Print + Eprint + Clock + AllocGlobal,
     requires near { IsNearTask task }
@@ -39,7 +37,12 @@ where
     let was_noted = is_noted(rt, target);
     let names = names_of(rt.alloc(), target)?;
     let mut world = world_of(rt, target, progress)?;
-    let answer = request_change(&mut world, rt.alloc(), &names, guard_of(target), task);
+    let request = Request::Change {
+        names: &names,
+        guard: guard_of(target),
+        task,
+    };
+    let answer = run_request(&mut world, rt.alloc(), request, &mut io::sink());
     drop(names);
     if !was_noted && is_refused(&answer) {
         let _ = world.put_note(&[], false);
@@ -63,38 +66,37 @@ where
 }
 
 /// Whether a change was refused, and nothing was recovered before it: no file that was missing is there then.
-fn is_refused(answer: &Answer) -> bool {
-    let is_clean = match answer.how {
+fn is_refused(answer: &Result<Done, Failure>) -> bool {
+    let Err(failure) = answer else {
+        return false;
+    };
+    let is_clean = match failure.how {
         None | Some(How::Clean) => true,
         Some(How::Dropped | How::Restored { .. }) => false,
     };
-    match answer.reply.standing() {
-        Ok(_) => false,
-        Err(fault) => is_clean && !is_interrupted(fault),
-    }
+    is_clean && !is_interrupted(failure.fault)
 }
 
-/// What became of a change, by what the world answered. Where it was refused and no journal is there, no third text is left.
+/// What became of a change, by what was answered. Where it was refused and no journal is there, no third text is left.
 fn answered<'a, R>(
     rt: &R,
     target: &'a Target,
     world: &mut SystemWorld<'_, '_, R>,
-    answer: Answer,
+    answer: Result<Done, Failure>,
     remarks: &mut Remarks,
-) -> Result<Reply, Stopped<'a>>
+) -> Result<Done, Stopped<'a>>
 where
     R: Files<File = File> + Print + Eprint + Clock + AllocGlobal,
 {
-    remarks.look_at_recovered(answer.how);
+    remarks.look_at_recovered(recovered(&answer));
     remarks.look_at_note(world.is_without_note);
-    match answer.reply.standing() {
-        Ok(_) => Ok(answer.reply),
-        Err(fault) => {
+    match answer {
+        Ok(done) => Ok(done),
+        Err(failure) => {
             if is_missing(rt, target.texts.journal.as_str()) {
                 let _ = world.put_note(&[], false);
             }
-            let stopped = stopped(rt, target, world, answer.unopened, fault);
-            Err(told(rt, target, Way::Undo, stopped))
+            Err(told(rt, target, Way::Undo, stopped(rt, target, world, failure)))
         }
     }
 }
@@ -106,7 +108,7 @@ pub fn change_anew<'a, R>(
     task: Task<Empty>,
     progress: &Progress<'_, R>,
     remarks: &mut Remarks,
-) -> Result<Reply, Stopped<'a>>
+) -> Result<Done, Stopped<'a>>
 where
     R: Files<File = File> + Print + Eprint + Clock + AllocGlobal,
     requires near { IsNearTask task }
@@ -129,12 +131,13 @@ where
 
 /// Drops the history of an image that is there, and then does a task on it: the files stay locked from one to the other. A text that
 /// was missing stays so where the change is refused.
-fn renew<'a, R>(
+fn renew<R>(
     rt: &R,
     world: &mut SystemWorld<'_, '_, R>,
-    target: &'a Target,
+    target: &Target,
+    names: &Names,
     task: Task<Empty>,
-) -> Result<Renewed, Stopped<'a>>
+) -> Result<Done, Failure>
 where
     R: Files<File = File> + Print + Eprint + Clock + AllocGlobal,
     requires near { IsNearTask task }
@@ -142,19 +145,23 @@ where
     let redo = target.texts.redo.as_str();
     let journal = target.texts.journal.as_str();
     let (no_redo, no_journal) = (is_missing(rt, redo), is_missing(rt, journal));
-    let names = names_of(rt.alloc(), target)?;
+    let request = Request::Renew {
+        names,
+        guard: guard_of(target),
+        task,
+    };
     // So that nobody comes between the drop of the history and the change.
     world.keep_locks();
-    let renewed = request_renewal(world, rt.alloc(), &names, guard_of(target), task);
+    let answer = run_request(world, rt.alloc(), request, &mut io::sink());
     world.pass_locks();
-    if is_refused_behind(&renewed) {
-        forget_line(world, &names);
+    if is_refused_behind(&answer) {
+        forget_line(world, names);
     }
-    if !is_done(&renewed) {
+    if !is_done(&answer) {
         take_made(rt, redo, no_redo);
         take_made(rt, journal, no_journal);
     }
-    Ok(renewed)
+    answer
 }
 
 /// Takes a text away that was missing, if it is empty.
@@ -171,41 +178,38 @@ fn renew_image<'a, R>(
     task: Task<Empty>,
     progress: &Progress<'_, R>,
     remarks: &mut Remarks,
-) -> Result<Reply, Stopped<'a>>
+) -> Result<Done, Stopped<'a>>
 where
     R: Files<File = File> + Print + Eprint + Clock + AllocGlobal,
     requires near { IsNearTask task }
 {
     refuse_without_journal(rt, target)?;
     let mut world = world_of(rt, target, progress)?;
-    match renew(rt, &mut world, target, task)? {
-        Renewed::Kept(answer) | Renewed::Changed(answer) => {
-            answered(rt, target, &mut world, answer, remarks)
-        }
-        Renewed::Undropped(unseen) => {
-            let stopped = not_seen(rt, target, &world, unseen, None);
-            Err(told(rt, target, Way::Undo, stopped))
-        }
+    let names = names_of(rt.alloc(), target)?;
+    match renew(rt, &mut world, target, &names, task) {
+        Err(failure) if failure.step == Step::Dropping => Err(told(
+            rt,
+            target,
+            Way::Undo,
+            stopped(rt, target, &world, failure),
+        )),
+        answer => answered(rt, target, &mut world, answer, remarks),
     }
 }
 
 /// Whether the history was dropped, and the change then refused.
-fn is_refused_behind(renewed: &Renewed) -> bool {
-    match renewed {
-        Renewed::Changed(answer) => answer.reply.standing().is_err(),
-        Renewed::Kept(_) | Renewed::Undropped(_) => false,
+fn is_refused_behind(answer: &Result<Done, Failure>) -> bool {
+    match answer {
+        Ok(_) => false,
+        Err(failure) => failure.step == Step::Work,
     }
 }
 
 /// Whether the change was made, or stopped in the middle; else it was refused.
-fn is_done(renewed: &Renewed) -> bool {
-    match renewed {
-        Renewed::Kept(answer) | Renewed::Changed(answer) => match answer.reply.standing() {
-            Ok(_) => true,
-            Err(fault) => is_interrupted(fault),
-        },
-        Renewed::Undropped(Unseen::Stopped(fault)) => is_interrupted(*fault),
-        Renewed::Undropped(Unseen::Unopened(_) | Unseen::Unfinished | Unseen::Another) => false,
+fn is_done(answer: &Result<Done, Failure>) -> bool {
+    match answer {
+        Ok(_) => true,
+        Err(failure) => is_interrupted(failure.fault) && !is_unfinished(*failure),
     }
 }
 
@@ -230,6 +234,9 @@ where
     let mut world = world_of(rt, target, progress)?;
     match world.make_image(image) {
         Ok(file) => Ok(Some(file)),
-        Err(refusal) => Err(not_opened(rt, target, Which::Image.refused(refusal), &world)),
+        Err(refusal) => {
+            let unopened = Which::Image.refused(refusal);
+            Err(not_opened(rt, target, unopened, &world).with(Fault::OpenFailed))
+        }
     }
 }

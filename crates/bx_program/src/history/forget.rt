@@ -1,18 +1,18 @@
 //! An image whose history is dropped: all changes are accepted, and nothing can be undone then.
-use crate::devices::left::not_seen;
+use crate::devices::left::{is_unfinished, stopped};
 use crate::files::look::refuse_without_journal;
 use crate::files::names::{guard_of, names_of, world_of};
 use crate::history::recover_image;
 use crate::history::told::told;
-use crate::requests::request_forget;
 use bx_cli::Target;
 use bx_hints::Stopped;
 use bx_journal::Way;
+use bx_program_commands::{Request, run_request};
 use bx_program_files::{Names, Unopened, Which, Why, open_redo_to_forget, open_to_look};
-use bx_program_looks::Unseen;
 use bx_program_system::{Progress, SystemWorld};
 use bx_program_world::{Refusal, World};
 use std::fs::File;
+use std::io::{self, Empty};
 use std::rt::Files;
 use std::time::Clock;
 
@@ -74,16 +74,17 @@ where
 {
     let names = names_of(rt.alloc(), target)?;
     let mut world = world_of(rt, target, progress)?;
-    match request_forget(&mut world, rt.alloc(), &names, guard_of(target)) {
-        Ok(()) => {
+    let request: Request<'_, Empty> = Request::Forget {
+        names: &names,
+        guard: guard_of(target),
+    };
+    match run_request(&mut world, rt.alloc(), request, &mut io::sink()) {
+        Ok(_) => {
             forget_line(&mut world, &names);
             Ok(Dropped::Whole)
         }
-        Err(Unseen::Unfinished) if may_recover => Ok(Dropped::Unfinished),
-        Err(unseen) => {
-            let stopped = not_seen(rt, target, &world, unseen, None);
-            Err(told(rt, target, Way::Undo, stopped))
-        }
+        Err(failure) if may_recover && is_unfinished(failure) => Ok(Dropped::Unfinished),
+        Err(failure) => Err(told(rt, target, Way::Undo, stopped(rt, target, &world, failure))),
     }
 }
 

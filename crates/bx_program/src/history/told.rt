@@ -1,4 +1,6 @@
 //! What is said of an image that isn't the one that was left, or on which what is unfinished was begun.
+ghost use Rattle.std.specs.Prelude.{◌≡◌};
+
 use crate::advice::Advice;
 use crate::files::look::is_missing;
 use bx_cli::{Fault, Target};
@@ -12,17 +14,21 @@ use std::time::Clock;
 pub fn told<'a, R>(rt: &R, target: &'a Target, way: Way, stopped: Stopped<'a>) -> Stopped<'a>
 where
     R: Files<File = File> + Print + Eprint + Clock + AllocGlobal,
+    ensures { result.fault ≡ stopped.fault }
 {
-    if stopped.fault != Fault::ChangedSince {
+    let fault = stopped.fault;
+    if fault != Fault::ChangedSince {
         return stopped;
     }
     let image = target.image.as_str();
     if is_missing(rt, image) {
-        return Stopped::gone(stopped.fault, image);
+        let gone = Stopped::gone(fault, image);
+        return Stopped { fault, ..gone };
     }
     let advice = Advice::of(rt, target);
     if advice.is_at_rest() {
-        return Stopped::since(image, advice.since(way));
+        let since = Stopped::since(image, advice.since(way));
+        return Stopped { fault, ..since };
     }
     Stopped {
         reason: Reason::Another {

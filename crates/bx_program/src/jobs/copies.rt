@@ -82,7 +82,7 @@ where
         input: &mut ready.reader,
     };
     match change_image(rt, &job.target, Task::Run(asked), progress, remarks) {
-        Ok(reply) => Ok(reply.counts()),
+        Ok(done) => Ok(done.counts),
         Err(stopped) => Err(ready.stopped(stopped)),
     }
 }

@@ -1,32 +1,52 @@
 //! The patch from one file to another.
-use crate::files::unopened::not_opened_alone;
+use crate::devices::left::reason_of;
+use crate::files::unopened::{Blame, not_opened_alone, number_of};
 use crate::progress::progress_of_dump;
-use crate::requests::request_diff;
-use bx_cli::{DiffJob, Fault};
-use bx_hints::{Remarks, Stopped};
+use bx_cli::DiffJob;
+use bx_hints::{Reason, Remarks, Stopped};
 use bx_image::FailedCall;
-use bx_journal::SessionFault;
-use bx_patch::{DiffFault, Extent};
-use bx_program_commands::Undiffed;
+use bx_patch::Extent;
+use bx_program_commands::{Cause, Failure, FileRole, Request, Stop, run_request};
 use bx_program_system::SystemWorld;
-use bx_text::IoFault;
 use std::fs::File;
-use std::io::{self, ErrorKind, Write};
+use std::io::{self, Empty, ErrorKind, Write};
 use std::rt::Files;
 use std::time::Clock;
 
-/// What stopped the comparison of two devices; the one that failed had this call.
-fn stopped<'a>(fault: DiffFault, job: &'a DiffJob, call: Option<FailedCall>) -> Stopped<'a> {
-    let unread = Fault::Io(IoFault::ReadFailed);
-    match fault {
-        DiffFault::NoMemory => Stopped::from(Fault::Io(IoFault::NoMemory)),
-        DiffFault::TooLarge => Stopped::from(Fault::Session(SessionFault::TooLarge)),
-        DiffFault::OldFailed => Stopped::failed(unread, job.old.as_str(), call),
-        DiffFault::NewFailed => Stopped::failed(unread, job.new.as_str(), call),
-        DiffFault::WriteFailed { written } => {
-            Stopped::from(Fault::Io(IoFault::WriteFailed { written }))
-        }
+/// What stopped a comparison; a device that failed had this call.
+fn stopped<'a, R>(
+    rt: &R,
+    job: &'a DiffJob,
+    call: Option<FailedCall>,
+    failure: Failure,
+) -> Stopped<'a>
+where
+    R: Files<File = File> + AllocGlobal,
+    ensures { result.fault ≡ failure.fault }
+{
+    match failure.stop {
+        Some(stop) => blamed(rt, job, call, stop).with(failure.fault),
+        None => Stopped::from(failure.fault),
     }
+}
+
+/// The file that stopped a comparison.
+fn blamed<'a, R>(rt: &R, job: &'a DiffJob, call: Option<FailedCall>, stop: Stop) -> Blame<'a>
+where
+    R: Files<File = File> + AllocGlobal,
+{
+    let file = if stop.file == FileRole::New {
+        job.new.as_str()
+    } else {
+        job.old.as_str()
+    };
+    let reason = match stop.cause {
+        Cause::Unopened(why) => return not_opened_alone(rt, file, why),
+        Cause::Unplaced(refusal) => return Blame::by(file, number_of(refusal)),
+        Cause::Failed => reason_of(call),
+        Cause::Outgrown(_) | Cause::Unfinished | Cause::Another => Reason::Unknown,
+    };
+    Blame { file, reason }
 }
 
 /// What a patch is written to: an output, or nothing, which stops at the first line that tells a difference.
@@ -86,14 +106,11 @@ where
     };
     let (old, new) = (job.old.as_str(), job.new.as_str());
     let mut asked = Asked::new(out, job.quiet);
-    let outcome = request_diff(&mut world, rt.alloc(), old, new, extent, &mut asked);
-    if asked.is_differing {
-        return Err(Stopped::differing());
-    }
-    match outcome {
-        Ok(()) => Ok(()),
-        Err(Undiffed::OldUnopened(why)) => Err(not_opened_alone(rt, old, why)),
-        Err(Undiffed::NewUnopened(why)) => Err(not_opened_alone(rt, new, why)),
-        Err(Undiffed::Stopped(fault)) => Err(stopped(fault, job, world.left.image.call)),
+    let request: Request<'_, Empty> = Request::Diff { old, new, extent };
+    let answer = run_request(&mut world, rt.alloc(), request, &mut asked);
+    match answer {
+        Ok(_) => Ok(()),
+        Err(failure) if asked.is_differing => Err(Stopped::differing(failure.fault)),
+        Err(failure) => Err(stopped(rt, job, world.left.image.call, failure)),
     }
 }

@@ -1,21 +1,20 @@
 //! The jobs that show the changes of an image. Its files are only read; for a log, what is unfinished is recovered before.
 use crate::advice::{ANOTHER, Advice, put_other};
-use crate::devices::left::not_seen;
+use crate::devices::left::{is_unfinished, stopped};
 use crate::files::look::refuse_without_journal;
 use crate::files::names::{names_of, world_of};
 use crate::history::recover_image;
 use crate::progress::progress_of_input;
-use crate::requests::request_report;
 use crate::streams::paged::Paged;
 use bx_cli::{Fault, LogJob, LookJob, ShowJob, Target};
 use bx_hints::{Remarks, Stopped};
 use bx_journal::{SessionFault, Steps, Way};
-use bx_program_commands::Report;
+use bx_program_commands::{Done, Failure, Report, Request, run_request};
 use bx_program_files::Names;
-use bx_program_looks::Unseen;
 use bx_program_system::{Progress, SystemWorld};
+use bx_text::IoFault;
 use std::fs::File;
-use std::io::Write;
+use std::io::{Empty, Write};
 use std::rt::Files;
 use std::time::Clock;
 
@@ -63,8 +62,8 @@ where
     } else {
         Report::Log
     };
-    let mut outcome = request_report(&mut world, rt.alloc(), &names, asked, &mut page);
-    if outcome == Err(Unseen::Unfinished) {
+    let mut answer = report(rt, &mut world, &names, asked, &mut page);
+    if answer.is_err_and(is_unfinished) {
         let report = match recover_image(rt, target, target.access.anyway, progress) {
             Ok(()) => asked,
             Err(stopped) if stopped.fault == Fault::ChangedSince => {
@@ -75,11 +74,43 @@ where
             }
             Err(stopped) => return Err(stopped),
         };
-        outcome = request_report(&mut world, rt.alloc(), &names, report, &mut page);
+        answer = self::report(rt, &mut world, &names, report, &mut page);
     }
-    match outcome {
-        Ok(()) => Ok(page.put()?),
-        Err(unseen) => Err(not_seen(rt, target, &world, unseen, page.stopped)),
+    match answer {
+        Ok(_) => Ok(page.put()?),
+        Err(failure) => Err(cut_off(rt, target, &world, failure, page.stopped)),
+    }
+}
+
+/// Writes a report on a page.
+fn report<R, W: Write>(
+    rt: &R,
+    world: &mut SystemWorld<'_, '_, R>,
+    names: &Names,
+    report: Report,
+    page: &mut Paged<'_, W>,
+) -> Result<Done, Failure>
+where
+    R: Files<File = File> + Print + Eprint + Clock + AllocGlobal,
+{
+    let request: Request<'_, Empty> = Request::Look { names, report };
+    run_request(world, rt.alloc(), request, page)
+}
+
+/// What stopped a report; or what stopped the page that it is written on, which the call knows as an output alone.
+fn cut_off<'a, R>(
+    rt: &R,
+    target: &'a Target,
+    world: &SystemWorld<'_, '_, R>,
+    failure: Failure,
+    unwritten: Option<IoFault>,
+) -> Stopped<'a>
+where
+    R: Files<File = File> + Print + Eprint + Clock + AllocGlobal,
+{
+    match unwritten {
+        Some(unwritten) if failure.stop.is_none() => Stopped::from(Fault::Io(unwritten)),
+        Some(_) | None => stopped(rt, target, world, failure),
     }
 }
 
@@ -114,12 +145,12 @@ where
     let names = names_of(rt.alloc(), target)?;
     let mut world = world_of(rt, target, progress)?;
     let asked = asked_of(job);
-    match request_report(&mut world, rt.alloc(), &names, asked, &mut page) {
-        Ok(()) => Ok(page.put()?),
-        Err(Unseen::Unfinished) if !job.as_patch => {
+    match report(rt, &mut world, &names, asked, &mut page) {
+        Ok(_) => Ok(page.put()?),
+        Err(failure) if !job.as_patch && is_unfinished(failure) => {
             show_begun(rt, job, &names, &mut world, page)
         }
-        Err(unseen) => Err(not_seen(rt, target, &world, unseen, page.stopped)),
+        Err(failure) => Err(cut_off(rt, target, &world, failure, page.stopped)),
     }
 }
 
@@ -161,21 +192,15 @@ where
     let steps = steps_of(job);
     let mut outcome = if steps.way == Way::Redo && steps.count > 0 {
         let fault = SessionFault::NothingToRedo { have: 0 };
-        Err(Unseen::Stopped(Fault::Session(fault)))
+        Err(Stopped::from(Fault::Session(fault)))
     } else {
-        request_report(
-            world,
-            rt.alloc(),
-            names,
-            Report::ShowUnfinished(steps),
-            &mut page,
-        )
+        report_begun(rt, job, names, world, steps, &mut page)
     };
     if are_too_few(&outcome) {
         page.put_behind_line(another_line(rt, &job.target));
-        let none = Report::ShowUnfinished(Steps { count: 0, ..steps });
-        if let Err(unseen) = request_report(world, rt.alloc(), names, none, &mut page) {
-            outcome = Err(unseen);
+        let none = Steps { count: 0, ..steps };
+        if let Err(stopped) = report_begun(rt, job, names, world, none, &mut page) {
+            outcome = Err(stopped);
         }
     }
     if outcome.is_ok() || are_too_few(&outcome) {
@@ -183,19 +208,35 @@ where
     }
     match outcome {
         Ok(()) => Ok(()),
-        Err(unseen) => {
-            let stopped = not_seen(rt, &job.target, world, unseen, page.stopped);
-            Err(stopped.on_begun(job.target.image.as_str()))
-        }
+        Err(stopped) => Err(stopped.on_begun(job.target.image.as_str())),
+    }
+}
+
+/// Writes on a page that something is unfinished, and what undos would do once it is recovered.
+fn report_begun<'a, R, W: Write>(
+    rt: &R,
+    job: &'a ShowJob,
+    names: &Names,
+    world: &mut SystemWorld<'_, '_, R>,
+    steps: Steps,
+    page: &mut Paged<'_, W>,
+) -> Result<(), Stopped<'a>>
+where
+    R: Files<File = File> + Print + Eprint + Clock + AllocGlobal,
+{
+    match report(rt, world, names, Report::ShowUnfinished(steps), page) {
+        Ok(_) => Ok(()),
+        Err(failure) => Err(cut_off(rt, &job.target, world, failure, page.stopped)),
     }
 }
 
 /// Whether fewer changes stand than are to be shown.
-fn are_too_few(outcome: &Result<(), Unseen>) -> bool {
-    matches!(
-        outcome,
-        Err(Unseen::Stopped(Fault::Session(
-            SessionFault::TooFew { .. } | SessionFault::NothingToRedo { .. }
-        ),))
-    )
+fn are_too_few(outcome: &Result<(), Stopped<'_>>) -> bool {
+    match outcome {
+        Ok(()) => false,
+        Err(stopped) => matches!(
+            stopped.fault,
+            Fault::Session(SessionFault::TooFew { .. } | SessionFault::NothingToRedo { .. })
+        ),
+    }
 }

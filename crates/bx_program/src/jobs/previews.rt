@@ -1,4 +1,5 @@
 //! What a change would be: the image is only read, and the patch of the change is written.
+ghost use Rattle.std.specs.Prelude.{◌≡◌};
 ghost use Rattle.bx_cli_commands.specs.jobs.Passing.{CanPass, plan_skip};
 
 use crate::devices::agreement::missing;
@@ -8,59 +9,48 @@ use crate::files::names::world_of;
 use crate::files::unopened::not_opened_alone;
 use crate::jobs::ready::{Ready, plan_behind};
 use crate::progress::{progress_of_copy, progress_of_input};
-use crate::requests::request_preview;
 use crate::streams::input::{Placed, file, standard};
 use bx_cli::{DdImageJob, Fault, Target};
 use bx_dd::Counts;
-use bx_hints::{Reason, Remarks, Stopped};
+use bx_hints::{Remarks, Stopped};
 use bx_image::Change;
-use bx_journal::SessionFault;
-use bx_patch::{DiffFault, Patch};
-use bx_program_commands::{Proposal, Unpreviewed};
+use bx_patch::Patch;
+use bx_program_commands::{Cause, Failure, Proposal, Request, Stop, run_request};
 use bx_program_system::{Progress, SystemWorld};
 use bx_read::ReadFault;
-use bx_text::IoFault;
 use std::fs::File;
 use std::io::{Empty, Read, Write};
 use std::rt::Files;
 use std::time::Clock;
 
-/// What stopped the patch of an image, which was opened to be read.
+/// What stopped the patch of what is asked of an image. One that is missing has no byte.
 fn cut_off<'a, R>(
-    target: &'a Target,
-    world: &SystemWorld<'_, '_, R>,
-    fault: DiffFault,
-) -> Stopped<'a>
-where
-    R: Files<File = File> + Print + Eprint + Clock + AllocGlobal,
-{
-    match fault {
-        DiffFault::NoMemory => Stopped::from(Fault::Io(IoFault::NoMemory)),
-        DiffFault::TooLarge => Stopped::from(Fault::from(SessionFault::TooLarge)),
-        DiffFault::OldFailed | DiffFault::NewFailed => {
-            let failed = Fault::from(SessionFault::DeviceFailed);
-            Stopped::failed(failed, target.image.as_str(), world.left.image.call)
-        }
-        DiffFault::WriteFailed { written } => {
-            Stopped::from(Fault::Io(IoFault::WriteFailed { written }))
-        }
-    }
-}
-
-/// Why what is asked of an image is refused. One that is missing has no byte.
-fn refused<'a, R>(
     rt: &R,
     target: &'a Target,
     world: &SystemWorld<'_, '_, R>,
-    fault: Fault,
+    failure: Failure,
 ) -> Stopped<'a>
 where
     R: Files<File = File> + Print + Eprint + Clock + AllocGlobal,
+    ensures { result.fault ≡ failure.fault }
 {
     let name = target.image.as_str();
-    match fault {
-        Fault::Disagrees(other) if is_missing(rt, name) => missing(name, other),
-        fault => stopped(rt, target, world, None, fault),
+    let by = match (failure.stop, failure.fault) {
+        (
+            Some(
+                Stop {
+                    cause: Cause::Unopened(why),
+                    ..
+                },
+            ),
+            _,
+        ) => return not_opened_alone(rt, name, why).with(failure.fault),
+        (None, Fault::Disagrees(other)) if is_missing(rt, name) => missing(name, other),
+        (_, _) => return stopped(rt, target, world, failure),
+    };
+    Stopped {
+        fault: failure.fault,
+        ..by
     }
 }
 
@@ -77,16 +67,10 @@ where
 {
     let name = target.image.as_str();
     let mut world = world_of(rt, target, progress)?;
-    match request_preview(&mut world, rt.alloc(), name, proposal, out) {
-        Ok(counts) => Ok(counts),
-        Err(Unpreviewed::Unopened(why)) => Err(not_opened_alone(rt, name, why)),
-        Err(Unpreviewed::Refused(fault)) => Err(refused(rt, target, &world, fault)),
-        Err(Unpreviewed::Unfitting { has, wanted }) => Err(Stopped {
-            fault: Fault::from(SessionFault::TooLarge),
-            file: Some(name),
-            reason: Reason::Fixed { has, wanted },
-        }),
-        Err(Unpreviewed::Stopped(fault)) => Err(cut_off(target, &world, fault)),
+    let request = Request::Preview { name, proposal };
+    match run_request(&mut world, rt.alloc(), request, out) {
+        Ok(done) => Ok(done.counts),
+        Err(failure) => Err(cut_off(rt, target, &world, failure)),
     }
 }
 

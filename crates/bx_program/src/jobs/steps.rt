@@ -1,14 +1,15 @@
 //! The jobs that take changes back, and that make them again.
-use crate::devices::left::stopped;
+use crate::devices::left::{recovered, stopped};
 use crate::files::look::refuse_without_journal;
 use crate::files::names::{guard_of, names_of, world_of};
 use crate::history::told::told;
 use crate::progress::progress_of_input;
-use crate::requests::request_move;
 use bx_cli::StepsJob;
 use bx_hints::{Remarks, Stopped};
 use bx_journal::Way;
+use bx_program_commands::{Request, run_request};
 use std::fs::File;
+use std::io::{self, Empty};
 use std::rt::Files;
 use std::time::Clock;
 
@@ -28,17 +29,20 @@ where
     let names = names_of(rt.alloc(), target)?;
     let progress = progress_of_input(rt, remarks, None);
     let mut world = world_of(rt, target, &progress)?;
-    let guard = guard_of(target);
-    let moved = request_move(&mut world, rt.alloc(), &names, guard, way, job.count);
+    let request: Request<'_, Empty> = Request::Move {
+        names: &names,
+        guard: guard_of(target),
+        way,
+        count: job.count,
+    };
+    let answer = run_request(&mut world, rt.alloc(), request, &mut io::sink());
     drop(names);
-    remarks.look_at_recovered(moved.how);
-    remarks.tell_behind_recovery(rt, way, job, moved.how);
+    let how = recovered(&answer);
+    remarks.look_at_recovered(how);
+    remarks.tell_behind_recovery(rt, way, job, how);
     remarks.look_at_note(world.is_without_note);
-    match moved.outcome {
-        Ok(()) => Ok(()),
-        Err(fault) => {
-            let stopped = stopped(rt, target, &world, moved.unopened, fault);
-            Err(told(rt, target, way, stopped))
-        }
+    match answer {
+        Ok(_) => Ok(()),
+        Err(failure) => Err(told(rt, target, way, stopped(rt, target, &world, failure))),
     }
 }

@@ -2,6 +2,7 @@
 use crate::files::counted_file::CountedFile;
 use bx_image::{Device, FailedCall, FileImage};
 use bx_journal_store::{FileText, TextStore};
+use bx_program_world::Outgrown;
 use std::time::Clock;
 
 /// What a device said of its calls.
@@ -31,9 +32,7 @@ pub struct Left {
     /// Its redo text.
     pub redo: Ended,
     /// The length that the image was refused last, as one that can't grow so far.
-    pub wanted: Option<u64>,
-    /// How far the image can grow.
-    pub most: u64,
+    pub outgrown: Option<Outgrown>,
 }
 
 impl Left {
@@ -42,8 +41,7 @@ impl Left {
         image: Ended::WELL,
         journal: Ended::WELL,
         redo: Ended::WELL,
-        wanted: None,
-        most: u64::MAX,
+        outgrown: None,
     };
 
     /// What three devices said. The failures of the redo text count from `first` on.
@@ -60,10 +58,18 @@ impl Left {
             },
             journal: ended_text(journal, 0),
             redo: ended_text(redo, first),
-            wanted: image.refused(),
-            most: image.reserved(),
+            outgrown: outgrown_by(image),
         }
     }
+}
+
+/// The length that an image was refused last, as one that can't grow so far.
+fn outgrown_by<R: Clock + Eprint>(image: &FileImage<CountedFile<'_, '_, R>>) -> Option<Outgrown> {
+    let wanted = image.refused()?;
+    Some(Outgrown {
+        has: image.reserved(),
+        wanted,
+    })
 }
 
 /// What a text said of its calls, whose failures count from `first` on.

@@ -6,12 +6,12 @@ use crate::report::Wrong;
 use crate::setting::CAREFUL;
 use crate::sweeps::Failing;
 use bx_cli_commands::{Done, DumpJob, Fault};
-use bx_dd::{Counts, Plan as DdPlan, parse};
+use bx_dd::{Plan as DdPlan, parse};
 use bx_image::Change;
 use bx_journal::{Steps, Way};
 use bx_patch::{Extent, read_patch};
 use bx_program_commands::{
-    Outcome as Answer, Proposal, Report, Request, Undiffed, Unpreviewed, run_request,
+    Cause as FileCause, Done as Answered, Failure, FileRole, Proposal, Report, Request, run_request,
 };
 use bx_program_dumps::{Undumped, dump_file};
 use bx_program_files::{Names, Unopened, Which, Why};
@@ -124,6 +124,44 @@ fn put_dump<O: Write>(
     }
 }
 
+/// Which of two or three files it is that has a part in a command.
+fn which_of(file: FileRole) -> Which {
+    match file {
+        FileRole::Image | FileRole::Old => Which::Image,
+        FileRole::Journal | FileRole::New => Which::Journal,
+        FileRole::Redo => Which::Redo,
+    }
+}
+
+/// Why a command is not done.
+fn unseen_of(failure: Failure) -> Unseen {
+    let Some(stop) = failure.stop else {
+        return Unseen::Stopped(failure.fault);
+    };
+    match stop.cause {
+        FileCause::Unopened(why) => Unseen::Unopened(Unopened {
+            which: which_of(stop.file),
+            why,
+        }),
+        FileCause::Unplaced(refusal) => refused(refusal),
+        FileCause::Unfinished => Unseen::Unfinished,
+        FileCause::Another => Unseen::Another,
+        FileCause::Failed | FileCause::Outgrown(_) => Unseen::Stopped(failure.fault),
+    }
+}
+
+/// How a command ended that was run in a world.
+fn seen_of(answer: Result<Answered, Failure>) -> Outcome {
+    match answer {
+        Ok(answered) => match (answered.dumped, answered.counts) {
+            (Some(count), _) => Ok(Some(Done::Dumped(count))),
+            (None, Some(counts)) => Ok(Some(Done::Copied(counts))),
+            (None, None) => Ok(None),
+        },
+        Err(failure) => Err(unseen_of(failure)),
+    }
+}
+
 /// Writes a dump of an input.
 fn put_input<O: Write>(
     world: &mut MemoryWorld,
@@ -135,23 +173,7 @@ fn put_input<O: Write>(
     requires { (⟦<MemoryWorld as World>⟧.sight world.old).lent ≡ None }
 {
     let request = Request::DumpInput { job, input };
-    match run_request(world, alloc, request, out) {
-        Answer::Dumped(Ok(done)) => Ok(Some(done)),
-        Answer::Dumped(Err(Undumped::Stopped(fault))) => Err(Unseen::Stopped(fault)),
-        Answer::Dumped(Err(_))
-        | Answer::Moved(_)
-        | Answer::Changed(_)
-        | Answer::Compared(_)
-        | Answer::Previewed(_)
-        | Answer::Looked(_)
-        | Answer::Forgotten(_)
-        | Answer::Renewed(_) => unreachable!(),
-    }
-}
-
-/// A file that was not opened.
-fn unopened(which: Which, why: Why) -> Unseen {
-    Unseen::Unopened(Unopened { which, why })
+    seen_of(run_request(world, alloc, request, out))
 }
 
 /// Writes the patch from the image to the file of the journal's name.
@@ -169,17 +191,7 @@ fn put_diff<O: Write>(
         new: names.journal.as_str(),
         extent,
     };
-    let answer = run_request(world, alloc, request, out);
-    match (answer.ended(), answer) {
-        (Ok(()), _) => Ok(None),
-        (Err(_), Answer::Compared(Err(Undiffed::OldUnopened(why)))) => {
-            Err(unopened(Which::Image, why))
-        }
-        (Err(_), Answer::Compared(Err(Undiffed::NewUnopened(why)))) => {
-            Err(unopened(Which::Journal, why))
-        }
-        (Err(fault), _) => Err(Unseen::Stopped(fault)),
-    }
+    seen_of(run_request(world, alloc, request, out))
 }
 
 /// Drops the history.
@@ -190,17 +202,7 @@ fn forget<O: Write>(world: &mut MemoryWorld, alloc: Global, names: &Names, out: 
         names,
         guard: CAREFUL,
     };
-    match run_request(world, alloc, request, out) {
-        Answer::Forgotten(Ok(())) => Ok(None),
-        Answer::Forgotten(Err(unseen)) => Err(unseen),
-        Answer::Moved(_)
-        | Answer::Changed(_)
-        | Answer::Dumped(_)
-        | Answer::Compared(_)
-        | Answer::Previewed(_)
-        | Answer::Looked(_)
-        | Answer::Renewed(_) => unreachable!(),
-    }
+    seen_of(run_request(world, alloc, request, out))
 }
 
 /// A change that makes these bytes of any image.
@@ -246,20 +248,6 @@ fn proposal_of(
     }
 }
 
-/// What came of a preview that ended so.
-fn seen_of(ended: Result<(), Fault>, outcome: Result<Option<Counts>, Unpreviewed>) -> Outcome {
-    match outcome {
-        Ok(Some(counts)) => Ok(Some(Done::Copied(counts))),
-        Ok(None) => Ok(None),
-        Err(Unpreviewed::Unopened(why)) => Err(unopened(Which::Image, why)),
-        Err(Unpreviewed::Refused(_) | Unpreviewed::Unfitting { .. } | Unpreviewed::Stopped(_)) =>
-            match ended {
-                Ok(()) => Ok(None),
-                Err(fault) => Err(Unseen::Stopped(fault)),
-            },
-    }
-}
-
 /// Writes the patch that a change would be.
 fn preview<O: Write>(
     world: &mut MemoryWorld,
@@ -274,18 +262,7 @@ fn preview<O: Write>(
         name: names.image.as_str(),
         proposal,
     };
-    let answer = run_request(world, alloc, request, out);
-    let ended = answer.ended();
-    match answer {
-        Answer::Previewed(outcome) => seen_of(ended, outcome),
-        Answer::Moved(_)
-        | Answer::Changed(_)
-        | Answer::Dumped(_)
-        | Answer::Compared(_)
-        | Answer::Looked(_)
-        | Answer::Forgotten(_)
-        | Answer::Renewed(_) => unreachable!(),
-    }
+    seen_of(run_request(world, alloc, request, out))
 }
 
 /// Writes the patch of a change that stands, or of one that is undone.
@@ -302,17 +279,7 @@ fn put_patch<O: Write>(
         names,
         report: Report::Patch { way, count: 1 },
     };
-    match run_request(world, alloc, request, out) {
-        Answer::Looked(Ok(())) => Ok(None),
-        Answer::Looked(Err(unseen)) => Err(unseen),
-        Answer::Moved(_)
-        | Answer::Changed(_)
-        | Answer::Dumped(_)
-        | Answer::Compared(_)
-        | Answer::Previewed(_)
-        | Answer::Forgotten(_)
-        | Answer::Renewed(_) => unreachable!(),
-    }
+    seen_of(run_request(world, alloc, request, out))
 }
 
 /// What an input has, whose reads fail as the plan says.

@@ -6,6 +6,7 @@ use Rattle.bx_program_files.specs.Files.{AreAllThere}
 use Rattle.bx_program_looks.specs.Forgetting.{IsNoTextNamed}
 use Rattle.bx_program_sessions.specs.Named.{contents_of}
 use Rattle.bx_program_commands.specs.Scene.{scene_beside}
+use Rattle.bx_program_commands.proofs.Ending.{nothing_kept}
 use Rattle.bx_program_commands.proofs.Renewing.{found_undropped, holds_alone, keeps_itself, keeps_named, keeps_one, newest, recovered_undropped, says_changed, says_dropped}
 use Rattle.bx_program_commands.proofs.ThreeSteps.{renews, stays}
 use Rattle.bx_program_commands.proofs.renewed.renew_files.Goals as goal
@@ -140,3 +141,6 @@ returns-in-Err-clause-streams g c old =
       says_dropped (IsNoTextNamed c.args.names.now first) how (g.W.World.sight c.args.world.now) first (g.W.World.sight c.forget_files.new.world)
           (c.open_to_drop-opened.ensures.streams old) (c.forget_files.ensures.others mid),
     )
+
+pub returns-then-not-may_drop-clause-unopened : goal.returns-then-not-may_drop-clause-unopened
+returns-then-not-may_drop-clause-unopened g c old = nothing_kept _ _ _ (c.open_to_drop-opened.ensures.unopened old)

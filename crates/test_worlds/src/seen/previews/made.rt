@@ -5,7 +5,7 @@ use crate::report::Wrong;
 use crate::seen::asked::whole_change;
 use crate::setting::{CAREFUL, Held, Kept, held_by, world_of};
 use bx_journal::Way;
-use bx_program_commands::{Outcome, Request, run_request};
+use bx_program_commands::{Request, run_request};
 use bx_program_files::Names;
 use bx_program_sessions::Task;
 use std::alloc::Global;
@@ -22,9 +22,8 @@ fn held_behind(
     requires near { IsNearRequest request }
 {
     world.begin(Plan::NOTHING);
-    let outcome = run_request(&mut world, alloc, request, &mut sink());
-    match outcome.ended() {
-        Ok(()) => Ok(Kept::of(alloc, held_by(&world))?),
+    match run_request(&mut world, alloc, request, &mut sink()) {
+        Ok(_) => Ok(Kept::of(alloc, held_by(&world))?),
         Err(_) => Err(Wrong::Outcome),
     }
 }
