@@ -1,5 +1,5 @@
-//! A session's image beside what a patch expects of it.
-ghost use Rattle.std.specs.Prelude.{◌≡◌, ◌⊎◌, ◌<◌, IfOk, IfErr};
+//! What a session's image is, beside what a patch expects of it: the image is only read.
+ghost use Rattle.std.specs.Prelude.{◌≡◌, ◌⊎◌, ◌<◌, length, IfOk, IfErr};
 ghost use Rattle.bx_journal.specs.Looking.{OnlyLooks};
 ghost use Rattle.bx_patch.specs.Other.{FindsOther};
 ghost use Rattle.bx_patch.specs.Read.{asked_of};
@@ -38,6 +38,26 @@ impl<D: Device, T: TextStore, A: Allocator> Session<D, T, A> {
         }
         match find_other(&mut self.devices.image, patch) {
             Ok(found) => Ok(found),
+            Err(_) => Err(SessionFault::DeviceFailed),
+        }
+    }
+    /// How many bytes the image has. Nothing is changed, and no memory is taken.
+    ///
+    /// # Errors
+    /// `Broken`, and `DeviceFailed` of asking the image.
+    pub fn image_len(&mut self) -> Result<u64, SessionFault>
+        requires { D.failures self.old.image < u64.MAX }
+        ensures len { D.honest self.old.image → IfOk result (λ n. n ≡ length (D.image self.old.image)) }
+        ensures looks { OnlyLooks D.Device T.TextStore self.old self.new }
+        ensures safe { FailsSafely D.Device T.TextStore self.old self.new result }
+        ensures found_before { NothingNew D.Device T.TextStore self.old self.new }
+        ensures fault { IfErr result (λ e. (e ≡ SessionFault.Broken) ⊎ (e ≡ SessionFault.DeviceFailed)) }
+    {
+        if self.is_broken {
+            return Err(SessionFault::Broken);
+        }
+        match self.devices.image.len() {
+            Ok(len) => Ok(len),
             Err(_) => Err(SessionFault::DeviceFailed),
         }
     }
