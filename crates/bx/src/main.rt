@@ -28,6 +28,7 @@ fn status(outcome: Result<(), Fault>) -> u8
             | Fault::NotReversible
             | Fault::NothingToWrite
             | Fault::Session(_)
+            | Fault::Grows { .. }
             | Fault::ChangedSince
             | Fault::OpenFailed,
         ) => 1,

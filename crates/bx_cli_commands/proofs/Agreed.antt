@@ -16,7 +16,7 @@ use Rattle.bx_patch.specs.Other.{FindsOther}
 use Rattle.bx_patch.specs.Patch.{Asked, patch_change}
 use Rattle.bx_cli_commands.specs.declared.command.Reply.{Reply}
 use Rattle.bx_cli_commands.specs.declared.command.Reply.TheVariants.{Changed, Copied, Undone, Redone, Refused}
-use Rattle.bx_cli_commands.specs.declared.fault.Fault.TheVariants.{Io, Read, Dd, Patch, Disagrees, NotReversible, NothingToWrite, Session, ChangedSince, Usage, OpenFailed}
+use Rattle.bx_cli_commands.specs.declared.fault.Fault.TheVariants.{Io, Read, Dd, Patch, Disagrees, NotReversible, NothingToWrite, Session, Grows, ChangedSince, Usage, OpenFailed}
 use Rattle.bx_cli_commands.specs.Obeys.{Obeys}
 use Rattle.bx_cli_commands.specs.Refusal.{IsOwnRefusal, IsWholeRefusal}
 use Rattle.bx_cli_commands.specs.Run.{AgreedStep, ChangeStep, PatchStep, is_failure}
@@ -31,18 +31,22 @@ use Rattle.bx_cli_commands.proofs.Steps.{top_standing, true_is_not_false}
 abbrev found_in : Option Other → Result (Option Other) SessionFault
 found_in found = Ok found
 
+-- of any look that was answered
+abbrev pub seen : {V : Type 0} → V → Result V SessionFault
+seen v = Ok v
+
 abbrev unfound : SessionFault → Result (Option Other) SessionFault
 unfound e = Err e
 
 -- the comparison ended in this fault, and no other can end it
-abbrev EndsLook : SessionFault → Type 0
+abbrev pub EndsLook : SessionFault → Type 0
 EndsLook e = (e ≡ Broken) ⊎ (e ≡ DeviceFailed)
 
-look_is_whole : (e : SessionFault) → EndsLook e → IsWholeRefusal (Refused (Session e))
+pub look_is_whole : (e : SessionFault) → EndsLook e → IsWholeRefusal (Refused (Session e))
 look_is_whole e (inl broken) = λ is. let bad : Session Broken ≡ Session Interrupted = sym (ap Session broken) ∙ is in absurd (cc)
 look_is_whole e (inr failed) = λ is. let bad : Session DeviceFailed ≡ Session Interrupted = sym (ap Session failed) ∙ is in absurd (cc)
 
-broken_refuses : (e : SessionFault) → unfound e ≡ unfound Broken → Refused (Session e) ≡ Refused (Session Broken)
+pub broken_refuses : (e : SessionFault) → unfound e ≡ unfound Broken → Refused (Session e) ≡ Refused (Session Broken)
 broken_refuses e is = cc
 
 broken_not_full : Broken ≡ JournalFull → ⊥
@@ -61,17 +65,17 @@ module _ {D T : Type 0} (d : DeviceViews D) (t : StoreViews T) where
   look_redo_same old new looks = record { text_same = ap t.text looks.redo; undone = looks.undone }
 
   -- three devices are as honest as before
-  abbrev AsHonest : SessionView D T → SessionView D T → Type 0
+  abbrev pub AsHonest : SessionView D T → SessionView D T → Type 0
   AsHonest old new = (d.honest new.image ↔ d.honest old.image) × (t.honest new.journal ↔ t.honest old.journal) × (t.honest new.redo ↔ t.honest old.redo)
 
   -- the session stands where it stood
-  look_holds : (old new : SessionView D T) (s : Standing) → AsHonest old new → OnlyLooks d t old new → HoldsAt d t old s → HoldsAt d t new s
+  pub look_holds : (old new : SessionView D T) (s : Standing) → AsHonest old new → OnlyLooks d t old new → HoldsAt d t old s → HoldsAt d t new s
   look_holds old new (Standing.Up images) honesty looks h =
       holds_same d t old new (Standing.Up images) honesty.0 honesty.1 honesty.2 (look_same old new looks h.0) (look_redo_same old new looks) h
   look_holds old new (Standing.Down images) honesty looks h =
       holds_same d t old new (Standing.Down images) honesty.0 honesty.1 honesty.2 (look_same old new looks h.0) (look_redo_same old new looks) h
 
-  look_shows : (old new : SessionView D T) (images : Images) → OnlyLooks d t old new → d.honest old.image → Shows d.image t.text old images → Shows d.image t.text new images
+  pub look_shows : (old new : SessionView D T) (images : Images) → OnlyLooks d t old new → d.honest old.image → Shows d.image t.text old images → Shows d.image t.text new images
   look_shows old new images looks honest shows = shows_same d.image t.text old new images (look_same old new looks honest) (look_redo_same old new looks) shows
 
   -- what is found of the device's image is found of the newest one
@@ -82,7 +86,7 @@ module _ {D T : Type 0} (d : DeviceViews D) (t : StoreViews T) where
       subst Finds (sym (top_standing d.image t.text old images.stack shows.0)) finds
 
   -- a refusal behind a comparison
-  look_refused : (Step : Standing → Reply → Standing → Type 0) (old new : SessionView D T) (reply : Reply)
+  pub look_refused : (Step : Standing → Reply → Standing → Type 0) (old new : SessionView D T) (reply : Reply)
       → AsHonest old new → OnlyLooks d t old new → NothingNew d t old new → IsWholeRefusal reply → (IsOwnRefusal reply → ⊥)
       → CountsBy d t old new (cond (is_failure reply) 1 0)
       → ((before : Standing) → HoldsAt d t old before → Step before reply before)
@@ -138,18 +142,19 @@ module _ {D T : Type 0} (d : DeviceViews D) (t : StoreViews T) where
       at (Standing.Up images) h = inl (failed h.3.0.whole, refl)
       at (Standing.Down images) h = (broken_refuses e (safe.broken.0 h.3.0), refl)
 
-  -- the image agrees, and the change is made, refused or stopped
-  pub agreed : {A : Type 0} (old now new : SessionView D T) (p : Asked) (reply : Reply) → FailsSafely d t old now (found_in None)
-      → OnlyLooks d t old now → NothingNew d t old now → (d.honest old.image → FindsOther p (d.image old.image) None)
-      → Obeys d t now new reply (λ before. ChangeStep {A = A} before (patch_change p) None) → (IsOwnRefusal reply → ⊥)
-      → Obeys d t old new reply (λ before. AgreedStep A before p)
-  agreed {A = A} old now new p reply safe looks nothing found obeys other = record {
+  -- What is done behind a look that was answered, from where the session stood: `Next` is its step, which leads to the whole one
+  pub look_then : {V : Type 0} (v : V) (Step Next : Standing → Reply → Standing → Type 0) (old now new : SessionView D T) (reply : Reply)
+      → FailsSafely d t old now (seen v) → OnlyLooks d t old now → NothingNew d t old now
+      → (d.honest old.image → (images : Images) → Shows d.image t.text old images → (then : Standing)
+      → Next (Standing.Up images) reply then → Step (Standing.Up images) reply then)
+      → Obeys d t now new reply Next → (IsOwnRefusal reply → ⊥) → Obeys d t old new reply Step
+  look_then v Step Next old now new reply safe looks nothing lift obeys other = record {
     step = λ before h.
         let made = obeys.step before (look_holds old now before safe.honesty looks h) in
         (made.0, made.1, after before made.0 h made.2);
     stands = λ device store redo unfailed images shows.
         let made = obeys.stands (safe.honesty.0.1 device) (safe.honesty.1.1 store) (safe.honesty.2.1 redo) unfailed images (look_shows old now images looks device shows) in
-        (made.0, made.1, inr (None, found_of_top old images p None shows (found device), made.2));
+        (made.0, made.1, lift device images shows (Standing.Up made.0) made.2);
     finds = λ stopped before h x text redo there text_there redo_there.
         let left = obeys.finds stopped before (look_holds old now before safe.honesty looks h) x text redo there text_there redo_there in
         (left.0, after before left.0 h left.1, left.2, left.3);
@@ -163,15 +168,25 @@ module _ {D T : Type 0} (d : DeviceViews D) (t : StoreViews T) where
     redo_same = λ redo whole. redo_same_on t.text old now new (look_redo_same old now looks) (obeys.redo_same (safe.honesty.2.1 redo) whole);
   }
     where
-      after : (before then : Standing) → HoldsAt d t old before → ChangeStep {A = A} before (patch_change p) None reply then → AgreedStep A before p reply then
-      after (Standing.Up images) then h step = inr (None, found_of_top old images p None (ready_shows d.image t.text old images h.3) (found h.0), step)
-      after (Standing.Down images) then h step = let bad : found_in None ≡ unfound Broken = safe.broken.0 h.3.0 in absurd (cc)
+      after : (before then : Standing) → HoldsAt d t old before → Next before reply then → Step before reply then
+      after (Standing.Up images) then h step = lift h.0 images (ready_shows d.image t.text old images h.3) then step
+      after (Standing.Down images) then h step = let bad : seen v ≡ Err Broken = safe.broken.0 h.3.0 in absurd (cc)
 
       counts_behind : (n : ℕ) → CountsBy d t now new n → CountsBy d t old new n
       counts_behind n by =
           let image = safe.counts.0 in let journal = safe.counts.1 in let redo = safe.counts.2 in
           let a = by.image_least in let b = by.journal_least in let c = by.redo_least in let e = by.rise in
           record { image_least = omega arith; journal_least = omega arith; redo_least = omega arith; rise = omega arith }
+
+  -- the image agrees, and the change is made, refused or stopped
+  pub agreed : {A : Type 0} (old now new : SessionView D T) (p : Asked) (reply : Reply) → FailsSafely d t old now (found_in None)
+      → OnlyLooks d t old now → NothingNew d t old now → (d.honest old.image → FindsOther p (d.image old.image) None)
+      → Obeys d t now new reply (λ before. ChangeStep {A = A} before (patch_change p) None) → (IsOwnRefusal reply → ⊥)
+      → Obeys d t old new reply (λ before. AgreedStep A before p)
+  agreed {A = A} old now new p reply safe looks nothing found obeys other =
+      let none : Option Other = None in
+      look_then none (λ before. AgreedStep A before p) (λ before. ChangeStep {A = A} before (patch_change p) None) old now new reply safe looks nothing
+      (λ device images shows then step. inr (None, found_of_top old images p None shows (found device), step)) obeys other
 
   -- want of memory for taking the patch
   pub patch_refused : (A : Type 0) (s : SessionView D T) (p : Asked) → Obeys d t s s (Refused (Patch of_patch.NoMemory)) (λ before. PatchStep A before p)
@@ -213,6 +228,7 @@ module _ {D T : Type 0} (d : DeviceViews D) (t : StoreViews T) where
   tells_behind old now new (Refused (Disagrees other)) looks stay = (stay.0 ∙ looks.count, stay.1 ∙ looks.undone)
   tells_behind old now new (Refused NotReversible) looks stay = (stay.0 ∙ looks.count, stay.1 ∙ looks.undone)
   tells_behind old now new (Refused NothingToWrite) looks stay = (stay.0 ∙ looks.count, stay.1 ∙ looks.undone)
+  tells_behind old now new (Refused (Grows has wanted)) looks stay = (stay.0 ∙ looks.count, stay.1 ∙ looks.undone)
   tells_behind old now new (Refused ChangedSince) looks stay = (stay.0 ∙ looks.count, stay.1 ∙ looks.undone)
   tells_behind old now new (Refused Usage) looks stay = (stay.0 ∙ looks.count, stay.1 ∙ looks.undone)
   tells_behind old now new (Refused OpenFailed) looks stay = (stay.0 ∙ looks.count, stay.1 ∙ looks.undone)

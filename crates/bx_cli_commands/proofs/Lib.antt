@@ -16,6 +16,7 @@ pub mod Unheaded
 pub mod Tells
 pub mod SessionRuns
 pub mod Agreed
+pub mod Within
 pub mod Copying
 pub mod RoundTrips
 pub mod XxdRows

@@ -18,7 +18,7 @@ use Rattle.bx_cli_commands.specs.declared.command.Reply.{Reply}
 use Rattle.bx_cli_commands.specs.declared.command.Reply.TheVariants.{Changed, Copied, Undone, Redone, Refused}
 use Rattle.bx_cli_commands.specs.declared.changes.DdChange.{DdChange}
 use Rattle.bx_cli_commands.specs.declared.fault.Fault.{Fault}
-use Rattle.bx_cli_commands.specs.declared.fault.Fault.TheVariants.{Io, Read, Dd, Patch, Disagrees, NotReversible, NothingToWrite, Session, ChangedSince, Usage, OpenFailed}
+use Rattle.bx_cli_commands.specs.declared.fault.Fault.TheVariants.{Io, Read, Dd, Patch, Disagrees, NotReversible, NothingToWrite, Session, Grows, ChangedSince, Usage, OpenFailed}
 use Rattle.bx_cli_commands.specs.Command.{dump_change, plain_change}
 use Rattle.bx_cli_commands.specs.Copy.{MakesCopy, MakesBy}
 use Rattle.bx_cli_commands.specs.Power.{FindsPart, IsChanged, IsPart, images_of}
@@ -47,6 +47,7 @@ whole_or (Refused (Session e)) = elim (is_interrupted e) as (λ _. IsWholeRefusa
 ]
 whole_or (Refused NotReversible) = inl (λ is. cc)
 whole_or (Refused NothingToWrite) = inl (λ is. cc)
+whole_or (Refused (Grows has wanted)) = inl (λ is. cc)
 whole_or (Refused ChangedSince) = inl (λ is. cc)
 whole_or (Refused Usage) = inl (λ is. cc)
 whole_or (Refused OpenFailed) = inl (λ is. cc)

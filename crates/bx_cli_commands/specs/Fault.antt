@@ -8,7 +8,7 @@ use Rattle.bx_patch.specs.declared.other.Other.TheVariants as other
 use Rattle.bx_patch.specs.declared.read.fault.PatchFault.TheVariants as patch
 use Rattle.bx_journal.specs.SessionFault.TheVariants as session
 use Rattle.bx_cli_commands.specs.declared.fault.Fault.{Fault}
-use Rattle.bx_cli_commands.specs.declared.fault.Fault.TheVariants.{Io, Read, Dd, Patch, Disagrees, NotReversible, NothingToWrite, Session, ChangedSince, Usage, OpenFailed}
+use Rattle.bx_cli_commands.specs.declared.fault.Fault.TheVariants.{Io, Read, Dd, Patch, Disagrees, NotReversible, NothingToWrite, Session, Grows, ChangedSince, Usage, OpenFailed}
 
 -- the number of a fault of a dump's text
 abbrev pub read_number_of : ReadFault → ℕ
@@ -59,6 +59,7 @@ fault_number (Session (session.LengthDiffers _)) = 45
 fault_number (Session (session.NothingToRedo _)) = 46
 fault_number (Session (session.RedoDamaged _)) = 47
 fault_number ChangedSince = 48
+fault_number (Grows has wanted) = 49
 fault_number Usage = 50
 fault_number OpenFailed = 51
 fault_number (Io io.NoMemory) = 1

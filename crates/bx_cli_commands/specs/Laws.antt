@@ -8,9 +8,11 @@ use Rattle.bx_journal.specs.Session.{IsUnfailed}
 use Rattle.bx_journal.specs.SessionView.{SessionView}
 use Rattle.bx_cli_commands.specs.declared.command.Command.{Command}
 use Rattle.bx_cli_commands.specs.declared.command.Command.TheVariants.{Undo, Redo}
+use Rattle.bx_cli_commands.specs.declared.command.Kept.{Kept}
 use Rattle.bx_cli_commands.specs.declared.command.Reply.{Reply}
 use Rattle.bx_cli_commands.specs.declared.command.Reply.TheVariants.{Changed, Copied, Undone, Redone, Refused}
 use Rattle.bx_cli_commands.specs.Standing.{Shows, Standing}
+use Rattle.bx_cli_commands.specs.Growth.{IsNoLonger, KeptStep}
 use Rattle.bx_cli_commands.specs.Power.{FindsPart, images_of}
 use Rattle.bx_cli_commands.specs.Run.{CommandRun, Runs, StackRun, StackStep, Unfailed}
 
@@ -76,3 +78,9 @@ KChangesAndUndo {D = D} {T = T} d t R A remaining = (old changed new : SessionVi
     → Shows d.image t.text old start → RunsOn d t remaining old list replies changed → All IsMade replies
     → RunsOn {R = R} {A = A} d t remaining changed (Undo (length list) ∷ []) (Undone left ∷ []) new
     → ((after : Images) × Shows d.image t.text new after × (after.stack ≡ start.stack)) × (d.image new.image ≡ d.image old.image)
+
+-- behind a change that isn't to make the image longer none is longer, whatever the images were: neither the newest one, nor the one that opening finds
+-- where it was stopped
+abbrev pub KeptNeverGrows : Type 0 → Type 0
+KeptNeverGrows A = (old : Images) (kept : Kept A) (reply : Reply) (after : Standing) → KeptStep (Standing.Up old) kept reply after
+    → IsNoLonger old (images_of after)

@@ -6,6 +6,7 @@ pub mod Run
 pub mod Reading
 pub mod Replies
 pub mod Power
+pub mod Growth
 pub mod Obeys
 pub mod Tells
 pub mod SessionRun

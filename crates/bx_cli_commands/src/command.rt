@@ -3,6 +3,7 @@ ghost use Rattle.std.specs.Prelude.{◌≡◌};
 
 use crate::Fault;
 use bx_dd::{Counts, Plan};
+use bx_image::Change;
 use bx_patch::Patch;
 use bx_text::{Bytes, Words};
 use std::alloc::{Allocator, Global};
@@ -25,6 +26,15 @@ pub enum Command<R = Empty, A: Allocator = Global> {
     Undo { k: u32 },
     /// Makes the last `j` undone changes again.
     Redo { j: u32 },
+}
+
+/// A change that isn't to make its image longer.
+#[derive(Drop)]
+pub enum Kept<A: Allocator = Global> {
+    /// One that was read before.
+    Change(Change<A>),
+    /// That of a patch, where the image agrees with it.
+    Patch(Patch<A>),
 }
 
 /// The answer to one command.

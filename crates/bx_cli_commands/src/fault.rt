@@ -40,6 +40,14 @@ pub enum Fault {
     /// What stopped a call of a session, or its opening.
     #[error(transparent)]
     Session(SessionFault),
+    /// The image isn't to get longer, and would.
+    #[error("the image would get longer")]
+    Grows {
+        /// How many bytes it has.
+        has: u64,
+        /// How many it would have.
+        wanted: u64,
+    },
     /// The image isn't the one that the last command on it left.
     #[error("the image was changed since")]
     ChangedSince,
@@ -66,6 +74,7 @@ impl Fault {
             Fault::NothingToWrite => 32,
             Fault::Session(fault) => session_number(fault),
             Fault::ChangedSince => 48,
+            Fault::Grows { .. } => 49,
             Fault::Usage => 50,
             Fault::OpenFailed => 51,
         }

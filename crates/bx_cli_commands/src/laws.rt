@@ -1,7 +1,7 @@
 //! Laws of commands, over their definitions alone.
 ghost use Rattle.bx_cli_commands.specs.Loss.{LossAtAnyCall, LossGoesOn};
 ghost use Rattle.bx_cli_commands.specs.ShowDump.{ShownIsADump, ShownIsUndone, ShownReverts, ShownUnheaded, UnfinishedUnheaded};
-ghost use Rattle.bx_cli_commands.specs.Laws.{KChangesAndUndo, RedoGivesBack, RedoGivesPart, RunsJoin, StackRunsJoin, StopsInPart, UndoGivesBack, UnfailedRuns};
+ghost use Rattle.bx_cli_commands.specs.Laws.{KChangesAndUndo, KeptNeverGrows, RedoGivesBack, RedoGivesPart, RunsJoin, StackRunsJoin, StopsInPart, UndoGivesBack, UnfailedRuns};
 
 use bx_image::{Device, FuseImage};
 use bx_journal_store::{FuseText, TextStore};
@@ -72,4 +72,10 @@ pub fn shown_is_a_dump<A: Allocator>()
     ensures read { ShownIsADump }
     ensures reverts { ShownReverts A }
     ensures undone { ShownIsUndone A }
+{}
+
+/// Behind a change that isn't to make its image longer none is longer: whatever the images were, whatever it answers, and where it was
+/// stopped in the middle.
+pub fn kept_never_grows<A: Allocator>()
+    ensures { KeptNeverGrows A }
 {}

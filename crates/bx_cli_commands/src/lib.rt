@@ -15,7 +15,7 @@ pub mod round_trip;
 mod run;
 
 pub use changes::{DdChange, change_of_plan};
-pub use command::{Command, Reply};
+pub use command::{Command, Kept, Reply};
 pub use fault::Fault;
 pub use jobs::diff::DiffJob;
 pub use jobs::dump::{Done, run_dump};
@@ -33,4 +33,4 @@ pub use jobs::values::{
 };
 pub use listing::{list_ranges, list_steps, log_text};
 pub use reading::{Form, change_from};
-pub use run::{change_if_read, run_all, run_dd, run_one};
+pub use run::{change_if_read, refuse_growth, run_all, run_dd, run_kept, run_one};

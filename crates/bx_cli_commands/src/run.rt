@@ -11,6 +11,7 @@ ghost use Rattle.bx_cli_commands.specs.SessionRun.{AllObey, SessionStep};
 ghost use Rattle.bx_cli_commands.specs.Tells.{ChangeTells, RedoTells, Tells, UndoTells};
 
 mod change;
+mod kept;
 mod patch;
 
 use crate::changes::{DdChange, change_of_dd, change_of_dump, change_of_plain, change_of_plan};
@@ -23,6 +24,7 @@ use bx_read::ReadFault;
 use bx_text::Bytes;
 use change::run_change;
 use core::mem::replace_with;
+pub use kept::{refuse_growth, run_kept};
 use patch::run_patch;
 use std::alloc::Allocator;
 use std::io::Read;

@@ -6,7 +6,7 @@ use Rattle.bx_dd.specs.declared.fault.DdFault.TheVariants as dd
 use Rattle.bx_patch.specs.declared.read.fault.PatchFault.TheVariants as patch
 use Rattle.bx_journal.specs.SessionFault.TheVariants as session
 use Rattle.bx_cli_commands.specs.declared.fault.Fault.{Fault}
-use Rattle.bx_cli_commands.specs.declared.fault.Fault.TheVariants.{Io, Read, Dd, Patch, Disagrees, NotReversible, NothingToWrite, Session, ChangedSince}
+use Rattle.bx_cli_commands.specs.declared.fault.Fault.TheVariants.{Io, Read, Dd, Patch, Disagrees, NotReversible, NothingToWrite, Session, Grows, ChangedSince}
 use Rattle.bx_hints.specs.declared.fault.hint.Known.{Known}
 
 -- two parts with a text between them, where neither is empty
@@ -57,6 +57,7 @@ advice_of (Session session.Interrupted) = codes "each command on the image but b
 advice_of (Session (session.LengthDiffers _)) = codes "it may have another journal; where its length alone was changed, truncate -s"
 advice_of (Session (session.NothingToRedo _)) = codes "a change that is no redo gives up what was undone, and a journal that is moved takes its redo file along"
 advice_of (Session (session.RedoDamaged _)) = codes "move the redo file away to go on (what was undone is lost)"
+advice_of (Grows has wanted) = codes "without --no-grow it may get longer"
 advice_of ChangedSince = codes "--anyway goes on all the same, and --fresh of the command that writes it begins a new history; see bx show -d"
 advice_of _ = []
 

@@ -27,7 +27,7 @@ use Rattle.bx_journal.specs.ShownSteps.{HasEntries}
 use Rattle.bx_journal.specs.Text.{Between, Entry, IsDamagedAt, Reading, Reads}
 use Rattle.bx_journal.specs.Undoing.{AgainFault, HasCount}
 use Rattle.bx_cli_commands.specs.Listing.{log_line}
-use Rattle.bx_cli_commands.specs.declared.fault.Fault.TheVariants.{Io, Read, Dd, Patch, Disagrees, NotReversible, NothingToWrite, Session, ChangedSince, Usage, OpenFailed}
+use Rattle.bx_cli_commands.specs.declared.fault.Fault.TheVariants.{Io, Read, Dd, Patch, Disagrees, NotReversible, NothingToWrite, Session, Grows, ChangedSince, Usage, OpenFailed}
 use Rattle.bx_program_world.specs.World.{ReadFiles, Sight, held}
 use Rattle.bx_program_files.specs.Reading.{LeadToRead}
 use Rattle.bx_program_files.specs.declared.names.Names.{Names}
@@ -118,6 +118,7 @@ stop_hides image journal redo (Stopped (Patch fault)) is = is
 stop_hides image journal redo (Stopped (Disagrees other)) is = is
 stop_hides image journal redo (Stopped NotReversible) is = is
 stop_hides image journal redo (Stopped NothingToWrite) is = is
+stop_hides image journal redo (Stopped (Grows has wanted)) is = is
 stop_hides image journal redo (Stopped ChangedSince) is = is
 stop_hides image journal redo (Stopped Usage) is = is
 stop_hides image journal redo (Stopped OpenFailed) is = is

@@ -8,7 +8,7 @@ use Rattle.bx_journal.specs.ShownSteps.{StopsSteps}
 use Rattle.bx_journal.specs.Steps.{Steps}
 use Rattle.bx_cli_commands.specs.Listing.{StopsListing, StopsShowing}
 use Rattle.bx_cli_commands.specs.declared.fault.Fault.{Fault}
-use Rattle.bx_cli_commands.specs.declared.fault.Fault.TheVariants.{Io, Read, Dd, Patch, Disagrees, NotReversible, NothingToWrite, Session, ChangedSince, Usage, OpenFailed}
+use Rattle.bx_cli_commands.specs.declared.fault.Fault.TheVariants.{Io, Read, Dd, Patch, Disagrees, NotReversible, NothingToWrite, Session, Grows, ChangedSince, Usage, OpenFailed}
 
 log_of_bytes : (honest : Type 0) → honest → (text : List ℕ) (e : SessionFault) → StopsLog honest text (look.Text e) → StopsLog (Unit {0}) text (look.Text e)
 log_of_bytes honest h text NoMemory is = is
@@ -33,6 +33,7 @@ listing_of_bytes honest h text (Disagrees other) is = is
 listing_of_bytes honest h text (Session e) is = log_of_bytes honest h text e is
 listing_of_bytes honest h text NotReversible is = is
 listing_of_bytes honest h text NothingToWrite is = is
+listing_of_bytes honest h text (Grows has wanted) is = is
 listing_of_bytes honest h text ChangedSince is = is
 listing_of_bytes honest h text Usage is = is
 listing_of_bytes honest h text OpenFailed is = is
@@ -62,6 +63,7 @@ showing_of_bytes honest h text s (Disagrees other) is = is
 showing_of_bytes honest h text s (Session e) is = steps_of_bytes honest h text s e is
 showing_of_bytes honest h text s NotReversible is = is
 showing_of_bytes honest h text s NothingToWrite is = is
+showing_of_bytes honest h text s (Grows has wanted) is = is
 showing_of_bytes honest h text s ChangedSince is = is
 showing_of_bytes honest h text s Usage is = is
 showing_of_bytes honest h text s OpenFailed is = is

@@ -15,7 +15,7 @@ fn shows(alloc: Global, fault: Fault, text: &str) -> bool {
 }
 
 // What several crates have has one number and one text.
-static FAULTS: [(Fault, u8, &str); 49] = [
+static FAULTS: [(Fault, u8, &str); 50] = [
     (Fault::Io(IoFault::NoMemory), 1, "out of memory"),
     (Fault::Io(IoFault::ReadFailed), 2, "read failed"),
     (
@@ -191,6 +191,11 @@ static FAULTS: [(Fault, u8, &str); 49] = [
         "redo line 5 is damaged",
     ),
     (Fault::ChangedSince, 48, "the image was changed since"),
+    (
+        Fault::Grows { has: 8, wanted: 10 },
+        49,
+        "the image would get longer",
+    ),
     (Fault::Usage, 50, "bad arguments"),
     (Fault::OpenFailed, 51, "cannot open file"),
 ];

@@ -41,6 +41,7 @@ fn advice(fault: Fault) -> &'static str
         }
         Fault::NothingToWrite => "the input was read to its end, and has no byte",
         Fault::Session(fault) => session_advice(fault),
+        Fault::Grows { .. } => "without --no-grow it may get longer",
         Fault::ChangedSince => {
             "--anyway goes on all the same, and --fresh of the command that writes it begins a new history; see bx show -d"
         }
