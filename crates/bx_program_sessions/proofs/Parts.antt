@@ -27,6 +27,9 @@ use Rattle.bx_cli_commands.specs.declared.changes.DdChange.{DdChange}
 use Rattle.bx_cli_commands.specs.declared.command.Command.{Command}
 use Rattle.bx_cli_commands.specs.declared.command.Command.TheVariants.{Copy, Dd, Patch, Redo, Revert, RevertPlain, Undo}
 use Rattle.bx_cli_commands.specs.declared.command.Reply.{Reply}
+use Rattle.bx_cli_commands.specs.declared.command.Kept.{Kept}
+use Rattle.bx_cli_commands.specs.declared.command.Kept.TheVariants as of_kept
+use Rattle.bx_cli_commands.specs.Growth.{IsNoLonger, IsPartWithin, KeptStep, Lengthens, LengthensNot, WithinStep}
 use Rattle.bx_cli_commands.specs.declared.command.Reply.TheVariants.{Changed, Copied, Redone, Refused, Undone}
 use Rattle.bx_cli_commands.specs.declared.fault.Fault.{Fault}
 use Rattle.bx_cli_commands.specs.declared.fault.Fault.TheVariants.{Session}
@@ -34,7 +37,7 @@ use Rattle.bx_program_sessions.specs.Changes.{Changes, InterruptsChange}
 use Rattle.bx_program_sessions.specs.Contents.{Contents, EndsAt, Holds, StepsTo}
 use Rattle.bx_program_sessions.specs.Task.{IsChangedAsRead, IsPartOfTask, TaskStep}
 use Rattle.bx_program_sessions.specs.declared.task.Task.{Task}
-use Rattle.bx_program_sessions.specs.declared.task.Task.TheVariants.{Put, Run}
+use Rattle.bx_program_sessions.specs.declared.task.Task.TheVariants.{Keep, Put, Run}
 
 abbrev told_or : ℕ → Result ℕ Fault → ℕ
 told_or m (Ok n) = n
@@ -110,6 +113,22 @@ patch_told A s asked reply n after some tells (inr (inr (None, agrees, step))) =
     call_told Changed (PerformUp c) s reply n after (λ m. refl) (λ m call. perform_leads c s m after some call) tells step
 patch_told A s asked reply n after some tells (inr (inr (Some other, has, step))) = absurd (let wrong = sym tells ∙ ap stands_by step.0 in cc)
 
+within_told : {A : Type 0} (c : Change A) (s : Images) (reply : Reply) (n : ℕ) (after : Standing) → HasImage s
+    → stands_by reply ≡ Ok n → WithinStep (Standing.Up s) c reply after → LeadsTo n after
+within_told c s reply n after some tells (inl failed) = absurd (let wrong = sym tells ∙ ap stands_by failed.0 in cc)
+within_told c s reply n after some tells (inr (inl (fault, is, lengthens, up))) = absurd (let wrong = sym tells ∙ ap stands_by is in cc)
+within_told c s reply n after some tells (inr (inr (not, step))) =
+    call_told Changed (PerformUp c) s reply n after (λ m. refl) (λ m call. perform_leads c s m after some call) tells step
+
+kept_told : {A : Type 0} (s : Images) (kept : Kept A) (reply : Reply) (n : ℕ) (after : Standing) → HasImage s
+    → stands_by reply ≡ Ok n → KeptStep (Standing.Up s) kept reply after → LeadsTo n after
+kept_told s (of_kept.Change c) reply n after some tells step = within_told c s reply n after some tells step
+kept_told s (of_kept.Patch patch) reply n after some tells (inl failed) = absurd (let wrong = sym tells ∙ ap stands_by failed.0 in cc)
+kept_told {A = A} s (of_kept.Patch patch) reply n after some tells (inr (None, agrees, step)) =
+    within_told (patch_change {A = A} (asked_of patch)) s reply n after some tells step
+kept_told s (of_kept.Patch patch) reply n after some tells (inr (Some other, has, step)) =
+    absurd (let wrong = sym tells ∙ ap stands_by step.0 in cc)
+
 module _ {R A : Type 0} (remaining : R → Option (List ℕ)) where
   command_told : (s : Images) (c : Command R A) (reply : Reply) (n : ℕ) (after : Standing) → HasImage s → stands_by reply ≡ Ok n
       → CommandStep remaining (Standing.Up s) c reply after → LeadsTo n after
@@ -182,6 +201,35 @@ patch_stopped A s asked after (inr (inr (None, agrees, step))) =
     let stopped = change_stopped Changed (patch_change {A = A} asked) s after (λ m. refl) step in (stopped.0, stopped.1, (agrees, stopped.2))
 patch_stopped A s asked after (inr (inr (Some other, has, step))) = absurd (let wrong = step.0 in cc)
 
+-- what is found of a change that isn't to make the image longer
+abbrev PartWithin : {A : Type 0} → Change A → Images → Images → Type 0
+PartWithin c s found = IsChanged c s found × IsNoLonger s found
+
+perform_stops_within : {A : Type 0} (c : Change A) (s : Images) (after : Standing) → LengthensNot c (top s.stack) → PerformUp c s (Err Interrupted) after
+    → StopsAt (PartWithin c s) after
+perform_stops_within c s after not (inl is, fits) = (s, is, (inl refl, omega arith))
+perform_stops_within c s after not (inr is, fits) = (change_to (effect c (top s.stack)) s, is, (inr refl, not fits))
+
+-- no fault that tells of a growth is an interruption
+not_longer : {A : Type 0} (c : Change A) (x : List ℕ) (fault : Fault) → Refused (Session Interrupted) ≡ Refused fault → Lengthens c x fault → ⊥
+not_longer c x fault is lengthens =
+    let Told : Fault → Type 0 = λ f. Lengthens c x f in
+    let same : fault ≡ Session Interrupted = cc in
+    subst Told same lengthens
+
+within_stopped : {A : Type 0} (c : Change A) (s : Images) (after : Standing) → WithinStep (Standing.Up s) c Stopped after → StopsAt (PartWithin c s) after
+within_stopped c s after (inl failed) = absurd (let wrong = failed.0 in cc)
+within_stopped c s after (inr (inl (fault, is, lengthens, up))) = absurd (not_longer c (top s.stack) fault is lengthens)
+within_stopped c s after (inr (inr (not, step))) =
+    call_stopped Changed (PerformUp c) (PartWithin c s) s after (λ m. refl) (λ call. perform_stops_within c s after not call) step
+
+kept_stopped : {A : Type 0} (s : Images) (kept : Kept A) (after : Standing) → KeptStep (Standing.Up s) kept Stopped after → StopsAt (IsPartWithin kept s) after
+kept_stopped s (of_kept.Change c) after step = within_stopped c s after step
+kept_stopped s (of_kept.Patch patch) after (inl failed) = absurd (let wrong = failed.0 in cc)
+kept_stopped {A = A} s (of_kept.Patch patch) after (inr (None, agrees, step)) =
+    within_stopped (patch_change {A = A} (asked_of patch)) s after step
+kept_stopped s (of_kept.Patch patch) after (inr (Some other, has, step)) = absurd (let wrong = step.0 in cc)
+
 module _ {R A : Type 0} (remaining : R → Option (List ℕ)) where
   abbrev Part : Command R A → Images → Images → Type 0
   Part c s found = IsPart remaining c s found
@@ -212,11 +260,13 @@ module _ {R : Type 0} (remaining : R → Option (List ℕ)) where
       → TaskStep remaining (Standing.Up s) task reply after → LeadsTo n after
   task_told s (Run command) reply n after some tells step = command_told remaining s command reply n after some tells step
   task_told s (Put read) reply n after some tells step = read_told (λ c. c) s read reply n after some tells step
+  task_told s (Keep kept) reply n after some tells step = kept_told s kept reply n after some tells step
 
   task_stopped : (s : Images) (task : Task R) (after : Standing) → TaskStep remaining (Standing.Up s) task Stopped after
       → StopsAt (IsPartOfTask remaining task s) after
   task_stopped s (Run command) after step = command_stopped remaining s command after step
   task_stopped s (Put read) after step = put_stopped s read after step
+  task_stopped s (Keep kept) after step = kept_stopped s kept after step
 
   done_of : (old new : Contents) (s : Images) (task : Task R) (reply : Reply) (n : ℕ) → Holds old s → stands_by reply ≡ Ok n
       → StepsTo remaining s task reply new → Changes remaining s task reply new n

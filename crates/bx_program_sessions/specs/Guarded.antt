@@ -36,7 +36,7 @@ use Rattle.bx_program_sessions.specs.declared.looked.Ready.{Ready}
 use Rattle.bx_program_sessions.specs.declared.looked.Seal.{Seal}
 use Rattle.bx_program_sessions.specs.declared.looked.Seal.TheVariants.{Kept, Line}
 use Rattle.bx_program_sessions.specs.declared.task.Task.{Task}
-use Rattle.bx_program_sessions.specs.declared.task.Task.TheVariants.{Run, Put}
+use Rattle.bx_program_sessions.specs.declared.task.Task.TheVariants.{Run, Put, Keep}
 use Rattle.bx_program_sessions.specs.declared.terms.Terms.{Terms}
 use Rattle.bx_program_sessions.specs.Contents.{AreHonest, Contents, KeepHonesty, held_by}
 
@@ -93,6 +93,7 @@ is_writing (Run (Redo j)) = nat_lt 0 j
 is_writing (Run command) = true
 is_writing (Put (Ok change)) = true
 is_writing (Put (Err fault)) = false
+is_writing (Keep kept) = true
 
 -- whether a task asks for more steps than there are
 abbrev pub is_too_many : {R : Type 0} → Task R → Option AtRest → Bool

@@ -13,7 +13,7 @@ ghost use Rattle.bx_program_sessions.specs.Guarded.{AreFew, CountLooks, EndsLine
 
 use crate::task::Task;
 use crate::terms::{Terms, is_kept_off, is_moved_off};
-use bx_cli_commands::Command;
+use bx_cli_commands::{Command, Kept};
 use bx_image::{Change, Device, DeviceFailed, check};
 use bx_journal::{Devices, SessionFault, Way};
 use bx_journal_image::{
@@ -62,7 +62,7 @@ fn is_writing<R: Read>(task: &Task<R>) -> bool
         Task::Run(Command::Undo { k }) => *k > 0,
         Task::Run(Command::Redo { j }) => *j > 0,
         Task::Put(Err(_)) => false,
-        Task::Put(Ok(_)) => true,
+        Task::Put(Ok(_)) | Task::Keep(_) => true,
         Task::Run(
             Command::Revert { .. }
             | Command::RevertPlain { .. }
@@ -90,7 +90,8 @@ fn is_too_many<R: Read>(task: &Task<R>, found: &Option<AtRest>) -> bool
             | Command::Copy { .. }
             | Command::Patch { .. },
         )
-        | Task::Put(_) => false,
+        | Task::Put(_)
+        | Task::Keep(_) => false,
     }
 }
 
@@ -108,7 +109,8 @@ fn steps_of<R: Read>(task: &Task<R>) -> Option<Way>
             | Command::Copy { .. }
             | Command::Patch { .. },
         )
-        | Task::Put(_) => None,
+        | Task::Put(_)
+        | Task::Keep(_) => None,
     }
 }
 
@@ -145,8 +147,9 @@ fn span_of<R: Read>(task: &Task<R>, found: &AtRest) -> Span
     match task {
         Task::Run(Command::Undo { .. }) => span_to(len, found.before),
         Task::Run(Command::Redo { .. }) => span_to(len, found.after),
-        Task::Put(Ok(change)) => span_of_change(change, len),
+        Task::Put(Ok(change)) | Task::Keep(Kept::Change(change)) => span_of_change(change, len),
         Task::Put(Err(_))
+        | Task::Keep(Kept::Patch(_))
         | Task::Run(
             Command::Revert { .. }
             | Command::RevertPlain { .. }

@@ -5,7 +5,7 @@ ghost use Rattle.bx_cli_commands.specs.Run.{CommandStep};
 ghost use Rattle.bx_cli_commands.specs.Standing.{CountsBelow};
 ghost use Rattle.bx_program_sessions.specs.Task.{IsNearTask, TaskStep};
 
-use bx_cli_commands::{Command, Reply, change_if_read, run_one};
+use bx_cli_commands::{Command, Kept, Reply, change_if_read, run_kept, run_one};
 use bx_image::{Change, Device};
 use bx_journal::Session;
 use bx_journal_store::TextStore;
@@ -20,6 +20,8 @@ pub enum Task<R = Empty> {
     Run(Command<R>),
     /// The change of a text that was read before, or the text's fault.
     Put(Result<Change, ReadFault>),
+    /// A change that isn't to make the image longer.
+    Keep(Kept),
 }
 
 /// Runs a command on a session.
@@ -48,5 +50,6 @@ pub fn do_task<D: Device, T: TextStore, R: Read + Drop>(
     match task {
         Task::Run(command) => run_whole(alloc, session, command),
         Task::Put(read) => change_if_read(session, read),
+        Task::Keep(kept) => run_kept(session, kept),
     }
 }

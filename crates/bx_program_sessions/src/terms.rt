@@ -105,6 +105,7 @@ pub fn is_moved_off<R: Read>(line: &ImageLine, now: &Standing, task: &Task<R>) -
             | Command::Copy { .. }
             | Command::Patch { .. },
         )
-        | Task::Put(_) => false,
+        | Task::Put(_)
+        | Task::Keep(_) => false,
     }
 }
