@@ -17,7 +17,7 @@ use Rattle.bx_cli_commands.specs.declared.command.Command.TheVariants as command
 use Rattle.bx_cli_commands.specs.declared.command.Reply.{Reply}
 use Rattle.bx_cli_commands.specs.declared.command.Reply.TheVariants as reply
 use Rattle.bx_cli_commands.specs.declared.fault.Fault.{Fault}
-use Rattle.bx_cli_commands.specs.declared.fault.Fault.TheVariants.{Dd, Disagrees, Read, Session}
+use Rattle.bx_cli_commands.specs.declared.fault.Fault.TheVariants.{Dd, Disagrees, Grows, Read, Session}
 use Rattle.bx_program_world.specs.World.{MayBeRead, Sight, held, stat_named}
 use Rattle.bx_program_world.specs.declared.stat.Kind.{Kind}
 use Rattle.bx_program_world.specs.declared.stat.Kind.TheVariants.{Block, Other, Regular}
@@ -27,7 +27,7 @@ use Rattle.bx_program_files.specs.Reasons.{IsReason}
 use Rattle.bx_program_files.specs.declared.unopened.Why.{Why}
 use Rattle.bx_program_sessions.specs.Task.{TaskStep}
 use Rattle.bx_program_sessions.specs.declared.task.Task.{Task}
-use Rattle.bx_program_sessions.specs.declared.task.Task.TheVariants.{Put, Run}
+use Rattle.bx_program_sessions.specs.declared.task.Task.TheVariants.{Keep, Put, Run}
 use Rattle.bx_program_commands.specs.declared.proposal.Proposal.{Proposal}
 use Rattle.bx_program_commands.specs.declared.proposal.Proposal.TheVariants as proposed
 use Rattle.bx_program_commands.specs.declared.proposal.Unpreviewed.{Unpreviewed}
@@ -37,13 +37,15 @@ use Rattle.bx_program_commands.specs.declared.proposal.Unpreviewed.TheVariants.{
 abbrev pub asked : {R : Type 0} → Proposal R → Task R
 asked (proposed.Read read) = Put read
 asked (proposed.Patch patch) = Run (command.Patch patch)
+asked (proposed.Keep kept) = Keep kept
 asked (proposed.Copy plan input) = Run (command.Copy plan input)
 
--- the faults of a proposal itself: of its dump, its patch or its input, or that no image can be so long
+-- the faults of a proposal itself: of its dump, its patch or its input, that the image would get longer, or that no image can be so long
 abbrev pub IsOwnFault : Fault → Type 0
 IsOwnFault (Read e) = Unit {0}
 IsOwnFault (Dd e) = Unit {0}
 IsOwnFault (Disagrees other) = Unit {0}
+IsOwnFault (Grows has wanted) = Unit {0}
 IsOwnFault (Session TooLarge) = Unit {0}
 IsOwnFault fault = ⊥
 

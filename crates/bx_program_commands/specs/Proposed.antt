@@ -1,5 +1,5 @@
 -- The change that is proposed of an image.
-use Rattle.std.specs.Prelude.{◌≡◌, ◌<◌, ◌≤◌, ℕ, Bool, true, false, List, length, Option, Result, Err}
+use Rattle.std.specs.Prelude.{◌≡◌, ◌⊎◌, ◌<◌, ◌≤◌, ℕ, Bool, true, false, List, length, Option, Result, Err}
 use Rattle.std.specs.Result.{MatchResult}
 use Rattle.std.specs.Io.KnownBytes.{Appends}
 use Rattle.bx_image.specs.Change.{Fits, effect}
@@ -10,7 +10,8 @@ use Rattle.bx_image.specs.declared.device.ImageFault.TheVariants as image
 use Rattle.bx_dd.specs.declared.counts.Counts.{Counts}
 use Rattle.bx_patch.specs.Diff.{IsFaultFor, WritesPrefix}
 use Rattle.bx_patch.specs.Other.{HasOther}
-use Rattle.bx_patch.specs.Patch.{Asked}
+use Rattle.bx_patch.specs.Patch.{Agrees, Asked, patch_change}
+use Rattle.bx_patch.specs.Read.{asked_of}
 use Rattle.bx_patch.specs.Text.{patch_text}
 use Rattle.bx_patch.specs.declared.diff.fault.DiffFault.{DiffFault}
 use Rattle.bx_patch.specs.declared.diff.fault.DiffFault.TheVariants.{NewFailed, NoMemory, OldFailed, TooLarge as DiffTooLarge}
@@ -18,6 +19,9 @@ use Rattle.bx_patch.specs.declared.diff.row.Extent.TheVariants.{Bytes}
 use Rattle.bx_journal.specs.Forgotten.{only}
 use Rattle.bx_journal.specs.SessionFault.{SessionFault}
 use Rattle.bx_journal.specs.SessionFault.TheVariants.{TooLarge}
+use Rattle.bx_cli_commands.specs.Growth.{Lengthens, LengthensNot}
+use Rattle.bx_cli_commands.specs.declared.command.Kept.{Kept}
+use Rattle.bx_cli_commands.specs.declared.command.Kept.TheVariants.{Change as OfChange, Patch as OfPatch}
 use Rattle.bx_cli_commands.specs.Run.{answered, made_reply}
 use Rattle.bx_cli_commands.specs.Standing.{PerformUp, Standing}
 use Rattle.bx_cli_commands.specs.declared.fault.Fault.TheVariants.{Disagrees, Session}
@@ -42,6 +46,24 @@ abbrev pub IsUnagreed : Asked → List ℕ → Unpreviewed → Type 0
 IsUnagreed p x (Refused (Disagrees other)) = HasOther p x other
 IsUnagreed p x (Stopped fault) = fault ≡ OldFailed
 IsUnagreed p x unpreviewed = ⊥
+
+-- why a change that isn't to make the image longer isn't made: it would, and the fault has both lengths, or the image's device failed
+abbrev pub IsGrown : {A : Type 0} → Change A → List ℕ → Unpreviewed → Type 0
+IsGrown c x (Refused fault) = Lengthens c x fault
+IsGrown c x (Stopped fault) = fault ≡ OldFailed
+IsGrown c x unpreviewed = ⊥
+
+-- the change is one that doesn't make the image longer; a patch's is its change, and the image agrees with it
+abbrev pub IsKeptChange : {A : Type 0} → Kept A → List ℕ → Change A → Type 0
+IsKeptChange (OfChange c) x change = (change ≡ c) × LengthensNot c x
+IsKeptChange (OfPatch patch) x change =
+    (change ≡ patch_change (asked_of patch)) × Agrees (asked_of patch) x × LengthensNot change x
+
+-- why there is none: the image disagrees with the patch, or would get longer, or its device failed
+abbrev pub IsUnkept : {A : Type 0} → Kept A → List ℕ → Unpreviewed → Type 0
+IsUnkept (OfChange c) x why = IsGrown c x why
+IsUnkept {A = A} (OfPatch patch) x why =
+    IsUnagreed (asked_of patch) x why ⊎ (Agrees (asked_of patch) x × IsGrown (patch_change {A = A} (asked_of patch)) x why)
 
 -- why there is no change: the machine's step refuses what is proposed, or the device of the image failed
 abbrev pub HasNoChange : {R : Type 0} → (R → Option (List ℕ)) → Proposal R → List ℕ → Unpreviewed → Type 0

@@ -1,14 +1,15 @@
 //! The change that is proposed of an image, which is only read.
 ghost use Rattle.std.specs.Prelude.{◌≡◌, ◌<◌, ◌≤◌, List, ℕ, IfErr, IfOk, MatchResult, OnOk, false, true};
 ghost use Rattle.bx_image.specs.Change.{effect};
+ghost use Rattle.bx_cli_commands.specs.Growth.{LengthensNot};
 ghost use Rattle.bx_patch.specs.Diff.{OnlyReads};
 ghost use Rattle.bx_patch.specs.Patch.{Agrees, patch_change};
 ghost use Rattle.bx_patch.specs.Read.{asked_of};
 ghost use Rattle.bx_program_commands.specs.Previews.{MakesFirst, StopsBefore};
-ghost use Rattle.bx_program_commands.specs.Proposed.{IsProposedChange, IsFitting, IsTooLong, IsUnagreed, HasNoChange, failed_image};
+ghost use Rattle.bx_program_commands.specs.Proposed.{IsProposedChange, IsFitting, IsGrown, IsKeptChange, IsTooLong, IsUnagreed, IsUnkept, HasNoChange, failed_image};
 
 use crate::proposal::{Proposal, Unpreviewed};
-use bx_cli_commands::{Fault, change_of_plan};
+use bx_cli_commands::{Fault, Kept, change_of_plan, refuse_growth};
 use bx_dd::{Counts, Plan};
 use bx_image::{Change, Device, check};
 use bx_journal::SessionFault;
@@ -56,6 +57,56 @@ fn make_of_copy<R: Read + Drop>(alloc: Global, plan: Plan, input: R) -> Result<M
     }
 }
 
+/// The same change, unless it makes the image longer.
+fn within<D: Device>(image: &mut D, change: Change) -> Result<Change, Unpreviewed>
+    requires countable { D.failures image.old < u64.MAX }
+    ensures change { D.honest image.old → IfOk result (λ same. (same ≡ change) × LengthensNot change (D.image image.old)) }
+    ensures stops { D.honest image.old → IfErr result (IsGrown change (D.image image.old)) }
+    ensures reads { OnlyReads D.honest D.image D.room D.failures D.survives (failed_image result) image.old image.new }
+{
+    let has = match image.len() {
+        Ok(has) => has,
+        Err(_) => return Err(Unpreviewed::Stopped(DiffFault::OldFailed)),
+    };
+    match refuse_growth(&change, has) {
+        Ok(()) => Ok(change),
+        Err(growth) => Err(Unpreviewed::Refused(growth)),
+    }
+}
+
+/// The change that isn't to make the image longer, or why there is none.
+fn change_of_kept<D: Device>(image: &mut D, kept: Kept) -> Result<Change, Unpreviewed>
+    requires countable { D.failures image.old < u64.MAX }
+    ensures change { D.honest image.old → IfOk result (IsKeptChange kept (D.image image.old)) }
+    ensures stops { D.honest image.old → IfErr result (IsUnkept kept (D.image image.old)) }
+    ensures reads { OnlyReads D.honest D.image D.room D.failures D.survives (failed_image result) image.old image.new }
+{
+    match kept {
+        Kept::Change(change) => within(image, change),
+        Kept::Patch(patch) => match change_of_patch(image, patch) {
+            Ok(change) => within(image, change),
+            Err(why) => Err(why),
+        },
+    }
+}
+
+/// The same, as what is proposed.
+fn make_of_kept<D: Device, R: Read + Drop>(image: &mut D, kept: Kept) -> Result<Made, Unpreviewed>
+    requires countable { D.failures image.old < u64.MAX }
+    ensures made { D.honest image.old
+        → IfOk result (λ made. IsProposedChange R.remaining (Proposal.Keep kept) (D.image image.old) made.change made.counts) }
+    ensures stops { D.honest image.old → IfErr result (HasNoChange R.remaining (Proposal.Keep kept) (D.image image.old)) }
+    ensures reads { OnlyReads D.honest D.image D.room D.failures D.survives (failed_image result) image.old image.new }
+{
+    match change_of_kept(image, kept) {
+        Ok(change) => Ok(Made {
+            change,
+            counts: None,
+        }),
+        Err(why) => Err(why),
+    }
+}
+
 /// The change that is proposed, and its counts.
 fn make_change<D: Device, R: Read + Drop>(
     alloc: Global,
@@ -81,6 +132,7 @@ fn make_change<D: Device, R: Read + Drop>(
             }),
             Err(why) => Err(why),
         },
+        Proposal::Keep(kept) => make_of_kept::<D, R>(image, kept),
         Proposal::Copy { plan, input } => make_of_copy(alloc, plan, input),
     }
 }

@@ -1,5 +1,5 @@
 //! What is asked of an image and is not done.
-use bx_cli_commands::Fault;
+use bx_cli_commands::{Fault, Kept};
 use bx_dd::Plan;
 use bx_image::Change;
 use bx_patch::{DiffFault, Patch};
@@ -14,6 +14,8 @@ pub enum Proposal<R = Empty> {
     Read(Result<Change, ReadFault>),
     /// The change of a patch, with which the image has to agree.
     Patch(Patch),
+    /// A change that isn't to make the image longer.
+    Keep(Kept),
     /// What dd's plan makes of an input.
     Copy {
         /// The plan.

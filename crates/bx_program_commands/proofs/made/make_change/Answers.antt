@@ -10,3 +10,9 @@ returns-in-Copy-clause-made g c honest = rw c.in-Copy.is (c.make_of_copy.ensures
 
 pub returns-in-Copy-clause-stops : goal.returns-in-Copy-clause-stops
 returns-in-Copy-clause-stops g c honest = rw c.in-Copy.is (c.make_of_copy.ensures.stops (g.D.Device.image c.args.image.now))
+
+pub returns-in-Keep-clause-made : goal.returns-in-Keep-clause-made
+returns-in-Keep-clause-made g c honest = rw c.in-Keep.is (c.make_of_kept.ensures.made honest)
+
+pub returns-in-Keep-clause-stops : goal.returns-in-Keep-clause-stops
+returns-in-Keep-clause-stops g c honest = rw c.in-Keep.is (c.make_of_kept.ensures.stops honest)
