@@ -10,7 +10,7 @@ mod text;
 
 pub use fault::cause::{is_of_words, show_cause, show_misuse};
 pub use fault::hint::{Known, hint_text};
-pub use fault::stopped::{Reason, Row, STANDARD_INPUT, STANDARD_OUTPUT, Stopped};
+pub use fault::stopped::{Reason, Row, STANDARD_INPUT, STANDARD_OUTPUT, Since, Stopped};
 pub use remarks::Remarks;
 pub use remarks::audience::{Audience, Terminals, asks_for_hints};
 pub use remarks::beside::unlike_line;
