@@ -201,7 +201,8 @@ fn standing_before<R: Read>(task: &Task<R>, found: &Option<AtRest>) -> Standing
             | Command::Copy { .. }
             | Command::Patch { .. },
         )
-        | Task::Put(_) => now,
+        | Task::Put(_)
+        | Task::Keep(_) => now,
     }
 }
 
