@@ -19,6 +19,7 @@ pub mod Agreed
 pub mod Within
 pub mod Copying
 pub mod RoundTrips
+pub mod PatchTrips
 pub mod XxdRows
 pub mod XxdReverts
 pub mod PassedLemmas

@@ -16,4 +16,5 @@ pub mod Loss
 pub mod Listing
 pub mod ShowDump
 pub mod RoundTrip
+pub mod PatchTrip
 pub mod jobs

@@ -8,6 +8,8 @@ ghost use Rattle.bx_journal.specs.ThreeDevices.{AreBelow};
 ghost use Rattle.bx_cli_commands.specs.Standing.{CountsBelow};
 ghost use Rattle.bx_cli_commands.specs.RoundTrip.{ChangesAgain, ChangesAndUndoes, MovesBy, MovesOn, OpensAt, RestsIn, UndoneFrom, images_after};
 
+pub mod patch;
+
 use bx_image::{Change, Device};
 use bx_journal::laws::{one_stack, one_undone};
 use bx_journal::{Devices, How, Session};
