@@ -15,7 +15,7 @@ use Rattle.bx_read.specs.Line.{read_line}
 use Rattle.bx_read.specs.Grammar.{IsLine, GivesPieces, total_bytes}
 use Rattle.bx_read.specs.private.Next.{IsNextPiece}
 use Rattle.bx_read.specs.Text.{ReadLine, is_skipped, answer_then, answers, piece_then, gathered, lines_of, contents}
-use Rattle.bx_read.specs.private.Text.{IsPiece, with_front}
+use Rattle.bx_read.proofs.Parts.{IsPiece, with_front}
 use Rattle.bx_text.specs.declared.owned.pieces.Piece.{Piece}
 use Rattle.bx_read.specs.declared.fault.ReadFault.{ReadFault}
 use Rattle.bx_read.proofs.GrammarLemmas.{read_line-found, read_line-only, and_true, guard_some, unmap}

@@ -10,7 +10,7 @@ use Rattle.std.proofs.lemmas.Bool.{eqb-true, eqb-false, ltb-true, ltb-false, leb
 use Rattle.bx_read.specs.Digits.{is_hex, pairs_of, data_of}
 use Rattle.bx_read.specs.private.Digits.{pair_count}
 use Rattle.bx_read.specs.Line.{read_line, read_data}
-use Rattle.bx_read.specs.private.Line.{read_pairs}
+use Rattle.bx_read.proofs.Parts.{read_pairs}
 use Rattle.bx_read.specs.Grammar.{EndsData}
 use Rattle.bx_read.specs.FaultTable.{BeginsWith, HasAddress, HasData, HasPairs, IsNoPairs, IsFaultOf, FaultIsOfLine}
 use Rattle.bx_read.proofs.GrammarLemmas.{first_digit, data_of-ends, data_of-pairs}

@@ -10,7 +10,7 @@ use Rattle.std.proofs.lemmas.Bool.{eqb-true, eqb-false, ltb-false, leb-false, ca
 use Rattle.bx_read.specs.Digits.{is_hex, pairs_of, pair_value, data_of}
 use Rattle.bx_read.specs.private.Digits.{pair_count}
 use Rattle.bx_read.specs.Line.{read_line, read_data}
-use Rattle.bx_read.specs.private.Line.{read_pairs}
+use Rattle.bx_read.proofs.Parts.{read_pairs}
 use Rattle.bx_read.specs.Grammar.{IsLine, EndsData}
 use Rattle.bx_read.specs.declared.fault.ReadFault.{ReadFault}
 use Rattle.bx_read.specs.declared.fault.ReadFault.TheVariants.{BadAddress, MissingColon, BadPair, NoData, TooWide, AddressTooLarge}

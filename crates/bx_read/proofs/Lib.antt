@@ -1,3 +1,4 @@
+pub mod Parts
 pub mod DigitsLemmas
 pub mod PairsLemmas
 pub mod GrammarLemmas

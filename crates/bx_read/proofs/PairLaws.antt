@@ -4,7 +4,7 @@ use Rattle.std.specs.Option.{option_map}
 use Rattle.std.proofs.lemmas.Bool.{eqb-true, false≢true}
 use Rattle.bx_read.specs.Digits.{is_hex, pairs_of, pair_value}
 use Rattle.bx_read.specs.Plain.{is_space, hex_bytes}
-use Rattle.bx_read.specs.private.Plain.{plain_bytes, without_space, bytes_or_fault}
+use Rattle.bx_read.proofs.Parts.{plain_bytes, without_space, bytes_or_fault}
 use Rattle.bx_read.specs.PairGrammar.{WritesByte, ArePairs, PairsHaveForm, IsBlank, IsPlain, PlainHasForm}
 use Rattle.bx_read.proofs.GrammarLemmas.{and_true, guard_some, first_digit}
 use Rattle.bx_read.proofs.PairsLemmas.{pairs_of-last, pairs_of-space, pairs_of-next}

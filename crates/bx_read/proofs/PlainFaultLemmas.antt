@@ -6,7 +6,7 @@ use Rattle.bx_read.specs.Digits.{is_hex, pair_value}
 use Rattle.bx_read.specs.Plain.{is_space, hex_bytes, bad_line, digit_line, plain_answer}
 use Rattle.bx_read.specs.PairGrammar.{IsBlank}
 use Rattle.bx_read.specs.PlainFaults.{belongs, HasOddDigits, IsFaultOfPlain, FaultIsOfPlain}
-use Rattle.bx_read.specs.private.Plain.{plain_bytes, without_space, plain_fault}
+use Rattle.bx_read.proofs.Parts.{plain_bytes, without_space, plain_fault}
 use Rattle.bx_read.specs.declared.fault.ReadFault.{ReadFault}
 use Rattle.bx_read.specs.declared.fault.ReadFault.TheVariants.{NoMemory, BadAddress, MissingColon, BadPair, NoData, TooWide, AddressTooLarge, OddDigits}
 use Rattle.bx_read.proofs.FaultLemmas.{answers}

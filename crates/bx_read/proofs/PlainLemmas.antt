@@ -6,7 +6,7 @@ use Rattle.std.proofs.lemmas.Bool.{ne_eqb, lt-leb, le-leb}
 use Rattle.std.proofs.lemmas.List.{take_more, take_more_set}
 use Rattle.bx_read.specs.Digits.{is_hex, pair_value}
 use Rattle.bx_read.specs.Plain.{is_space, hex_bytes, plain_answer}
-use Rattle.bx_read.specs.private.Plain.{plain_bytes, without_space, bytes_or_fault}
+use Rattle.bx_read.proofs.Parts.{plain_bytes, without_space, bytes_or_fault}
 use Rattle.bx_read.proofs.GrammarLemmas.{guard_some}
 use Rattle.bx_read.proofs.WrittenLemmas.{hex_range}
 

@@ -5,7 +5,7 @@ use Rattle.std.specs.Option.{option_map, is_some}
 use Rattle.std.proofs.lemmas.Bool.{eqb-true}
 use Rattle.bx_read.specs.Digits.{is_hex, pair_value}
 use Rattle.bx_read.specs.Plain.{is_space, hex_bytes, bad_line, digit_line, plain_answer}
-use Rattle.bx_read.specs.private.Plain.{without_space}
+use Rattle.bx_read.proofs.Parts.{without_space}
 use Rattle.bx_read.specs.PlainWindow.{half_digit, HasDigits, IsPlainFault, HasReadPlainBy, HasReadPlain}
 use Rattle.bx_read.specs.declared.fault.ReadFault.{ReadFault}
 use Rattle.bx_read.specs.declared.fault.ReadFault.TheVariants.{NoMemory, BadPair, OddDigits}

@@ -14,7 +14,7 @@ use Rattle.bx_read.specs.Line.{read_line, read_data}
 use Rattle.bx_read.specs.Text.{lines_of, is_skipped, answer_then, answers, gathered}
 use Rattle.bx_read.specs.Window.{ReadsAlike}
 use Rattle.bx_read.specs.private.Digits.{pair_count}
-use Rattle.bx_read.specs.private.Line.{read_pairs}
+use Rattle.bx_read.proofs.Parts.{read_pairs}
 use Rattle.bx_read.specs.private.Unfinished.{is_too_wide, IsFaultOfFront, IsWideFront}
 use Rattle.bx_read.specs.declared.fault.ReadFault.{ReadFault}
 use Rattle.bx_read.specs.declared.fault.ReadFault.TheVariants.{NoMemory, BadAddress, MissingColon, BadPair, NoData, TooWide, AddressTooLarge, OddDigits}
