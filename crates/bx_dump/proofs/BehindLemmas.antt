@@ -34,7 +34,7 @@ pub od_rest : (n : ℕ) (whole rest : OdOptions) → IsOdRest n whole rest → o
 od_rest n whole rest is =
     let start : rest.first + rest.skip ≡ whole.first + whole.skip = omega (arith, is.skip, is.first) in
     let skip : rest.skip ≡ whole.skip - n = omega (arith, is.skip) in
-    rw (start, skip, is.shown.0, is.shown.1, is.shown.2, is.shown.3, is.laid.0, is.laid.1) refl
+    rw (start, skip, is.shown.0, is.shown.1, is.shown.2, is.shown.3, is.laid.0, is.laid.1, is.rows.0, is.rows.1) refl
 
 pub hexdump_rest : (n : ℕ) (whole rest : HexdumpOptions) → IsHexdumpRest n whole rest → hexdump_of rest ≡ behind n (hexdump_of whole)
 hexdump_rest n whole rest is =

@@ -27,6 +27,7 @@ pub record IsOdRest (n : ℕ) (whole rest : OdOptions) : Type 0 where
   pub first : rest.first ≡ whole.first + n
   pub shown : (rest.address ≡ whole.address) × (rest.kind ≡ whole.kind) × (rest.limit ≡ whole.limit) × (rest.all ≡ whole.all)
   pub laid : (rest.endian ≡ whole.endian) × (rest.width ≡ whole.width)
+  pub rows : (rest.text ≡ whole.text) × (rest.below ≡ whole.below)
 
 -- the same of hexdump's
 pub record IsHexdumpRest (n : ℕ) (whole rest : HexdumpOptions) : Type 0 where

@@ -3,7 +3,7 @@ use Rattle.std.specs.Prelude.{◌≡◌, ℕ, ◌+◌, ◌^◌, ◌<◌, ◌≤�
 use Rattle.std.specs.Io.KnownBytes.{Consumes, IsAtEnd}
 use Rattle.bx_text.specs.declared.fault.IoFault.{IoFault}
 use Rattle.bx_text.specs.declared.fault.IoFault.TheVariants.{SkipPastEnd}
-use Rattle.bx_dump.specs.Od.{od_text}
+use Rattle.bx_dump.specs.Od.{columns_below, od_line, od_rows, od_text, plain_or_rows}
 use Rattle.bx_dump.specs.Pages.{Dump, WritesFrontOf}
 use Rattle.bx_dump.specs.declared.od.options.OdOptions.{OdOptions}
 
@@ -11,9 +11,14 @@ use Rattle.bx_dump.specs.declared.od.options.OdOptions.{OdOptions}
 abbrev pub Reaches : ℕ → Option (List ℕ) → Option (List ℕ) → Type 0
 Reaches count r0 r1 = (input : List ℕ) × Consumes r0 r1 input × (count ≤ length input)
 
+-- the line that the options ask for
+abbrev pub shown_line : OdOptions → ℕ → List ℕ → List ℕ
+shown_line o = plain_or_rows o.text o.below.count (od_line o.address o.kind o.endian)
+    (od_rows o.address o.endian o.width (record { kind = o.kind; text = o.text }) (columns_below o.below))
+
 -- the dump that the options ask for
 abbrev pub od_of : OdOptions → Dump
-od_of o = record { text = od_text o.address o.kind o.endian o.width o.all (o.first + o.skip); skip = o.skip; limit = o.limit }
+od_of o = record { text = od_text o.address (shown_line o) o.width o.all (o.first + o.skip); skip = o.skip; limit = o.limit }
 
 -- the input ended before `count` bytes
 abbrev pub EndsBefore : ℕ → Option (List ℕ) → Option (List ℕ) → Type 0

@@ -2,6 +2,7 @@ pub mod LinesLemmas
 pub mod PlaceLemmas
 pub mod BinaryLemmas
 pub mod OdLemmas
+pub mod SpreadLemmas
 pub mod OdFixed
 pub mod OdHex
 pub mod OdOctal

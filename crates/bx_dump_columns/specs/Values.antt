@@ -1,5 +1,5 @@
 -- What od shows of bytes: values and characters in their fields.
-use Rattle.std.specs.Prelude.{ℕ, ◌+◌, ◌-◌, ◌*◌, ◌^◌, false, ◌&&◌, nat_le, nat_lt, ◌==◌, if◌then◌else◌, List, [], ◌∷◌, ◌++◌, length, replicate, reverse, slice_index, codes}
+use Rattle.std.specs.Prelude.{ℕ, ◌+◌, ◌-◌, ◌*◌, ◌/◌, ◌^◌, false, ◌&&◌, nat_le, nat_lt, ◌==◌, if◌then◌else◌, List, [], ◌∷◌, ◌++◌, length, replicate, reverse, slice_index, codes}
 use Rattle.std.specs.Fmt.{digits}
 use Rattle.bx_text.specs.Ascii.{is_printable}
 use Rattle.bx_text.specs.Field.{left_filled}
@@ -80,6 +80,14 @@ value_text kind at bytes = 32 ∷ field_text kind (value_of bytes)
 -- the same where the value's bytes stand in an order
 abbrev pub value_text_in : Endian → Kind → ℕ → List ℕ → List ℕ
 value_text_in endian kind at bytes = 32 ∷ field_text kind (value_in endian (width_of kind) bytes)
+
+-- of `pad` blanks that are spread over a line of n bytes, those in front of the values from byte `at` on
+abbrev pub blanks_from : ℕ → ℕ → ℕ → ℕ
+blanks_from pad n at = pad * (n - at) / n
+
+-- a value behind its part of the blanks
+abbrev pub spread_text : Endian → Kind → ℕ → ℕ → ℕ → List ℕ → List ℕ
+spread_text endian kind pad n at bytes = replicate (blanks_from pad n at - blanks_from pad n (at + width_of kind)) 32 ++ value_text_in endian kind at bytes
 
 -- the values of some bytes
 abbrev pub values_text : Kind → List ℕ → List ℕ

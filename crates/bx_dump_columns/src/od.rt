@@ -9,4 +9,5 @@ mod hexadecimal;
 pub mod octal;
 mod octal_lanes;
 pub mod options;
+pub mod spread;
 pub mod values;

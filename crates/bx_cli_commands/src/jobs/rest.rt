@@ -17,6 +17,8 @@ pub fn od_rest(o: &OdOptions, passed: u64) -> OdOptions
     OdOptions {
         address: o.address,
         kind: o.kind,
+        text: o.text,
+        below: o.below,
         endian: o.endian,
         width: o.width,
         first: o.first + passed,

@@ -6,13 +6,34 @@ use Rattle.bx_text.specs.private.Stream.{StopsAfter}
 use Rattle.bx_dump_columns.specs.declared.od.options.Endian.TheVariants.{Little}
 use Rattle.bx_text.specs.Fold.{folded}
 use Rattle.bx_dump.specs.FoldBy.{folded_by}
-use Rattle.bx_dump.specs.Od.{od_line}
-use Rattle.bx_dump.specs.OdDump.{EndsBefore}
+use Rattle.bx_dump.specs.Od.{columns_below, od_line, od_rows}
+use Rattle.bx_dump.specs.OdDump.{EndsBefore, shown_line}
 use Rattle.bx_dump.specs.private.Pages.{StopsNext, Streams, WritesNext}
 use Rattle.bx_dump.specs.declared.driver.pages.Part.{Part}
 use Rattle.bx_dump.specs.declared.od.options.OdOptions.{OdOptions}
 
--- od's lines of some bytes
+-- the lines of some bytes
+abbrev pub shown_lines : OdOptions → List ℕ → List ℕ
+shown_lines o bytes = folded_by o.width (shown_line o) o.all (o.first + o.skip) bytes
+
+abbrev pub WritesShownLines : OdOptions → ℕ → Streams → Part → Type 0
+WritesShownLines o taken io part = WritesNext (shown_lines o) taken o.limit io part
+
+abbrev pub StopsShownLines : OdOptions → ℕ → Streams → IoFault → Type 0
+StopsShownLines o taken io fault = StopsNext (shown_lines o) taken o.limit 0 io fault
+
+-- lines of rows
+abbrev pub lines_with_rows : OdOptions → List ℕ → List ℕ
+lines_with_rows o bytes =
+    folded_by o.width (od_rows o.address o.endian o.width (record { kind = o.kind; text = o.text }) (columns_below o.below)) o.all (o.first + o.skip) bytes
+
+abbrev pub WritesRowLines : OdOptions → ℕ → Streams → Part → Type 0
+WritesRowLines o taken io part = WritesNext (lines_with_rows o) taken o.limit io part
+
+abbrev pub StopsRowLines : OdOptions → ℕ → Streams → IoFault → Type 0
+StopsRowLines o taken io fault = StopsNext (lines_with_rows o) taken o.limit 0 io fault
+
+-- lines of one type of values
 abbrev pub od_lines : OdOptions → List ℕ → List ℕ
 od_lines o bytes = folded_by o.width (od_line o.address o.kind o.endian) o.all (o.first + o.skip) bytes
 

@@ -3,14 +3,16 @@ ghost use Rattle.std.specs.Prelude.{◌≡◌, ◌⊎◌, ℕ, ◌+◌, ◌^◌,
 ghost use Rattle.bx_text.specs.Stream.{Skips};
 ghost use Rattle.bx_dump.specs.OdDump.{Reaches, StopsOd, od_of};
 ghost use Rattle.bx_dump.specs.private.Pages.{streams_of};
-ghost use Rattle.bx_dump.specs.private.OdDump.{StopsOdLines, StopsPlainLines, StopsShort, WritesOdLines, WritesPlainLines};
+ghost use Rattle.bx_dump.specs.private.OdDump.{StopsOdLines, StopsPlainLines, StopsRowLines, StopsShort, StopsShownLines, WritesOdLines, WritesPlainLines, WritesRowLines, WritesShownLines};
 ghost use Rattle.bx_dump.specs.Pages.{WritesAll};
 
 use crate::driver::folded::FoldedPages;
 use crate::driver::pages::{LIMIT, Part, dump_pages, skip_front};
 use crate::driver::wide::WidePages;
+use crate::od::below::Column;
 use crate::od::lines::{OdLines, OdWide, end_line};
 use crate::od::options::OdOptions;
+use crate::od::rows::OdRows;
 use bx_dump_columns::od::options::Endian;
 use bx_text::{IoFault, Meter, State, emit_after};
 use std::io::{Read, Write};
@@ -33,6 +35,57 @@ fn reach<R: Read>(meter: &mut Meter, r: &mut R, count: u64) -> Result<(), IoFaul
 }
 
 /// Writes the lines of what comes behind the bytes that are skipped.
+fn dump_shown<R: Read, W: Write>(
+    meter: &mut Meter,
+    r: &mut R,
+    w: &mut W,
+    o: &OdOptions,
+) -> Result<Part, IoFault>
+    requires open { meter.old.state ≡ State.Open }
+    requires limit { meter.old.limit ≡ 2 ^ 40 }
+    ensures ok { IfOk result (WritesShownLines o.now meter.old.taken (streams_of R.remaining r.old r.new W.contents w.old w.new)) }
+    ensures err { IfErr result (StopsShownLines o.now meter.old.taken (streams_of R.remaining r.old r.new W.contents w.old w.new)) }
+    ensures few { IfOk result (λ part. part.written ≤ 2 ^ 60) }
+    ensures count { IfOk result (λ part. part.read ≤ 2 ^ 40) }
+{
+    if o.text {
+        return dump_rows(meter, r, w, o);
+    }
+    if o.below.count > 0 {
+        return dump_rows(meter, r, w, o);
+    }
+    dump_lines(meter, r, w, o)
+}
+
+/// The same of lines of rows.
+fn dump_rows<R: Read, W: Write>(
+    meter: &mut Meter,
+    r: &mut R,
+    w: &mut W,
+    o: &OdOptions,
+) -> Result<Part, IoFault>
+    requires open { meter.old.state ≡ State.Open }
+    requires limit { meter.old.limit ≡ 2 ^ 40 }
+    ensures ok { IfOk result (WritesRowLines o.now meter.old.taken (streams_of R.remaining r.old r.new W.contents w.old w.new)) }
+    ensures err { IfErr result (StopsRowLines o.now meter.old.taken (streams_of R.remaining r.old r.new W.contents w.old w.new)) }
+    ensures few { IfOk result (λ part. part.written ≤ 2 ^ 60) }
+    ensures count { IfOk result (λ part. part.read ≤ 2 ^ 40) }
+{
+    let lines = OdRows {
+        address: o.address,
+        first: Column {
+            kind: o.kind,
+            text: o.text,
+        },
+        below: o.below,
+        endian: o.endian,
+        width: o.width,
+    };
+    let mut pages = WidePages::new(lines, o.all, o.first + o.skip);
+    dump_pages(meter, r, w, &mut pages, o.limit, 0)
+}
+
+/// The same of lines of one type of values.
 fn dump_lines<R: Read, W: Write>(
     meter: &mut Meter,
     r: &mut R,
@@ -136,7 +189,7 @@ pub fn od<R: Read, W: Write>(r: &mut R, w: &mut W, o: &OdOptions) -> Result<u64,
     if let Err(fault) = reach(&mut meter, r, o.skip) {
         return Err(fault);
     }
-    let lines = match dump_lines(&mut meter, r, w, o) {
+    let lines = match dump_shown(&mut meter, r, w, o) {
         Ok(lines) => lines,
         Err(fault) => return Err(fault),
     };

@@ -66,7 +66,7 @@ fn put_start_of_nine(page: &mut [u8], at: u64) -> usize
 
 /// Puts an address at the front, and answers how long it is.
 #[inline(always)]
-fn put_start(page: &mut [u8], address: Address, at: u64) -> usize
+pub(super) fn put_start(page: &mut [u8], address: Address, at: u64) -> usize
     requires { 22 ≤ length page.old }
     ensures most { result ≤ 22 }
     ensures text { take result page.new ≡ address_text address at }

@@ -1,6 +1,7 @@
 //! What od shows.
 ghost use Rattle.std.specs.Prelude.{◌<◌, ◌≤◌, ◌^◌};
 
+use crate::od::below::Below;
 use bx_dump_columns::od::options::{Address, Endian, Kind};
 
 /// What od shows.
@@ -8,6 +9,10 @@ use bx_dump_columns::od::options::{Address, Endian, Kind};
 pub struct OdOptions {
     pub address: Address,
     pub kind: Kind,
+    /// Whether the bytes stand as text behind the values.
+    pub text: bool,
+    /// What stands below these values, for the same bytes.
+    pub below: Below,
     /// Which byte of a number is the first.
     pub endian: Endian,
     /// The bytes of a line, 1 to 256. A value that stands on two lines would be shown as two.

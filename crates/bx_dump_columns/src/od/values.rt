@@ -90,7 +90,13 @@ fn put_value(text: &mut [u8], kind: Kind, endian: Endian, bytes: &[u8])
 
 /// Puts the value that begins at place `begin` of the bytes, and answers how long its text is.
 #[inline(always)]
-fn put_next(text: &mut [u8], kind: Kind, endian: Endian, bytes: &[u8], begin: usize) -> usize
+pub(crate) fn put_next(
+    text: &mut [u8],
+    kind: Kind,
+    endian: Endian,
+    bytes: &[u8],
+    begin: usize,
+) -> usize
     requires room { field_width kind + 1 ≤ length text.old }
     requires inside { begin < length bytes.now }
     requires few { length bytes.now ≤ 4096 }

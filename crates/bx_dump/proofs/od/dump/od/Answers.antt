@@ -2,12 +2,12 @@ use Rattle.std.proofs.Common.{◌≡◌, ℕ, ◌+◌, ◌^◌, true, Option, Re
 use Rattle.std.proofs.lemmas.List.{length-append}
 use Rattle.bx_text.proofs.KnownLemmas.{Consumes-trans}
 use Rattle.bx_dump.specs.FoldBy.{folded_by}
-use Rattle.bx_dump.specs.Od.{od_line, od_end, od_text}
+use Rattle.bx_dump.specs.Od.{od_end, od_text}
 use Rattle.std.specs.Io.KnownBytes.{Consumes}
 use Rattle.bx_text.specs.declared.fault.IoFault.{IoFault}
 use Rattle.bx_text.specs.declared.fault.IoFault.TheVariants.{WriteFailed, SkipPastEnd}
 use Rattle.bx_text.specs.Stream.{IsReadCause, Skips}
-use Rattle.bx_dump.specs.OdDump.{Reaches, StopsOd, od_of}
+use Rattle.bx_dump.specs.OdDump.{Reaches, StopsOd, shown_line, od_of}
 use Rattle.bx_dump.specs.declared.od.options.OdOptions.{OdOptions}
 use Rattle.bx_dump.specs.private.OdDump.{StopsShort}
 use Rattle.bx_dump.specs.Pages.{bytes_dumped}
@@ -40,28 +40,28 @@ short_stop o r0 r1 w fault (inr stop) =
 pub returns-in-Err-clause-err : goal.returns-in-Err-clause-err
 returns-in-Err-clause-err g c = short_stop c.args.o.now _ _ _ c.in-Err.fault c.in-Err.ensures.err
 
-pub returns-in-Err-dump_lines-clause-err : goal.returns-in-Err-dump_lines-clause-err
-returns-in-Err-dump_lines-clause-err g c =
+pub returns-in-Err-dump_shown-clause-err : goal.returns-in-Err-dump_shown-clause-err
+returns-in-Err-dump_shown-clause-err g c =
     let o = c.args.o.now in
-    let lines = folded_by o.width (od_line o.address o.kind o.endian) o.all (o.first + o.skip) in
+    let lines = folded_by o.width (shown_line o) o.all (o.first + o.skip) in
     let text = λ (xs : List ℕ). lines (bytes_dumped o.skip o.limit xs) in
-    let other = λ (xs : List ℕ). od_text o.address o.kind o.endian o.width o.all (o.first + o.skip) (bytes_dumped o.skip o.limit xs) in
-    let rest = rw c.in_default.ensures.open.1 at c.in-Err-dump_lines.ensures.err in
-    inr (front_of (od_of o) _ _ _ _ c.in-Err-dump_lines.fault (front_then 0 (2 ^ 7) text other o.skip o.limit 0 0 _ _ _ _ c.in-Err-dump_lines.fault (λ xs. (od_end o.address (o.first + o.skip + length (bytes_dumped o.skip o.limit xs)), refl))
+    let other = λ (xs : List ℕ). od_text o.address (shown_line o) o.width o.all (o.first + o.skip) (bytes_dumped o.skip o.limit xs) in
+    let rest = rw c.in_default.ensures.open.1 at c.in-Err-dump_shown.ensures.err in
+    inr (front_of (od_of o) _ _ _ _ c.in-Err-dump_shown.fault (front_then 0 (2 ^ 7) text other o.skip o.limit 0 0 _ _ _ _ c.in-Err-dump_shown.fault (λ xs. (od_end o.address (o.first + o.skip + length (bytes_dumped o.skip o.limit xs)), refl))
     (λ xs. omega (
       arith,
       od_end_few o.address (o.first + o.skip + length (bytes_dumped o.skip o.limit xs)),
       length-append (text xs) (od_end o.address (o.first + o.skip + length (bytes_dumped o.skip o.limit xs))),
       length-append (text []) (od_end o.address (o.first + o.skip + length (bytes_dumped o.skip o.limit []))),
     ))
-    (front_behind 0 lines o.skip o.limit 0 _ _ _ _ _ c.in-Err-dump_lines.fault c.in_default.ensures.ok rest)))
+    (front_behind 0 lines o.skip o.limit 0 _ _ _ _ _ c.in-Err-dump_shown.fault c.in_default.ensures.ok rest)))
 
 pub returns-in-Err-emit_after-clause-err : goal.returns-in-Err-emit_after-clause-err
 returns-in-Err-emit_after-clause-err g c =
     let o = c.args.o.now in
-    let lines = folded_by o.width (od_line o.address o.kind o.endian) o.all (o.first + o.skip) in
+    let lines = folded_by o.width (shown_line o) o.all (o.first + o.skip) in
     let text = λ (xs : List ℕ). lines (bytes_dumped o.skip o.limit xs) in
-    let other = λ (xs : List ℕ). od_text o.address o.kind o.endian o.width o.all (o.first + o.skip) (bytes_dumped o.skip o.limit xs) in
+    let other = λ (xs : List ℕ). od_text o.address (shown_line o) o.width o.all (o.first + o.skip) (bytes_dumped o.skip o.limit xs) in
     let done = c.in-Ok.lines in
     let whole = part_whole lines o.skip o.limit _ _ _ _ _ done.read done.written c.in_default.ensures.ok (rw c.in_default.ensures.open.1 at c.in-Ok.ensures.ok) in
     let line = rw (c.as_bytes.ensures.value, c.end_line-end.ensures) at c.in-Err-emit_after.ensures.err in
@@ -72,9 +72,9 @@ returns-in-Err-emit_after-clause-err g c =
 pub returns-clause-ok : goal.returns-clause-ok
 returns-clause-ok g c =
     let o = c.args.o.now in
-    let lines = folded_by o.width (od_line o.address o.kind o.endian) o.all (o.first + o.skip) in
+    let lines = folded_by o.width (shown_line o) o.all (o.first + o.skip) in
     let text = λ (xs : List ℕ). lines (bytes_dumped o.skip o.limit xs) in
-    let other = λ (xs : List ℕ). od_text o.address o.kind o.endian o.width o.all (o.first + o.skip) (bytes_dumped o.skip o.limit xs) in
+    let other = λ (xs : List ℕ). od_text o.address (shown_line o) o.width o.all (o.first + o.skip) (bytes_dumped o.skip o.limit xs) in
     let done = c.in-Ok.lines in
     let whole = part_whole lines o.skip o.limit _ _ _ _ _ done.read done.written c.in_default.ensures.ok (rw c.in_default.ensures.open.1 at c.in-Ok.ensures.ok) in
     let line = rw (c.as_bytes.ensures.value, c.end_line-end.ensures) at c.in_default-emit_after.ensures.ok in
@@ -90,9 +90,9 @@ returns-clause-reached g c =
 pub returns-in-Err-clause-behind : goal.returns-in-Err-clause-behind
 returns-in-Err-clause-behind g c = inl refl
 
-pub returns-in-Err-dump_lines-clause-behind : goal.returns-in-Err-dump_lines-clause-behind
-returns-in-Err-dump_lines-clause-behind g c =
-    let rest = c.in-Err-dump_lines.ensures.err in
+pub returns-in-Err-dump_shown-clause-behind : goal.returns-in-Err-dump_shown-clause-behind
+returns-in-Err-dump_shown-clause-behind g c =
+    let rest = c.in-Err-dump_shown.ensures.err in
     inr (reaches_behind _ _ _ _ rest.input c.in_default.ensures.ok rest.consumed)
 
 pub returns-in-Err-emit_after-clause-behind : goal.returns-in-Err-emit_after-clause-behind
@@ -103,9 +103,9 @@ returns-in-Err-emit_after-clause-behind g c =
 pub returns-in-Err-clause-write : goal.returns-in-Err-clause-write
 returns-in-Err-clause-write g c = λ n e. absurd (short_reads _ n _ _ c.in-Err.fault (same_fault _ _ e) c.in-Err.ensures.err)
 
-pub returns-in-Err-dump_lines-clause-write : goal.returns-in-Err-dump_lines-clause-write
-returns-in-Err-dump_lines-clause-write g c = λ n e.
-    let rest = c.in-Err-dump_lines.ensures.err in
+pub returns-in-Err-dump_shown-clause-write : goal.returns-in-Err-dump_shown-clause-write
+returns-in-Err-dump_shown-clause-write g c = λ n e.
+    let rest = c.in-Err-dump_shown.ensures.err in
     reaches_behind _ _ _ _ rest.input c.in_default.ensures.ok rest.consumed
 
 pub returns-in-Err-emit_after-clause-write : goal.returns-in-Err-emit_after-clause-write
