@@ -44,6 +44,22 @@ impl Given<'_, '_> {
         }
     }
 
+    /// All values that were given.
+    pub fn get_strs(&self, id: &str) -> &[&str] {
+        match self {
+            Given::Read(matches) => matches.get_strs(id).unwrap_or(&[]),
+            Given::Alone { .. } => &[],
+        }
+    }
+
+    /// Their places among the words, from 1.
+    pub fn places_of(&self, id: &str) -> &[usize] {
+        match self {
+            Given::Read(matches) => matches.indices_of(id).unwrap_or(&[]),
+            Given::Alone { .. } => &[],
+        }
+    }
+
     /// Whether the option was given.
     pub fn get_flag(&self, id: &str) -> bool {
         match self {

@@ -19,6 +19,7 @@ pub mod laws;
 mod misuse;
 mod options;
 mod plan;
+mod types;
 
 pub use bx_cli_commands::{
     Access, ChangeJob, Command, DdChange, DdImageJob, DdJob, DiffJob, Done, DumpJob, Durability,

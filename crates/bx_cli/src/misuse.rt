@@ -4,10 +4,9 @@ use crate::instead::{
     has_negative, instead, is_negative, is_unexpected, negative, no_negative, similar,
 };
 use crate::options::program;
-use crate::plan::{kind, look, words_of};
-use bx_cli_commands::{
-    Fault, MOST_LEAST, MOST_STEPS, bytes, count_or, endian, line_width, number, radix,
-};
+use crate::plan::{look, words_of};
+use crate::types::{Types, wrong_type};
+use bx_cli_commands::{Fault, MOST_LEAST, MOST_STEPS, bytes, count_or, endian, number, radix};
 use bx_dd::DdFault;
 use bx_dump::od::Address;
 use bx_text::{SizeFault, SizeStyle, Words, read_size};
@@ -196,7 +195,10 @@ fn wrong_value<'a>(name: &str, m: &ArgMatches<'a>) -> Option<(&'a str, &'static 
     };
     for id in &VALUES {
         if !is_value(name, m, id, style) {
-            let value = m.get_str(id)?;
+            let value = match *id {
+                "kind" => wrong_type(m.get_strs(id)?),
+                _ => m.get_str(id)?,
+            };
             let form = form_of(name, id, style);
             return Some((
                 value,
@@ -239,9 +241,11 @@ fn form_of(name: &str, id: &str, style: SizeStyle) -> &'static str {
     match id {
         "radix" => "one of d, o, x and n",
         "offsets" => "one of d, o and x",
-        "kind" => "c, or one of d, o, u and x with one of 1, 2, 4 and 8, or C, S, I and L",
+        "kind" => {
+            "c, or one of d, o, u and x with one of 1, 2, 4 and 8, or C, S, I and L, and perhaps z; at most 16 in all"
+        }
         "endian" => "big or little",
-        "width" => "a decimal number from 1 to 256, and a multiple of the bytes of a value",
+        "width" => "a decimal number from 1 to 256, and a multiple of the bytes of each value",
         "least" => "a decimal number from 1 to 4096",
         "count" => "a decimal number from 0 to 65535",
         "cols" => "a number from 1 to 256",
@@ -261,9 +265,9 @@ fn is_value(name: &str, m: &ArgMatches<'_>, id: &str, style: SizeStyle) -> bool 
     match id {
         "radix" => radix(text, Address::Octal, true).is_ok(),
         "offsets" => radix(text, Address::Without, false).is_ok(),
-        "kind" => kind(&Given::Read(m)).is_ok(),
+        "kind" => Types::of(&Given::Read(m)).is_ok(),
         "endian" => endian(text).is_ok(),
-        "width" => kind(&Given::Read(m)).is_ok_and(|kind| line_width(text, kind).is_ok()),
+        "width" => Types::of(&Given::Read(m)).is_ok_and(|types| types.width(text).is_ok()),
         "least" => count_or(text, 1, MOST_LEAST).is_ok_and(|n| n > 0),
         "count" => count_or(text, 1, MOST_STEPS).is_ok(),
         "cols" => look(&Given::Read(m)).is_ok(),

@@ -4,15 +4,16 @@ ghost use Rattle.std.specs.Prelude.{◌≡◌, ◌≤◌, IfOk};
 use crate::dashed::by_letter;
 use crate::given::Given;
 use crate::options::{Verb, program_behind};
+use crate::types::Types;
 use bx_cli_commands::{
     Access, ChangeJob, DdImageJob, DdJob, DiffJob, DumpJob, Durability, Fault, ForgetJob,
     HexdumpJob, Job, LogJob, LookJob, MOST_COLUMNS, MOST_LEAST, MOST_STEPS, OdJob, PatchJob,
     RevertJob, ShowJob, StepsJob, StringsJob, Target, XxdJob, XxdLook, bytes, columns, count_or,
-    endian, kind_word, line_width, name_of, number, number_or, radix, texts_of, word_len,
+    endian, name_of, number, number_or, radix, texts_of, word_len,
 };
 use bx_dd::parse;
 use bx_dump::hexdump::HexdumpOptions;
-use bx_dump::od::{Address, Kind, OdOptions};
+use bx_dump::od::{Address, OdOptions};
 use bx_dump::strings::StringsOptions;
 use bx_dump::xxd::XxdOptions;
 use bx_journal::Way;
@@ -182,29 +183,17 @@ fn access(m: &Given<'_, '_>) -> Access {
     }
 }
 
-pub(crate) fn kind(m: &Given<'_, '_>) -> Result<Kind, Fault> {
-    if let Some(text) = m.get_str("kind") {
-        return kind_word(text);
-    }
-    for short in ["o1", "u2", "o2", "d2", "x2", "d4", "d8"] {
-        if m.get_flag(short) {
-            return kind_word(short);
-        }
-    }
-    if m.get_flag("chars") {
-        return Ok(Kind::Chars);
-    }
-    kind_word("o2")
-}
-
 fn od(alloc: Global, m: &Given<'_, '_>) -> Result<OdJob, Fault> {
-    let kind = kind(m)?;
+    let types = Types::of(m)?;
+    let (first, below) = types.split()?;
     Ok(OdJob {
         options: OdOptions {
             address: radix(m.get_str("radix"), Address::Octal, true)?,
-            kind,
+            kind: first.kind,
+            text: first.text,
+            below,
             endian: endian(m.get_str("endian"))?,
-            width: line_width(m.get_str("width"), kind)?,
+            width: types.width(m.get_str("width"))?,
             first: 0,
             skip: bytes(m.get_str("skip"))?.unwrap_or(0),
             limit: bytes(m.get_str("limit"))?,
@@ -294,7 +283,7 @@ fn hexdump(alloc: Global, m: &Given<'_, '_>) -> Result<HexdumpJob, Fault> {
             limit: number(m.get_str("limit"), SizeStyle::Count)?,
             all: m.get_flag("all"),
         },
-        file: name(alloc, m, "file")?,
+        file: input(alloc, m)?,
     })
 }
 
@@ -308,7 +297,7 @@ fn strings(alloc: Global, m: &Given<'_, '_>) -> Result<StringsJob, Fault> {
             least,
             offsets: radix(m.get_str("offsets"), Address::Without, false)?,
         },
-        file: name(alloc, m, "file")?,
+        file: input(alloc, m)?,
     })
 }
 

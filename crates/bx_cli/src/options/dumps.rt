@@ -1,9 +1,9 @@
 //! The commands that dump FILE, or standard input.
-use crate::options::rows::{Row, with_group, with_more, with_rows};
+use crate::options::rows::{ALSO, Row, with_group, with_more, with_rows};
 use clap::{Arg, ArgAction, Command};
 use std::alloc::{AllocError, Global};
 
-static OD: [Row; 11] = [
+static OD: [Row; 3] = [
     Row {
         id: "radix",
         short: 'A',
@@ -22,12 +22,9 @@ static OD: [Row; 11] = [
         value: Some("COUNT"),
         help: "Maximum number of bytes to dump [default: all]",
     },
-    Row {
-        id: "kind",
-        short: 't',
-        value: Some("TYPE"),
-        help: "Values: c, or d o u x and 1 2 4 8 bytes, as in x1 [default: o2]",
-    },
+];
+
+static OD_FLAGS: [Row; 7] = [
     Row {
         id: "o1",
         short: 'b',
@@ -87,8 +84,6 @@ static OD_MORE: [Row; 2] = [
         help: "Signed decimal of 8 bytes, as -t d8",
     },
 ];
-
-static OD_TYPES: [&str; 9] = ["kind", "o1", "chars", "u2", "o2", "d2", "x2", "d4", "d8"];
 
 static XXD: [Row; 9] = [
     Row {
@@ -237,21 +232,26 @@ pub fn od<'a>(alloc: Global) -> Result<Command<'a>, AllocError> {
     let command = Command::new(alloc, "od")
         .about("Dump bytes as numbers or characters")
         .after_help(
-            "COUNT: decimal, 0x and hexadecimal, or 0 and octal; then b (512), k (1024) or\nm (1048576). As GNU od has them also K, M, G, T and P, and kB (1000), MB and so\non; a TYPE may be a letter alone (4 bytes), or have C, S, I or L for its size.\n\nEXAMPLES:\n  bx od -A x -t x1 disk.img     bytes in hexadecimal, with hexadecimal addresses\n  bx od -c -N 64 notes.txt      the first 64 bytes as characters\n  bx od -t u4 -j 1k disk.img    numbers of 4 bytes, from byte 1024 on",
+            "COUNT: decimal, 0x and hexadecimal, or 0 and octal; then b (512), k (1024) or\nm (1048576). As GNU od has them also K, M, G, T and P, and kB (1000), MB and so\non; a TYPE may be a letter alone (4 bytes), have C, S, I or L for its size, and z\nbehind it for the bytes as text. Each further type is a row below, for the same\nbytes: -t x1z -t c is -t x1zc, and -xc is -t x2c. They are at most 16.\n\nEXAMPLES:\n  bx od -A x -t x1 disk.img     bytes in hexadecimal, with hexadecimal addresses\n  bx od -c -N 64 notes.txt      the first 64 bytes as characters\n  bx od -t u4 -j 1k disk.img    numbers of 4 bytes, from byte 1024 on",
         );
-    let typed = with_group(alloc, command, "type", &OD_TYPES)?;
-    let posix = reader(alloc, typed, &OD)?;
-    let more = with_rows(
-        alloc,
-        posix.next_help_heading("Options of GNU od"),
-        &OD_MORE,
-    )?;
+    let typed = with_rows(alloc, command, &OD)?.arg(types(alloc))?;
+    let more = with_more(alloc, reader(alloc, typed, &OD_FLAGS)?, &OD_MORE)?;
     more.arg(endian(alloc))?.arg(width(alloc))
+}
+
+/// Types may be given again.
+fn types<'a>(alloc: Global) -> Arg<'a> {
+    Arg::new(alloc, "kind")
+        .short('t')
+        .action(ArgAction::Append)
+        .value_name("TYPE")
+        .help("Values: c, or d o u x and 1 2 4 8 bytes, as in x1 [default: o2]")
 }
 
 /// For numbers of other machines.
 fn endian<'a>(alloc: Global) -> Arg<'a> {
     Arg::new(alloc, "endian")
+        .help_heading(ALSO)
         .long("endian")
         .action(ArgAction::Set)
         .value_name("ORDER")
@@ -261,6 +261,7 @@ fn endian<'a>(alloc: Global) -> Arg<'a> {
 /// For lines as long as a record.
 fn width<'a>(alloc: Global) -> Arg<'a> {
     Arg::new(alloc, "width")
+        .help_heading(ALSO)
         .short('w')
         .long("width")
         .action(ArgAction::Set)

@@ -33,8 +33,8 @@ pub fn with_rows<'a>(
     Ok(command)
 }
 
-/// What stands above the options that no first release had: those of the tools which hands type.
-const ALSO: &str = "Also taken";
+/// What stands above the options that the tools have beside those of POSIX and of the first release.
+pub const ALSO: &str = "Further options";
 
 /// The command with an option or a flag more for each row, under a heading of their own.
 pub fn with_more<'a>(
