@@ -178,6 +178,20 @@ def some_row(rng, size):
     return bytes(rng.randrange(256) if rng.randrange(2) else rng.randrange(32, 127) for _ in range(size))
 
 
+# Several types of od, and the bytes as text: on some lengths, and with lines that repeat.
+ROW_LENGTHS = [0, 1, 3, 8, 15, 16, 17, 32, 63, 257]
+ROW_LINES = ["-t x1 -t c", "-t x1c", "-xc", "-t x1z", "-A x -t x8zd4z", "-w4 -t x1z -t c", "-bcx -A n", "-t c -t x1 -t d2 -t u8", "-vw24 -ct x4z",
+             "-A d -t o8 -t x1 -w8", "-t d1z -t o1", "-t xCz -t xSz --endian=big", "-cbdiloxs", "-t x1zc -j 3 -N 40", "-w1 -t c -t d1",
+             "-w256 -t d1 -t u8z -t c", "-t x1 -t x1z", "-w20 -t d4 -t u2"]
+
+
+def row_cases(tool, rng):
+    """All cases of several types."""
+    yield from (Case(tool, line.split(), some_row(rng, size), line) for line in ROW_LINES for size in ROW_LENGTHS
+                if "-j" not in line or size >= 3)
+    yield from (Case(tool, line.split(), FOLDS, line) for line in ROW_LINES)
+
+
 def refused_cases(tool):
     for (name, *words), fault in ((words.split(" "), fault) for words, fault in rows(read("tools/record/refused.txt"))):
         if name == tool:
@@ -283,7 +297,7 @@ def differs(tools, bx, case):
 
 # Each file: its name, kind, tool, and what makes its cases.
 FILES = [*((tool, "words", tool, word_cases) for tool in ("xxd", "od", "hexdump", "strings", "dd")),
-         ("dd_images", "commands", "dd", image_cases), ("xxd_hands", "words", "xxd", hand_cases)]
+         ("dd_images", "commands", "dd", image_cases), ("xxd_hands", "words", "xxd", hand_cases), ("od_rows", "words", "od", row_cases)]
 
 
 def run(options):

@@ -110,6 +110,8 @@ fn od_field<'a>(job: &'a OdJob, name: &str) -> Field<'a> {
     match name {
         "address" => address(job.options.address),
         "kind" => kind(job.options.kind),
+        "text" => flag(job.options.text),
+        "below" => Field::Number(job.options.below.count as u64),
         "endian" => endian(job.options.endian),
         "width" => Field::Number(job.options.width as u64),
         "first" => Field::Number(job.options.first),
