@@ -238,11 +238,19 @@ Dumps and a patch:
   [2]
   $ bx od -t x3 img
   bx: bad arguments
-  hint: x3: c, or one of d, o, u and x with one of 1, 2, 4 and 8, or C, S, I and L; Usage: bx od [OPTIONS] [FILE]
+  hint: x3: c, or one of d, o, u and x with one of 1, 2, 4 and 8, or C, S, I and L, and perhaps z; at most 16 in all; Usage: bx od [OPTIONS] [FILE]
+  [2]
+  $ bx od -t x1 -t x1q img
+  bx: bad arguments
+  hint: x1q: c, or one of d, o, u and x with one of 1, 2, 4 and 8, or C, S, I and L, and perhaps z; at most 16 in all; Usage: bx od [OPTIONS] [FILE]
+  [2]
+  $ bx od -w12 -t x1 -t x8 img
+  bx: bad arguments
+  hint: 12: a decimal number from 1 to 256, and a multiple of the bytes of each value; Usage: bx od [OPTIONS] [FILE]
   [2]
   $ bx od -w3 img
   bx: bad arguments
-  hint: 3: a decimal number from 1 to 256, and a multiple of the bytes of a value; Usage: bx od [OPTIONS] [FILE]
+  hint: 3: a decimal number from 1 to 256, and a multiple of the bytes of each value; Usage: bx od [OPTIONS] [FILE]
   [2]
   $ bx od --endian=middle img
   bx: bad arguments
