@@ -1,9 +1,8 @@
 //! The program's start, and its exit status.
 #![tactic(auto)]
 
-ghost use Rattle.std.specs.Prelude.{◌≡◌, ◌↔◌, Err, Ok};
+ghost use Rattle.std.specs.Prelude.{◌≡◌};
 ghost use Rattle.bx.specs.Status.{status_by};
-ghost use Rattle.bx_cli_commands.specs.declared.fault.Fault.TheVariants.{Usage};
 
 use bx_cli::Fault;
 use bx_program::Terminals;
@@ -12,9 +11,7 @@ use std::process::ExitCode;
 
 /// 0 where all is done, 2 where the words are wrong, and 1 at any other fault.
 fn status(outcome: Result<(), Fault>) -> u8
-    ensures status { result ≡ status_by outcome }
-    ensures done { (result ≡ 0) ↔ (outcome ≡ Ok tt) }
-    ensures words { (result ≡ 2) ↔ (outcome ≡ Err Usage) }
+    ensures { result ≡ status_by outcome }
 {
     match outcome {
         Ok(()) => 0,

@@ -21,7 +21,7 @@ use Rattle.bx_program_looks.specs.Looks.{unopened_in}
 use Rattle.bx_program_looks.specs.declared.unseen.Unseen.{Unseen}
 use Rattle.bx_program_looks.specs.declared.unseen.Unseen.TheVariants.{Another, Unopened, Unfinished, Stopped}
 use Rattle.bx_program_commands.specs.Commands.{MayRefuseFile, StopsUnopened}
-use Rattle.bx_program_commands.specs.Outcome.{ended_with, first_unopened, task_fault, unopened_fault}
+use Rattle.bx_program_commands.specs.Outcome.{ended_with, task_fault, unopened_fault}
 use Rattle.bx_program_commands.specs.Renewal.{NothingRenewed}
 use Rattle.bx_program_commands.specs.Scene.{Scene}
 use Rattle.bx_program_commands.specs.declared.outcome.Outcome.TheVariants as of
@@ -79,18 +79,12 @@ pub nothing_kept : (answer : Answer) (old new : Sight) → IfSome answer.unopene
 nothing_kept answer old new nothing = kept_at answer old new answer.unopened refl nothing
 
 -- the same by what was asked for
-renewal_at : {R : Type 0} (request : Request R) (renewed : Renewed) (old new : Scene) (unopened : Option UnopenedFile)
+pub stops_renewal : {R : Type 0} (request : Request R) (renewed : Renewed) (old new : Scene) (unopened : Option UnopenedFile)
     → IfSome unopened (NothingRenewed renewed old.sight new.sight)
     → IfSome unopened (MayRefuseFile request (old.refusals < new.refusals) old.note old.sight)
     → IfSome unopened (StopsUnopened request (of.Renewed renewed) old new)
-renewal_at request renewed old new None nothing why = tt
-renewal_at request renewed old new (Some file) nothing why = record { fault = nothing.0; files = nothing.1; why = why }
-
-pub stops_renewal : {R : Type 0} (request : Request R) (renewed : Renewed) (old new : Scene)
-    → IfSome (first_unopened renewed) (NothingRenewed renewed old.sight new.sight)
-    → IfSome (first_unopened renewed) (MayRefuseFile request (old.refusals < new.refusals) old.note old.sight)
-    → IfSome (first_unopened renewed) (StopsUnopened request (of.Renewed renewed) old new)
-stops_renewal request renewed old new nothing why = renewal_at request renewed old new (first_unopened renewed) nothing why
+stops_renewal request renewed old new None nothing why = tt
+stops_renewal request renewed old new (Some file) nothing why = record { fault = nothing.0; files = nothing.1; why = why }
 
 -- a report of files that weren't opened
 pub stops_report : {R : Type 0} (request : Request R) (outcome : Result (Unit {0}) Unseen) (old new : Scene) → LeavesFiles old.sight new.sight
@@ -110,7 +104,7 @@ leaves_same old new is = rw is (record {
   named = λ stuck m. refl;
   still = λ m n named. named;
   stuck = omega arith;
-  streams = record { is_link = λ m. refl; caller = refl; output = refl; errors = refl };
+  streams = record { is_link = λ m. refl; caller = refl; before = refl; lent = refl; output = refl; errors = refl };
 })
 
 leaves_untouched : (old new : Sight) → IsUntouched old new → LeavesFiles old new
@@ -120,7 +114,14 @@ leaves_untouched old new is = record {
   named = λ stuck m. is.named m;
   still = λ m n named. rw (is.named m) named;
   stuck = rw is.stuck (omega arith);
-  streams = record { is_link = is.is_link; caller = is.caller; output = is.output; errors = is.errors };
+  streams = record {
+    is_link = is.is_link;
+    caller = is.caller;
+    before = is.before;
+    lent = is.lent;
+    output = is.output;
+    errors = is.errors;
+  };
 }
 
 -- a history that wasn't dropped, since its files weren't opened

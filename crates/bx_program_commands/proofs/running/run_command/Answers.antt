@@ -52,4 +52,4 @@ returns-in-Forget-clause-unopened g c old =
 
 pub returns-in-Renew-clause-unopened : goal.returns-in-Renew-clause-unopened
 returns-in-Renew-clause-unopened g c old =
-    rw c.in-Renew.is (stops_renewal _ _ _ _ (c.renew_files.ensures.unopened old) (c.renew_files.ensures.why_unopened old))
+    rw c.in-Renew.is (stops_renewal _ c.renew_files.result _ _ _ (c.renew_files.ensures.unopened old) (c.renew_files.ensures.why_unopened old))
