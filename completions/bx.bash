@@ -81,13 +81,13 @@ _bx() {
     od) options='-A -N -b -c -d -i -j -l -o -s -t -v -w -x --endian --width' ;;
     hexdump) options='-C -n -s -v' ;;
     strings) options='-a -n -t' ;;
-    dd) options='-J -U -n --anyway --dry-run --fresh --mounted' ;;
-    revert) options='-J -U -f -n -p -s --anyway --dry-run --fresh --mounted' ;;
+    dd) options='-J -U -n --anyway --dry-run --fresh --mounted --no-grow' ;;
+    revert) options='-J -U -f -n -p -s --anyway --dry-run --fresh --mounted --no-grow' ;;
     undo | redo) options='-J -U -k --anyway --mounted' ;;
     log) options='-J -U -v --anyway --mounted' ;;
     show) options='-J -d -k -p -r' ;;
     diff) options='-q -v' ;;
-    patch) options='-J -R -U -f -n --anyway --dry-run --fresh --mounted' ;;
+    patch) options='-J -R -U -f -n --anyway --dry-run --fresh --mounted --no-grow' ;;
     forget) options='-J -U --anyway --mounted' ;;
     *) return ;;
     esac

@@ -106,6 +106,7 @@ complete -c bx -n '__fish_seen_subcommand_from dd' -s n -l dry-run -d 'Change no
 complete -c bx -n '__fish_seen_subcommand_from dd' -l fresh -d 'Drop the history of the image first'
 complete -c bx -n '__fish_seen_subcommand_from dd' -l anyway -d 'Go on where the image is another one'
 complete -c bx -n '__fish_seen_subcommand_from dd' -l mounted -d 'Change a device that is mounted'
+complete -c bx -n '__fish_seen_subcommand_from dd' -l no-grow -d 'Refuse what makes the image longer'
 complete -c bx -n '__fish_seen_subcommand_from dd' -a '(__bx_operand)'
 
 complete -c bx -n '__fish_seen_subcommand_from revert' -s J -r -F -d 'Journal of the image'
@@ -114,6 +115,7 @@ complete -c bx -n '__fish_seen_subcommand_from revert' -s n -l dry-run -d 'Chang
 complete -c bx -n '__fish_seen_subcommand_from revert' -l fresh -d 'Drop the history of the image first'
 complete -c bx -n '__fish_seen_subcommand_from revert' -l anyway -d 'Go on where the image is another one'
 complete -c bx -n '__fish_seen_subcommand_from revert' -l mounted -d 'Change a device that is mounted'
+complete -c bx -n '__fish_seen_subcommand_from revert' -l no-grow -d 'Refuse what makes the image longer'
 complete -c bx -n '__fish_seen_subcommand_from revert' -s f -r -F -d 'File to read the dump from'
 complete -c bx -n '__fish_seen_subcommand_from revert' -s p -d 'The dump is digits alone'
 complete -c bx -n '__fish_seen_subcommand_from revert' -s s -x -d 'Bytes to add to each address'
@@ -151,6 +153,7 @@ complete -c bx -n '__fish_seen_subcommand_from patch' -s n -l dry-run -d 'Change
 complete -c bx -n '__fish_seen_subcommand_from patch' -l fresh -d 'Drop the history of the image first'
 complete -c bx -n '__fish_seen_subcommand_from patch' -l anyway -d 'Go on where the image is another one'
 complete -c bx -n '__fish_seen_subcommand_from patch' -l mounted -d 'Change a device that is mounted'
+complete -c bx -n '__fish_seen_subcommand_from patch' -l no-grow -d 'Refuse what makes the image longer'
 complete -c bx -n '__fish_seen_subcommand_from patch' -s f -r -F -d 'File to read the patch from'
 
 complete -c bx -n '__fish_seen_subcommand_from forget' -s J -r -F -d 'Journal of the image'

@@ -149,7 +149,7 @@ What the completion of zsh adds, at a terminal of its own, is written down by a 
   $ bx strings -<TAB>
   -a -n -t
   $ bx revert -<TAB>
-  --anyway --dry-run --fresh --mounted -J -U -f -n -p -s
+  --anyway --dry-run --fresh --mounted --no-grow -J -U -f -n -p -s
   $ bx undo -<TAB>
   --anyway --mounted -J -U -k
   $ bx redo -<TAB>
@@ -161,8 +161,8 @@ What the completion of zsh adds, at a terminal of its own, is written down by a 
   $ bx diff -<TAB>
   -q -v
   $ bx patch -<TAB>
-  --anyway --dry-run --fresh --mounted -J -R -U -f -n
+  --anyway --dry-run --fresh --mounted --no-grow -J -R -U -f -n
   $ bx forget -<TAB>
   --anyway --mounted -J -U
   $ bx dd -<TAB>
-  --anyway --dry-run --fresh --mounted -J -U -n
+  --anyway --dry-run --fresh --mounted --no-grow -J -U -n

@@ -104,6 +104,22 @@ Dumps and a patch:
   bx: image too large
   hint: an image has at most 281474976710655 bytes
   [1]
+  $ bx revert --no-grow img <<< '00000008: 41'
+  bx: the image would get longer
+  hint: img: it has 8 bytes, and would have 9; without --no-grow it may get longer
+  [1]
+  $ bx dd --no-grow if=/dev/null of=img seek=1
+  bx: the image would get longer
+  hint: img: it has 8 bytes, and would have 512; without --no-grow it may get longer
+  [1]
+  $ printf 'length 8 to 10\nend\n' | bx patch -n --no-grow img
+  bx: the image would get longer
+  hint: img: it has 8 bytes, and would have 10; without --no-grow it may get longer
+  [1]
+  $ printf '41' | bx revert --no-grow --fresh -p imgae
+  bx: the image would get longer
+  hint: imgae: it has 0 bytes, and would have 1; without --no-grow it may get longer
+  [1]
   $ bx dd if=img off=4
   bx: operand 2: unknown
   hint: off=4; bx dd --help lists the operands and the conversions; Usage: bx dd [OPTIONS] [OPERAND]...

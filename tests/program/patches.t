@@ -87,6 +87,74 @@ A whole one that writes nothing is none: no entry, what is undone stays, no hist
   > .
   > done; done
 
+# Changes that would make the image longer
+
+With `--no-grow` they are refused, with -n too, and before a history is dropped.
+
+  $ printf '7: 4142\n' > over; printf '8: 41\n' > behind; printf 4142 > digits; printf 123456789 > nine; : > none
+  $ printf 'length 8 to 9\n+00000008: 49\nend\n' > longer; printf -- '-0: 41\n+8: 49\nend\n' > untold
+  $ growing() { # IMAGE ..: as of `fresh`
+  >   for option in '' --fresh -n; do fresh "$@"; refused 'the image would get longer' << .
+  > revert --no-grow $option -f over img
+  > revert --no-grow $option -f behind img
+  > revert --no-grow $option -p -s 7 -f digits img
+  > dd --no-grow $option if=nine of=img
+  > dd --no-grow $option if=nine of=img bs=1 seek=6 count=3 conv=notrunc
+  > dd --no-grow $option if=none of=img bs=9 seek=1
+  > patch --no-grow $option -f longer img
+  > patch --no-grow $option -f untold img
+  > .
+  >   done
+  > }
+  $ growing ABCDEFGH; growing ABCDEFGH '' "$unpatched"; growing ABxyEFGH "$patched" "$unpatched"
+
+A missing image has no byte, and isn't made, with a journal beside it too:
+
+  $ printf '0: 41\n7: 42\n' > within; printf 'length 0 to 2\n+0: 4142\nend\n' > made
+  $ for option in '' --fresh -n; do fresh; refused 'the image would get longer' << .
+  > revert --no-grow $option -f within img
+  > dd --no-grow $option if=nine of=img
+  > patch --no-grow $option -f made img
+  > .
+  > echo img*; done
+  img*
+  img*
+  img*
+  $ fresh - "$patched"; refused 'the image would get longer' <<< 'revert --no-grow --fresh -f within img'; echo img*
+  img.bxj
+
+One that keeps the length or makes it less is as without the option:
+
+  $ printf 'length 8 to 8\n-0: 41\n+0: 61\nend\n' > same; printf 'length 8 to 2\n-2: 7879 4546 4748\nend\n' > trimmed
+  $ while IFS= read -r words <&9; do for option in '' --fresh -n; do for text in '' "$patched"; do
+  >   fresh ABxyEFGH "$text"; bx $words $option > ../want 2> ../want.err; cp img ../made; bx log img > ../log
+  >   fresh ABxyEFGH "$text"; bx $words $option --no-grow > ../out 2> ../err || { echo "$words $option"; cat ../err; }
+  >   bx log img | cmp - ../log; cmp img ../made; cmp ../out ../want; cmp ../err ../want.err
+  > done; done; done 9<< .
+  > revert -f within img
+  > revert -p -s 6 -f digits img
+  > dd if=nine of=img bs=1 count=8
+  > dd if=nine of=img bs=1 count=2
+  > dd if=nine of=img bs=1 count=4 seek=4 conv=notrunc
+  > dd if=none of=img
+  > patch -f same img
+  > patch -f trimmed img
+  > .
+
+A patch that doesn't agree is told first, and what is unfinished is recovered before the length counts:
+
+  $ fresh ABCDEFGHI; refused 'image should have 8 bytes' <<< 'patch --no-grow -f longer img'
+  $ fresh xBCDEFGH; refused 'the image has other bytes at 0' <<< 'patch --no-grow -f untold img'
+  $ fresh ABCDEFGHIJ 'change2 00000001 0000000000000008\nsave 00000001\n'; bx revert --no-grow -f behind img; holds ABCDEFGH
+  bx: recovered: change 1 was taken back
+  bx: the image would get longer
+  $ fresh ABCDEFGHIJ; echo '1000000000000: 41' > far; refused 'image too large' <<< 'revert --no-grow -f far img'
+
+To standard output dd takes the option as the others of an image:
+
+  $ bx dd --no-grow if=nine status=none; echo
+  123456789
+
 # Patches of other images
 
 One that was applied before, one that goes on behind the image, of a shorter image, and of one of 18 digits; and one that makes

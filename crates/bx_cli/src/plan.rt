@@ -327,6 +327,7 @@ fn dd(alloc: Global, m: &Given<'_, '_>) -> Result<Job, Fault> {
         target,
         fresh: m.get_flag("fresh"),
         dry_run: m.get_flag("dry-run"),
+        no_grow: m.get_flag("no-grow"),
     })))
 }
 
@@ -340,6 +341,7 @@ fn revert(alloc: Global, m: &Given<'_, '_>) -> Result<RevertJob, Fault> {
         target,
         fresh: m.get_flag("fresh"),
         dry_run: m.get_flag("dry-run"),
+        no_grow: m.get_flag("no-grow"),
     })
 }
 
@@ -351,6 +353,7 @@ fn patch(alloc: Global, m: &Given<'_, '_>) -> Result<PatchJob, Fault> {
         target,
         fresh: m.get_flag("fresh"),
         dry_run: m.get_flag("dry-run"),
+        no_grow: m.get_flag("no-grow"),
     })
 }
 

@@ -3,6 +3,7 @@ ghost use Rattle.std.specs.Prelude.{◌≡◌};
 
 mod copies;
 mod diff;
+mod kept;
 mod looks;
 mod patch;
 mod previews;
@@ -12,10 +13,11 @@ mod steps;
 
 use crate::faults::show_fault;
 use crate::files::unopened::number_of;
-use crate::history::changes::{change_anew, change_image};
+use crate::history::changes::change_image;
 use crate::history::forget::forget;
 use crate::history::told::look_for_others;
 use crate::jobs::copies::{copy_onto, tell};
+use crate::jobs::kept::{Manner, proposal_of_read, put_change};
 use crate::jobs::looks::look;
 use crate::jobs::previews::{preview_copy, preview_read};
 use crate::jobs::ready::most_of_dd;
@@ -327,20 +329,24 @@ where
     R: Files<File = File> + Print + Eprint + Clock + AllocGlobal,
 {
     if job.dry_run {
-        return preview_read(rt, &job.target, read, remarks, out);
+        let proposal = proposal_of_read(read, job.no_grow);
+        return preview_read(rt, &job.target, proposal, remarks, out);
     }
     let progress = progress_of_input(rt, remarks, None);
     look_for_others(rt, &job.target, job.fresh, remarks);
-    let mut fresh = false;
-    if let Ok(change) = &read {
-        look_at_change(rt, &job.target, change, remarks);
-        fresh = job.fresh;
-    }
-    let task: Task<Empty> = Task::Put(read);
-    if fresh {
-        change_anew(rt, &job.target, task, &progress, remarks)?;
-    } else {
-        change_image(rt, &job.target, task, &progress, remarks)?;
+    let manner = Manner {
+        fresh: job.fresh,
+        no_grow: job.no_grow,
+    };
+    match read {
+        Ok(change) => {
+            look_at_change(rt, &job.target, &change, remarks);
+            put_change(rt, &job.target, manner, change, &progress, remarks)?;
+        }
+        Err(fault) => {
+            let task: Task<Empty> = Task::Put(Err(fault));
+            change_image(rt, &job.target, task, &progress, remarks)?;
+        }
     }
     Ok(())
 }

@@ -85,6 +85,14 @@ fn dry_run<'a>(alloc: Global) -> Arg<'a> {
         .help("Change nothing, and write the patch that it would be")
 }
 
+/// For images that have no room behind their end, as firmware.
+fn no_grow<'a>(alloc: Global) -> Arg<'a> {
+    Arg::new(alloc, "no-grow")
+        .long("no-grow")
+        .action(ArgAction::SetTrue)
+        .help("Refuse a change that would make the image longer")
+}
+
 /// A command that changes IMAGE by what it reads.
 fn writer<'a>(
     alloc: Global,
@@ -93,7 +101,8 @@ fn writer<'a>(
 ) -> Result<Command<'a>, AllocError> {
     changer(alloc, command, rows)?
         .arg(fresh(alloc))?
-        .arg(dry_run(alloc))
+        .arg(dry_run(alloc))?
+        .arg(no_grow(alloc))
 }
 
 pub fn dd<'a>(alloc: Global) -> Result<Command<'a>, AllocError> {
@@ -110,6 +119,7 @@ pub fn dd<'a>(alloc: Global) -> Result<Command<'a>, AllocError> {
     )?
     .arg(fresh(alloc))?
     .arg(dry_run(alloc))?
+    .arg(no_grow(alloc))?
     .arg(operands(alloc))
 }
 

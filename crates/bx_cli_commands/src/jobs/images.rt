@@ -20,6 +20,8 @@ pub struct DdImageJob {
     pub fresh: bool,
     /// Whether nothing is changed, and the patch that the change would be is written.
     pub dry_run: bool,
+    /// Whether the change is refused where it makes the image longer.
+    pub no_grow: bool,
     ghost planned: { IsPlanOf operands plan },
     ghost named: { plan.output ≡ Some target.image },
 }
@@ -54,6 +56,8 @@ pub struct RevertJob {
     pub fresh: bool,
     /// Whether nothing is changed, and the patch that the change would be is written.
     pub dry_run: bool,
+    /// Whether the change is refused where it makes the image longer.
+    pub no_grow: bool,
     ghost near: { at ≤ 2 ^ 62 },
 }
 
@@ -70,6 +74,8 @@ pub struct PatchJob {
     pub fresh: bool,
     /// Whether nothing is changed, and the patch that the change would be is written.
     pub dry_run: bool,
+    /// Whether the change is refused where it makes the image longer.
+    pub no_grow: bool,
 }
 
 /// `forget`: the image whose changes are accepted.

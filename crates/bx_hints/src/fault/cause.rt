@@ -148,6 +148,9 @@ where
         Reason::Fixed { has, wanted } => {
             format!(in alloc; "it has {has} bytes and can't grow to {wanted}")
         }
+        Reason::Longer { has, wanted } => {
+            format!(in alloc; "it has {has} bytes, and would have {wanted}")
+        }
         Reason::Full { has } => {
             format!(in alloc;
                 "it has {has} bytes and can't grow, and the input goes on behind them"

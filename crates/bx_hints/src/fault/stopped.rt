@@ -72,6 +72,13 @@ pub enum Reason<'a> {
         /// How many it would have.
         wanted: u64,
     },
+    /// The file has `has` bytes and isn't to grow, and the change wants it to have `wanted`.
+    Longer {
+        /// How many it has.
+        has: u64,
+        /// How many it would have.
+        wanted: u64,
+    },
     /// The file is a block device, and can't have the length that a patch brings.
     Stays,
     /// The file can't grow, and the input has more for it than fits.
@@ -320,6 +327,18 @@ impl<'a> Stopped<'a> {
             Fault::Disagrees(_) => Stopped {
                 file: Some(image),
                 reason: Reason::Applied { reverse },
+                ..self
+            },
+            _ => self,
+        }
+    }
+
+    /// The same, or by which image, where that isn't to get longer and would.
+    pub fn on_growth(self, image: &'a str) -> Stopped<'a> {
+        match self.fault {
+            Fault::Grows { has, wanted } => Stopped {
+                file: Some(image),
+                reason: Reason::Longer { has, wanted },
                 ..self
             },
             _ => self,

@@ -102,6 +102,7 @@ where
             differs_by_name(rt, image, fault, expected)
         }
         Fault::Disagrees(Other::Bytes { at }) => has_others_by_name(rt, image, fault, at),
+        Fault::Grows { .. } => Stopped::from(fault).on_growth(image),
         fault => stopped_by(target, &world.left, fault),
     }
 }

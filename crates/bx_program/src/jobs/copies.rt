@@ -1,20 +1,21 @@
 //! dd onto an image, and its report.
 ghost use Rattle.bx_cli_commands.specs.jobs.Passing.{CanPass, plan_skip};
 
-use crate::history::changes::{change_anew, change_image};
+use crate::history::changes::change_image;
 use crate::history::told::look_for_others;
+use crate::jobs::kept::{Manner, put_change};
 use crate::jobs::ready::{Ready, most_of_dd, plan_behind};
 use crate::jobs::sights::tell_before_copy;
 use crate::progress::progress_of_copy;
 use crate::streams::input::{Placed, file, standard};
-use bx_cli::{Command, DdImageJob, Fault, change_of_plan};
+use bx_cli::{Command, DdImageJob, Fault};
 use bx_dd::{Counts, report};
 use bx_hints::{Remarks, Stopped};
 use bx_program_sessions::Task;
 use bx_program_system::Progress;
 use bx_text::IoFault;
 use std::fs::File;
-use std::io::{Empty, Read};
+use std::io::Read;
 use std::rt::Files;
 use std::time::Clock;
 
@@ -72,8 +73,8 @@ where
     requires { CanPass input.passed (plan_skip job.now.plan) }
 {
     tell_before_copy(rt, job, input.most(most_of_dd(&job.plan)), remarks);
-    if job.fresh {
-        return copy_anew(rt, job, input, progress, remarks);
+    if job.fresh || job.no_grow {
+        return copy_made(rt, job, input, progress, remarks);
     }
     let plan = plan_behind(rt, job, input.passed);
     let mut ready = Ready::new(rt, job, input, progress);
@@ -87,8 +88,8 @@ where
     }
 }
 
-/// The same, with a history that begins with this change: the one before it is dropped once the input is read.
-fn copy_anew<'a, R, I: Read + Drop>(
+/// The same, where the history begins with this change, or the image isn't to get longer: that is judged once the input is read.
+fn copy_made<'a, R, I: Read + Drop>(
     rt: &R,
     job: &'a DdImageJob,
     input: Placed<'a, I>,
@@ -101,12 +102,12 @@ where
 {
     let plan = plan_behind(rt, job, input.passed);
     let mut ready = Ready::new(rt, job, input, progress);
-    let made = match change_of_plan(&rt.alloc(), &plan, &mut ready.reader) {
-        Ok(made) => made,
-        Err(fault) => return Err(ready.stopped(Stopped::from(Fault::from(fault)))),
+    let made = ready.made(rt.alloc(), &plan)?;
+    let manner = Manner {
+        fresh: job.fresh,
+        no_grow: job.no_grow,
     };
-    let task: Task<Empty> = Task::Put(Ok(made.change));
-    match change_anew(rt, &job.target, task, progress, remarks) {
+    match put_change(rt, &job.target, manner, made.change, progress, remarks) {
         Ok(_) => Ok(Some(made.counts)),
         Err(stopped) => Err(ready.stopped(stopped)),
     }

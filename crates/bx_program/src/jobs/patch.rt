@@ -1,24 +1,20 @@
 //! A patch, read and applied to an image.
-ghost use Rattle.bx_cli_commands.specs.Command.{IsNear};
-
 use crate::devices::agreement::agree;
 use crate::files::look::is_device;
-use crate::history::changes::{change_anew, change_image};
-use crate::history::settle_image;
 use crate::history::told::look_for_others;
+use crate::jobs::kept::{Manner, proposal_of_patch, put_patch};
 use crate::jobs::previews::preview_patch;
 use crate::jobs::sights::tell_before_patch;
 use crate::progress::{progress_of_input, progress_of_standard};
 use crate::streams::input::{MOST_INPUT, Placed, whole};
-use bx_cli::{Command, Fault, PatchJob};
+use bx_cli::{Fault, PatchJob};
 use bx_hints::{Remarks, STANDARD_INPUT, Stopped};
 use bx_patch::{Patch, read_patch};
-use bx_program_sessions::Task;
 use bx_program_system::{Counted, Noted, Progress};
 use bx_text::Source;
 use std::alloc::Global;
 use std::fs::File;
-use std::io::{Empty, Read, Write};
+use std::io::{Read, Write};
 use std::mem::swap;
 use std::rt::Files;
 use std::time::Clock;
@@ -40,7 +36,8 @@ where
     }
     let progress = progress_of_input(rt, remarks, None);
     if job.dry_run {
-        return preview_patch(rt, &job.target, patch, &progress, out);
+        let proposal = proposal_of_patch(patch, job.no_grow);
+        return preview_patch(rt, &job.target, proposal, &progress, out);
     }
     if patch.changes_nothing() {
         remarks.look_at_no_change();
@@ -102,26 +99,14 @@ fn change_by<'a, R>(
 where
     R: Files<File = File> + Print + Eprint + Clock + AllocGlobal,
 {
-    let image = job.target.image.as_str();
     tell_before_patch(rt, &job.target, &patch, remarks);
     look_for_others(rt, &job.target, job.fresh, remarks);
-    let target = &job.target;
-    if job.fresh {
-        // Nothing is dropped for a patch with which the image doesn't agree, once it is recovered.
-        settle_image(rt, target, progress)?;
-        agree(rt, image, &patch, progress)?;
-        change_anew(rt, target, Task::Run(asking(patch)), progress, remarks)?;
-    } else {
-        change_image(rt, target, Task::Run(asking(patch)), progress, remarks)?;
-    }
+    let manner = Manner {
+        fresh: job.fresh,
+        no_grow: job.no_grow,
+    };
+    put_patch(rt, &job.target, manner, patch, progress, remarks)?;
     Ok(())
-}
-
-/// The command that makes a patch's change.
-fn asking(patch: Patch) -> Command<Empty>
-    ensures { IsNear result }
-{
-    Command::Patch { patch }
 }
 
 /// Whether a patch brings the image to another length.

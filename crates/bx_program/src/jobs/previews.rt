@@ -10,14 +10,11 @@ use crate::files::unopened::not_opened_alone;
 use crate::jobs::ready::{Ready, plan_behind};
 use crate::progress::{progress_of_copy, progress_of_input};
 use crate::streams::input::{Placed, file, standard};
-use bx_cli::{DdImageJob, Fault, Target};
+use bx_cli::{DdImageJob, Fault, Kept, Target};
 use bx_dd::Counts;
 use bx_hints::{Remarks, Stopped};
-use bx_image::Change;
-use bx_patch::Patch;
 use bx_program_commands::{Cause, Failure, Proposal, Request, Stop, run_request};
 use bx_program_system::{Progress, SystemWorld};
-use bx_read::ReadFault;
 use std::fs::File;
 use std::io::{Empty, Read, Write};
 use std::rt::Files;
@@ -74,11 +71,11 @@ where
     }
 }
 
-/// Writes the patch that the change of a dump would be, which was read, or refuses it for the dump's fault.
+/// Writes the patch that what was read of a dump would be, or refuses it for the dump's fault.
 pub fn preview_read<'a, R, W: Write>(
     rt: &R,
     target: &'a Target,
-    read: Result<Change, ReadFault>,
+    proposal: Proposal<Empty>,
     remarks: &Remarks,
     out: &mut W,
 ) -> Result<(), Stopped<'a>>
@@ -86,7 +83,6 @@ where
     R: Files<File = File> + Print + Eprint + Clock + AllocGlobal,
 {
     let progress = progress_of_input(rt, remarks, None);
-    let proposal: Proposal<Empty> = Proposal::Read(read);
     preview(rt, target, proposal, &progress, out)?;
     Ok(())
 }
@@ -95,14 +91,13 @@ where
 pub fn preview_patch<'a, R, W: Write>(
     rt: &R,
     target: &'a Target,
-    patch: Patch,
+    proposal: Proposal<Empty>,
     progress: &Progress<'_, R>,
     out: &mut W,
 ) -> Result<(), Stopped<'a>>
 where
     R: Files<File = File> + Print + Eprint + Clock + AllocGlobal,
 {
-    let proposal: Proposal<Empty> = Proposal::Patch(patch);
     preview(rt, target, proposal, progress, out)?;
     Ok(())
 }
@@ -139,6 +134,15 @@ where
 {
     let plan = plan_behind(rt, job, input.passed);
     let mut ready = Ready::new(rt, job, input, progress);
+    if job.no_grow {
+        let made = ready.made(rt.alloc(), &plan)?;
+        let proposal: Proposal<Empty> = Proposal::Keep(Kept::Change(made.change));
+        return match preview(rt, &job.target, proposal, progress, out) {
+            Ok(_) if job.plan.quiet => Ok(None),
+            Ok(_) => Ok(Some(made.counts)),
+            Err(stopped) => Err(ready.stopped(stopped)),
+        };
+    }
     let proposal = Proposal::Copy {
         plan,
         input: &mut ready.reader,

@@ -5,10 +5,11 @@ use crate::files::look::{device_length, is_device};
 use crate::streams::fitting::Fitting;
 use crate::streams::input::Placed;
 use crate::streams::part::Part;
-use bx_cli::{DdImageJob, plan_rest};
+use bx_cli::{DdChange, DdImageJob, Fault, change_of_plan, plan_rest};
 use bx_dd::Plan;
 use bx_hints::Stopped;
 use bx_program_system::{Noted, Progress};
+use std::alloc::Global;
 use std::fs::File;
 use std::io::Read;
 use std::rt::Files;
@@ -56,6 +57,14 @@ impl<'a, 'p, 'r, I: Read, R: Clock + Eprint> Ready<'a, Part<'p, 'r, I, R>> {
         Ready {
             reader: Fitting::new(counted, &job.plan, passed, length),
             name,
+        }
+    }
+
+    /// What the plan makes of this input, which is read whole.
+    pub fn made(&mut self, alloc: Global, plan: &Plan) -> Result<DdChange, Stopped<'a>> {
+        match change_of_plan(&alloc, plan, &mut self.reader) {
+            Ok(made) => Ok(made),
+            Err(fault) => Err(self.stopped(Stopped::from(Fault::from(fault)))),
         }
     }
 

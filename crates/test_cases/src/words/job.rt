@@ -190,6 +190,7 @@ fn dd_image_field<'a>(job: &'a DdImageJob, name: &str) -> Field<'a> {
         }
         "fresh" => flag(job.fresh),
         "dry_run" => flag(job.dry_run),
+        "no_grow" => flag(job.no_grow),
         _ => plan_field(&job.plan, name),
     }
 }
@@ -229,6 +230,7 @@ fn revert_field<'a>(job: &'a RevertJob, name: &str) -> Field<'a> {
         "at" => Field::Number(job.at),
         "fresh" => flag(job.fresh),
         "dry_run" => flag(job.dry_run),
+        "no_grow" => flag(job.no_grow),
         _ => target_field(&job.target, name),
     }
 }
@@ -239,6 +241,7 @@ fn patch_field<'a>(job: &'a PatchJob, name: &str) -> Field<'a> {
         "reverse" => flag(job.reverse),
         "fresh" => flag(job.fresh),
         "dry_run" => flag(job.dry_run),
+        "no_grow" => flag(job.no_grow),
         _ => target_field(&job.target, name),
     }
 }

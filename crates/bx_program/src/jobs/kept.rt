@@ -1,0 +1,169 @@
+//! Changes with which a history may begin anew, and which may have to keep within their image's length.
+ghost use Rattle.bx_program_sessions.specs.Task.{IsNearTask};
+
+use crate::devices::agreement::agree;
+use crate::devices::left::length_of;
+use crate::files::look::is_missing;
+use crate::files::read::open_alone;
+use crate::history::changes::{change_anew, change_image};
+use crate::history::settle_image;
+use bx_cli::{Command, Fault, Kept, Reply, Target, refuse_growth};
+use bx_hints::{Remarks, Stopped};
+use bx_image::{Change, MAX_LEN};
+use bx_patch::Patch;
+use bx_program_commands::Proposal;
+use bx_program_sessions::Task;
+use bx_program_system::Progress;
+use bx_read::ReadFault;
+use std::fs::File;
+use std::io::Empty;
+use std::rt::Files;
+use std::time::Clock;
+
+/// How a change is made.
+#[derive(Clone, Copy)]
+pub struct Manner {
+    /// Whether the image's history is dropped before.
+    pub fresh: bool,
+    /// Whether it is refused where it makes the image longer.
+    pub no_grow: bool,
+}
+
+/// What a dump that was read asks for, of an image that may have to keep within its length.
+pub fn proposal_of_read(read: Result<Change, ReadFault>, no_grow: bool) -> Proposal<Empty> {
+    match read {
+        Ok(change) if no_grow => Proposal::Keep(Kept::Change(change)),
+        read => Proposal::Read(read),
+    }
+}
+
+/// The same of a patch.
+pub fn proposal_of_patch(patch: Patch, no_grow: bool) -> Proposal<Empty> {
+    if no_grow {
+        Proposal::Keep(Kept::Patch(patch))
+    } else {
+        Proposal::Patch(patch)
+    }
+}
+
+/// The task of a change.
+fn task_of_change(change: Change, no_grow: bool) -> Task<Empty>
+    ensures { IsNearTask result }
+{
+    if no_grow {
+        Task::Keep(Kept::Change(change))
+    } else {
+        Task::Put(Ok(change))
+    }
+}
+
+/// The task of a patch.
+fn task_of_patch(patch: Patch, no_grow: bool) -> Task<Empty>
+    ensures { IsNearTask result }
+{
+    if no_grow {
+        Task::Keep(Kept::Patch(patch))
+    } else {
+        Task::Run(Command::Patch { patch })
+    }
+}
+
+/// Makes a change on an image. Nothing is dropped for one that would make the image longer, once that is recovered.
+pub fn put_change<'a, R>(
+    rt: &R,
+    target: &'a Target,
+    manner: Manner,
+    change: Change,
+    progress: &Progress<'_, R>,
+    remarks: &mut Remarks,
+) -> Result<Reply, Stopped<'a>>
+where
+    R: Files<File = File> + Print + Eprint + Clock + AllocGlobal,
+{
+    if manner.fresh && manner.no_grow {
+        settle_image(rt, target, progress)?;
+        let image = target.image.as_str();
+        refused(image, refuse_growth(&change, length_named(rt, image)?))?;
+    }
+    let task = task_of_change(change, manner.no_grow);
+    if manner.fresh {
+        change_anew(rt, target, task, progress, remarks)
+    } else {
+        change_image(rt, target, task, progress, remarks)
+    }
+}
+
+/// Makes the change of a patch on an image. Nothing is dropped for a patch with which the image doesn't agree, or which would make it
+/// longer, once it is recovered.
+pub fn put_patch<'a, R>(
+    rt: &R,
+    target: &'a Target,
+    manner: Manner,
+    patch: Patch,
+    progress: &Progress<'_, R>,
+    remarks: &mut Remarks,
+) -> Result<Reply, Stopped<'a>>
+where
+    R: Files<File = File> + Print + Eprint + Clock + AllocGlobal,
+{
+    if !manner.fresh {
+        let task = task_of_patch(patch, manner.no_grow);
+        return change_image(rt, target, task, progress, remarks);
+    }
+    let image = target.image.as_str();
+    settle_image(rt, target, progress)?;
+    agree(rt, image, &patch, progress)?;
+    if manner.no_grow {
+        refused(image, refuse_longer(&patch, length_named(rt, image)?))?;
+    }
+    let task = task_of_patch(patch, manner.no_grow);
+    change_anew(rt, target, task, progress, remarks)
+}
+
+/// What stopped a change that would make its image longer.
+fn refused(image: &str, growth: Result<(), Fault>) -> Result<(), Stopped<'_>> {
+    match growth {
+        Ok(()) => Ok(()),
+        Err(fault) => Err(Stopped::from(fault).on_growth(image)),
+    }
+}
+
+/// Refuses a patch that makes an image of `has` bytes longer, with which that agrees.
+fn refuse_longer(patch: &Patch, has: u64) -> Result<(), Fault> {
+    let wanted = length_behind(patch, has);
+    if wanted > has && wanted <= MAX_LEN {
+        Err(Fault::Grows { has, wanted })
+    } else {
+        Ok(())
+    }
+}
+
+/// The length of an image of `has` bytes behind a patch: the one that the patch tells, behind which it writes nothing, or else its own up
+/// to the last byte that is written.
+fn length_behind(patch: &Patch, has: u64) -> u64 {
+    if let Some(lengths) = patch.lengths {
+        return lengths.new;
+    }
+    let mut longest = has;
+    for piece in patch.written.as_slice() {
+        let count = piece.bytes.as_slice().len() as u64;
+        if count > 0 {
+            longest = longest.max(piece.at.saturating_add(count));
+        }
+    }
+    longest
+}
+
+/// How many bytes the image of this name has; one that is missing has none.
+fn length_named<'a, R>(rt: &R, image: &'a str) -> Result<u64, Stopped<'a>>
+where
+    R: Files<File = File>,
+{
+    if is_missing(rt, image) {
+        return Ok(0);
+    }
+    match length_of(&open_alone(rt, image)?) {
+        Ok(has) => Ok(has),
+        Err(error) => Err(Stopped::unopened(image, error)),
+    }
+}
