@@ -7,11 +7,11 @@ use crate::files::look::is_missing;
 use crate::files::read::open_alone;
 use crate::history::changes::{change_anew, change_image};
 use crate::history::settle_image;
-use bx_cli::{Command, Fault, Kept, Reply, Target, refuse_growth};
+use bx_cli::{Command, Fault, Kept, Target, refuse_growth};
 use bx_hints::{Remarks, Stopped};
 use bx_image::{Change, MAX_LEN};
 use bx_patch::Patch;
-use bx_program_commands::Proposal;
+use bx_program_commands::{Done, Proposal};
 use bx_program_sessions::Task;
 use bx_program_system::Progress;
 use bx_read::ReadFault;
@@ -76,7 +76,7 @@ pub fn put_change<'a, R>(
     change: Change,
     progress: &Progress<'_, R>,
     remarks: &mut Remarks,
-) -> Result<Reply, Stopped<'a>>
+) -> Result<Done, Stopped<'a>>
 where
     R: Files<File = File> + Print + Eprint + Clock + AllocGlobal,
 {
@@ -102,7 +102,7 @@ pub fn put_patch<'a, R>(
     patch: Patch,
     progress: &Progress<'_, R>,
     remarks: &mut Remarks,
-) -> Result<Reply, Stopped<'a>>
+) -> Result<Done, Stopped<'a>>
 where
     R: Files<File = File> + Print + Eprint + Clock + AllocGlobal,
 {
