@@ -1,6 +1,4 @@
 //! The jobs, and one run of the program.
-ghost use Rattle.std.specs.Prelude.{◌≡◌};
-
 mod copies;
 mod diff;
 mod kept;
@@ -412,9 +410,7 @@ where
 }
 
 /// What stopped a dump of this file, whose reading was refused with the system's number.
-fn cut_off(name: &str, unread: Option<i32>, failure: Failure) -> Stopped<'_>
-    ensures { result.fault ≡ failure.fault }
-{
+fn cut_off(name: &str, unread: Option<i32>, failure: Failure) -> Stopped<'_> {
     let fault = failure.fault;
     let by = match failure.stop.map(|stop| stop.cause) {
         Some(Cause::Unopened(Why::System(refusal)) | Cause::Unplaced(refusal)) => {

@@ -22,7 +22,6 @@ fn stopped<'a, R>(
 ) -> Stopped<'a>
 where
     R: Files<File = File> + AllocGlobal,
-    ensures { result.fault ≡ failure.fault }
 {
     match failure.stop {
         Some(stop) => blamed(rt, job, call, stop).with(failure.fault),
