@@ -1,40 +1,19 @@
 -- What an undo of a change takes, and a redo of it: the redo saves again what the change saved.
 use Rattle.std.proofs.Common.{◌≡◌, ℕ, zero, suc, ◌+◌, ◌<◌, ◌≤◌, ◌||◌, Bool, true, false, Option, None, Some, List, [], ◌∷◌, length, refl, ap, sym, ◌∙◌, inl, inr, arith, slice_index}
 use Rattle.std.specs.Prelude.{nat_le, nat_lt, is_some, ◌&&◌, ◌==◌, if◌then◌else◌}
-use Rattle.std.specs.Option.{unwrap_or, option_map_or}
+use Rattle.std.specs.Option.{option_map_or}
 use Rattle.std.proofs.lemmas.Bool.{cases_Bool}
 use Rattle.std.proofs.lemmas.Bool.Decides.{nat_tests}
 use Rattle.bx_text.specs.declared.owned.pieces.Piece.{Piece}
 use Rattle.bx_image.specs.declared.change.Change.{Change}
-use Rattle.bx_image.specs.Change.{byte_in, effect, kept_byte, restore, runs_from, saved, touches, with_byte, AllWithin, AreBytes, HaveBytes, IsOf, KeepsUntouched}
+use Rattle.bx_image.specs.Change.{byte_in, effect, kept_byte, runs_from, saved, touches, with_byte, AllWithin, AreBytes, HaveBytes, IsOf}
 use Rattle.bx_image.specs.Image.{end_of}
 use Rattle.bx_image.proofs.Changes.{KeepsUntouched_refl}
-use Rattle.bx_image.proofs.Records.{byte_in_untouched, is_some-byte_in, KeepsUntouched-effect, len-saved, length-restore, or_false, restore-saved, saved-maximal, saved-same, slice_index-restore}
+use Rattle.bx_image.proofs.Records.{is_some-byte_in, KeepsUntouched-effect, len-saved, restore-saved, saved-maximal, saved-same}
 use Rattle.bx_journal_format.specs.Kept.{Kept, kept_of}
 use Rattle.bx_journal_protocol.specs.model.Taken.{taken}
+use Rattle.bx_journal_protocol.proofs.Restored.{back_of}
 use Rattle.bx_journal_protocol.proofs.TakenText.{kept_byte_in, plain, saved_in}
-
--- the change that puts a record back
-abbrev pub back_of : Kept → Change (Unit {0})
-back_of s = record { base = Some s.len; writes = s.runs }
-
--- restoring a record keeps what its change doesn't touch
-keeps_restored : (e : Kept) (y : List ℕ) → KeepsUntouched (back_of e) y (restore e y)
-unfolding touches
-keeps_restored e y = record {
-  there = λ i old un. let parts = or_false _ _ un in let low : i < e.len = low_of i parts.0 in omega (arith, length-restore e y, low);
-  same = λ i old un.
-      let parts = or_false _ _ un in
-      let low : i < e.len = low_of i parts.0 in
-      slice_index-restore e y i low ∙ ap (λ (o : Option ℕ). unwrap_or o (slice_index y i)) (byte_in_untouched (back_of e) i un);
-}
-  where
-    low_of : (i : ℕ) → nat_le e.len i ≡ false → i < e.len
-    low_of i is = grind (arith, nat_tests)
-
--- what was taken gives the image back
-pub taken_back : (e : Kept) (y : List ℕ) → restore (taken e y) (restore e y) ≡ y
-taken_back e y = restore-saved (back_of e) y (restore e y) (keeps_restored e y)
 
 -- what is saved of bytes is a record of them
 with_within : {A : Type 0} (limit at b : ℕ) (runs : List (Piece A)) → at < limit → AllWithin limit runs → AllWithin limit (with_byte at b runs)
@@ -108,7 +87,7 @@ touches_back s i = ap (λ b. nat_le s.len i || b) (sym (is_some-byte_in s.runs i
 
 -- below the old length a redo touches what the change touched: f tells what the undo took of the changed image, e what the change saved
 module _ {A : Type 0} (c : Change A) (x : List ℕ) (e f : Kept) (e_len : e.len ≡ length x) (e_is : (i : ℕ) → byte_in e.runs i ≡ kept_byte c x i) (f_len : f.len ≡ length (effect c x))
-    (f_is : (i : ℕ) → byte_in f.runs i ≡ byte_in (taken e (effect c x)).runs i) where
+    (f_is : (i : ℕ) → i < length x → byte_in f.runs i ≡ byte_in (taken e (effect c x)).runs i) where
   abbrev y : List ℕ
   y = effect c x
 
@@ -124,7 +103,7 @@ module _ {A : Type 0} (c : Change A) (x : List ℕ) (e f : Kept) (e_len : e.len 
 
   some_f : (i : ℕ) → i < length x → is_some (byte_in f.runs i) ≡ (nat_lt i (length y) && touches c i)
   some_f i low =
-      ap (λ (o : Option ℕ). is_some o) (f_is i ∙ (saved-maximal (back_of e) y).same i)
+      ap (λ (o : Option ℕ). is_some o) (f_is i low ∙ (saved-maximal (back_of e) y).same i)
       ∙ is_some_if (nat_lt i (length y) && touches (back_of e) i) (slice_index y i) ∙ ap (λ b. nat_lt i (length y) && b) (touched_e i low)
 
   touched_f : (i : ℕ) → i < length x → touches (back_of f) i ≡ touches c i
@@ -158,7 +137,7 @@ module _ {A : Type 0} (c : Change A) (x : List ℕ) (e f : Kept) (e_len : e.len 
 
 -- a redo saves what the change saved
 pub taken_again : {A : Type 0} (c : Change A) (x : List ℕ) (e f : Kept) → e.len ≡ length x → ((i : ℕ) → byte_in e.runs i ≡ kept_byte c x i) → f.len ≡ length (effect c x)
-    → ((i : ℕ) → byte_in f.runs i ≡ byte_in (taken e (effect c x)).runs i) → taken f x ≡ kept_of (saved c x)
+    → ((i : ℕ) → i < length x → byte_in f.runs i ≡ byte_in (taken e (effect c x)).runs i) → taken f x ≡ kept_of (saved c x)
 taken_again c x e f e_len e_is f_len f_is =
     let max = saved-maximal (back_of f) x in
     saved-same (plain c) x (taken f x) (len-saved (back_of f) x) (record { same = λ i. same_bytes c x e f e_len e_is f_len f_is i ∙ kept_byte_in c x i; some = max.some; gaps = max.gaps }) ∙ sym (saved_in c x)

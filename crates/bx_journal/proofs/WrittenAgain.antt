@@ -6,7 +6,7 @@ use Rattle.std.proofs.lemmas.Bool.Decides.{nat_tests}
 use Rattle.std.proofs.lemmas.List.{take-append-drop, take_all}
 use Rattle.bx_image.specs.declared.change.Change.{Change}
 use Rattle.bx_image.specs.declared.change.TheConstants.{MAX_LEN}
-use Rattle.bx_image.specs.Change.{effect, restore, saved, AreBytes, IsOf}
+use Rattle.bx_image.specs.Change.{byte_in, effect, restore, saved, AreBytes, IsOf}
 use Rattle.bx_image.proofs.Records.{KeepsUntouched-effect, len-saved, restore-saved, saved-maximal}
 use Rattle.bx_journal_format.specs.Kept.{Kept, kept_of, with_run}
 use Rattle.bx_journal_format.specs.Entry.{entry_text}
@@ -22,9 +22,10 @@ use Rattle.bx_journal_protocol.specs.model.Laws.{HasBytes}
 use Rattle.bx_journal_read.specs.model.Redo.{IsRedoOf}
 use Rattle.bx_journal_protocol.specs.model.RedoLaws.{IsWrittenAgain}
 use Rattle.bx_journal_read.specs.model.Stack.{StandsFor}
-use Rattle.bx_journal_protocol.specs.model.Taken.{taken, taken_by}
+use Rattle.bx_journal_protocol.specs.model.Taken.{taken, taken_by, AreKept, IsKeptOf}
 use Rattle.bx_journal_read.specs.model.Undoing.{HasLeft}
-use Rattle.bx_journal.proofs.AgainTaken.{back_of, saved_is_of, taken_again, taken_back}
+use Rattle.bx_journal.proofs.AgainTaken.{saved_is_of, taken_again}
+use Rattle.bx_journal_protocol.proofs.LeftOut.{kept_back}
 use Rattle.bx_journal_protocol.proofs.LawProofs.{written_is_read}
 use Rattle.bx_journal_protocol.proofs.Performed.{performed, restored_same, top_of_stands}
 use Rattle.bx_journal_protocol.proofs.RedoText.{one_reading}
@@ -130,6 +131,19 @@ one_taken new e es x text n m low long taken_so =
     let is : nat_le (length x) MAX_LEN ≡ true = grind (arith, nat_tests) in
     taken_so ∙ ap (λ b. if b then text ++ entry_text (suc n) (taken e.saved x) e.saved.len else []) is ∙ ap (λ k. text ++ entry_text (suc n) (taken e.saved x) k) long
 
+-- one turn of an undo, and what it keeps below the length that it leaves
+one_kept : (new : List ℕ) (e : Entry) (es : List Entry) (x text : List ℕ) (n m : ℕ) → length x ≤ MAX_LEN → e.saved.len ≡ m → AreKept 1 (e ∷ es) x n text new
+    → (s : Kept) × IsKeptOf e.saved x s × (new ≡ text ++ entry_text (suc n) s m)
+one_kept new e es x text n m low long kept =
+    let is : nat_le (length x) MAX_LEN ≡ true = grind (arith, nat_tests) in
+    (kept.0, kept.1 low, kept.2 ∙ ap (λ b. if b then text ++ entry_text (suc n) kept.0 e.saved.len else []) is ∙ ap (λ k. text ++ entry_text (suc n) kept.0 k) long)
+
+kept_below : (e : Kept) (x : List ℕ) (s : Kept) → IsKeptOf e x s → (i : ℕ) → i < e.len → byte_in s.runs i ≡ byte_in (taken e x).runs i
+kept_below e x s kept i low = elim (kept.zeros.bytes i) [
+  | inl same ↦ same
+  | inr out ↦ absurd (omega (arith, low, out.0))
+]
+
 -- two texts of one entry behind one text
 same_text : (new text left older : List ℕ) (t s : Kept) (n m : ℕ) → new ≡ left ++ entry_text n t m → t ≡ s → left ≡ older → text ≡ older ++ entry_text n s m → new ≡ text
 same_text new text left older t s n m written same left_is text_is = written ∙ ap (λ k. left ++ entry_text n k m) same ∙ ap (λ u. u ++ entry_text n s m) left_is ∙ sym text_is
@@ -137,7 +151,7 @@ same_text new text left older t s n m written same left_is text_is = written ∙
 pub written_again : {A : Type 0} (c : Change A) (x older text left redo kept new : List ℕ) (stack undone : List (List ℕ)) (n : ℕ) → StandsFor older x stack → length stack ≡ suc n → IsRedoOf redo (effect c x) (suc n) undone
     → length x ≤ MAX_LEN → length (effect c x) ≤ MAX_LEN → AreBytes x → AreBytes (effect c x)
     → text ≡ older ++ entry_text (suc n) (kept_of (saved c x)) (length (effect c x))
-    → ((es : List Entry) → IsFinished text es → kept ≡ taken_by 1 es (effect c x) (length undone) redo)
+    → ((es : List Entry) → IsFinished text es → AreKept 1 es (effect c x) (length undone) redo kept)
     → ((es : List Entry) → IsFinished text es → HasLeft text left (drop 1 es))
     → ((es : List Entry) → IsFinished kept es → new ≡ taken_by 1 es x n left)
     → new ≡ text
@@ -147,16 +161,18 @@ written_again c x older text left redo kept new stack undone n st many r long mo
     let s_back : restore s y ≡ x = same_restore (saved c x) y ∙ restore-saved c x y (KeepsUntouched-effect c x) in
     let w = written_to older text x y stack s n st many (omega (arith, r.few)) (is_of_in (saved c x) x (saved_is_of c x bytes)) long most s_back text_is in
     let e : Entry = w.entry in
-    let t : Kept = taken e.saved y in
     let back : restore e.saved y ≡ x = restored_same e s (length y) y w.bytes ∙ s_back in
     let len : e.saved.len ≡ length x = w.bytes.len ∙ len-saved c x in
-    let kept_is : kept ≡ redo ++ entry_text (suc (length undone)) t (length x) =
-    one_taken kept e w.entries y redo (length undone) (length x) most len (keeps (e ∷ w.entries) w.finished) in
-    let again : restore t x ≡ y = ap (restore t) (sym back) ∙ taken_back e.saved y in
-    let w2 = written_to redo kept y x (y ∷ undone) t (length undone) r.stands refl (omega (arith, r.few)) (saved_is_of (back_of e.saved) y bytes_behind) most long again kept_is in
+    let one = one_kept kept e w.entries y redo (length undone) (length x) most len (keeps (e ∷ w.entries) w.finished) in
+    let t : Kept = one.0 in
+    let kept_so : IsKeptOf e.saved y t = one.1 in
+    let again : restore t x ≡ y = ap (restore t) (sym back) ∙ kept_back e.saved y t kept_so in
+    let w2 = written_to redo kept y x (y ∷ undone) t (length undone) r.stands refl (omega (arith, r.few)) kept_so.of_x most long again one.2 in
     let f : Entry = w2.entry in
-    let f_len : f.saved.len ≡ length y = w2.bytes.len ∙ len-saved (back_of e.saved) y in
-    let same : taken f.saved x ≡ s = taken_again c x e.saved f.saved len (λ i. w.bytes.bytes i ∙ same_byte (saved c x).runs i ∙ (saved-maximal c x).same i) f_len w2.bytes.bytes in
+    let f_len : f.saved.len ≡ length y = w2.bytes.len ∙ kept_so.of_x.len in
+    let same : taken f.saved x ≡ s =
+    taken_again c x e.saved f.saved len (λ i. w.bytes.bytes i ∙ same_byte (saved c x).runs i ∙ (saved-maximal c x).same i) f_len
+    (λ i low. w2.bytes.bytes i ∙ kept_below e.saved y t kept_so i (omega (arith, low, len))) in
     let left_is : left ≡ older =
     let l = leaves (e ∷ w.entries) w.finished in
     one_front left older l.front.0 (entry_text (suc n) s (length y)) w.entries (sym l.front.1 ∙ text_is) l.finished w.before in
@@ -172,6 +188,7 @@ is_written_again A image text c x older stack undone old mid new left n behind h
     behind.written ∙ ap (λ k. older ++ entry_text k (kept_of (saved c x)) (length (effect c x))) (sym number) in
     written_again c x older (text old.journal) (text mid.journal) (text old.redo) (text mid.redo) (text new.journal) stack undone mid.count behind.stands standing.count redo behind.fits.0 behind.fits.1 behind.bytes.0 behind.bytes.1
     written
-    (λ es finished. keeps es finished ∙ ap (λ y. taken_by 1 es y old.undone (text old.redo)) behind.changed ∙ ap (λ k. taken_by 1 es (effect c x) k (text old.redo)) has.counted)
+    (λ es finished. subst (λ k. AreKept 1 es (effect c x) k (text old.redo) (text mid.redo)) has.counted
+    (subst (λ y. AreKept 1 es y old.undone (text old.redo) (text mid.redo)) behind.changed (keeps es finished)))
     leaves
     (λ es finished. grows es finished ∙ ap (λ y. taken_by 1 es y mid.count (text mid.journal)) image_is)

@@ -16,7 +16,7 @@ use Rattle.bx_journal_store.specs.declared.store.TextStore.{Ghosts as StoreViews
 use Rattle.bx_journal_protocol.specs.declared.devices.Devices.{Devices}
 use Rattle.bx_journal_read.specs.model.Stack.{StandsFor}
 use Rattle.bx_journal_protocol.specs.model.Standing.{IsStanding}
-use Rattle.bx_journal_protocol.specs.model.Taken.{taken_by}
+use Rattle.bx_journal_protocol.specs.model.Taken.{AreKept}
 use Rattle.bx_journal_read.specs.model.Undoing.{HasLeft, AreReadFrom, IsLastFrom}
 use Rattle.bx_journal_read.specs.declared.fault.SessionFault.{SessionFault}
 use Rattle.bx_journal_protocol.specs.ThreeDevices.{HaveStayed}
@@ -115,16 +115,15 @@ module _ {D T : Type 0} {d : DeviceViews D} {t : StoreViews T} where
       step (stayed.image_honesty.1 dh) (stayed.journal_honesty.1 th) (stayed.redo_honesty.1 rh) s
       (record { stands = pair_stays (λ t x. StandsFor t x s.stack) stayed dh th standing.stands; undone = undone_stays s stayed dh rh standing.count has })
 
-  -- which text an undo writes beside the journal, whose entries it takes
-  pub taken_step : {old new : Devices D T} {written : List ℕ} {k m : ℕ} (n : ℕ) → HaveStayed d t old new → m ≡ k
-      → (d.honest new.image → t.honest new.journal → t.honest new.redo → (es : List Entry) → IsFinished (t.text new.journal) es
-      → written ≡ taken_by m es (d.image new.image) n (t.text new.redo))
-      → d.honest old.image → t.honest old.journal → t.honest old.redo → (es : List Entry) → IsFinished (t.text old.journal) es
-      → written ≡ taken_by k es (d.image old.image) n (t.text old.redo)
-  taken_step {old = old} {new = new} {m = m} n stayed count step dh th uh es finished =
-      step (stayed.image_honesty.1 dh) (stayed.journal_honesty.1 th) (stayed.redo_honesty.1 uh) es (subst (λ z. IsFinished z es) (sym (stayed.text_same th)) finished)
-      ∙ ap (λ x. taken_by m es x n (t.text new.redo)) (stayed.image_same dh) ∙ ap (taken_by m es (d.image old.image) n) (stayed.redo_same uh)
-      ∙ ap (λ j. taken_by j es (d.image old.image) n (t.text old.redo)) count
+-- which records of entries that are undone an undo writes
+pub kept_step : {D T : Type 0} {d : DeviceViews D} {t : StoreViews T} {old new : Devices D T} {k m : ℕ} (written : List ℕ) (n : ℕ) → HaveStayed d t old new → m ≡ k
+    → (d.honest new.image → t.honest new.journal → t.honest new.redo → (es : List Entry) → IsFinished (t.text new.journal) es → AreKept m es (d.image new.image) n (t.text new.redo) written)
+    → d.honest old.image → t.honest old.journal → t.honest old.redo → (es : List Entry) → IsFinished (t.text old.journal) es → AreKept k es (d.image old.image) n (t.text old.redo) written
+kept_step {d = d} {t = t} {old = old} {new = new} {m = m} written n stayed count step dh th uh es finished =
+    let kept = step (stayed.image_honesty.1 dh) (stayed.journal_honesty.1 th) (stayed.redo_honesty.1 uh) es (subst (λ z. IsFinished z es) (sym (stayed.text_same th)) finished) in
+    subst (λ j. AreKept j es (d.image old.image) n (t.text old.redo) written) count
+    (subst (λ r. AreKept m es (d.image old.image) n r written) (stayed.redo_same uh)
+    (subst (λ x. AreKept m es x n (t.text new.redo) written) (stayed.image_same dh) kept))
 
 -- what was read of a text before it was looked at again
 pub read_since : {A : Type 0} {before now : Type 0} {stored text : List ℕ} {len count : ℕ} {es : List (EntryRead A)} → (now → before) → (before → text ≡ stored) → IsLastFrom before stored len es count

@@ -16,6 +16,7 @@ use Rattle.bx_journal_read.specs.model.Undoing.{HasLeft, AreReadFrom}
 use Rattle.bx_journal_protocol.specs.protocol.Takens.{IsTakenBy, AllShaped, AreZeros, AreFilled, AreReady, IsFirstBelow, entries_len}
 use Rattle.bx_journal_protocol.specs.protocol.Turns.{AreAtRest, AreStanding}
 use Rattle.bx_journal_protocol.proofs.EntryLoop.{EntriesLeft, EntryTurn, all_left, entry_turn, one_less, left_at as front_left, places as entry_places, long_at as entry_within, marks_at as entry_marks, finished_below as without_entry, entries_same as same_entries}
+use Rattle.bx_journal_protocol.proofs.LeftOut.{rooms_of_zeros}
 use Rattle.bx_journal_protocol.proofs.PlacedLemmas.{kept_reading}
 use Rattle.bx_journal_protocol.proofs.TakenLemmas.{len_pop, reverse_last, shaped_pop}
 use Rattle.bx_journal_read.proofs.UndoLoop.{IsUndone, IsUndoing}
@@ -132,5 +133,5 @@ module _ {A : Type 0} {text_honest honest : Type 0} {first now x : List ℕ} {i 
         dropped = left.dropped;
         kept = left.kept;
         shaped = shaped turn.shaped.0;
-        ready = λ h. filled h (reverse es) (zeros_at z h (long h));
+        ready = λ h. filled h (reverse es) (rooms_of_zeros z (reverse es) (reverse ts) (zeros_at z h (long h)));
       }

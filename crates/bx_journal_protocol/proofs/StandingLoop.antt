@@ -4,7 +4,7 @@ use Rattle.std.specs.Prelude.{nat_le, if◌then◌else◌}
 use Rattle.bx_image.specs.declared.change.Change.{Change}
 use Rattle.bx_image.specs.declared.change.TheConstants.{MAX_LEN}
 use Rattle.bx_image.specs.declared.record.Saved.{Saved}
-use Rattle.bx_image.specs.Change.{saved, restore, IsOf}
+use Rattle.bx_image.specs.Change.{restore}
 use Rattle.bx_journal_format.specs.Kept.{kept_of}
 use Rattle.bx_journal_format.specs.Entry.{entry_text}
 use Rattle.bx_journal_format.specs.Text.{Entry, Between, split}
@@ -17,15 +17,16 @@ use Rattle.bx_journal_read.specs.model.Images.{Images, with_undone, undo_of}
 use Rattle.bx_journal_read.specs.model.Phase.{IsAtRest, RecoversEither}
 use Rattle.bx_journal_read.specs.model.Redo.{Finds, LeavesEither}
 use Rattle.bx_journal_read.specs.model.Stack.{StandsFor, HaveLengths, Recovers, stack_of}
-use Rattle.bx_journal_protocol.specs.model.Taken.{taken_by}
+use Rattle.bx_journal_protocol.specs.model.Taken.{AreKept}
 use Rattle.bx_journal_read.specs.scan.Step.{TakesBack}
 use Rattle.bx_journal_protocol.specs.protocol.Takens.{entries_len}
 use Rattle.bx_journal_protocol.specs.protocol.Turns.{kept_text, AreAtRest, AreStanding, UndoesOne, side_of}
 use Rattle.bx_journal_protocol.proofs.ImageLemmas.{undo_of_more}
+use Rattle.bx_journal_protocol.proofs.LeftOut.{kept_back}
 use Rattle.bx_journal_protocol.proofs.LoopLemmas.{AreLeft, IsTurn, entries_same, finished_below, marks_at}
 use Rattle.bx_journal_read.proofs.Phases.{length-stack_of}
 use Rattle.bx_journal_protocol.proofs.Shapes.{entry_long}
-use Rattle.bx_journal_protocol.proofs.TakenText.{taken_turn}
+use Rattle.bx_journal_protocol.proofs.TakenText.{kept_turned}
 use Rattle.bx_journal_protocol.proofs.TurnLemmas.{redo_part, undo_one, undo_stops}
 use Rattle.bx_journal_read.proofs.UndoLoop.{drop_one}
 
@@ -98,9 +99,7 @@ module _ {A : Type 0} {text_honest honest : Type 0} {first text x : List ℕ} {i
           fits = bounded.0;
           taken_is = record {
             len = taken.len;
-            is = λ far.
-                let same : t ≡ saved (change_back e) x = taken.is far (change_back e) (record { base = refl; writes = refl }) in
-                (ap (λ r. kept_of r) same, subst (λ r. IsOf r x) same taken.of_x);
+            is = λ far. let kept = taken.is far in (kept.of_x, kept_back (kept_of e.kept) x (kept_of t) kept);
           };
         }
 
@@ -163,17 +162,18 @@ module _ {A : Type 0} {text_honest honest : Type 0} {first text x : List ℕ} {i
 
     -- what the records that are left lead on to
     pub taken_next : text_honest → honest → redo_honest → {m : ℕ} → m ≡ (if nat_le t.len MAX_LEN then n + 1 else 0) → (filled : List (Saved A)) → length filled ≡ length ts → (fs : List Entry) → IsFinished first fs
-        → taken_by (length filled) (drop (i + 1) fs) z m redo_new ≡ taken_by (length records) (drop i fs) x n redo
-    taken_next th h rh {m = m} number filled count fs finished =
+        → (last : List ℕ) → AreKept (length filled) (drop (i + 1) fs) z m redo_new last → AreKept (length records) (drop i fs) x n redo last
+    taken_next th h rh {m = m} number filled count fs finished last left =
         let below : List Entry = entries_onto turn.undone.older es in
         let same : drop i fs ≡ entry_of e ∷ below = entries_same turn th (drop i fs) (was.dropped th fs finished).reads in
         let rest : drop (i + 1) fs ≡ below = sym (drop_one i fs) ∙ ap (drop 1) same in
         let most : suc (length ts) ≡ length records = omega (arith, turn.most) in
-        ap (λ k. taken_by k (drop (i + 1) fs) z m redo_new) count
-        ∙ ap (λ gs. taken_by (length ts) gs z m redo_new) rest
-        ∙ ap (λ y. taken_by (length ts) below y m redo_new) (back.restored th h)
-        ∙ ap (λ j. taken_by (length ts) below (restore (kept_of e.kept) x) j redo_new) number
-        ∙ ap (taken_by (length ts) below (restore (kept_of e.kept) x) (if nat_le t.len MAX_LEN then n + 1 else 0)) (back.kept rh)
-        ∙ sym (taken_turn (length ts) e t below x redo n (turn.ready h).0)
-        ∙ ap (λ k. taken_by k (entry_of e ∷ below) x n redo) most
-        ∙ ap (λ gs. taken_by (length records) gs x n redo) (sym same)
+        let y : List ℕ = restore (kept_of e.kept) x in
+        let turned : AreKept (length ts) below y (if nat_le t.len MAX_LEN then n + 1 else 0) (kept_text redo (kept_of t) (n + 1) e.kept.len) last =
+        subst (λ r. AreKept (length ts) below y (if nat_le t.len MAX_LEN then n + 1 else 0) r last) (back.kept rh)
+        (subst (λ j. AreKept (length ts) below y j redo_new last) number
+        (subst (λ w. AreKept (length ts) below w m redo_new last) (back.restored th h)
+        (subst (λ gs. AreKept (length ts) gs z m redo_new last) rest
+        (subst (λ k. AreKept k (drop (i + 1) fs) z m redo_new last) count left)))) in
+        subst (λ gs. AreKept (length records) gs x n redo last) (sym same)
+        (subst (λ k. AreKept k (entry_of e ∷ below) x n redo last) most (kept_turned (length ts) e t below x redo last n (turn.ready h).0 turned))

@@ -3,16 +3,13 @@ use Rattle.std.proofs.Common.{◌≡◌, ℕ, suc, ◌+◌, List, [], ◌∷◌,
 use Rattle.std.specs.Prelude.{slice_set, slice_index_or, reverse}
 use Rattle.std.proofs.lemmas.List.{take_more, take_more_set, take_all, length-set, reverse-append}
 use Rattle.bx_text.specs.declared.owned.pieces.Piece.{Piece}
-use Rattle.bx_image.specs.declared.change.Change.{Change}
 use Rattle.bx_image.specs.declared.record.Saved.{Saved}
-use Rattle.bx_image.specs.Change.{saved, AllWithin, IsOf}
-use Rattle.bx_image.specs.Image.{zeros}
-use Rattle.bx_image.specs.Runs.{HaveShape}
-use Rattle.bx_image.proofs.FillLemmas.{length-zeros}
+use Rattle.bx_image.specs.Change.{AllWithin, IsOf}
+use Rattle.bx_image.specs.Runs.{AreRunsOf, HaveShape}
 use Rattle.bx_journal_format.specs.Kept.{kept_of}
 use Rattle.bx_journal_format.specs.Entry.{entry_text}
 use Rattle.bx_journal_format.specs.declared.read.types.EntryRead.{EntryRead}
-use Rattle.bx_journal_protocol.specs.protocol.Takens.{AreZeros, AreReady, AllShaped, entries_len}
+use Rattle.bx_journal_protocol.specs.protocol.Takens.{AreRoomFrom, AreReady, AllShaped, entries_len}
 use Rattle.bx_journal_protocol.proofs.Shapes.{runs_same, entry_long}
 
 -- the last of a list, before and behind
@@ -37,20 +34,20 @@ pub record IsShapedAs {A : Type 0} (t new : Saved A) : Type 0 where
 -- what filling a record says of it
 pub record IsFilled {A : Type 0} (x : List ℕ) (t new : Saved A) : Type 0 where
   pub kept : t.len ≡ length x → IsOf new x
-  pub saved_is : (c : Change A) (y : List ℕ) → length y ≡ length x → t ≡ saved c y → new ≡ saved c x
+  pub read : AreRunsOf x new.runs
 
-pub filled_ready : {A : Type 0} (x : List ℕ) (es : List (EntryRead A)) (t new : Saved A) (ts : List (Saved A)) → IsShapedAs t new → IsFilled x t new → AreZeros (length x) es (t ∷ ts) → AreReady x es (new ∷ ts)
+pub filled_ready : {A : Type 0} (x : List ℕ) (es : List (EntryRead A)) (t new : Saved A) (ts : List (Saved A)) → IsShapedAs t new → IsFilled x t new → AreRoomFrom x es (t ∷ ts) → AreReady x es (new ∷ ts)
 filled_ready x [] t new ts shape filled z = absurd z
 filled_ready x (e ∷ es) t new ts shape filled z = (
   record {
     len = shape.len ∙ z.0.len_is;
     of_x = filled.kept z.0.len_is;
-    is = λ long c back. filled.saved_is c (zeros (length x)) (length-zeros (length x)) (z.0.zeros long c back);
+    is = λ long. z.0.fills new shape.len shape.runs filled.read (filled.kept z.0.len_is) long;
   },
   z.1,
 )
 
-pub ready_filled : {A : Type 0} (x : List ℕ) (es : List (EntryRead A)) (front : List (Saved A)) (t new : Saved A) → IsShapedAs t new → IsFilled x t new → AreZeros (length x) es (reverse (front ++ t ∷ [])) → AreReady x es (reverse (front ++ new ∷ []))
+pub ready_filled : {A : Type 0} (x : List ℕ) (es : List (EntryRead A)) (front : List (Saved A)) (t new : Saved A) → IsShapedAs t new → IsFilled x t new → AreRoomFrom x es (reverse (front ++ t ∷ [])) → AreReady x es (reverse (front ++ new ∷ []))
 ready_filled x es front t new shape filled z = rw (reverse_last front new) (filled_ready x es t new (reverse front) shape filled (rw (reverse_last front t) at z))
 
 shape_within : {A : Type 0} (t new : Saved A) → IsShapedAs t new → AllWithin t.len t.runs → AllWithin new.len new.runs

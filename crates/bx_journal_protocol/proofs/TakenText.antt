@@ -1,5 +1,5 @@
 -- The text that undos, or redos, write, one turn after another.
-use Rattle.std.proofs.Common.{◌≡◌, ℕ, zero, suc, ◌+◌, ◌≤◌, ◌||◌, Bool, true, false, Option, None, Some, List, [], ◌∷◌, ◌++◌, length, map, refl, ap, sym, ◌∙◌, arith}
+use Rattle.std.proofs.Common.{◌≡◌, ℕ, zero, suc, ◌+◌, ◌≤◌, ◌||◌, Bool, true, false, Option, None, Some, List, [], ◌∷◌, ◌++◌, length, map, refl, ap, sym, ◌∙◌, subst, arith}
 use Rattle.std.specs.Prelude.{nat_le, nat_lt, slice_index, ◌==◌, ◌&&◌, if◌then◌else◌}
 use Rattle.std.specs.Option.{option_map_or}
 use Rattle.std.specs.List.{list_any}
@@ -15,7 +15,7 @@ use Rattle.bx_journal_format.specs.Kept.{Run, Kept, run_of, kept_of}
 use Rattle.bx_journal_format.specs.Text.{Entry}
 use Rattle.bx_journal_format.specs.declared.read.types.EntryRead.{EntryRead}
 use Rattle.bx_journal_format.specs.Parsed.{entry_of}
-use Rattle.bx_journal_protocol.specs.model.Taken.{taken, taken_by}
+use Rattle.bx_journal_protocol.specs.model.Taken.{taken, taken_by, AreKept}
 use Rattle.bx_journal_protocol.specs.protocol.Takens.{IsTakenBy}
 use Rattle.bx_journal_protocol.specs.protocol.Turns.{kept_text}
 
@@ -61,39 +61,17 @@ saved_in {A = A} c x =
     let with_runs : List Run → Kept = λ rs. record { len = length x; runs = rs } in
     ap with_runs (runs_in A (kept_byte c x) (kept_byte (plain c) x) 0 (length x) (kept_byte_in c x))
 
--- One turn: a text of n entries behind restoring the record of e, for which t was taken
-abbrev pub turned : {A : Type 0} → ℕ → List Entry → EntryRead A → Saved A → List ℕ → ℕ → List ℕ → List ℕ
-turned k es e t x n text = taken_by k es (restore (kept_of e.kept) x) (if nat_le t.len MAX_LEN then n + 1 else 0) (kept_text text (kept_of t) (n + 1) e.kept.len)
-
-pub taken_turn : {A : Type 0} (k : ℕ) (e : EntryRead A) (t : Saved A) (es : List Entry) (x text : List ℕ) (n : ℕ) → IsTakenBy x e t
-    → taken_by (suc k) (entry_of e ∷ es) x n text ≡ turned k es e t x n text
-taken_turn {A = A} k e t es x text n by = by_test (nat_le (length x) MAX_LEN) refl
+-- a turn of the undos: what is kept of x is in the entry that is written
+pub kept_turned : {A : Type 0} (k : ℕ) (e : EntryRead A) (t : Saved A) (es : List Entry) (x text new : List ℕ) (n : ℕ) → IsTakenBy x e t
+    → AreKept k es (restore (kept_of e.kept) x) (if nat_le t.len MAX_LEN then n + 1 else 0) (kept_text text (kept_of t) (n + 1) e.kept.len) new
+    → AreKept (suc k) (entry_of e ∷ es) x n text new
+kept_turned k e t es x text new n by turned = (kept_of t, by.is, subst (λ m. Behind (length x) m) count (subst (λ l. Behind l (n + 1)) by.len turned))
   where
-    le_of : (m : ℕ) → nat_le m MAX_LEN ≡ true → m ≤ MAX_LEN
-    le_of m is = grind (arith, nat_tests)
+    count : n + 1 ≡ suc n
+    count = omega arith
 
-    below : List ℕ
-    below = restore (kept_of e.kept) x
-
-    behind : ℕ → Kept → List ℕ
-    behind m s = taken_by k es below m (text ++ entry_text m s e.kept.len)
-
-    by_len : (b : Bool) → nat_le (length x) MAX_LEN ≡ b
-        → turned k es e t x n text ≡ taken_by k es below (if b then n + 1 else 0) (if b then text ++ entry_text (n + 1) (kept_of t) e.kept.len else [])
-    by_len b is = ap (λ b. taken_by k es below (if b then n + 1 else 0) (if b then text ++ entry_text (n + 1) (kept_of t) e.kept.len else [])) (ap (λ m. nat_le m MAX_LEN) by.len ∙ is)
-
-    back : Change A
-    back = record { base = Some e.kept.len; writes = e.kept.runs }
-
-    kept_is : length x ≤ MAX_LEN → kept_of t ≡ taken (kept_of e.kept) x
-    kept_is long = ap (λ (s : Saved A). kept_of s) (by.is long back (record { base = refl; writes = refl })) ∙ saved_in back x
-
-    by_test : (b : Bool) → nat_le (length x) MAX_LEN ≡ b → taken_by (suc k) (entry_of e ∷ es) x n text ≡ turned k es e t x n text
-    by_test true is =
-        let count : n + 1 ≡ suc n = omega arith in
-        ap (λ b. if b then behind (suc n) (taken (kept_of e.kept) x) else taken_by k es below 0 []) is
-        ∙ ap (λ m. behind m (taken (kept_of e.kept) x)) (sym count) ∙ ap (behind (n + 1)) (sym (kept_is (le_of (length x) is))) ∙ sym (by_len true is)
-    by_test false is = ap (λ b. if b then behind (suc n) (taken (kept_of e.kept) x) else taken_by k es below 0 []) is ∙ sym (by_len false is)
+    Behind : ℕ → ℕ → Type 0
+    Behind l m = AreKept k es (restore (kept_of e.kept) x) (if nat_le l MAX_LEN then m else 0) (if nat_le l MAX_LEN then text ++ entry_text m (kept_of t) e.kept.len else []) new
 
 -- a turn of the redos: what is kept of x is in the entry that is written
 pub kept_turn : {A : Type 0} (k : ℕ) (e : EntryRead A) (s : Kept) (es : List Entry) (x text : List ℕ) (n : ℕ) → length x ≤ MAX_LEN → ((c : Change A) → Restores c e.kept → s ≡ kept_of (saved c x))

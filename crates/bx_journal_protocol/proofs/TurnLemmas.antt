@@ -6,7 +6,7 @@ use Rattle.bx_image.specs.declared.change.Change.{Change}
 use Rattle.bx_image.specs.declared.change.TheConstants.{MAX_LEN}
 use Rattle.bx_image.specs.declared.record.Saved.{Saved}
 use Rattle.bx_image.specs.Change.{effect, restore}
-use Rattle.bx_image.proofs.Records.{effect-restore}
+use Rattle.bx_image.proofs.Records.{effect-restore, length-restore}
 use Rattle.bx_journal_format.specs.Kept.{Kept}
 use Rattle.bx_journal_format.specs.Entry.{entry_text}
 use Rattle.bx_journal_read.specs.model.Machine.{changes_of}
@@ -17,13 +17,12 @@ use Rattle.bx_journal_read.specs.model.Images.{Images, with_undone, undo_of, red
 use Rattle.bx_journal_read.specs.model.Redo.{IsRedoOf, Finds}
 use Rattle.bx_journal_protocol.specs.model.RedoLaws.{RestoresKept}
 use Rattle.bx_journal_protocol.specs.protocol.Turns.{kept_text, IsTakenByUndo, UndoesOne, RedoesOne, UndoFinds, RedoStops, ChangeStops, RestIsFound}
-use Rattle.bx_journal_protocol.proofs.RedoText.{empty_is_redo, popped_is_redo}
-use Rattle.bx_journal_protocol.proofs.UndoAppends.{pushed_by_undo}
+use Rattle.bx_journal_protocol.proofs.RedoText.{empty_is_redo, popped_is_redo, pushed_is_redo}
 use Rattle.bx_journal_protocol.proofs.StepFound.{step_is_found}
 
 -- the redo text behind an undone entry, whatever the image's length
 kept_is_redo : {A : Type 0} (c : Change A) (entry : Saved A) (redo new x y : List ℕ) (n : ℕ) (u : List (List ℕ)) (e : Entry) (taken : Kept) → IsRedoOf redo x (suc n) u
-    → RestoresKept c entry e.saved → e.saved.len ≤ MAX_LEN → IsTakenByUndo c x taken → y ≡ restore e.saved x → new ≡ kept_text redo taken (suc (length u)) e.saved.len → IsRedoOf new y n (with_undone x u)
+    → RestoresKept c entry e.saved → e.saved.len ≤ MAX_LEN → IsTakenByUndo (restore e.saved x) x taken → y ≡ restore e.saved x → new ≡ kept_text redo taken (suc (length u)) e.saved.len → IsRedoOf new y n (with_undone x u)
 kept_is_redo c entry redo new x y n u e taken r restores fits t restored is =
     by_test (nat_le (length x) MAX_LEN) refl (is ∙ ap (λ b. if b then redo ++ entry_text (suc (length u)) taken e.saved.len else []) (ap (λ k. nat_le k MAX_LEN) t.len))
   where
@@ -34,7 +33,9 @@ kept_is_redo c entry redo new x y n u e taken r restores fits t restored is =
     by_test true is written =
         let long : length x ≤ MAX_LEN = le_of (length x) is in
         let both = t.is long in
-        pushed_by_undo c redo new x y n u e entry r restores both.1 long fits restored (written ∙ ap (λ s. redo ++ entry_text (suc (length u)) s e.saved.len) both.0)
+        let len : length y ≡ e.saved.len = ap length restored ∙ length-restore e.saved x in
+        let back : restore taken y ≡ x = ap (restore taken) restored ∙ both.1 in
+        pushed_is_redo redo new x y n u taken r both.0 long (omega (arith, len, fits)) back (written ∙ ap (λ m. redo ++ entry_text (suc (length u)) taken m) (sym len))
     by_test false is written = subst (λ w. IsRedoOf w y n []) (sym written) (empty_is_redo y n (omega (arith, r.few)))
 
 -- the stack with one image less

@@ -33,9 +33,10 @@ impl<D: Device, T: TextStore, A: Allocator + Clone> Session<D, T, A> {
     /// can be made again; but an image of more than `MAX_LEN` bytes, and what was undone before it, is given up.
     ///
     /// All memory is taken before the first write. It is once the bytes that the k changes moved: first those that the journal's last k
-    /// entries saved, and then those that the k changes wrote or added. The faults come in this order: `Broken`, `TooFew`, `DeviceFailed` and
-    /// `NoMemory` of reading, `Damaged` where the text was changed by others, `DeviceFailed` of the lengths, `NoMemory`,
-    /// `DeviceFailed` of reading the image, and `Interrupted` from the first write on. Each but the last changes nothing.
+    /// entries saved, and then those that the k changes wrote or added; but zeros that the newest of them added take none. The faults come
+    /// in this order: `Broken`, `TooFew`, `DeviceFailed` and `NoMemory` of reading, `Damaged` where the text was changed by others,
+    /// `DeviceFailed` of the lengths, `NoMemory`, `DeviceFailed` of looking for zeros in the image, `NoMemory`, `DeviceFailed` of reading
+    /// the image, and `Interrupted` from the first write on. Each but the last changes nothing.
     pub fn undo(&mut self, k: u32) -> Result<u32, SessionFault>
         requires image_countable { D.failures self.old.image < u64.MAX }
         requires journal_countable { T.failures self.old.journal < u64.MAX }
@@ -54,7 +55,7 @@ impl<D: Device, T: TextStore, A: Allocator + Clone> Session<D, T, A> {
         ensures undone { D.honest self.old.image → T.honest self.old.journal → T.honest self.old.redo
             → UndoesImages D.image T.text k self.old self.new result }
 
-        // The redo text has them as entries, each with what its undo took of the image.
+        // The redo text has them as entries, each with what its undo took of the image, but perhaps zeros behind it.
         ensures kept { D.honest self.old.image → T.honest self.old.journal → T.honest self.old.redo
             → KeepsTaken D.image T.text k self.old self.new result }
 

@@ -18,7 +18,7 @@ use Rattle.bx_journal_protocol.specs.model.SessionView.{SessionView}
 use Rattle.bx_journal_protocol.specs.model.OnTop.{OnTop}
 use Rattle.bx_journal_read.specs.model.Stack.{Recovers}
 use Rattle.bx_journal_protocol.specs.model.Standing.{IsStanding}
-use Rattle.bx_journal_protocol.specs.model.Taken.{taken_by}
+use Rattle.bx_journal_protocol.specs.model.Taken.{taken_by, AreKept}
 
 -- Of sessions whose device has an image, given by `image`, and whose stores have a text, given by `text`.
 module _ {D T : Type 0} (image : D → List ℕ) (text : T → List ℕ) where
@@ -87,10 +87,10 @@ module _ {D T : Type 0} (image : D → List ℕ) (text : T → List ℕ) where
   StaysRedone j old new result = (s : Images) → IsReady image text old s.stack → HasUndone image text old s.undone →
       OnOk result (IsReady image text new (redo_of j s).stack × HasUndone image text new (redo_of j s).undone)
 
-  -- behind an undo of k the redo text has what was taken for the newest k entries of the journal
+  -- behind an undo of k the redo text keeps what was taken for the newest k entries of the journal
   abbrev pub KeepsTaken : {V E : Type 0} → ℕ → SessionView D T → SessionView D T → Result V E → Type 0
   KeepsTaken k old new result = (entries : List Entry) → IsFinished (text old.journal) entries →
-      OnOk result (text new.redo ≡ taken_by k entries (image old.image) old.undone (text old.redo))
+      OnOk result (AreKept k entries (image old.image) old.undone (text old.redo) (text new.redo))
 
   -- behind a redo of j the journal has what was taken for the newest j entries of the redo text
   abbrev pub GrowsByTaken : {V E : Type 0} → ℕ → SessionView D T → SessionView D T → Result V E → Type 0

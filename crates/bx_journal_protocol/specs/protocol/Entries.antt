@@ -9,7 +9,7 @@ use Rattle.bx_journal_read.specs.model.Images.{Images, redo_of, undo_of}
 use Rattle.bx_journal_read.specs.model.Machine.{changes_of}
 use Rattle.bx_journal_read.specs.model.Phase.{IsAtRest}
 use Rattle.bx_journal_read.specs.model.Redo.{Finds}
-use Rattle.bx_journal_protocol.specs.model.Taken.{taken_by}
+use Rattle.bx_journal_protocol.specs.model.Taken.{taken_by, AreKept}
 use Rattle.bx_journal_protocol.specs.model.OnTop.{OnTop}
 use Rattle.bx_journal_read.specs.model.Stack.{Recovers, StandsFor}
 use Rattle.bx_journal_format.specs.Shown.{shown}
@@ -43,11 +43,11 @@ UndoSome d t old new undone takens result =
     d.honest old.image → t.honest old.journal → t.honest old.redo → (s : Images) → AreAtRest (t.text old.journal) (d.image old.image) (t.text old.redo) s → undone ≡ length s.undone
     → OnErr result ((i : ℕ) × (i ≤ length takens) × Finds (t.text new.journal) (d.image new.image) (t.text new.redo) (undo_of i s))
 
--- and the redo text has what was taken for the entries of a journal of finished ones alone
+-- and the redo text keeps what was taken for the entries of a journal of finished ones alone
 abbrev pub UndoTakes : {D T B V E : Type 0} → DeviceViews D → StoreViews T → Devices D T → Devices D T → ℕ → List B → Result V E → Type 0
 UndoTakes d t old new undone takens result =
     d.honest old.image → t.honest old.journal → t.honest old.redo → (entries : List Entry) → IsFinished (t.text old.journal) entries
-    → OnOk result (t.text new.redo ≡ taken_by (length takens) entries (d.image old.image) undone (t.text old.redo))
+    → OnOk result (AreKept (length takens) entries (d.image old.image) undone (t.text old.redo) (t.text new.redo))
 
 -- where all three are honest and at rest, they are so behind the redo
 abbrev pub RedoRests : {D T B V E : Type 0} → DeviceViews D → StoreViews T → Devices D T → Devices D T → ℕ → List B → Result V E → Type 0

@@ -5,11 +5,12 @@ use Rattle.bx_image.specs.declared.change.TheConstants.{MAX_LEN}
 use Rattle.bx_image.specs.declared.record.Saved.{Saved}
 use Rattle.bx_image.specs.Change.{saved, AllWithin, IsOf, Restores}
 use Rattle.bx_image.specs.Image.{zeros}
-use Rattle.bx_image.specs.Runs.{LieBelow}
+use Rattle.bx_image.specs.Runs.{AreRunsOf, HaveShape, LieBelow}
 use Rattle.bx_journal_store.specs.declared.store.TextStore.{Ghosts as StoreViews}
 use Rattle.bx_journal_format.specs.Kept.{kept_of}
 use Rattle.bx_journal_format.specs.Entry.{entry_text}
 use Rattle.bx_journal_format.specs.declared.read.types.EntryRead.{EntryRead}
+use Rattle.bx_journal_protocol.specs.model.Taken.{IsKeptOf}
 
 -- a record with zeros of what restoring an entry overwrites in an image of this length, if an entry can tell it
 pub record IsZeros {A : Type 0} (len : ℕ) (e : EntryRead A) (t : Saved A) : Type 0 where
@@ -17,17 +18,30 @@ pub record IsZeros {A : Type 0} (len : ℕ) (e : EntryRead A) (t : Saved A) : Ty
   pub below : LieBelow len t.runs
   pub zeros : len ≤ MAX_LEN → (c : Change A) → Restores c e.kept → t ≡ saved c (zeros len)
 
+-- a record whose bytes are filled later: whatever has its length and ranges and the bytes of x keeps what restoring the entry takes of x
+pub record IsRoomFor {A : Type 0} (x : List ℕ) (e : EntryRead A) (t : Saved A) : Type 0 where
+  pub len_is : t.len ≡ length x
+  pub below : LieBelow (length x) t.runs
+  pub fills : (new : Saved A) → new.len ≡ t.len → HaveShape t.runs new.runs → AreRunsOf x new.runs → IsOf new x → length x ≤ MAX_LEN
+      → IsKeptOf (kept_of e.kept) x (kept_of new)
+
 -- the same, with the bytes of the image
 pub record IsTakenBy {A : Type 0} (x : List ℕ) (e : EntryRead A) (t : Saved A) : Type 0 where
   pub len : t.len ≡ length x
   pub of_x : IsOf t x
-  pub is : length x ≤ MAX_LEN → (c : Change A) → Restores c e.kept → t ≡ saved c x
+  pub is : length x ≤ MAX_LEN → IsKeptOf (kept_of e.kept) x (kept_of t)
 
 -- records for the newest of the entries, from an image of this length on
 abbrev pub AreZeros : {A : Type 0} → ℕ → List (EntryRead A) → List (Saved A) → Type 0
 AreZeros len es [] = Unit {0}
 AreZeros len [] (t ∷ ts) = ⊥
 AreZeros len (e ∷ es) (t ∷ ts) = IsZeros len e t × AreZeros e.kept.len es ts
+
+-- the first of them for the image x, the others for any of their lengths
+abbrev pub AreRoomFrom : {A : Type 0} → List ℕ → List (EntryRead A) → List (Saved A) → Type 0
+AreRoomFrom x es [] = Unit {0}
+AreRoomFrom x [] (t ∷ ts) = ⊥
+AreRoomFrom x (e ∷ es) (t ∷ ts) = IsRoomFor x e t × AreZeros e.kept.len es ts
 
 -- the first of them is filled
 abbrev pub AreReady : {A : Type 0} → List ℕ → List (EntryRead A) → List (Saved A) → Type 0
@@ -41,7 +55,7 @@ AreReadyLast x es ts = AreReady x (reverse es) (reverse ts)
 
 -- the last record was filled from the image x: whatever entries the records are for, they are ready
 abbrev pub AreFilled : {A : Type 0} → List ℕ → List (Saved A) → List (Saved A) → Type 0
-AreFilled {A = A} x old new = (es : List (EntryRead A)) → AreZeros (length x) es (reverse old) → AreReady x es (reverse new)
+AreFilled {A = A} x old new = (es : List (EntryRead A)) → AreRoomFrom x es (reverse old) → AreReady x es (reverse new)
 
 -- the runs of each end within its length
 abbrev pub AllShaped : {A : Type 0} → List (Saved A) → Type 0

@@ -3,8 +3,8 @@ use Rattle.std.specs.Prelude.{◌≡◌, ◌⊎◌, ◌≤◌, ℕ, suc, nat_le,
 use Rattle.bx_image.specs.declared.change.Change.{Change}
 use Rattle.bx_image.specs.declared.change.TheConstants.{MAX_LEN}
 use Rattle.bx_image.specs.declared.record.Saved.{Saved}
-use Rattle.bx_image.specs.Change.{effect, saved, restore, IsOf}
-use Rattle.bx_journal_format.specs.Kept.{Kept, kept_of}
+use Rattle.bx_image.specs.Change.{effect, restore, IsOf}
+use Rattle.bx_journal_format.specs.Kept.{Kept}
 use Rattle.bx_journal_format.specs.Entry.{entry_text}
 use Rattle.bx_journal_read.specs.model.Machine.{changes_of}
 use Rattle.bx_journal_format.specs.count.Mark.{HasMarks}
@@ -28,10 +28,10 @@ pub record AreAtRest (text x redo : List ℕ) (s : Images) : Type 0 where
   pub rest : IsAtRest text x s.stack
   pub undone : IsRedoOf redo x (changes_of s.stack) s.undone
 
--- what an undo of an entry takes of the image x: an entry can tell it, or it isn't looked at
-pub record IsTakenByUndo {A : Type 0} (c : Change A) (x : List ℕ) (taken : Kept) : Type 0 where
+-- what an undo keeps of the image x, from which it makes y: an entry can tell it, or it isn't looked at
+pub record IsTakenByUndo (y x : List ℕ) (taken : Kept) : Type 0 where
   pub len : taken.len ≡ length x
-  pub is : length x ≤ MAX_LEN → (taken ≡ kept_of (saved c x)) × IsOf (saved c x) x
+  pub is : length x ≤ MAX_LEN → IsOf taken x × (restore taken y ≡ x)
 
 -- what one entry's undo starts from
 pub record UndoesOne {A : Type 0} (c : Change A) (entry : Saved A) (x : List ℕ) (s : Images) (e : Entry) (taken : Kept) (below : List (List ℕ)) : Type 0 where
@@ -39,7 +39,7 @@ pub record UndoesOne {A : Type 0} (c : Change A) (entry : Saved A) (x : List ℕ
   pub some : 1 ≤ length below
   pub restores : RestoresKept c entry e.saved
   pub fits : e.saved.len ≤ MAX_LEN
-  pub taken_is : IsTakenByUndo c x taken
+  pub taken_is : IsTakenByUndo (restore e.saved x) x taken
 
 -- what one entry's redo starts from: the newest entry of the redo text, and where it begins
 pub record RedoesOne {A : Type 0} (c : Change A) (entry : Saved A) (redo : List ℕ) (s : Images) (e : Entry) (begins : ℕ) (z : List ℕ)

@@ -1,16 +1,18 @@
 //! What some undos take before their first write: records of what they will overwrite, the places of their entries, a page and room.
 ghost use Rattle.std.specs.Prelude.{◌≡◌, ◌+◌, ◌-◌, ◌^◌, ◌<◌, ◌≤◌, [], length, drop, map, min, reverse, vec_capacity, All, IfOk, IfErr, OnOk};
-ghost use Rattle.bx_journal_read.specs.model.Fault.{DeviceFault};
+ghost use Rattle.bx_image.specs.Power.{NoMore};
+ghost use Rattle.bx_journal_read.specs.model.Fault.{DeviceFault, LacksOrFails};
+ghost use Rattle.bx_journal_read.specs.scan.Looking.{LooksAt};
 ghost use Rattle.bx_journal_protocol.specs.model.Power.{FoundBefore};
 ghost use Rattle.bx_journal_protocol.specs.ThreeDevices.{AreCounted, AreUnfailed, HaveStayed};
 ghost use Rattle.bx_journal_protocol.specs.protocol.Written.{AreSettled};
-ghost use Rattle.bx_journal_protocol.specs.before.Overwritten.{AreOrdered, place_in};
+ghost use Rattle.bx_journal_protocol.specs.before.Overwritten.{AreOrdered, AreOverwrittenOf, place_in};
 ghost use Rattle.bx_journal_protocol.specs.protocol.Placed.{AllFit, ArePreparedIn};
 ghost use Rattle.bx_journal_protocol.specs.before.Plan.{IsPlan, IsTakenFor};
-ghost use Rattle.bx_journal_protocol.specs.protocol.Takens.{AreReadyLast, AllShaped, HasRoomForEntries, entries_len as entries_long};
+ghost use Rattle.bx_journal_protocol.specs.protocol.Takens.{AreReadyLast, AreRoomFrom, AllShaped, HasRoomForEntries, entries_len as entries_long};
 ghost use Rattle.bx_journal_read.specs.model.Undoing.{AreReadFrom, HasRoomFor};
 
-use crate::before::overwritten::{Overwritten, all_overwritten, all_zeros};
+use crate::before::overwritten::{Overwritten, all_zeros, overwritten_from};
 use crate::before::places::places;
 use crate::before::room::make_room;
 use crate::{Buffers, Devices, Placed, buffers_of, fill_last, settle};
@@ -55,21 +57,28 @@ pub fn longest_of<A: Allocator>(entries: &[EntryRead<A>]) -> u64
 }
 
 /// Where the last k entries of a text stand, and what restoring them overwrites where the image has `len` bytes.
-fn plan_last<A: Allocator + Clone>(
+fn plan_last<D: Device, A: Allocator + Clone>(
     alloc: &A,
+    image: &mut D,
     read: &FinishedRead<A>,
     k: u32,
     len: u64,
 ) -> Result<Plan<A>, SessionFault>
+    requires countable { D.failures image.old < u64.MAX }
+    requires long { D.honest image.old → len ≡ length (D.image image.old) }
     requires few { k ≤ length read.now.entries.items }
     requires order { AreOrdered read.now.entries.items }
-    ensures plan { IfOk result (IsPlan read.now.entries.items k len) }
-    ensures kind { IfErr result (λ e. e ≡ SessionFault.NoMemory) }
+    ensures plan { IfOk result (IsPlan read.now.entries.items k) }
+    ensures overwritten { D.honest image.old
+        → IfOk result (λ p. AreOverwrittenOf (D.image image.old) (reverse read.now.entries.items) (reverse p.overwritten.items)) }
+    ensures fault { IfErr result LacksOrFails }
+    ensures looks { LooksAt D.honest D.image D.failures result image.old image.new }
+    ensures survives { D.honest image.old → NoMore (D.survives image.old) (D.survives image.new) }
 {
     let entries = read.entries.as_slice();
     let (_, last) = entries.split_at(entries.len() - k as usize);
     let placed = places(alloc, last)?;
-    let overwritten = all_overwritten(alloc, entries, k, len)?;
+    let overwritten = overwritten_from(alloc, image, entries, k, len)?;
     Ok(Plan {
         placed,
         overwritten,
@@ -78,18 +87,25 @@ fn plan_last<A: Allocator + Clone>(
 }
 
 /// The same, and the bytes that were read are given up.
-fn plan_of<A: Allocator + Clone>(
+fn plan_of<D: Device, A: Allocator + Clone>(
     alloc: &A,
+    image: &mut D,
     read: FinishedRead<A>,
     k: u32,
     len: u64,
 ) -> Result<Plan<A>, SessionFault>
+    requires countable { D.failures image.old < u64.MAX }
+    requires long { D.honest image.old → len ≡ length (D.image image.old) }
     requires few { k ≤ length read.entries.items }
     requires order { AreOrdered read.entries.items }
-    ensures plan { IfOk result (IsPlan read.entries.items k len) }
-    ensures kind { IfErr result (λ e. e ≡ SessionFault.NoMemory) }
+    ensures plan { IfOk result (IsPlan read.entries.items k) }
+    ensures overwritten { D.honest image.old
+        → IfOk result (λ p. AreOverwrittenOf (D.image image.old) (reverse read.entries.items) (reverse p.overwritten.items)) }
+    ensures fault { IfErr result LacksOrFails }
+    ensures looks { LooksAt D.honest D.image D.failures result image.old image.new }
+    ensures survives { D.honest image.old → NoMore (D.survives image.old) (D.survives image.new) }
 {
-    plan_last(alloc, &read, k, len)
+    plan_last(alloc, image, &read, k, len)
 }
 
 /// How long the entries of the records are, at most `u64::MAX`.
@@ -108,19 +124,25 @@ fn entries_len<A: Allocator>(takens: &[Saved<A>]) -> u64
 
 /// Takes the memory of restoring the last k entries, where the image has `len` bytes. What was read of them is given up before
 /// their records are taken, so that their bytes are held once.
-fn take_memory<A: Allocator + Clone>(
+fn take_memory<D: Device, A: Allocator + Clone>(
     alloc: &A,
+    image: &mut D,
     read: FinishedRead<A>,
     k: u32,
     len: u64,
 ) -> Result<Taking<A>, SessionFault>
+    requires countable { D.failures image.old < u64.MAX }
+    requires long { D.honest image.old → len ≡ length (D.image image.old) }
     requires few { k ≤ length read.entries.items }
     requires order { AreOrdered read.entries.items }
-    ensures taken { IfOk result (IsTakenFor read.entries.items k len) }
-    ensures kind { IfErr result (λ e. e ≡ SessionFault.NoMemory) }
+    ensures taken { IfOk result (IsTakenFor read.entries.items k) }
+    ensures room { D.honest image.old → IfOk result (λ o. AreRoomFrom (D.image image.old) (reverse read.entries.items) (reverse o.takens.items)) }
+    ensures fault { IfErr result LacksOrFails }
+    ensures looks { LooksAt D.honest D.image D.failures result image.old image.new }
+    ensures survives { D.honest image.old → NoMore (D.survives image.old) (D.survives image.new) }
 {
     let text_len = read.len;
-    let plan = plan_of(alloc, read, k, len)?;
+    let plan = plan_of(alloc, image, read, k, len)?;
     let Plan {
         placed,
         overwritten,
@@ -168,7 +190,7 @@ fn take_records<D: Device, T: TextStore, A: Allocator + Clone>(
     let len = devices.image.len()?;
     let to_len = devices.redo.len()?;
     let from_len = read.len;
-    let mut taking = match take_memory(alloc, read, k, len) {
+    let mut taking = match take_memory(alloc, &mut devices.image, read, k, len) {
         Ok(taking) => taking,
         Err(fault) => return Err(fault),
     };
@@ -187,8 +209,8 @@ fn take_records<D: Device, T: TextStore, A: Allocator + Clone>(
 /// reads what the first of them overwrites, and puts on the disk what all three have. It changes nothing.
 ///
 /// # Errors
-/// `DeviceFailed` of the lengths of image and redo text, `NoMemory`, `DeviceFailed` of reading the image, in this order,
-/// and then `DeviceFailed` of what can't be put on the disk.
+/// `DeviceFailed` of the lengths of image and redo text, `NoMemory`, `DeviceFailed` of looking for zeros, `NoMemory`, `DeviceFailed` of
+/// reading the image, in this order, and then `DeviceFailed` of what can't be put on the disk.
 pub fn prepare_takens<D: Device, T: TextStore, A: Allocator + Clone>(
     alloc: &A,
     devices: &mut Devices<D, T>,

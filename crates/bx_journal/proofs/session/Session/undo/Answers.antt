@@ -12,7 +12,7 @@ use Rattle.bx_image.proofs.Survivors.{NoMore_then}
 use Rattle.bx_journal_protocol.proofs.DeviceLemmas.{one_more}
 use Rattle.bx_journal_protocol.specs.model.Power.{FoundBefore}
 use Rattle.bx_journal.proofs.SafeLemmas.{accepts, any_fault, interrupts, refuses}
-use Rattle.bx_journal_protocol.proofs.LookedLemmas.{left_since, looked_at, none_failed, pair_step, read_since, rest_step, standing_step, taken_step}
+use Rattle.bx_journal_protocol.proofs.LookedLemmas.{left_since, looked_at, none_failed, pair_step, read_since, rest_step, standing_step, kept_step}
 use Rattle.bx_journal_read.specs.model.Images.{undo_of}
 use Rattle.bx_journal_protocol.proofs.LoopLemmas.{standing}
 use Rattle.bx_journal_protocol.proofs.StepSurvivors.{found_at_rest, found_of, found_some}
@@ -102,7 +102,7 @@ returns-in-Ok-clause-undone g c =
 
 pub returns-in-Ok-clause-kept : goal.returns-in-Ok-clause-kept
 returns-in-Ok-clause-kept g c =
-    rw (← c.self.view_is) (taken_step c.self.inside.undone (stayed g (goal.at.returns-in-Ok-clause-kept g c).After-prepare_takens) c.in_ok-taking.ensures.count c.in-Ok.ensures.taken)
+    rw (← c.self.view_is) (kept_step _ c.self.inside.undone (stayed g (goal.at.returns-in-Ok-clause-kept g c).After-prepare_takens) c.in_ok-taking.ensures.count c.in-Ok.ensures.taken)
 
 pub returns-clause-finds : goal.returns-clause-finds
 returns-clause-finds g c =

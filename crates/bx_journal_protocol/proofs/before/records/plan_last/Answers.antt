@@ -1,7 +1,7 @@
 use Rattle.std.proofs.Common.{◌≡◌, ◌≤◌, ◌-◌, ◌∙◌, List, length, drop, map, ap, subst, sym}
 use Rattle.std.specs.Prelude.{reverse, All}
 use Rattle.bx_journal_format.specs.declared.read.types.EntryRead.{EntryRead}
-use Rattle.bx_journal_protocol.specs.before.Overwritten.{AreOrdered, AreOverwritten, place_in}
+use Rattle.bx_journal_protocol.specs.before.Overwritten.{AreOrdered, AreOverwrittenOf, place_in}
 use Rattle.bx_journal_protocol.proofs.PlanLemmas.{ordered_drop}
 use Rattle.bx_journal_protocol.proofs.before.records.plan_last.Goals as goal
 use Rattle.bx_journal_protocol.proofs.before.records.plan_last.Goals.{After-split_at}
@@ -22,8 +22,11 @@ returns-clause-plan g c =
     let is = last g (goal.at.returns-clause-plan g c).After-split_at in
     record {
       places = c.in_ok-placed.ensures.places ∙ ap (map place_in) is;
-      overwritten = subst (λ fs. AreOverwritten c.args.len (reverse fs) (reverse c.in_ok-overwritten.overwritten.items)) c.as_slice-entries.ensures.value c.in_ok-overwritten.ensures.overwritten;
       within = c.in_ok-overwritten.ensures.within;
       count = c.in_ok-overwritten.ensures.count;
       longest = subst (All (λ (e : EntryRead g.row.A.Denot). e.kept.len ≤ c.longest_of.result)) is c.longest_of.ensures;
     }
+
+pub returns-clause-overwritten : goal.returns-clause-overwritten
+returns-clause-overwritten g c honest =
+    subst (λ fs. AreOverwrittenOf (g.D.Device.image c.args.image.now) (reverse fs) (reverse c.in_ok-overwritten.overwritten.items)) c.as_slice-entries.ensures.value (c.in_ok-overwritten.ensures.overwritten honest)

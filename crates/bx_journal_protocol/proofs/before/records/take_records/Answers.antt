@@ -1,11 +1,11 @@
-use Rattle.std.proofs.Common.{◌≡◌, ◌-◌, ◌∙◌, List, length, drop, ap, subst, sym, arith}
+use Rattle.std.proofs.Common.{◌≡◌, ◌-◌, ◌∙◌, List, length, drop, refl, ap, subst, sym, arith}
 use Rattle.std.specs.Prelude.{reverse}
 use Rattle.bx_image.proofs.Survivors.{NoMore_then}
 use Rattle.bx_journal_format.specs.declared.read.types.EntryRead.{EntryRead}
 use Rattle.bx_journal_protocol.specs.protocol.Placed.{AllFit}
-use Rattle.bx_journal_protocol.specs.protocol.Takens.{AllShaped, AreZeros, AreReady, entries_len}
+use Rattle.bx_journal_protocol.specs.protocol.Takens.{AllShaped, AreReady, AreRoomFrom, entries_len}
 use Rattle.bx_journal_protocol.proofs.DeviceLemmas.{both_ways}
-use Rattle.bx_journal_protocol.proofs.LoopLemmas.{first_of_zeros}
+use Rattle.bx_journal_protocol.proofs.LeftOut.{first_of_rooms}
 use Rattle.bx_journal_protocol.proofs.PlanLemmas.{ordered_drop, places_fit}
 use Rattle.bx_journal_protocol.proofs.before.records.take_records.Goals as goal
 
@@ -22,16 +22,23 @@ returns-clause-fit g c =
     (places_fit (drop n es) (length o.buffers.window.items) o.longest (g.D.Device.room c.fill_last.new.image) (ordered_drop n es c.requires.order) taken.longest
     (omega (arith, c.in_ok-make_room.ensures.image, c.fill_last.ensures.goes_on.no_less_room)) taken.window)
 
+-- the image is the one that it was, behind the calls up to the room that is made
 pub returns-clause-filled : goal.returns-clause-filled
 returns-clause-filled g c honest =
     let es = c.args.read.entries.items in
     let ts = c.in-Ok.taking.takens.items in
     let first = c.len.ensures.goes_on.honesty.1 honest in
-    let image : g.D.Device.image c.make_room.new.devices.image ≡ g.D.Device.image c.args.devices.now.image = c.make_room.ensures.stayed.image_same first ∙ c.len.ensures.image honest in
-    let long : c.in_ok-len.len ≡ length (g.D.Device.image c.make_room.new.devices.image) = c.in_ok-len.ensures.len honest ∙ sym (ap length image) in
-    let zeros : AreZeros (length (g.D.Device.image c.make_room.new.devices.image)) (reverse es) (reverse ts) =
-    subst (λ n. AreZeros n (reverse es) (reverse ts)) long c.in-Ok.ensures.taken.zeros in
-    subst (λ x. AreReady x (reverse es) (reverse c.fill_last.new.takens.items)) image (c.in_ok-fill_last.ensures.filled (c.make_room.ensures.stayed.image_honesty.1 first) (reverse es) zeros)
+    let second = c.take_memory.ensures.looks.honesty.1 first in
+    let same = c.make_room.ensures.stayed.image_same second ∙ c.take_memory.ensures.looks.same first in
+    let image : g.D.Device.image c.make_room.new.devices.image ≡ g.D.Device.image c.args.devices.now.image = same ∙ c.len.ensures.image honest in
+    let room : AreRoomFrom (g.D.Device.image c.make_room.new.devices.image) (reverse es) (reverse ts) =
+    subst (λ x. AreRoomFrom x (reverse es) (reverse ts)) (sym same) (c.in-Ok.ensures.room first) in
+    subst (λ x. AreReady x (reverse es) (reverse c.fill_last.new.takens.items)) image (c.in_ok-fill_last.ensures.filled (c.make_room.ensures.stayed.image_honesty.1 second) (reverse es) room)
+
+pub take_memory-requires-clause-long : goal.take_memory-requires-clause-long
+take_memory-requires-clause-long g c now =
+    let honest = c.len.ensures.goes_on.honesty.0 now in
+    c.in_ok-len.ensures.len honest ∙ sym (ap length (c.len.ensures.image honest))
 
 pub returns-clause-places : goal.returns-clause-places
 returns-clause-places g c = c.in-Ok.ensures.taken.places
@@ -60,13 +67,14 @@ returns-clause-roomed g c th =
 pub returns-clause-stayed : goal.returns-clause-stayed
 returns-clause-stayed g c =
     let room = c.make_room.ensures.stayed in
-    let first = c.len.ensures.goes_on.honesty in
+    let first = both_ways c.take_memory.ensures.looks.honesty c.len.ensures.goes_on.honesty in
+    let one = c.len.ensures.goes_on.honesty in
     let other = c.len-2.ensures.goes_on.honesty in
     record {
       image_honesty = both_ways c.fill_last.ensures.goes_on.honesty (both_ways room.image_honesty first);
       journal_honesty = room.journal_honesty;
       redo_honesty = both_ways room.redo_honesty other;
-      image_same = λ h. c.fill_last.ensures.image (room.image_honesty.1 (first.1 h)) ∙ room.image_same (first.1 h) ∙ c.len.ensures.image h;
+      image_same = λ h. c.fill_last.ensures.image (room.image_honesty.1 (first.1 h)) ∙ room.image_same (first.1 h) ∙ c.take_memory.ensures.looks.same (one.1 h) ∙ c.len.ensures.image h;
       text_same = room.text_same;
       redo_same = λ h. room.redo_same (other.1 h) ∙ c.len-2.ensures.text h;
     }
@@ -74,10 +82,12 @@ returns-clause-stayed g c =
 pub returns-clause-found_before : goal.returns-clause-found_before
 returns-clause-found_before g c =
     let room = c.make_room.ensures in
-    let first = c.len.ensures.goes_on.honesty in
+    let first = both_ways c.take_memory.ensures.looks.honesty c.len.ensures.goes_on.honesty in
+    let one = c.len.ensures.goes_on.honesty in
     record {
       image_before = λ h.
-          NoMore_then _ _ _ (c.len.ensures.survives h) (NoMore_then _ _ _ (room.found_before.image_before (first.1 h)) (c.fill_last.ensures.survives (room.stayed.image_honesty.1 (first.1 h))));
+          NoMore_then _ _ _ (NoMore_then _ _ _ (c.len.ensures.survives h) (c.take_memory.ensures.survives (one.1 h)))
+          (NoMore_then _ _ _ (room.found_before.image_before (first.1 h)) (c.fill_last.ensures.survives (room.stayed.image_honesty.1 (first.1 h))));
       journal_before = room.found_before.journal_before;
       redo_before = λ h. NoMore_then _ _ _ (c.len-2.ensures.survives h) (room.found_before.redo_before (c.len-2.ensures.goes_on.honesty.1 h));
     }
@@ -86,23 +96,23 @@ pub fill_last-requires-clause-range : goal.fill_last-requires-clause-range
 fill_last-requires-clause-range g c now =
     let es = c.args.read.entries.items in
     let ts = c.in-Ok.taking.takens.items in
-    let first = c.make_room.ensures.stayed.image_honesty.0 now in
-    let honest = c.len.ensures.goes_on.honesty.0 first in
-    let image : g.D.Device.image c.make_room.new.devices.image ≡ g.D.Device.image c.args.devices.now.image = c.make_room.ensures.stayed.image_same first ∙ c.len.ensures.image honest in
-    let long : c.in_ok-len.len ≡ length (g.D.Device.image c.make_room.new.devices.image) = c.in_ok-len.ensures.len honest ∙ sym (ap length image) in
-    first_of_zeros (length (g.D.Device.image c.make_room.new.devices.image)) (reverse es) (reverse ts) (subst (λ n. AreZeros n (reverse es) (reverse ts)) long c.in-Ok.ensures.taken.zeros)
+    let second = c.make_room.ensures.stayed.image_honesty.0 now in
+    let first = c.take_memory.ensures.looks.honesty.0 second in
+    let same = c.make_room.ensures.stayed.image_same second ∙ c.take_memory.ensures.looks.same first in
+    first_of_rooms (g.D.Device.image c.make_room.new.devices.image) (reverse es) (reverse ts) (subst (λ x. AreRoomFrom x (reverse es) (reverse ts)) (sym same) (c.in-Ok.ensures.room first))
 
 -- up to the room that was made, and with what was read
 pub returns-in_err-make_room-clause-stayed : goal.returns-in_err-make_room-clause-stayed
 returns-in_err-make_room-clause-stayed g c =
     let room = c.make_room.ensures.stayed in
-    let first = c.len.ensures.goes_on.honesty in
+    let first = both_ways c.take_memory.ensures.looks.honesty c.len.ensures.goes_on.honesty in
+    let one = c.len.ensures.goes_on.honesty in
     let other = c.len-2.ensures.goes_on.honesty in
     record {
       image_honesty = both_ways room.image_honesty first;
       journal_honesty = room.journal_honesty;
       redo_honesty = both_ways room.redo_honesty other;
-      image_same = λ h. room.image_same (first.1 h) ∙ c.len.ensures.image h;
+      image_same = λ h. room.image_same (first.1 h) ∙ c.take_memory.ensures.looks.same (one.1 h) ∙ c.len.ensures.image h;
       text_same = room.text_same;
       redo_same = λ h. room.redo_same (other.1 h) ∙ c.len-2.ensures.text h;
     }
@@ -110,8 +120,10 @@ returns-in_err-make_room-clause-stayed g c =
 pub returns-in_err-make_room-clause-found_before : goal.returns-in_err-make_room-clause-found_before
 returns-in_err-make_room-clause-found_before g c =
     let room = c.make_room.ensures.found_before in
+    let one = c.len.ensures.goes_on.honesty in
     record {
-      image_before = λ h. NoMore_then _ _ _ (c.len.ensures.survives h) (room.image_before (c.len.ensures.goes_on.honesty.1 h));
+      image_before = λ h.
+          NoMore_then _ _ _ (NoMore_then _ _ _ (c.len.ensures.survives h) (c.take_memory.ensures.survives (one.1 h))) (room.image_before (c.take_memory.ensures.looks.honesty.1 (one.1 h)));
       journal_before = room.journal_before;
       redo_before = λ h. NoMore_then _ _ _ (c.len-2.ensures.survives h) (room.redo_before (c.len-2.ensures.goes_on.honesty.1 h));
     }
@@ -119,13 +131,14 @@ returns-in_err-make_room-clause-found_before g c =
 pub returns-in_err-fill_last-clause-stayed : goal.returns-in_err-fill_last-clause-stayed
 returns-in_err-fill_last-clause-stayed g c =
     let room = c.make_room.ensures.stayed in
-    let first = c.len.ensures.goes_on.honesty in
+    let first = both_ways c.take_memory.ensures.looks.honesty c.len.ensures.goes_on.honesty in
+    let one = c.len.ensures.goes_on.honesty in
     let other = c.len-2.ensures.goes_on.honesty in
     record {
       image_honesty = both_ways c.fill_last.ensures.goes_on.honesty (both_ways room.image_honesty first);
       journal_honesty = room.journal_honesty;
       redo_honesty = both_ways room.redo_honesty other;
-      image_same = λ h. c.fill_last.ensures.image (room.image_honesty.1 (first.1 h)) ∙ room.image_same (first.1 h) ∙ c.len.ensures.image h;
+      image_same = λ h. c.fill_last.ensures.image (room.image_honesty.1 (first.1 h)) ∙ room.image_same (first.1 h) ∙ c.take_memory.ensures.looks.same (one.1 h) ∙ c.len.ensures.image h;
       text_same = room.text_same;
       redo_same = λ h. room.redo_same (other.1 h) ∙ c.len-2.ensures.text h;
     }
@@ -133,10 +146,35 @@ returns-in_err-fill_last-clause-stayed g c =
 pub returns-in_err-fill_last-clause-found_before : goal.returns-in_err-fill_last-clause-found_before
 returns-in_err-fill_last-clause-found_before g c =
     let room = c.make_room.ensures in
-    let first = c.len.ensures.goes_on.honesty in
+    let first = both_ways c.take_memory.ensures.looks.honesty c.len.ensures.goes_on.honesty in
+    let one = c.len.ensures.goes_on.honesty in
     record {
       image_before = λ h.
-          NoMore_then _ _ _ (c.len.ensures.survives h) (NoMore_then _ _ _ (room.found_before.image_before (first.1 h)) (c.fill_last.ensures.survives (room.stayed.image_honesty.1 (first.1 h))));
+          NoMore_then _ _ _ (NoMore_then _ _ _ (c.len.ensures.survives h) (c.take_memory.ensures.survives (one.1 h)))
+          (NoMore_then _ _ _ (room.found_before.image_before (first.1 h)) (c.fill_last.ensures.survives (room.stayed.image_honesty.1 (first.1 h))));
       journal_before = room.found_before.journal_before;
       redo_before = λ h. NoMore_then _ _ _ (c.len-2.ensures.survives h) (room.found_before.redo_before (c.len-2.ensures.goes_on.honesty.1 h));
+    }
+
+-- where memory is lacking, or the look for zeros failed
+pub returns-in-Err-clause-stayed : goal.returns-in-Err-clause-stayed
+returns-in-Err-clause-stayed g c =
+    let one = c.len.ensures.goes_on.honesty in
+    let other = c.len-2.ensures.goes_on.honesty in
+    record {
+      image_honesty = both_ways c.take_memory.ensures.looks.honesty one;
+      journal_honesty = (λ h. h, λ h. h);
+      redo_honesty = other;
+      image_same = λ h. c.take_memory.ensures.looks.same (one.1 h) ∙ c.len.ensures.image h;
+      text_same = λ h. refl;
+      redo_same = λ h. c.len-2.ensures.text h;
+    }
+
+pub returns-in-Err-clause-found_before : goal.returns-in-Err-clause-found_before
+returns-in-Err-clause-found_before g c =
+    let one = c.len.ensures.goes_on.honesty in
+    record {
+      image_before = λ h. NoMore_then _ _ _ (c.len.ensures.survives h) (c.take_memory.ensures.survives (one.1 h));
+      journal_before = λ h text there. there;
+      redo_before = λ h. c.len-2.ensures.survives h;
     }

@@ -1,19 +1,19 @@
 use Rattle.std.proofs.Common.{◌≡◌, ◌-◌, ◌++◌, ◌∷◌, [], ℕ, suc, List, length, take, reverse, sym, ◌∙◌, ap, subst, arith, Result, Ok, Err}
 use Rattle.std.specs.Prelude.{OnOk, slice_set, slice_index_or}
 use Rattle.std.proofs.lemmas.Result.{on_ok_weaker}
-use Rattle.bx_image.specs.declared.change.Change.{Change}
 use Rattle.bx_image.specs.declared.record.Saved.{Saved}
-use Rattle.bx_image.specs.Change.{IsOf, saved}
+use Rattle.bx_image.specs.Change.{IsOf}
+use Rattle.bx_image.specs.Runs.{AreRunsOf}
 use Rattle.bx_journal_protocol.proofs.TakenLemmas.{last_is, last_set, IsShapedAs, IsFilled, ready_filled, shaped_next, len_next}
-use Rattle.bx_journal_protocol.specs.protocol.Takens.{AreZeros, AreReady, AllShaped, entries_len}
+use Rattle.bx_journal_protocol.specs.protocol.Takens.{AreRoomFrom, AreReady, AllShaped, entries_len}
 use Rattle.bx_journal_protocol.proofs.protocol.fill.fill_end.Goals as goal
 
 some_more : (n : ℕ) → (n ≡ 0 → ⊥) → n ≡ suc (n - 1)
 some_more n some = omega arith
 
-both : {T E A : Type 0} (t new : Saved A) (x : List ℕ) (r : Result T E) → (t.len ≡ length x → OnOk r (IsOf new x)) → OnOk r ((c : Change A) (y : List ℕ) → length y ≡ length x → t ≡ saved c y → new ≡ saved c x) → OnOk r (IsFilled x t new)
-both t new x (Ok v) kept is = record { kept = kept; saved_is = is }
-both t new x (Err e) kept is = tt
+both : {T E A : Type 0} (t new : Saved A) (x : List ℕ) (r : Result T E) → (t.len ≡ length x → OnOk r (IsOf new x)) → OnOk r (AreRunsOf x new.runs) → OnOk r (IsFilled x t new)
+both t new x (Ok v) kept read = record { kept = kept; read = read }
+both t new x (Err e) kept read = tt
 
 pub returns-clause-filled : goal.returns-clause-filled
 returns-clause-filled g c honest =
@@ -25,9 +25,9 @@ returns-clause-filled g c honest =
     let new : slice_set ts n c.fill.new.self ≡ take n ts ++ c.fill.new.self ∷ [] = last_set ts n c.fill.new.self long in
     let shape : IsShapedAs t c.fill.new.self = record { len = c.fill.ensures.len; runs = c.fill.ensures.shape } in
     let x = g.D.Device.image c.args.image.now in
-    let filled = both t c.fill.new.self x c.fill.result (λ len. c.fill.ensures.kept honest len) (c.fill.ensures.saved honest) in
+    let filled = both t c.fill.new.self x c.fill.result (λ len. c.fill.ensures.kept honest len) (c.fill.ensures.read honest) in
     on_ok_weaker c.fill.result (λ f es z. subst (λ us. AreReady x es (reverse us)) (sym new)
-    (ready_filled x es (take n ts) t c.fill.new.self shape f (subst (λ us. AreZeros (length x) es (reverse us)) old z))) filled
+    (ready_filled x es (take n ts) t c.fill.new.self shape f (subst (λ us. AreRoomFrom x es (reverse us)) old z))) filled
 
 pub returns-clause-shaped : goal.returns-clause-shaped
 returns-clause-shaped g c all =

@@ -7,7 +7,7 @@ use Rattle.bx_journal_format.specs.Parsed.{entry_of}
 use Rattle.bx_journal_read.specs.model.Images.{undo_of}
 use Rattle.bx_journal_read.specs.model.Phase.{IsAtRest}
 use Rattle.bx_journal_read.specs.model.Stack.{StandsFor}
-use Rattle.bx_journal_protocol.specs.model.Taken.{taken_by}
+use Rattle.bx_journal_protocol.specs.model.Taken.{AreKept}
 use Rattle.bx_journal_read.specs.model.Undoing.{HasLeft}
 use Rattle.bx_journal_protocol.specs.protocol.Takens.{AreFilled}
 use Rattle.bx_journal_protocol.specs.protocol.Turns.{AreStanding, kept_text}
@@ -157,7 +157,7 @@ loop-i-preserved g c =
           let here = inv.images dh th rh s stands count in
           let next = undone_next turn done th dh rh s here.0 here.1 in
           (next.0, c.undone_with-undone.ensures ∙ next.1);
-      taken = λ dh th rh es finished. taken_next turn done th dh rh c.undone_with-undone.ensures new filled.count es finished ∙ inv.taken dh th rh es finished;
+      taken = λ dh th rh es finished last left. inv.taken dh th rh es finished last (taken_next turn done th dh rh c.undone_with-undone.ensures new filled.count es finished last left);
     }
   where
     by_len : (b : Bool) (n m k l limit : ℕ) → m ≡ (if b then n + 1 else 0) → l ≡ k → n + (k + 1) ≤ limit → m + l ≤ limit
@@ -177,7 +177,7 @@ loop-i-init g c = record {
   rest = λ dh th stack rest. rest;
   stood = λ dh th stack stands. stands;
   images = λ dh th rh s stands count. (stands, count);
-  taken = λ dh th rh es finished. refl;
+  taken = λ dh th rh es finished last kept. kept;
 }
 
 -- each record was taken
@@ -197,7 +197,8 @@ returns-clause-taken g c dh th rh es finished =
     let inv = c.loop-i.invariant in
     let all = all_taken g (goal.at.returns-clause-taken g c).After-loop-i in
     let none : length c.loop-i.takens.items ≡ 0 = omega (arith, inv.left.left.more, all) in
-    ap (λ k. taken_by k (drop c.loop-i.i es) (g.D.Device.image c.loop-i.devices.image) c.loop-i.undone (g.T.TextStore.text c.loop-i.devices.redo)) (sym none) ∙ inv.taken dh th rh es finished
+    let now : List ℕ = g.T.TextStore.text c.loop-i.devices.redo in
+    inv.taken dh th rh es finished now (subst (λ k. AreKept k (drop c.loop-i.i es) (g.D.Device.image c.loop-i.devices.image) c.loop-i.undone now now) (sym none) refl)
 
 pub returns-clause-ok : goal.returns-clause-ok
 returns-clause-ok g c dh th stack rest =

@@ -5,7 +5,7 @@ use Rattle.bx_journal_format.specs.Text.{Entry}
 use Rattle.bx_journal_read.specs.model.Images.{Images, undo_of}
 use Rattle.bx_journal_read.specs.model.Phase.{IsAtRest}
 use Rattle.bx_journal_read.specs.model.Stack.{StandsFor}
-use Rattle.bx_journal_protocol.specs.model.Taken.{taken_by}
+use Rattle.bx_journal_protocol.specs.model.Taken.{AreKept}
 use Rattle.bx_journal_protocol.specs.protocol.Takens.{entries_len}
 use Rattle.bx_journal_protocol.specs.protocol.Turns.{AreStanding}
 use Rattle.bx_journal_protocol.specs.protocol.Written.{AreSettled}
@@ -34,6 +34,6 @@ invariant-loop-i g l = record {
       → AreStanding (g.T.TextStore.text l.fn.devices.journal) (g.D.Device.image l.fn.devices.image) (g.T.TextStore.text l.fn.devices.redo) s → l.fn.undone ≡ length s.undone
       → AreStanding (g.T.TextStore.text l.devices.journal) (g.D.Device.image l.devices.image) (g.T.TextStore.text l.devices.redo) (undo_of l.i s) × (l.undone ≡ length (undo_of l.i s).undone);
   taken : g.D.Device.honest l.fn.devices.image → g.T.TextStore.honest l.fn.devices.journal → g.T.TextStore.honest l.fn.devices.redo → (entries : List Entry) → IsFinished (g.T.TextStore.text l.fn.devices.journal) entries
-      → taken_by (length l.takens.items) (drop l.i entries) (g.D.Device.image l.devices.image) l.undone (g.T.TextStore.text l.devices.redo)
-      ≡ taken_by (length l.fn.takens.items) entries (g.D.Device.image l.fn.devices.image) l.fn.undone (g.T.TextStore.text l.fn.devices.redo);
+      → (last : List ℕ) → AreKept (length l.takens.items) (drop l.i entries) (g.D.Device.image l.devices.image) l.undone (g.T.TextStore.text l.devices.redo) last
+      → AreKept (length l.fn.takens.items) entries (g.D.Device.image l.fn.devices.image) l.fn.undone (g.T.TextStore.text l.fn.devices.redo) last;
 }
