@@ -31,6 +31,19 @@ An opening that rolls back holds neither, zeros behind the save line or not:
   bx: recovered: change 1 was taken back
   0
 
+# A growth with a gap of 256 MiB
+
+The undo keeps no block of zeros of what it takes off, so its redo file is short and it takes no memory for the gap:
+
+  $ rm -f img*; printf A > img; printf '10000000: 42\n' | bx revert img
+  $ within 20000 bx undo img; cat img; echo; test $(wc -c < img.bxj.redo) -le 65536
+  A
+  $ within 20000 bx redo img; wc -c < img; tail -c 1 img; echo
+  268435457
+  B
+  $ bx undo img; rm img*
+  0
+
 # A redo file of a gigabyte, in four of memory
 
   $ fresh ABxyEFGH "$patched" ''; truncate -s 1G img.bxj.redo; (ulimit -v 3906250; bx log img)
