@@ -176,7 +176,7 @@ fn regular<R: Files<File = File>>(rt: &R, name: &str) -> io::Result<Option<Metad
 
 /// A file of a note's name that is open.
 #[derive(Drop)]
-struct Opened {
+struct OpenNote {
     file: File,
     fitness: Fitness,
     writes: bool,
@@ -201,7 +201,7 @@ fn opened<R: Files<File = File>>(
     rt: &R,
     place: &Place<'_>,
     writes: bool,
-) -> io::Result<Option<Opened>> {
+) -> io::Result<Option<OpenNote>> {
     let Some(looked) = regular(rt, place.name())? else {
         return Ok(None);
     };
@@ -217,7 +217,7 @@ fn opened<R: Files<File = File>>(
     if fitness == Fitness::Another || !is_same(&file.metadata()?, &named) {
         return Ok(None);
     }
-    Ok(Some(Opened {
+    Ok(Some(OpenNote {
         file,
         fitness,
         writes,
@@ -225,7 +225,7 @@ fn opened<R: Files<File = File>>(
 }
 
 /// Keeps a note open that may be written in place.
-fn keep(opened: Opened, open: &mut Option<File>) {
+fn keep(opened: OpenNote, open: &mut Option<File>) {
     if opened.writes && opened.fitness == Fitness::Fit {
         *open = Some(opened.file);
     }
