@@ -45,10 +45,10 @@ impl Given<'_, '_> {
     }
 
     /// All values that were given.
-    pub fn get_strs(&self, id: &str) -> &[&str] {
+    pub fn get_strs(&self, id: &str) -> Option<&[&str]> {
         match self {
-            Given::Read(matches) => matches.get_strs(id).unwrap_or(&[]),
-            Given::Alone { .. } => &[],
+            Given::Read(matches) => matches.get_strs(id),
+            Given::Alone { .. } => None,
         }
     }
 

@@ -125,7 +125,9 @@ fn word_behind<'m>(m: &'m Given<'_, '_>, place: usize) -> Option<(usize, &'m str
             }
         }
     }
-    let words = m.get_strs("kind");
+    let Some(words) = m.get_strs("kind") else {
+        return found;
+    };
     let places = m.places_of("kind");
     for (at, word) in places.iter().zip(words) {
         found = earlier(found, *at, word, place);
