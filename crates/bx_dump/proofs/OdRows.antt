@@ -1,5 +1,5 @@
 -- Rows, by computation.
-use Rattle.std.proofs.Common.{◌≡◌, [], ◌∷◌, replicate, refl, false}
+use Rattle.std.proofs.Common.{◌≡◌, [], ◌∷◌, replicate, refl, true, false}
 use Rattle.std.specs.Prelude.{codes}
 use Rattle.std.specs.Fmt.{digits}
 use Rattle.bx_dump.specs.Hexdump.{hexdump_text}
