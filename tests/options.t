@@ -48,7 +48,7 @@ What bx takes is found by trying: each letter as an option, and the names of GNU
   >   { grep '^  -' help | sed 's/^  //; s/  .*//' | grep -oP "$flag" | sed 's/ .*/=/'; cat long; } | same "help of $command"
   >   sed -n "/^\.Ss bx $command\$/,/^\.S[sh] /p" $man | grep -oP '^\.It Fl \K(\w( Ar)?( , -[\w-]+)?|-[\w-]+)' | sed 's/ , /\n/' |
   >     sed 's/^/-/; s/ Ar$/=/' | same "$command in the man page"
-  >   sed -n "/^    $command)/,/^      ;;/p" $zsh | grep -oP "'(\([^)]*\))?\K(-\w\+?|--[\w-]+)(?=\[)" | sed 's/+$/=/' | same "$command in _bx"
+  >   sed -n "/^    $command)/,/^      ;;/p" $zsh | grep -oP "'(\([^)]*\))?\*?\K(-\w\+?|--[\w-]+)(?=\[)" | sed 's/+$/=/' | same "$command in _bx"
   >   here="^complete -c bx -n '__fish_seen_subcommand_from $command' "
   >   { grep -oP "$here-s \K\w( -x| -r)?" $fish | sed 's/^/-/; s/ -[xr]$/=/'; grep -oP "$here(-s \w )?-l \K[\w-]+" $fish | sed 's/^/--/'; } |
   >     same "$command in bx.fish"

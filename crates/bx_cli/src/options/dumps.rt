@@ -232,7 +232,7 @@ pub fn od<'a>(alloc: Global) -> Result<Command<'a>, AllocError> {
     let command = Command::new(alloc, "od")
         .about("Dump bytes as numbers or characters")
         .after_help(
-            "COUNT: decimal, 0x and hexadecimal, or 0 and octal; then b (512), k (1024) or\nm (1048576). As GNU od has them also K, M, G, T and P, and kB (1000), MB and so\non; a TYPE may be a letter alone (4 bytes), have C, S, I or L for its size, and z\nbehind it for the bytes as text. Each further type is a row below, for the same\nbytes: -t x1z -t c is -t x1zc, and -xc is -t x2c. They are at most 16.\n\nEXAMPLES:\n  bx od -A x -t x1 disk.img     bytes in hexadecimal, with hexadecimal addresses\n  bx od -c -N 64 notes.txt      the first 64 bytes as characters\n  bx od -t u4 -j 1k disk.img    numbers of 4 bytes, from byte 1024 on",
+            "COUNT: decimal, 0x and hexadecimal, or 0 and octal; then b (512), k (1024) or\nm (1048576). As GNU od has them also K, M, G, T and P, and kB (1000), MB and so\non; a TYPE may be a letter alone (4 bytes), have C, S, I or L for its size, and\nz behind it for the bytes as text. Each further type is a row below, for the\nsame bytes: -t x1z -t c is -t x1zc, and -xc is -t x2c. They are at most 16.\n\nEXAMPLES:\n  bx od -A x -t x1 disk.img     bytes in hexadecimal, with hexadecimal addresses\n  bx od -c -N 64 notes.txt      the first 64 bytes as characters\n  bx od -t u4 -j 1k disk.img    numbers of 4 bytes, from byte 1024 on",
         );
     let typed = with_rows(alloc, command, &OD)?.arg(types(alloc))?;
     let more = with_more(alloc, reader(alloc, typed, &OD_FLAGS)?, &OD_MORE)?;
