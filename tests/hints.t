@@ -497,10 +497,6 @@ Dumps and a patch:
   bx: operand 1: bad number
   hint: skip=-1: there are no negative places and counts; places count from the start; a number is decimal; behind it b (512), k or K (1024), M (1048576) or G (1073741824) may stand; Usage: bx dd [OPTIONS] [OPERAND]...
   [1]
-  $ bx hexdump -C -
-  bx: cannot open file
-  hint: -: No such file or directory; - is a file's name here; an input without a name is standard input
-  [1]
   $ bx dd if=-
   bx: cannot open file
   hint: -: No such file or directory; - is a file's name here; an input without a name is standard input
