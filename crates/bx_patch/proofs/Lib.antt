@@ -20,3 +20,7 @@ pub mod CutLemmas
 pub mod EqualLemmas
 pub mod OtherLemmas
 pub mod SameLemmas
+pub mod ChangesOrder
+pub mod ChangedWindow
+pub mod UntouchedLemmas
+pub mod ChangesLemmas

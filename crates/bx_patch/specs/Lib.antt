@@ -7,3 +7,4 @@ pub mod Diff
 pub mod Other
 pub mod Read
 pub mod private
+pub mod preview

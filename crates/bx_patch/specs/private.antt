@@ -4,3 +4,4 @@ pub mod Other
 pub mod Read
 pub mod Row
 pub mod Turn
+pub mod preview

@@ -1,9 +1,10 @@
-//! Patches that can be read: the text of what differs between two images, and what such a text asks of an image.
+//! Patches that can be read: the text of what differs between two images, what such a text asks of an image, and an image behind changes that aren't made.
 #![tactic(auto)]
 
 mod diff;
 pub mod laws;
 mod other;
+mod preview;
 mod read;
 
 pub use diff::alike::{Alike, Unknown};
@@ -12,6 +13,7 @@ pub use diff::fault::DiffFault;
 pub use diff::row::Extent;
 pub use diff::write_patch;
 pub use other::{Other, find_other};
+pub use preview::{ChangedImage, Untouched};
 pub use read::fault::PatchFault;
 pub use read::lengths::PatchLengths;
 pub use read::patch::Patch;

@@ -8,10 +8,9 @@ use bx_journal_image::{
     ImageLine, LINE, Standing, Verdict, is_changed, is_older, is_redo_refused, is_undo_refused,
     judge_unfinished, others_after, read_line, stand,
 };
-use bx_program_files::{Looked, open_to_look};
-use bx_program_system::{OpenFile, Progress, SystemWorld};
-use bx_program_world::World;
+use bx_system::{OpenFile, Progress, SystemWorld};
 use bx_text::{IoFault, emit};
+use bx_world::{Looked, World, open_to_look};
 use std::alloc::Global;
 use std::fs::File;
 use std::io::Write;

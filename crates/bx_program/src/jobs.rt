@@ -35,12 +35,11 @@ use bx_hints::{
 };
 use bx_image::Change;
 use bx_journal::Way;
-use bx_program_commands::{Cause, Done, Failure, Request, run_request};
-use bx_program_files::Why;
-use bx_program_sessions::Task;
-use bx_program_system::{Counted, Noted, Progress, SystemWorld, Tally};
 use bx_read::ReadFault;
+use bx_run::{Cause, Done, Failure, Request, Task, run_request};
+use bx_system::{Counted, Noted, Progress, SystemWorld, Tally};
 use bx_text::{IoFault, Source, Words, emit};
+use bx_world::Why;
 use std::alloc::Global;
 use std::env;
 use std::fs::File;

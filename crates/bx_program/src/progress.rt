@@ -1,7 +1,7 @@
 //! The line on how far work is, where it has a place beside what a person types and reads.
 use bx_dd::Plan;
 use bx_hints::{Remarks, Terminals};
-use bx_program_system::Progress;
+use bx_system::Progress;
 use std::time::Clock;
 
 /// Whether such a line has a place on standard error, beside an output that may be a terminal.

@@ -5,7 +5,7 @@ use Rattle.std.proofs.lemmas.Bool.Decides.{Decides-eqb}
 use Rattle.bx_image.specs.Power.{NoMore}
 use Rattle.test_world.specs.Memory.{HasOtherBytes, TakesContents, found_of, sight_of}
 use Rattle.test_world.specs.MemoryFiles.{IsConsistent, bytes_at, file_named, follow, is_gone_at, lent_beside, lent_trio, read_files, synced_at, unless_gone}
-use Rattle.bx_program_world.specs.World.{AreOwnFiles, ClosesTexts, IsNoText, IsNoneRead, ReadFiles, Sight, Spares, TextsLeft}
+use Rattle.bx_world.specs.World.{AreOwnFiles, ClosesTexts, IsNoText, IsNoneRead, ReadFiles, Sight, Spares, TextsLeft}
 use Rattle.test_world.specs.declared.memory.MemoryWorld.{MemoryWorld}
 use Rattle.test_world.specs.declared.memory.Run.{Run}
 use Rattle.test_world.specs.declared.memory.files.Contents.{Contents}

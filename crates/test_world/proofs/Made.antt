@@ -7,13 +7,13 @@ use Rattle.std.proofs.lemmas.Bool.Decides.{Decides-eqb}
 use Rattle.std.proofs.lemmas.Slice.Eq.{bytes_eq-Decides}
 use Rattle.test_world.specs.Memory.{AddsFile, IsNoted, sight_of, stat_beside}
 use Rattle.test_world.specs.MemoryFiles.{entry_named, file_named, follow, free_end, is_gone_at, is_link_of, is_link_to, is_taken, lent_trio, stat_of, synced_at, unless_gone}
-use Rattle.bx_program_world.specs.Rule.{text_unfit}
-use Rattle.bx_program_world.specs.World.{IsOwnText, Makes, no_stat}
+use Rattle.bx_world.specs.Rule.{text_unfit}
+use Rattle.bx_world.specs.World.{IsOwnText, Makes, no_stat}
 use Rattle.test_world.specs.declared.memory.MemoryWorld.{MemoryWorld}
 use Rattle.test_world.specs.declared.memory.Run.{Run}
 use Rattle.test_world.specs.declared.memory.files.Leads.TheVariants.{File}
 use Rattle.test_world.specs.declared.memory.files.Stored.{Stored}
-use Rattle.bx_program_world.specs.declared.stat.Stat.{Stat}
+use Rattle.bx_world.specs.declared.stat.Stat.{Stat}
 use Rattle.test_world.proofs.Entries.{end_free, end_new, end_none, follow_free, follow_grows, follow_new, free_no_link}
 
 -- the element at the end, and all before it

@@ -1,7 +1,7 @@
 -- What a world in memory has.
 use Rattle.std.specs.Prelude.{◌≡◌, ◌⊎◌, ◌+◌, ◌<◌, ℕ, Bool, true, false, cond, List, [], ◌∷◌, ◌++◌, length}
 use Rattle.std.specs.Option.{unwrap_or}
-use Rattle.bx_program_world.specs.World.{Sight, no_stat, noted}
+use Rattle.bx_world.specs.World.{Sight, no_stat, noted}
 use Rattle.test_world.specs.MemoryFiles.{bytes_at, file_named, is_gone_at, is_link_of, lent_trio, stat_of, synced_at}
 use Rattle.test_world.specs.declared.memory.MemoryWorld.{MemoryWorld}
 use Rattle.test_world.specs.declared.memory.Run.{Run}
@@ -9,9 +9,9 @@ use Rattle.test_world.specs.declared.memory.files.Contents.{Contents}
 use Rattle.test_world.specs.declared.memory.files.Entry.{Entry}
 use Rattle.test_world.specs.declared.memory.files.Leads.TheVariants.{File}
 use Rattle.test_world.specs.declared.memory.files.Stored.{Stored}
-use Rattle.bx_program_world.specs.declared.stat.Kind.TheVariants.{Regular}
-use Rattle.bx_program_world.specs.declared.stat.Stat.{Stat}
-use Rattle.bx_program_world.specs.declared.world.Noted.{Noted}
+use Rattle.bx_world.specs.declared.stat.Kind.TheVariants.{Regular}
+use Rattle.bx_world.specs.declared.stat.Stat.{Stat}
+use Rattle.bx_world.specs.declared.world.Noted.{Noted}
 
 -- what the system says of a text that this user makes beside an image: the image's group and its classes, and the user owns it
 abbrev pub stat_beside : ℕ → Stat → Stat

@@ -3,14 +3,14 @@ use Rattle.std.proofs.Common.{refl, arith}
 use Rattle.std.specs.Prelude.{◌≡◌, ◌<◌, ◌≤◌, ℕ, zero, suc, Bool, true, false, not, cond, List, [], ◌∷◌, Option, None, Some, slice_get, length}
 use Rattle.std.specs.Option.{option_map_or}
 use Rattle.std.specs.Str.{bytes_eq}
-use Rattle.bx_program_world.specs.World.{AreOwnFiles, AreThreeFiles, ReadFiles, Trio}
+use Rattle.bx_world.specs.World.{AreOwnFiles, AreThreeFiles, ReadFiles, Trio}
 use Rattle.test_world.specs.declared.memory.files.Entry.{Entry}
 use Rattle.test_world.specs.declared.memory.files.Leads.{Leads}
 use Rattle.test_world.specs.declared.memory.files.Leads.TheVariants.{File, Link}
 use Rattle.test_world.specs.declared.memory.files.Stored.{Stored}
 use Rattle.test_world.specs.declared.memory.files.LentBeside.{LentBeside}
 use Rattle.test_world.specs.declared.memory.files.LentFiles.{LentFiles}
-use Rattle.bx_program_world.specs.declared.stat.Stat.{Stat}
+use Rattle.bx_world.specs.declared.stat.Stat.{Stat}
 
 -- what the first entry of a name leads to
 abbrev pub entry_named : List Entry → List ℕ → Option Leads

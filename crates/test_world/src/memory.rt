@@ -23,8 +23,8 @@ use crate::memory::refusals::Refusals;
 use crate::memory::text::LentText;
 use bx_image::{Device, Fuse, FuseImage, Part};
 use bx_journal_store::{CountedText, FuseText, TextStore};
-use bx_program_world::{Classes, Kind, Look, Noted, Outgrown, Refusal, Stat, Unwritten, World};
 use bx_text::Name;
+use bx_world::{Classes, Kind, Look, Noted, Outgrown, Refusal, Stat, Unwritten, World};
 use std::alloc::Global;
 
 /// Where the failures of a redo text begin to count.
@@ -141,8 +141,8 @@ fn with_redo(lent: Option<LentBeside>, redo: usize) -> Option<LentBeside>
 
 impl MemoryWorld {
     ghost use Rattle.std.specs.Prelude.{IfOk, IfSome, Err, Some, string_bytes};
-    ghost use Rattle.bx_program_world.specs.declared.world.Refusal.TheVariants.{Missing};
-    ghost use Rattle.bx_program_world.specs.World.{CountsRefusal, IsAlwaysFit, IsOwnText, Makes};
+    ghost use Rattle.bx_world.specs.declared.world.Refusal.TheVariants.{Missing};
+    ghost use Rattle.bx_world.specs.World.{CountsRefusal, IsAlwaysFit, IsOwnText, Makes};
     ghost use Rattle.test_world.specs.MemoryFiles.{file_named, free_end, is_taken};
     ghost use Rattle.test_world.specs.Memory.{AddsFile, BuriesEmpty, BuriesOrSticks, HasOtherBytes, LendsContents, NamesFile, NamesNothing, TakesContents, IsNoted, note_of, refusals_of, sight_of, stat_beside};
 

@@ -1,7 +1,7 @@
 //! A change, as a case asks for it.
 ghost use Rattle.std.specs.Prelude.{IfOk};
 ghost use Rattle.bx_cli_commands.specs.Command.{IsNear};
-ghost use Rattle.bx_program_sessions.specs.Task.{IsNearTask};
+ghost use Rattle.bx_run.specs.session.Task.{IsNearTask};
 
 use crate::report::Wrong;
 use crate::setting::CAREFUL;
@@ -9,11 +9,12 @@ use bx_cli_commands::{Command, Fault, Form, Reply, change_from};
 use bx_dd::{Counts, parse};
 use bx_image::{Change, Fuse};
 use bx_patch::read_patch;
-use bx_program_files::Names;
-use bx_program_sessions::{Task, change_files};
 use bx_read::ReadFault;
+use bx_run::{Done, Failure, Request, Task, run_request};
 use bx_text::{Bytes, Pieces, Source, Words};
+use bx_world::Names;
 use std::alloc::Global;
+use std::io::sink;
 use test_case_files::{Answer, Ask, Records};
 use test_world::{LentInput, MemoryWorld, Plan};
 
@@ -238,9 +239,14 @@ pub fn change(
     names: &Names,
     plan: Plan,
     task: Task<LentInput>,
-) -> bx_program_sessions::Answer
+) -> Result<Done, Failure>
     requires { IsNearTask task }
 {
     world.begin(plan);
-    change_files(world, alloc, names, CAREFUL, task)
+    let request = Request::Change {
+        names,
+        guard: CAREFUL,
+        task,
+    };
+    run_request(world, alloc, request, &mut sink())
 }

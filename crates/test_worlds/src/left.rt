@@ -1,14 +1,15 @@
 //! What a command leaves: files, and what was written.
+use crate::answers::Ended;
 use crate::changes::is_answer;
 use crate::moves::move_in;
-use crate::plays::{Asked, Ended, Play};
+use crate::plays::{Asked, Play};
 use crate::report::Wrong;
 use crate::setting::{Held, There, has_other, held_by, there_in, world_of};
 use bx_cli_commands::{Fault, Reply};
 use bx_dd::DdFault;
 use bx_journal::{How, SessionFault, Way};
-use bx_program_files::Why;
 use bx_text::IoFault;
+use bx_world::Why;
 use test_world::{MemoryWorld, Plan};
 
 /// What fails in a play, as far as it decides which faults may be.
@@ -145,7 +146,9 @@ fn has_recovered(play: &Play<'_>, world: &MemoryWorld, how: Option<How>) -> Resu
 /// Whether the fault is the one that the case tells, or that of a call which failed.
 fn is_due(play: &Play<'_>, cause: Cause, ended: &Ended, fault: Fault) -> Result<bool, Wrong> {
     match fault {
-        Fault::OpenFailed => Ok(cause == Cause::World && ended.unopened.is_some()),
+        Fault::OpenFailed | Fault::ChangedSince => {
+            Ok(cause == Cause::World && ended.unopened.is_some())
+        }
         // the note that keeps an older line is a device that failed, though a call of the world did
         Fault::Session(SessionFault::DeviceFailed) => {
             Ok(cause == Cause::Device || cause == Cause::World)
@@ -243,7 +246,7 @@ pub fn judge(
     ended: &Ended,
 ) -> Result<Reach, Wrong> {
     same(has_other(world), Wrong::Files)?;
-    let is_unopened = ended.outcome.err() == Some(Fault::OpenFailed);
+    let is_unopened = matches!(ended.outcome, Err(Fault::OpenFailed | Fault::ChangedSince));
     same(ended.unopened.is_some() == is_unopened, Wrong::Unopened)?;
     let is_unread = cause == Cause::World && is_another(ended);
     same(
@@ -277,7 +280,7 @@ fn is_behind(play: &Play<'_>, world: &MemoryWorld, steps: u32) -> Result<bool, W
 /// Opens what is left in a world, by an undo of no change, which finds an image that it may.
 fn finds_in(play: &Play<'_>, world: &mut MemoryWorld, reach: Reach) -> Result<(), Wrong> {
     let moved = move_in(world, play.alloc, &play.names, Plan::NOTHING, Way::Undo, 0);
-    same(moved.outcome.is_ok(), Wrong::Found)?;
+    same(moved.is_ok(), Wrong::Found)?;
     for steps in reach.least..reach.most.saturating_add(1) {
         if is_behind(play, world, steps)? {
             return Ok(());

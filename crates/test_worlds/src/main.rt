@@ -29,6 +29,7 @@
 //! forgettings, and in the first of comparisons.
 #![tactic(auto)]
 
+mod answers;
 mod changes;
 mod left;
 mod moves;

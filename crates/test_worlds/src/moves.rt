@@ -2,9 +2,10 @@
 use crate::report::Wrong;
 use crate::setting::CAREFUL;
 use bx_journal::Way;
-use bx_program_files::Names;
-use bx_program_sessions::{Moved, move_changes};
+use bx_run::{Done, Failure, Request, run_request};
+use bx_world::Names;
 use std::alloc::Global;
+use std::io::{Empty, sink};
 use test_case_files::{Ask, Row};
 use test_world::{MemoryWorld, Plan};
 
@@ -67,7 +68,13 @@ pub fn move_in(
     plan: Plan,
     way: Way,
     count: u32,
-) -> Moved<()> {
+) -> Result<Done, Failure> {
     world.begin(plan);
-    move_changes(world, alloc, names, CAREFUL, way, count)
+    let request: Request<'_, Empty> = Request::Move {
+        names,
+        guard: CAREFUL,
+        way,
+        count,
+    };
+    run_request(world, alloc, request, &mut sink())
 }

@@ -1,13 +1,14 @@
 //! Files that may not be opened: each stands in the place of one of the three of a case. The command is refused for it, or for a call
 //! that the world refuses before, and leaves all files as they were.
+use crate::answers::Ended;
 use crate::oddities::{Odd, Oddity, world_of_odd};
-use crate::plays::{Ended, Play};
+use crate::plays::Play;
 use crate::report::{Failure, Wrong};
 use crate::setting::{Kept, There, has_other, held_by, there_in};
 use crate::sweeps::MOST_CALLS;
 use bx_cli_commands::Fault;
 use bx_image::Fuse;
-use bx_program_files::Unopened;
+use bx_world::Unopened;
 use test_world::{MemoryWorld, Plan};
 
 /// The calls of the world up to the one that makes an image: three looks, an opening that finds none, and that one.

@@ -2,9 +2,8 @@
 use crate::setting::{
     CALLER, ELSEWHERE, Held, IMAGE, JOURNAL, LINK, OTHER, OTHER_BYTES, REDO, STAT, There, names_of,
 };
-use bx_program_files::{Names, Which, Why};
-use bx_program_world::{Kind, Refusal, Stat, Unfit};
 use bx_text::NoMemory;
+use bx_world::{Kind, Names, Refusal, Stat, Unfit, Which, Why};
 use std::alloc::{AllocError, Global};
 use test_world::MemoryWorld;
 

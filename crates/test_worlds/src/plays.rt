@@ -1,12 +1,11 @@
 //! A case as it is played: one undo or redo of as many changes as its lines tell, one after another; or the change of its last line.
+use crate::answers::{Ended, ended};
 use crate::changes::{Manner, change, has_manner, task_of};
 use crate::moves::{count_of_all, image_behind, move_in, way_of};
 use crate::report::Wrong;
 use crate::setting::{Held, There, names, world_with};
-use bx_cli_commands::{Fault, Reply};
 use bx_journal::{How, Way};
-use bx_program_files::{Names, Unopened};
-use bx_program_sessions::Moved;
+use bx_world::Names;
 use std::alloc::Global;
 use test_case_files::{Answer, Ask, CommandsCase, Opening, Row};
 use test_world::{MemoryWorld, Plan};
@@ -57,42 +56,6 @@ pub struct Play<'a> {
     pub is_linked: bool,
     /// How many changes stand before.
     standing: u32,
-}
-
-/// How a command ended.
-#[derive(Clone, Copy)]
-pub struct Ended {
-    /// The reply to a change; none of a move, which writes what it has to tell. Or the fault that stopped it.
-    pub outcome: Result<Option<Reply>, Fault>,
-    /// Why the files were not opened; none where they were.
-    pub unopened: Option<Unopened>,
-    /// What opening found unfinished; none where it was refused, and where the files were not opened.
-    pub how: Option<How>,
-}
-
-/// How a move ended.
-fn end_of_move(moved: Moved<()>) -> Ended {
-    Ended {
-        outcome: moved.outcome.map(|()| None),
-        unopened: moved.unopened,
-        how: moved.how,
-    }
-}
-
-/// How a change ended.
-fn end_of_change(answer: bx_program_sessions::Answer) -> Ended {
-    let outcome = match answer.reply {
-        Reply::Refused(fault) => Err(fault),
-        Reply::Changed { .. }
-        | Reply::Copied { .. }
-        | Reply::Undone { .. }
-        | Reply::Redone { .. } => Ok(Some(answer.reply)),
-    };
-    Ended {
-        outcome,
-        unopened: answer.unopened,
-        how: answer.how,
-    }
 }
 
 /// How many changes stand behind an opening.
@@ -297,13 +260,13 @@ impl<'a> Play<'a> {
             return Err(Wrong::Unknown);
         };
         let task = task_of(self.alloc, &row.ask, manner, plan.input)?;
-        Ok(end_of_change(change(world, self.alloc, &self.names, plan, task)))
+        Ok(ended(change(world, self.alloc, &self.names, plan, task)))
     }
 
     /// Does what the case asks for in a world that does what its plan says.
     pub fn run(&self, world: &mut MemoryWorld, plan: Plan) -> Result<Ended, Wrong> {
         match self.asked {
-            Asked::Moves { way, count } => Ok(end_of_move(move_in(
+            Asked::Moves { way, count } => Ok(ended(move_in(
                 world,
                 self.alloc,
                 &self.names,

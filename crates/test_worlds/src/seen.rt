@@ -17,7 +17,7 @@ use crate::seen::output::Output;
 use crate::seen::told::{Told, judge};
 use crate::setting::{Held, Kept, held_by, there_in, there_of, world_of};
 use crate::sweeps::{Failing, MOST_CALLS};
-use bx_program_files::Names;
+use bx_world::Names;
 use std::alloc::Global;
 use test_world::{Fails, MemoryWorld, Plan};
 

@@ -1,7 +1,6 @@
 //! The files of a case in a world in memory: the image by a link, its texts, and another file.
-use bx_program_files::{Guard, Names};
-use bx_program_world::{Classes, Kind, Stat};
 use bx_text::{Name, NoMemory};
+use bx_world::{Classes, Guard, Kind, Names, Stat};
 use std::alloc::{AllocError, Global};
 use test_world::MemoryWorld;
 

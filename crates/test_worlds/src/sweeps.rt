@@ -1,6 +1,7 @@
 //! The ways in which a case is played: which calls fail.
+use crate::answers::Ended;
 use crate::left::{Cause, Reach, finds, is_as_told, judge};
-use crate::plays::{Ended, Play};
+use crate::plays::Play;
 use crate::report::{Failure, Wrong};
 use crate::setting::{Held, Kept, held_by};
 use bx_image::{Fuse, Part};

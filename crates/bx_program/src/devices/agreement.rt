@@ -9,7 +9,7 @@ use bx_hints::Stopped;
 use bx_image::{FileImage, MemImage, SystemFile};
 use bx_journal::SessionFault;
 use bx_patch::{Other, Patch, find_other};
-use bx_program_system::{CountedFile, Progress};
+use bx_system::{CountedFile, Progress};
 use std::fs::File;
 use std::rt::Files;
 use std::time::Clock;

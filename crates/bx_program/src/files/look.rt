@@ -1,7 +1,7 @@
 //! What is asked of an image by its name, before any file is opened.
 use bx_cli::Target;
 use bx_hints::Stopped;
-use bx_program_system::{fixed_length, open_there};
+use bx_system::{fixed_length, open_there};
 use std::fs::{self, File};
 use std::io::ErrorKind;
 use std::os::unix::fs::FileTypeExt;

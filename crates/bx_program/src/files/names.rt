@@ -2,9 +2,9 @@
 ghost use Rattle.std.specs.Prelude.{◌≡◌, IfOk};
 
 use bx_cli::{Access, Durability, Fault, Target};
-use bx_program_files::{Guard, Names};
-use bx_program_system::{Progress, SystemWorld};
+use bx_system::{Progress, SystemWorld};
 use bx_text::Name;
+use bx_world::{Guard, Names};
 use std::alloc::{AllocError, Global};
 use std::fs::File;
 use std::rt::Files;

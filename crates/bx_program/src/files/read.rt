@@ -2,8 +2,8 @@
 use crate::files::unfit::unfit_image;
 use bx_cli::Fault;
 use bx_hints::Stopped;
-use bx_program_system::{open_to_read, stat_of};
-use bx_program_world::read_unfit;
+use bx_system::{open_to_read, stat_of};
+use bx_world::read_unfit;
 use std::fs::{self, File};
 use std::io::{self, ErrorKind, Seek, SeekFrom};
 use std::os::unix::fs::FileTypeExt;

@@ -2,7 +2,7 @@
 use bx_cli::Target;
 use bx_hints::{Standing, Tail};
 use bx_journal_image::end_of;
-use bx_program_system::open_to_read;
+use bx_system::open_to_read;
 use std::fs::{self, File};
 use std::io::{ErrorKind, Seek, SeekFrom};
 use std::os::unix::fs::FileExt;

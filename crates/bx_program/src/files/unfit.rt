@@ -1,6 +1,6 @@
 //! What is said of a file that may not be opened.
 use bx_hints::Reason;
-use bx_program_world::{Classes, Stat, Unfit};
+use bx_world::{Classes, Stat, Unfit};
 use std::fs::Metadata;
 use std::os::unix::fs::MetadataExt;
 

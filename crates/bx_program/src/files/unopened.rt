@@ -2,11 +2,10 @@
 use crate::files::unfit::{bits_left, unfit_image, unfit_text};
 use bx_cli::{Fault, Target};
 use bx_hints::{Reason, Stopped};
-use bx_program_files::{Unopened, Which, Why};
-use bx_program_system::{
+use bx_system::{
     Misplaced, SystemWorld, Unknown, folder_of, is_among_devices, is_mounted, stat_of,
 };
-use bx_program_world::{Refusal, Unfit};
+use bx_world::{Refusal, Unfit, Unopened, Which, Why};
 use std::fs::{self, File};
 use std::rt::Files;
 

@@ -1,5 +1,5 @@
 //! Changes of an image by the names of its files.
-ghost use Rattle.bx_program_sessions.specs.Task.{IsNearTask};
+ghost use Rattle.bx_run.specs.session.Task.{IsNearTask};
 
 use crate::devices::left::{is_unfinished, recovered, stopped};
 use crate::files::look::{is_missing, refuse_without_journal};
@@ -11,11 +11,9 @@ use crate::history::told::told;
 use bx_cli::{Fault, Target};
 use bx_hints::{Remarks, Stopped};
 use bx_journal::{How, SessionFault, Way};
-use bx_program_commands::{Done, Failure, Request, Step, run_request};
-use bx_program_files::{Names, Which};
-use bx_program_sessions::Task;
-use bx_program_system::{OpenFile, Progress, SystemWorld};
-use bx_program_world::World;
+use bx_run::{Done, Failure, Request, Step, Task, run_request};
+use bx_system::{OpenFile, Progress, SystemWorld};
+use bx_world::{Names, Which, World};
 use std::fs::{self, File};
 use std::io::{self, Empty, ErrorKind, Read};
 use std::rt::Files;

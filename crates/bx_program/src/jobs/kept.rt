@@ -1,5 +1,5 @@
 //! Changes with which a history may begin anew, and which may have to keep within their image's length.
-ghost use Rattle.bx_program_sessions.specs.Task.{IsNearTask};
+ghost use Rattle.bx_run.specs.session.Task.{IsNearTask};
 
 use crate::devices::agreement::agree;
 use crate::devices::left::length_of;
@@ -11,10 +11,9 @@ use bx_cli::{Command, Fault, Kept, Target, refuse_growth};
 use bx_hints::{Remarks, Stopped};
 use bx_image::{Change, MAX_LEN};
 use bx_patch::Patch;
-use bx_program_commands::{Done, Proposal};
-use bx_program_sessions::Task;
-use bx_program_system::Progress;
 use bx_read::ReadFault;
+use bx_run::{Done, Proposal, Task};
+use bx_system::Progress;
 use std::fs::File;
 use std::io::Empty;
 use std::rt::Files;

@@ -10,7 +10,7 @@ use crate::streams::input::{MOST_INPUT, Placed, whole};
 use bx_cli::{Fault, PatchJob};
 use bx_hints::{Remarks, STANDARD_INPUT, Stopped};
 use bx_patch::{Patch, read_patch};
-use bx_program_system::{Counted, Noted, Progress};
+use bx_system::{Counted, Noted, Progress};
 use bx_text::Source;
 use std::alloc::Global;
 use std::fs::File;

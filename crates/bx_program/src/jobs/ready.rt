@@ -8,7 +8,7 @@ use crate::streams::part::Part;
 use bx_cli::{DdChange, DdImageJob, Fault, change_of_plan, plan_rest};
 use bx_dd::Plan;
 use bx_hints::Stopped;
-use bx_program_system::{Noted, Progress};
+use bx_system::{Noted, Progress};
 use std::alloc::Global;
 use std::fs::File;
 use std::io::Read;

@@ -7,7 +7,7 @@ use crate::progress::progress_of_input;
 use bx_cli::StepsJob;
 use bx_hints::{Remarks, Stopped};
 use bx_journal::Way;
-use bx_program_commands::{Request, run_request};
+use bx_run::{Request, run_request};
 use std::fs::File;
 use std::io::{self, Empty};
 use std::rt::Files;

@@ -4,7 +4,7 @@ ghost use Rattle.bx_cli_commands.specs.jobs.Passing.{CanPass};
 
 use bx_cli::{Fault, Skip};
 use bx_hints::{STANDARD_INPUT, Stopped};
-use bx_program_system::{fixed_length, open_there};
+use bx_system::{fixed_length, open_there};
 use bx_text::{IoFault, Name};
 use std::fs::{File, Metadata};
 use std::io::{self, Seek, SeekFrom};

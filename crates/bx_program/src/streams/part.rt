@@ -1,5 +1,5 @@
 //! An input whose reading is a part of long work.
-use bx_program_system::{Counted, Progress};
+use bx_system::{Counted, Progress};
 use std::io::{self, Read};
 use std::time::Clock;
 

@@ -2,8 +2,8 @@
 ghost use Rattle.std.specs.Prelude.{◌≡◌, ◌↔◌, ◌<◌, ◌≤◌, [], ℕ, length, false, true, Some, IfOk, IfSome};
 ghost use Rattle.test_world.specs.MemoryFiles.{bytes_at, entry_named, file_named, follow, free_end, is_gone_at, is_link_of, is_taken, leads_at, stat_of, synced_at};
 
-use bx_program_world::Stat;
 use bx_text::Name;
+use bx_world::Stat;
 use std::alloc::{AllocError, Global};
 use std::mem::replace;
 

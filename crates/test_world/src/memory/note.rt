@@ -1,10 +1,10 @@
 //! The note of a world in memory.
 ghost use Rattle.std.specs.Prelude.{◌≡◌, length, true, IfSome};
-ghost use Rattle.bx_program_world.specs.World.{IsFrontRead};
+ghost use Rattle.bx_world.specs.World.{IsFrontRead};
 
 use crate::memory::MemoryWorld;
 use crate::memory::files::Contents;
-use bx_program_world::Noted;
+use bx_world::Noted;
 use std::alloc::Global;
 
 /// What is on the disk of a note that gets these bytes: they, or what was there.
@@ -33,7 +33,7 @@ fn note_of(alloc: Global, old: &Contents, bytes: &[u8], synced: bool) -> Option<
 impl MemoryWorld {
     ghost use Rattle.std.specs.Prelude.{[]};
     ghost use Rattle.test_world.specs.Memory.{PutsNote, note_of};
-    ghost use Rattle.bx_program_world.specs.declared.world.Noted.TheVariants.{Put};
+    ghost use Rattle.bx_world.specs.declared.world.Noted.TheVariants.{Put};
 
     /// Reads the first bytes of the note into a buffer, as many as it has room for.
     pub fn note_front(&self, buf: &mut [u8]) -> usize

@@ -7,8 +7,8 @@ ghost use Rattle.test_world.specs.MemoryFiles.{bytes_at, synced_at};
 use crate::memory::files::{Contents, Entry, Leads, Stored, copy_of_disk, file_named};
 use crate::memory::refusals::Refusals;
 use crate::memory::{MemoryWorld, Plan};
-use bx_program_world::{Stat, World};
 use bx_text::{Name, NoMemory};
+use bx_world::{Stat, World};
 use std::alloc::Global;
 
 /// A copy of bytes.

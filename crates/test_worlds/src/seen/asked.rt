@@ -1,6 +1,7 @@
 //! What is asked of named files, and of an input.
 ghost use Rattle.std.specs.Prelude.{◌≡◌, None};
 
+use crate::answers::which_of;
 use crate::left::Cause;
 use crate::report::Wrong;
 use crate::setting::CAREFUL;
@@ -10,14 +11,12 @@ use bx_dd::{Plan as DdPlan, parse};
 use bx_image::Change;
 use bx_journal::{Steps, Way};
 use bx_patch::{Extent, read_patch};
-use bx_program_commands::{
-    Cause as FileCause, Done as Answered, Failure, FileRole, Proposal, Report, Request, run_request,
+use bx_run::{
+    Cause as FileCause, Done as Answered, Failure, Proposal, Report, ReportError, Request,
+    run_request,
 };
-use bx_program_dumps::{Undumped, dump_file};
-use bx_program_files::{Names, Unopened, Which, Why};
-use bx_program_looks::{Unseen, log, log_with_ranges, show, show_unfinished};
-use bx_program_world::{Refusal, World};
-use bx_text::{Bytes, IoFault, Piece, Pieces, Words, emit};
+use bx_text::{Bytes, IoFault, Piece, Pieces, Words};
+use bx_world::{Names, Refusal, Unopened, Which, Why, World};
 use std::alloc::Global;
 use std::io::{Empty, Write};
 use test_case_files::PatchWritten;
@@ -85,25 +84,11 @@ impl Asked<'_> {
 }
 
 /// How it ended: a dump with its counts.
-pub type Outcome = Result<Option<Done>, Unseen>;
-
-/// Writes the log.
-fn put_log<O: Write>(
-    world: &mut MemoryWorld,
-    alloc: Global,
-    names: &Names,
-    out: &mut O,
-) -> Result<(), Unseen> {
-    let text = log(world, alloc, names)?;
-    match emit(out, text.as_bytes()) {
-        Ok(()) => Ok(()),
-        Err(fault) => Err(Unseen::Stopped(Fault::Io(fault))),
-    }
-}
+pub type Outcome = Result<Option<Done>, ReportError>;
 
 /// The image, which the system refused.
-fn refused(refusal: Refusal) -> Unseen {
-    Unseen::Unopened(Unopened {
+fn refused(refusal: Refusal) -> ReportError {
+    ReportError::Unopened(Unopened {
         which: Which::Image,
         why: Why::System(refusal),
     })
@@ -116,37 +101,30 @@ fn put_dump<O: Write>(
     names: &Names,
     job: &DumpJob,
     out: &mut O,
-) -> Outcome {
-    match dump_file(world, alloc, job, names.image.as_str(), out) {
-        Ok(done) => Ok(Some(done)),
-        Err(Undumped::Unopened(refusal) | Undumped::Unplaced(refusal)) => Err(refused(refusal)),
-        Err(Undumped::Stopped(fault)) => Err(Unseen::Stopped(fault)),
-    }
-}
-
-/// Which of two or three files it is that has a part in a command.
-fn which_of(file: FileRole) -> Which {
-    match file {
-        FileRole::Image | FileRole::Old => Which::Image,
-        FileRole::Journal | FileRole::New => Which::Journal,
-        FileRole::Redo => Which::Redo,
-    }
+) -> Outcome
+    requires { (⟦<MemoryWorld as World>⟧.sight world.old).lent ≡ None }
+{
+    let request: Request<'_, Empty> = Request::Dump {
+        job,
+        name: names.image.as_str(),
+    };
+    seen_of(run_request(world, alloc, request, out))
 }
 
 /// Why a command is not done.
-fn unseen_of(failure: Failure) -> Unseen {
+fn unseen_of(failure: Failure) -> ReportError {
     let Some(stop) = failure.stop else {
-        return Unseen::Stopped(failure.fault);
+        return ReportError::Stopped(failure.fault);
     };
     match stop.cause {
-        FileCause::Unopened(why) => Unseen::Unopened(Unopened {
+        FileCause::Unopened(why) => ReportError::Unopened(Unopened {
             which: which_of(stop.file),
             why,
         }),
         FileCause::Unplaced(refusal) => refused(refusal),
-        FileCause::Unfinished => Unseen::Unfinished,
-        FileCause::Another => Unseen::Another,
-        FileCause::Failed | FileCause::Outgrown(_) => Unseen::Stopped(failure.fault),
+        FileCause::Unfinished => ReportError::Unfinished,
+        FileCause::Another => ReportError::Another,
+        FileCause::Failed | FileCause::Outgrown(_) => ReportError::Stopped(failure.fault),
     }
 }
 
@@ -265,28 +243,25 @@ fn preview<O: Write>(
     seen_of(run_request(world, alloc, request, out))
 }
 
-/// Writes the patch of a change that stands, or of one that is undone.
-fn put_patch<O: Write>(
+/// Writes a report of the changes.
+fn put_report<O: Write>(
     world: &mut MemoryWorld,
     alloc: Global,
     names: &Names,
-    way: Way,
+    report: Report,
     out: &mut O,
 ) -> Outcome
     requires { (⟦<MemoryWorld as World>⟧.sight world.old).lent ≡ None }
 {
-    let request: Request<'_, Empty> = Request::Look {
-        names,
-        report: Report::Patch { way, count: 1 },
-    };
+    let request: Request<'_, Empty> = Request::Look { names, report };
     seen_of(run_request(world, alloc, request, out))
 }
 
 /// What an input has, whose reads fail as the plan says.
-fn input_of(alloc: Global, bytes: &[u8], plan: Plan) -> Result<LentInput, Unseen> {
+fn input_of(alloc: Global, bytes: &[u8], plan: Plan) -> Result<LentInput, ReportError> {
     match bytes.to_vec(alloc) {
         Ok(bytes) => Ok(LentInput::new(bytes, 0, plan.input)),
-        Err(_) => Err(Unseen::Stopped(Fault::Io(IoFault::NoMemory))),
+        Err(_) => Err(ReportError::Stopped(Fault::Io(IoFault::NoMemory))),
     }
 }
 
@@ -300,25 +275,24 @@ pub fn ask<O: Write>(
     out: &mut O,
 ) -> Outcome {
     world.begin(plan);
-    let outcome = match asked {
-        Asked::Log => put_log(world, alloc, names, out),
-        Asked::Ranges => log_with_ranges(world, alloc, names, out),
-        Asked::Steps(steps) => show(world, alloc, names, steps, out),
-        Asked::Unfinished(steps) => show_unfinished(world, alloc, names, steps, out),
-        Asked::Dump(job) => return put_dump(world, alloc, names, job, out),
+    match asked {
+        Asked::Log => put_report(world, alloc, names, Report::Log, out),
+        Asked::Ranges => put_report(world, alloc, names, Report::LogWithRanges, out),
+        Asked::Steps(steps) => put_report(world, alloc, names, Report::Show(steps), out),
+        Asked::Unfinished(steps) => {
+            put_report(world, alloc, names, Report::ShowUnfinished(steps), out)
+        }
+        Asked::Dump(job) => put_dump(world, alloc, names, job, out),
         Asked::Input(job, bytes) => {
             let input = input_of(alloc, bytes, plan)?;
-            return put_input(world, alloc, job, input, out);
+            put_input(world, alloc, job, input, out)
         }
-        Asked::Diff(extent) => return put_diff(world, alloc, names, extent, out),
-        Asked::Forget => return forget(world, alloc, names, out),
-        Asked::Preview(proposed, case) => {
-            return match proposal_of(alloc, proposed, case, plan) {
-                Ok(proposal) => preview(world, alloc, names, proposal, out),
-                Err(_) => Err(Unseen::Stopped(Fault::Usage)),
-            };
-        }
-        Asked::Patch(way) => return put_patch(world, alloc, names, way, out),
-    };
-    outcome.map(|()| None)
+        Asked::Diff(extent) => put_diff(world, alloc, names, extent, out),
+        Asked::Forget => forget(world, alloc, names, out),
+        Asked::Preview(proposed, case) => match proposal_of(alloc, proposed, case, plan) {
+            Ok(proposal) => preview(world, alloc, names, proposal, out),
+            Err(_) => Err(ReportError::Stopped(Fault::Usage)),
+        },
+        Asked::Patch(way) => put_report(world, alloc, names, Report::Patch { way, count: 1 }, out),
+    }
 }

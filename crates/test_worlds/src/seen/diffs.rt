@@ -7,7 +7,7 @@ use crate::seen::{Asking, play_each};
 use crate::setting::{Held, names};
 use crate::sweeps::Failing;
 use bx_patch::Extent;
-use bx_program_files::{Names, Unopened, Which};
+use bx_world::{Names, Unopened, Which};
 use std::alloc::Global;
 use test_case_files::{Case, PatchCase, PatchWritten, Test};
 

@@ -9,8 +9,7 @@ use crate::sweeps::Failing;
 use bx_cli::plan_words;
 use bx_cli_commands::{Done, DumpJob, Job};
 use bx_dd::Counts;
-use bx_program_files::{Names, Unopened, Which, Why};
-use bx_program_world::{Refusal, Unfit};
+use bx_world::{Names, Refusal, Unfit, Unopened, Which, Why};
 use std::alloc::Global;
 use test_case_files::{Case, Records, Test, WordsCase};
 

@@ -5,7 +5,7 @@ use crate::seen::asked::{Asked, Outcome};
 use crate::setting::{Held, Kept, There, has_other, held_by, there_in};
 use bx_cli_commands::Fault;
 use bx_journal::SessionFault;
-use bx_program_looks::Unseen;
+use bx_run::ReportError;
 use std::alloc::Global;
 use test_world::MemoryWorld;
 
@@ -25,7 +25,7 @@ impl Leaves {
     pub fn of(asked: Asked<'_>, outcome: Outcome) -> Self {
         match (asked, outcome) {
             (Asked::Forget, Ok(_)) => Leaves::Image,
-            (Asked::Forget, Err(Unseen::Stopped(Fault::Session(SessionFault::Interrupted)))) =>
+            (Asked::Forget, Err(ReportError::Stopped(Fault::Session(SessionFault::Interrupted)))) =>
                 Leaves::Fronts,
             _ => Leaves::All,
         }

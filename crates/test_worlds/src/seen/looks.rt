@@ -8,7 +8,7 @@ use crate::seen::told::Told;
 use crate::seen::{Asking, play_each, tell};
 use crate::setting::{Held, names};
 use crate::sweeps::Failing;
-use bx_program_files::{Names, Unopened};
+use bx_world::{Names, Unopened};
 use std::alloc::Global;
 use test_case_files::{Case, LooksCase, Test};
 

@@ -12,7 +12,7 @@ use crate::sweeps::Failing;
 use bx_cli_commands::Done;
 use bx_dd::Counts;
 use bx_journal::Way;
-use bx_program_files::Names;
+use bx_world::Names;
 use std::alloc::Global;
 use test_case_files::{Case, PatchCase, PatchWritten, Test};
 

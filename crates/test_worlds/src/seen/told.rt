@@ -4,9 +4,8 @@ use crate::report::Wrong;
 use crate::seen::asked::Outcome;
 use bx_cli_commands::{Done, Fault};
 use bx_journal::SessionFault;
-use bx_program_files::{Unopened, Why};
-use bx_program_looks::Unseen;
-use bx_program_world::Refusal;
+use bx_run::ReportError;
+use bx_world::{Refusal, Unopened, Why};
 use std::alloc::Global;
 use test_world::MemoryWorld;
 
@@ -38,9 +37,9 @@ fn is_told(alloc: Global, told: Told<'_>, outcome: Outcome) -> Result<bool, Wron
     match (told, outcome) {
         (Told::Text(_, told), Ok(done)) => Ok(told == done),
         // forgetting asks the note, which has no line here, where a change is to be taken back
-        (Told::Unfinished, Err(Unseen::Unfinished | Unseen::Another)) => Ok(true),
-        (Told::Unopened(told), Err(Unseen::Unopened(unopened))) => Ok(told == unopened),
-        (Told::Fault(told), Err(Unseen::Stopped(fault))) => {
+        (Told::Unfinished, Err(ReportError::Unfinished | ReportError::Another)) => Ok(true),
+        (Told::Unopened(told), Err(ReportError::Unopened(unopened))) => Ok(told == unopened),
+        (Told::Fault(told), Err(ReportError::Stopped(fault))) => {
             let text = format!(in alloc; "{fault}")?;
             Ok(text.as_str() == told)
         }
@@ -67,18 +66,18 @@ fn is_due(
     output: &[u8],
 ) -> Result<bool, Wrong> {
     match outcome {
-        Ok(_) | Err(Unseen::Unfinished | Unseen::Another) => Ok(false),
-        Err(Unseen::Unopened(unopened)) => {
+        Ok(_) | Err(ReportError::Unfinished | ReportError::Another) => Ok(false),
+        Err(ReportError::Unopened(unopened)) => {
             let is_refused = unopened.why == Why::System(Refusal::Other(None));
             Ok(is_refused && world.was_refused() && output.is_empty())
         }
-        Err(Unseen::Stopped(Fault::Session(SessionFault::Interrupted))) => {
+        Err(ReportError::Stopped(Fault::Session(SessionFault::Interrupted))) => {
             Ok(cause == Cause::Emptying)
         }
         // of forgetting: a note that can't be read is a device that failed
-        Err(Unseen::Stopped(Fault::Session(SessionFault::DeviceFailed))) if cause == Cause::World =>
-            { Ok(output.is_empty()) }
-        Err(Unseen::Stopped(fault)) => {
+        Err(ReportError::Stopped(Fault::Session(SessionFault::DeviceFailed)))
+            if cause == Cause::World => { Ok(output.is_empty()) }
+        Err(ReportError::Stopped(fault)) => {
             let text = format!(in alloc; "{fault}")?;
             Ok(text == fault_of(alloc, cause, output.len())?)
         }

@@ -1,13 +1,12 @@
 //! What files hold once the change of a case is made, and once it is taken back.
-ghost use Rattle.bx_program_commands.specs.Commands.{IsNearRequest};
+ghost use Rattle.bx_run.specs.run.Commands.{IsNearRequest};
 
 use crate::report::Wrong;
 use crate::seen::asked::whole_change;
 use crate::setting::{CAREFUL, Held, Kept, held_by, world_of};
 use bx_journal::Way;
-use bx_program_commands::{Request, run_request};
-use bx_program_files::Names;
-use bx_program_sessions::Task;
+use bx_run::{Request, Task, run_request};
+use bx_world::Names;
 use std::alloc::Global;
 use std::io::{Empty, sink};
 use test_case_files::PatchWritten;

@@ -1,6 +1,6 @@
 use Rattle.std.proofs.Common.{◌≡◌, rules}
 use Rattle.std.specs.Option.{unwrap_or}
-use Rattle.bx_program_world.specs.World.{no_stat}
+use Rattle.bx_world.specs.World.{no_stat}
 use Rattle.test_world.specs.MemoryFiles.{stat_of}
 use Rattle.test_world.proofs.Made.{made_text, own_made}
 use Rattle.test_world.proofs.memory.MemoryWorld.add_text.Goals as goal

@@ -1,5 +1,5 @@
 use Rattle.std.proofs.Common.{◌∙◌, ap, inl, inr}
-use Rattle.bx_program_world.specs.World.{Sight}
+use Rattle.bx_world.specs.World.{Sight}
 use Rattle.test_world.proofs.Made.{sight_passes}
 use Rattle.test_world.proofs.memory.MemoryWorldWorld.make_text.Goals as goal
 

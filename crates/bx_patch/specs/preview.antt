@@ -1,0 +1,2 @@
+-- An image behind changes that aren't made.
+pub mod Changed

@@ -1,0 +1,249 @@
+//! An image behind changes that aren't made.
+ghost use Rattle.std.specs.Prelude.{◌≡◌, ◌⊎◌, ◌↔◌, ◌+◌, ◌<◌, ◌≤◌, ℕ, List, length, take, drop, min, IfErr, IfOk, IsOk, OnErr, OnOk, MatchResult, false, is_err, refl};
+ghost use Rattle.bx_image.specs.declared.change.TheConstants.{MAX_LEN};
+ghost use Rattle.bx_patch.specs.Diff.{OnlyReads};
+ghost use Rattle.bx_patch.specs.preview.Changed.{FitInTurn, AreBeforeAndBehind, effects, is_of_device};
+
+mod window;
+
+use crate::preview::untouched::Untouched;
+use bx_image::{Change, Device, DeviceFailed, ImageFault, NoMemory, TooLarge, check};
+use std::alloc::{Allocator, Global};
+use std::marker::Model;
+use window::{put_changes, read_window};
+
+/// An image behind changes that aren't made: a device that is only read, and has the bytes that the changes would make, one after
+/// another. It is honest where the device within is, and `faults` counts its own failed calls from 0. Calls that would write fail.
+#[derive(Drop)]
+pub struct ChangedImage<'a, D: Device, A: Allocator = Global> {
+    device: D,
+    // the changes, and the length of the device's image
+    known: Untouched<'a, A>,
+    // the length behind the changes
+    len: u64,
+    failures: u64,
+}
+
+impl<'a, D: Device, A: Allocator> Model for ChangedImage<'a, D, A> {
+    ghost use Rattle.std.specs.Prelude.{◌≤◌};
+    ghost use Rattle.bx_patch.specs.preview.Changed.{AreLengthsOf, Changed};
+
+    ghost Value = { Changed D A };
+
+    ghost view = { λ c. record { device = c.device; changes = c.known.changes.now; before = c.known.before; len = c.len; failures = c.failures } };
+
+    ghost invariant = { λ c. (D.failures c.device ≤ c.failures) × (D.honest c.device → AreLengthsOf c.known.changes.now (D.image c.device) c.known.before c.len) };
+}
+
+impl<'a, D: Device, A: Allocator> ChangedImage<'a, D, A> {
+    /// The image on a device, behind changes in their order; behind none it is the device's. The device is asked for its length once, and
+    /// is only read, here and by each call.
+    ///
+    /// # Errors
+    /// `TooLarge` where a length, a base or the end of a write is over `MAX_LEN`, as `check` of `bx_image` says of each change in turn;
+    /// `DeviceFailed`. The device is given back then.
+    pub fn new(device: D, changes: &'a [Change<A>]) -> Result<Self, (D, ImageFault)>
+        requires { D.failures device ≡ 0 }
+        ensures image { D.honest device
+            → IfOk result (λ c. ⟦<ChangedImage<'a, D, A> as Device>⟧.image c ≡ effects changes.now (D.image device)) }
+        ensures behind { D.honest device
+            → IfOk result (λ c. AreBeforeAndBehind c.changes c.before (D.image device) (⟦<ChangedImage<'a, D, A> as Device>⟧.image c)) }
+        ensures honest { D.honest device → IfOk result ⟦<ChangedImage<'a, D, A> as Device>⟧.honest }
+        ensures failures { IfOk result (λ c. ⟦<ChangedImage<'a, D, A> as Device>⟧.failures c ≡ 0) }
+        ensures fault { D.honest device → IfErr result (λ e. (e.1 ≡ ImageFault.DeviceFailed)
+            ⊎ ((e.1 ≡ ImageFault.TooLarge) × (FitInTurn changes.now (D.image device) MAX_LEN → ⊥))) }
+
+        // The device is only read, and its failures rise exactly where the fault says that it failed.
+        ensures device { MatchResult result (λ c. OnlyReads D.honest D.image D.room D.failures D.survives false device c.device)
+            (λ e. OnlyReads D.honest D.image D.room D.failures D.survives (is_of_device e.1) device e.0) }
+    {
+        let mut device = device;
+        let Ok(before) = device.len() else {
+            return Err((device, ImageFault::DeviceFailed));
+        };
+        match length_behind(changes, before) {
+            Ok(len) => Ok(ChangedImage {
+                device,
+                known: Untouched::by(changes, before),
+                len,
+                failures: 0,
+            }),
+            Err(_) => Err((device, ImageFault::TooLarge)),
+        }
+    }
+
+    /// What the changes leave of the image.
+    pub fn untouched(&self) -> Untouched<'a, A>
+        ensures changes { result.changes.now ≡ self.now.changes }
+        ensures before { result.before ≡ self.now.before }
+    {
+        Untouched {
+            changes: self.known.changes,
+            before: self.known.before,
+            ordered: self.known.ordered,
+        }
+    }
+
+    /// The device within.
+    pub fn into_device(self) -> D
+        ensures { result ≡ self.entry.device }
+    {
+        self.device
+    }
+}
+
+/// The length that an image of `len` bytes has behind changes.
+fn length_behind<A: Allocator>(changes: &[Change<A>], len: u64) -> Result<u64, TooLarge>
+    ensures len { (x : List ℕ) → length x ≡ len → IfOk result (λ n. n ≡ length (effects changes.now x)) }
+    ensures exact { (x : List ℕ) → length x ≡ len → IsOk result ↔ FitInTurn changes.now x MAX_LEN }
+{
+    let mut len = len;
+    for change in changes {
+        match check(change, len) {
+            Ok(behind) => len = behind,
+            Err(fault) => return Err(fault),
+        }
+    }
+    Ok(len)
+}
+
+/// Counts a failure.
+fn failed(failures: &mut u64) -> DeviceFailed
+    requires { failures.old < u64.MAX }
+    ensures { failures.new ≡ failures.old + 1 }
+{
+    *failures += 1;
+    DeviceFailed
+}
+
+/// Fills a buffer with the bytes that an image has behind changes, from an address on.
+fn read_changed<D: Device, A: Allocator>(
+    device: &mut D,
+    known: &Untouched<'_, A>,
+    at: u64,
+    buf: &mut [u8],
+) -> Result<(), DeviceFailed>
+    requires countable { D.failures device.old < u64.MAX }
+    requires before { D.honest device.old → known.now.before ≡ length (D.image device.old) }
+    ensures bytes { D.honest device.old → at + length buf.old ≤ length (effects known.now.changes.now (D.image device.old))
+        → OnOk result (buf.new ≡ take (length buf.old) (drop at (effects known.now.changes.now (D.image device.old)))) }
+    ensures reads { OnlyReads D.honest D.image D.room D.failures D.survives (is_err result) device.old device.new }
+{
+    match read_window(device, known.before, at, buf) {
+        Ok(()) => {
+            put_changes(known, at, buf);
+            Ok(())
+        }
+        Err(fault) => Err(fault),
+    }
+}
+
+// What the trait says of each call, and what becomes of the device within: it is read, and no more.
+impl<D: Device, A: Allocator> Device for ChangedImage<'_, D, A> {
+    ghost use Rattle.bx_image.specs.Device.{GoesOn, IsPartlyCut, IsPartlyWritten};
+    ghost use Rattle.bx_image.specs.Image.{cut, place};
+    ghost use Rattle.bx_image.specs.Power.{Follows, KeepsBelow, KeepsOutside, NoMore, Only};
+    ghost use Rattle.bx_patch.specs.preview.Changed.{failures_behind, found_behind, honest_behind, image_behind, room_behind};
+
+    ghost image = { image_behind D.Device };
+
+    ghost honest = { honest_behind D.Device };
+
+    ghost room = { room_behind };
+
+    ghost failures = { failures_behind };
+
+    ghost survives = { found_behind D.Device };
+
+    ghost within_room = { λ c honest. honest.1.within };
+
+    ghost present = { λ c _. refl };
+
+    fn len(&mut self) -> Result<u64, DeviceFailed>
+        requires { failures_behind self.old < u64.MAX }
+        ensures len { honest_behind D.Device self.old → IfOk result (λ n. n ≡ length (image_behind D.Device self.old)) }
+        ensures image { honest_behind D.Device self.old → image_behind D.Device self.new ≡ image_behind D.Device self.old }
+        ensures survives { honest_behind D.Device self.old → NoMore (found_behind D.Device self.old) (found_behind D.Device self.new) }
+        ensures goes_on { GoesOn (honest_behind D.Device) room_behind failures_behind (is_err result) self.old self.new }
+        ensures device { self.new.device ≡ self.old.device }
+    {
+        Ok(self.len)
+    }
+
+    fn read_at(&mut self, at: u64, buf: &mut [u8]) -> Result<(), DeviceFailed>
+        requires countable { failures_behind self.old < u64.MAX }
+        requires range { honest_behind D.Device self.old → at + length buf.old ≤ length (image_behind D.Device self.old) }
+        ensures bytes { honest_behind D.Device self.old
+            → OnOk result (buf.new ≡ take (length buf.old) (drop at (image_behind D.Device self.old))) }
+        ensures image { honest_behind D.Device self.old → image_behind D.Device self.new ≡ image_behind D.Device self.old }
+        ensures survives { honest_behind D.Device self.old → NoMore (found_behind D.Device self.old) (found_behind D.Device self.new) }
+        ensures goes_on { GoesOn (honest_behind D.Device) room_behind failures_behind (is_err result) self.old self.new }
+        ensures device { OnlyReads D.honest D.image D.room D.failures D.survives (is_err result) self.old.device self.new.device }
+    {
+        match read_changed(&mut self.device, &self.known, at, buf) {
+            Ok(()) => Ok(()),
+            Err(_) => Err(failed(&mut self.failures)),
+        }
+    }
+
+    fn write_at(&mut self, at: u64, bytes: &[u8]) -> Result<(), DeviceFailed>
+        requires countable { failures_behind self.old < u64.MAX }
+        requires range { at + length bytes.now ≤ room_behind self.old }
+        ensures ok { honest_behind D.Device self.old
+            → OnOk result (image_behind D.Device self.new ≡ place (image_behind D.Device self.old) at bytes.now) }
+        ensures failed { honest_behind D.Device self.old
+            → OnErr result (IsPartlyWritten at (length bytes.now) (image_behind D.Device self.old) (image_behind D.Device self.new)) }
+        ensures survives { honest_behind D.Device self.old
+            → Follows (KeepsOutside at (length bytes.now)) (found_behind D.Device self.old) (found_behind D.Device self.new) }
+        ensures goes_on { GoesOn (honest_behind D.Device) room_behind failures_behind (is_err result) self.old self.new }
+        ensures device { self.new.device ≡ self.old.device }
+    {
+        Err(failed(&mut self.failures))
+    }
+
+    fn set_len(&mut self, n: u64) -> Result<(), DeviceFailed>
+        requires countable { failures_behind self.old < u64.MAX }
+        requires range { n ≤ room_behind self.old }
+        ensures ok { honest_behind D.Device self.old
+            → OnOk result (image_behind D.Device self.new ≡ cut (image_behind D.Device self.old) n) }
+        ensures failed { honest_behind D.Device self.old
+            → OnErr result (IsPartlyCut n (image_behind D.Device self.old) (image_behind D.Device self.new)) }
+        ensures survives { honest_behind D.Device self.old
+            → Follows (KeepsBelow (min n (length (image_behind D.Device self.old)))) (found_behind D.Device self.old) (found_behind D.Device self.new) }
+        ensures goes_on { GoesOn (honest_behind D.Device) room_behind failures_behind (is_err result) self.old self.new }
+        ensures device { self.new.device ≡ self.old.device }
+    {
+        Err(failed(&mut self.failures))
+    }
+
+    fn sync(&mut self) -> Result<(), DeviceFailed>
+        requires { failures_behind self.old < u64.MAX }
+        ensures settled { honest_behind D.Device self.old → OnOk result (Only (image_behind D.Device self.old) (found_behind D.Device self.new)) }
+        ensures image { honest_behind D.Device self.old → image_behind D.Device self.new ≡ image_behind D.Device self.old }
+        ensures survives { honest_behind D.Device self.old → NoMore (found_behind D.Device self.old) (found_behind D.Device self.new) }
+        ensures goes_on { GoesOn (honest_behind D.Device) room_behind failures_behind (is_err result) self.old self.new }
+        ensures device { self.new.device ≡ self.old.device }
+    {
+        Ok(())
+    }
+
+    fn reserve(&mut self, n: u64) -> Result<(), NoMemory>
+        ensures within { n ≤ room_behind self.old → IsOk result }
+        ensures ok { OnOk result (n ≤ room_behind self.new) }
+        ensures err { OnErr result (room_behind self.new ≡ room_behind self.old) }
+        ensures image { honest_behind D.Device self.old → image_behind D.Device self.new ≡ image_behind D.Device self.old }
+        ensures survives { honest_behind D.Device self.old → NoMore (found_behind D.Device self.old) (found_behind D.Device self.new) }
+        ensures goes_on { GoesOn (honest_behind D.Device) room_behind failures_behind false self.old self.new }
+        ensures device { self.new.device ≡ self.old.device }
+    {
+        if n <= self.len { Ok(()) } else { Err(NoMemory) }
+    }
+
+    fn reserved(&self) -> u64 {
+        self.len
+    }
+
+    fn faults(&self) -> u64 {
+        self.failures
+    }
+}

@@ -1,0 +1,151 @@
+//! A window of an image behind changes.
+ghost use Rattle.std.specs.Prelude.{◌≡◌, ◌+◌, ◌<◌, ◌≤◌, ℕ, List, [], IsTrue, length, slice_index, OnOk, is_err};
+ghost use Rattle.std.specs.Option.{option_map_or};
+ghost use Rattle.bx_image.specs.Change.{effect, placed};
+ghost use Rattle.bx_image.specs.Image.{cut, place};
+ghost use Rattle.bx_patch.specs.Diff.{OnlyReads};
+ghost use Rattle.bx_patch.specs.preview.Changed.{effects};
+ghost use Rattle.bx_patch.specs.private.preview.Order.{AreByPlace};
+ghost use Rattle.bx_patch.specs.private.preview.Window.{IsWindow};
+
+use crate::preview::order::{count_begun, count_ended};
+use crate::preview::untouched::Untouched;
+use bx_image::{Change, Device, DeviceFailed};
+use bx_text::Piece;
+use std::alloc::Allocator;
+
+/// Overwrites bytes with zeros.
+fn clear(bytes: &mut [u8])
+    ensures length { length bytes.new ≡ length bytes.old }
+    ensures zeros { IsWindow bytes.new 0 [] }
+{
+    bytes.fill(0);
+}
+
+/// Fills a buffer with the bytes of a device's image from an address on, and with zeros behind its end. `len` is its length.
+pub fn read_window<D: Device>(
+    device: &mut D,
+    len: u64,
+    at: u64,
+    buf: &mut [u8],
+) -> Result<(), DeviceFailed>
+    requires countable { D.failures device.old < u64.MAX }
+    requires len { D.honest device.old → len ≡ length (D.image device.old) }
+    ensures length { length buf.new ≡ length buf.old }
+    ensures bytes { D.honest device.old → OnOk result (IsWindow buf.new at (D.image device.old)) }
+    ensures reads { OnlyReads D.honest D.image D.room D.failures D.survives (is_err result) device.old device.new }
+{
+    if len <= at {
+        clear(buf);
+        return Ok(());
+    }
+    let count = (buf.len() as u64).min(len - at) as usize;
+    let (front, rest) = buf.split_at_mut(count);
+    clear(rest);
+    match device.read_at(at, front) {
+        Ok(()) => Ok(()),
+        Err(fault) => Err(fault),
+    }
+}
+
+/// Overwrites the end of a buffer from a place on with zeros.
+fn clear_from(buf: &mut [u8], start: usize)
+    requires { start ≤ length buf.old }
+    ensures length { length buf.new ≡ length buf.old }
+    ensures front { (j : ℕ) → j < start → slice_index buf.new j ≡ slice_index buf.old j }
+    ensures zeros { (j : ℕ) → start ≤ j → slice_index buf.new j ≡ 0 }
+{
+    clear(&mut buf[start..]);
+}
+
+/// Cuts a window to a length, where there is one: what lies behind it is zeros.
+fn cut_window(base: Option<u64>, at: u64, buf: &mut [u8])
+    ensures length { length buf.new ≡ length buf.old }
+    ensures put { (y : List ℕ) → IsWindow buf.old at y → IsWindow buf.new at (option_map_or (cut y) base y) }
+{
+    let Some(base) = base else {
+        return;
+    };
+    if base <= at {
+        clear_from(buf, 0);
+    } else if base - at < buf.len() as u64 {
+        clear_from(buf, (base - at) as usize);
+    }
+}
+
+/// Overwrites the bytes of a buffer from a place on.
+fn overwrite(buf: &mut [u8], at: usize, bytes: &[u8])
+    requires { at + length bytes.now ≤ length buf.old }
+    ensures { buf.new ≡ place buf.old at bytes.now }
+{
+    buf[at..at + bytes.len()].copy_from_slice(bytes);
+}
+
+/// Puts those bytes of a piece into a window that stand in it.
+fn put_piece<A: Allocator>(piece: &Piece<A>, at: u64, buf: &mut [u8])
+    ensures length { length buf.new ≡ length buf.old }
+    ensures put { (y : List ℕ) → IsWindow buf.old at y → IsWindow buf.new at (place y piece.now.at piece.now.bytes) }
+{
+    let bytes = piece.bytes.as_slice();
+    if at <= piece.at {
+        let start = piece.at - at;
+        if start < buf.len() as u64 {
+            let start = start as usize;
+            let count = bytes.len().min(buf.len() - start);
+            overwrite(buf, start, &bytes[..count]);
+        }
+    } else {
+        let start = at - piece.at;
+        if start < bytes.len() as u64 {
+            let start = start as usize;
+            let count = buf.len().min(bytes.len() - start);
+            overwrite(buf, 0, &bytes[start..start + count]);
+        }
+    }
+}
+
+/// Puts pieces into a window, in their order.
+fn put_pieces<A: Allocator>(pieces: &[Piece<A>], at: u64, buf: &mut [u8])
+    ensures length { length buf.new ≡ length buf.old }
+    ensures put { (y : List ℕ) → IsWindow buf.old at y → IsWindow buf.new at (placed pieces.now y) }
+{
+    for piece in pieces {
+        put_piece(piece, at, buf);
+    }
+}
+
+/// Puts pieces in order into a window: those alone that reach into it.
+fn put_reaching<A: Allocator>(pieces: &[Piece<A>], at: u64, buf: &mut [u8])
+    requires ordered { AreByPlace pieces.now }
+    ensures length { length buf.new ≡ length buf.old }
+    ensures put { (y : List ℕ) → IsWindow buf.old at y → IsWindow buf.new at (placed pieces.now y) }
+{
+    let (begun, _) = pieces.split_at(count_begun(pieces, at, buf.len()));
+    let (_, reaching) = begun.split_at(count_ended(begun, at));
+    put_pieces(reaching, at, buf);
+}
+
+/// Makes a change in a window.
+fn put_change<A: Allocator>(change: &Change<A>, ordered: bool, at: u64, buf: &mut [u8])
+    requires ordered { IsTrue ordered → AreByPlace change.now.writes }
+    ensures length { length buf.new ≡ length buf.old }
+    ensures put { (y : List ℕ) → IsWindow buf.old at y → IsWindow buf.new at (effect change.now y) }
+{
+    cut_window(change.base, at, buf);
+    let pieces = change.writes.as_slice();
+    if ordered {
+        put_reaching(pieces, at, buf);
+    } else {
+        put_pieces(pieces, at, buf);
+    }
+}
+
+/// Makes changes in a window, in their order.
+pub fn put_changes<A: Allocator>(known: &Untouched<'_, A>, at: u64, buf: &mut [u8])
+    ensures length { length buf.new ≡ length buf.old }
+    ensures put { (y : List ℕ) → IsWindow buf.old at y → IsWindow buf.new at (effects known.now.changes.now y) }
+{
+    for change in known.changes {
+        put_change(change, known.ordered, at, buf);
+    }
+}

@@ -1,4 +1,0 @@
-pub mod ChangesLemmas
-pub mod WindowLemmas
-pub mod UntouchedLemmas
-pub mod OrderLemmas

@@ -1,7 +1,0 @@
-use Rattle.std.specs.List.{AllWithin}
-use Rattle.bx_patch_preview.specs.private.Order.{AreByPlace}
-use Rattle.bx_patch_preview.proofs.order.all_ordered.Given as goal
-
--- the pieces of the changes so far are in order
-abbrev pub invariant-loop-change : goal.invariant-loop-change
-invariant-loop-change g l = record { ordered : AllWithin (λ c. AreByPlace c.writes) l.changes 0 l.change-index }

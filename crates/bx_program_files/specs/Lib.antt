@@ -1,5 +1,0 @@
-pub mod Fit
-pub mod Reasons
-pub mod Files
-pub mod Numbers
-pub mod Reading

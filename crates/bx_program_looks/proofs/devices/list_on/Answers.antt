@@ -1,5 +1,0 @@
-use Rattle.bx_program_looks.proofs.Stopping.{listing_of_bytes}
-use Rattle.bx_program_looks.proofs.devices.list_on.Goals as goal
-
-pub returns-in-Err-clause-cut : goal.returns-in-Err-clause-cut
-returns-in-Err-clause-cut g c honest = (listing_of_bytes _ honest _ _ c.in-Err.ensures.fault, c.in-Err.ensures.stops honest)

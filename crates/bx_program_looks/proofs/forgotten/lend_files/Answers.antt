@@ -1,6 +1,0 @@
-use Rattle.bx_program_files.specs.Reading.{numbers_read}
-use Rattle.bx_program_looks.proofs.Apart.{pair_apart}
-use Rattle.bx_program_looks.proofs.forgotten.lend_files.Goals as goal
-
-pub lend_beside-requires : goal.lend_beside-requires
-lend_beside-requires g c = record { apart = λ old. pair_apart _ (numbers_read g.W.World.number c.args.looked) (c.requires.apart old) }

@@ -1,5 +1,0 @@
-use Rattle.bx_program_looks.proofs.StepLemmas.{nothing_cut}
-use Rattle.bx_program_looks.proofs.stepped.between.put_behind.Goals as goal
-
-pub returns-in-Err-clause-part : goal.returns-in-Err-clause-part
-returns-in-Err-clause-part g c = λ honest twin same. nothing_cut c.args.way _ _ _ c.unchanged_by.result _ c.unchanged_by.ensures c.stopped_by.ensures

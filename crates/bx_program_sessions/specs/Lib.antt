@@ -1,8 +1,0 @@
-pub mod Task
-pub mod Contents
-pub mod Guarded
-pub mod Ran
-pub mod Named
-pub mod Moves
-pub mod Changes
-pub mod Laws

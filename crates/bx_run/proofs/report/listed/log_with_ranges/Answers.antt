@@ -1,0 +1,10 @@
+use Rattle.bx_run.proofs.Held.{hidden_named}
+use Rattle.bx_run.proofs.report.listed.log_with_ranges.Goals as goal
+
+pub returns-clause-rows : goal.returns-clause-rows
+returns-clause-rows g c old = rw c.close.ensures.outcome (c.ranges_on-seen.ensures.rows _ _ _ (c.in-Ok.ensures.held old))
+
+pub returns-clause-stops : goal.returns-clause-stops
+returns-clause-stops g c old =
+    rw c.close.ensures.outcome (hidden_named c.args.names.now _ (g.W.World.sight c.args.world.now) _ _ _ _
+    (c.ranges_on-seen.ensures.stops _ _ _ (c.in-Ok.ensures.held old)))

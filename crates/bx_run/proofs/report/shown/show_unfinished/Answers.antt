@@ -1,0 +1,10 @@
+use Rattle.std.proofs.Common.{inr}
+use Rattle.std.proofs.lemmas.Result.{IfErr-weaker}
+use Rattle.bx_run.proofs.report.shown.show_unfinished.Goals as goal
+
+pub returns-clause-shows : goal.returns-clause-shows
+returns-clause-shows g c old = rw c.close.ensures.outcome (c.undos_on-seen.ensures.shows _ _ _ (c.in-Ok.ensures.held old))
+
+pub returns-clause-stops : goal.returns-clause-stops
+returns-clause-stops g c old =
+    rw c.close.ensures.outcome (IfErr-weaker _ _ _ (λ u is. inr is) (c.undos_on-seen.ensures.cut _ _ _ (c.in-Ok.ensures.held old)))

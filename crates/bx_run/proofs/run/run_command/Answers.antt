@@ -1,0 +1,55 @@
+use Rattle.bx_run.specs.preview.Changing.{DoesChange}
+use Rattle.bx_run.proofs.Ending.{leaves_same, stops_forgetting, stops_move, stops_renewal, stops_report, stops_task}
+use Rattle.bx_run.proofs.run.run_command.Goals as goal
+
+pub returns-in-Move-clause-survives : goal.returns-in-Move-clause-survives
+returns-in-Move-clause-survives g c old = rw c.in-Move.is (c.move_changes.ensures.survives old)
+
+pub returns-in-Change-clause-does : goal.returns-in-Change-clause-does
+returns-in-Change-clause-does g c old =
+    let did = c.change_files.ensures in
+    let does : DoesChange g.R.Read.remaining c.in-Change.names.now c.in-Change.task c.change_files.result (g.W.World.sight c.args.world.now)
+    (g.W.World.sight c.change_files.new.world) = record {
+      done = did.done old;
+      refused = did.refused old;
+      interrupted = did.interrupted old;
+      stands = did.stands old;
+      how = did.how old;
+      recovered = did.recovered old;
+    } in
+    rw c.in-Change.is does
+
+pub returns-in-Change-clause-survives : goal.returns-in-Change-clause-survives
+returns-in-Change-clause-survives g c old = rw c.in-Change.is (c.change_files.ensures.survives old)
+
+pub returns-in-Renew-clause-does : goal.returns-in-Renew-clause-does
+returns-in-Renew-clause-does g c old = rw c.in-Renew.is (c.renew_files.ensures.does old (g.O.Write.contents c.args.out.now))
+
+pub returns-in-Renew-clause-survives : goal.returns-in-Renew-clause-survives
+returns-in-Renew-clause-survives g c old = rw c.in-Renew.is (c.renew_files.ensures.survives old)
+
+pub returns-in-Move-clause-judged : goal.returns-in-Move-clause-judged
+returns-in-Move-clause-judged g c old = rw c.in-Move.is (c.move_changes.ensures.judged old)
+
+pub returns-in-Change-clause-judged : goal.returns-in-Change-clause-judged
+returns-in-Change-clause-judged g c old = rw c.in-Change.is (c.change_files.ensures.judged old)
+
+pub returns-in-Move-clause-unopened : goal.returns-in-Move-clause-unopened
+returns-in-Move-clause-unopened g c old =
+    rw c.in-Move.is (stops_move _ _ _ _ (c.move_changes.ensures.unopened old) (c.move_changes.ensures.why_unopened old))
+
+pub returns-in-Change-clause-unopened : goal.returns-in-Change-clause-unopened
+returns-in-Change-clause-unopened g c old =
+    rw c.in-Change.is (stops_task _ _ _ _ (c.change_files.ensures.unopened old) (c.change_files.ensures.why_unopened old))
+
+pub returns-in-Look-clause-unopened : goal.returns-in-Look-clause-unopened
+returns-in-Look-clause-unopened g c old =
+    rw c.in-Look.is (stops_report _ _ _ _ (leaves_same _ _ (c.write_report.ensures.same old)) (c.write_report.ensures.why old))
+
+pub returns-in-Forget-clause-unopened : goal.returns-in-Forget-clause-unopened
+returns-in-Forget-clause-unopened g c old =
+    rw c.in-Forget.is (stops_forgetting _ c.in-Forget.names.now c.in-Forget.guard _ _ _ (c.forget_files.ensures.stopped old) (λ file may. may))
+
+pub returns-in-Renew-clause-unopened : goal.returns-in-Renew-clause-unopened
+returns-in-Renew-clause-unopened g c old =
+    rw c.in-Renew.is (stops_renewal _ c.renew_files.result _ _ _ (c.renew_files.ensures.unopened old) (c.renew_files.ensures.why_unopened old))

@@ -1,0 +1,9 @@
+pub mod Scene
+pub mod session
+pub mod dump
+pub mod report
+pub mod forget
+pub mod preview
+pub mod renew
+pub mod run
+pub mod Laws

@@ -1,0 +1,2 @@
+-- A history that is dropped.
+pub mod Forgetting

@@ -1,0 +1,2 @@
+-- A change with which a history begins anew.
+pub mod Renewal

@@ -1,0 +1,4 @@
+-- The one call.
+pub mod Outcome
+pub mod Answer
+pub mod Commands

@@ -1,0 +1,378 @@
+//! An image whose history is dropped, by the names of its files: all changes are accepted, and nothing can be undone then.
+ghost use Rattle.std.specs.Prelude.{◌≡◌, ◌↔◌, ◌<◌, ℕ, None, Some, IfErr, IfOk, OnOk, false, true};
+ghost use Rattle.bx_image.specs.Power.{NoMore};
+ghost use Rattle.bx_journal.specs.ThreeDevices.{AreBelow};
+ghost use Rattle.bx_world.specs.World.{AreOwnFiles, IsNoText, ReadFiles, Spares, bytes_if, number_if};
+ghost use Rattle.bx_world.specs.files.Reading.{AreReadable, LeadToRead, MayRefuseForgetting, MayRefuseReading, StaysSeen, numbers_read};
+ghost use Rattle.bx_world.specs.files.Reasons.{IsReason, IsRefusedFor, NoneUnfit};
+ghost use Rattle.bx_run.specs.report.Devices.{HoldFiles, HoldNumbered};
+ghost use Rattle.bx_run.specs.forget.Forgetting.{AreLent, AreLentTexts, Empties, HasForgotten, IsAlone, IsFoundOf, IsNoTextNamed, MayForgetNamed, StopsForgetting, SurvivesEmptying, SurvivesForgetting, held_by_names, texts_of};
+ghost use Rattle.bx_run.specs.report.Looks.{unopened_in};
+
+use crate::forget::judging::judge;
+use crate::report::devices::Seen;
+use crate::report::error::ReportError;
+use crate::report::lent::close;
+use crate::report::noted::read_note_line;
+use bx_cli_commands::Fault;
+use bx_image::Device;
+use bx_journal::{Devices, SessionFault, forget_devices};
+use bx_journal_store::TextStore;
+use bx_world::{
+    Guard, Looked, Names, Refusal, Unopened, Which, World, open_redo_to_forget, open_to_forget,
+};
+use std::alloc::Global;
+
+/// An image and its texts that are lent to be read.
+pub struct Lent<D: Device, T: TextStore> {
+    /// The image, its journal and its redo text.
+    pub devices: Devices<D, T>,
+    /// Whether the redo text was opened in the place of the journal, as that is missing.
+    pub exchanged: bool,
+}
+
+/// Lends a redo text that is open beside an image and a journal, to be read, or nothing where it is missing.
+fn lend_redo<W: World>(world: &mut W, redo: Option<W::File>) -> Result<W::Text, Unopened>
+    requires apart { W.honest world.old → (f : ReadFiles) → W.beside world.old ≡ Some f → (n : ℕ) → number_if W.number redo ≡ Some n
+        → AreOwnFiles (W.sight world.old).there (record { image = f.image; journal = f.journal; redo = Some n }) }
+    ensures failures { IfOk result (λ t. W.Text.failures t ≡ 0) }
+    ensures text { W.honest world.old
+        → IfOk result (λ t. W.Text.honest t × (W.Text.text t ≡ bytes_if (W.sight world.old) (number_if W.number redo))) }
+    ensures beside { W.honest world.old → OnOk result ((f : ReadFiles) → W.beside world.old ≡ Some f → f.redo ≡ None
+        → W.beside world.new ≡ Some (record { image = f.image; journal = f.journal; redo = number_if W.number redo })) }
+    ensures why { W.honest world.old → IfErr result (λ u. IsReason ⊥ NoneUnfit ⊥ (W.refusals world.old < W.refusals world.new) u.why) }
+    ensures seen { W.honest world.old → StaysSeen W.sight W.survives world.old world.new }
+    ensures note { W.honest world.old → W.note world.new ≡ W.note world.old }
+    ensures honesty { W.honest world.new ↔ W.honest world.old }
+{
+    match redo {
+        Some(redo) => match world.lend_redo_beside(redo) {
+            Ok(redo) => Ok(redo),
+            Err(refusal) => Err(Which::Redo.refused(refusal)),
+        },
+        None => Ok(world.lend_no_text()),
+    }
+}
+
+/// Lends files that are open, to be read.
+fn lend_files<W: World>(
+    world: &mut W,
+    looked: Looked<W::File>,
+) -> Result<Devices<W::Image, W::Text>, Unopened>
+    requires apart { W.honest world.old → AreOwnFiles (W.sight world.old).there (numbers_read W.number looked) }
+    ensures below { IfOk result (AreBelow W.Image.Device W.Text.TextStore u64.MAX) }
+    ensures unfailed { IfOk result (λ d. W.Image.failures d.image ≡ 0) }
+    ensures held { W.honest world.old
+        → IfOk result (HoldNumbered W.Image.Device W.Text.TextStore (numbers_read W.number looked) (W.sight world.old)) }
+    ensures beside { W.honest world.old → OnOk result (W.beside world.new ≡ Some (numbers_read W.number looked)) }
+    ensures found { W.honest world.old → IfOk result (λ d. NoMore (W.survives world.old (W.number looked.image)) (W.Image.survives d.image)) }
+    ensures why { W.honest world.old → IfErr result (λ u. IsReason ⊥ NoneUnfit ⊥ (W.refusals world.old < W.refusals world.new) u.why) }
+    ensures seen { W.honest world.old → StaysSeen W.sight W.survives world.old world.new }
+    ensures note { W.honest world.old → W.note world.new ≡ W.note world.old }
+    ensures honesty { W.honest world.new ↔ W.honest world.old }
+{
+    let Looked {
+        image,
+        journal,
+        redo,
+    } = looked;
+    let (image, journal) = match world.lend_beside(image, journal) {
+        Ok(lent) => lent,
+        Err(refusal) => return Err(Which::Image.refused(refusal)),
+    };
+    match lend_redo(world, redo) {
+        Ok(redo) => Ok(Devices {
+            image,
+            journal,
+            redo,
+        }),
+        Err(unopened) => Err(unopened),
+    }
+}
+
+/// Opens the files of these names, the texts to change them, and lends them to be read.
+fn lend_named<W: World>(
+    world: &mut W,
+    names: &Names,
+) -> Result<Devices<W::Image, W::Text>, Unopened>
+    ensures below { IfOk result (AreBelow W.Image.Device W.Text.TextStore u64.MAX) }
+    ensures unfailed { IfOk result (λ d. W.Image.failures d.image ≡ 0) }
+    ensures held { W.honest world.old → IfOk result (HoldFiles W.Image.Device W.Text.TextStore names.now (W.sight world.old)) }
+    ensures beside { W.honest world.old
+        → OnOk result ((f : ReadFiles) → LeadToRead names.now f (W.sight world.old) → W.beside world.new ≡ Some f) }
+    ensures opened { W.honest world.old → OnOk result (AreLent names.now (W.sight world.old)) }
+    ensures found { W.honest world.old → IfOk result (λ d. (f : ReadFiles) → LeadToRead names.now f (W.sight world.old)
+        → NoMore (W.survives world.old f.image) (W.Image.survives d.image)) }
+    ensures why { W.honest world.old
+        → IfErr result (MayRefuseReading names.now (W.refusals world.old < W.refusals world.new) (W.sight world.old)) }
+    ensures seen { W.honest world.old → StaysSeen W.sight W.survives world.old world.new }
+    ensures note { W.honest world.old → W.note world.new ≡ W.note world.old }
+    ensures honesty { W.honest world.new ↔ W.honest world.old }
+{
+    let looked = match open_to_forget(world, names) {
+        Ok(looked) => looked,
+        Err(unopened) => return Err(unopened),
+    };
+    lend_files(world, looked)
+}
+
+/// A text was opened in the place of a journal that is missing: the devices, in their own places.
+fn put_back<D: Device, T: TextStore>(devices: Devices<D, T>) -> Lent<D, T>
+    ensures { result ≡ record { devices = record { image = devices.image; journal = devices.redo; redo = devices.journal }; exchanged = true } }
+{
+    Lent {
+        devices: Devices {
+            image: devices.image,
+            journal: devices.redo,
+            redo: devices.journal,
+        },
+        exchanged: true,
+    }
+}
+
+/// The same of files whose journal is missing: the redo text is opened, and lent in the place of the journal.
+fn lend_alone<W: World>(world: &mut W, names: &Names) -> Result<Lent<W::Image, W::Text>, Unopened>
+    requires missing { W.honest world.old → (W.sight world.old).named names.now.journal ≡ None }
+    ensures below { IfOk result (λ l. AreBelow W.Image.Device W.Text.TextStore u64.MAX l.devices) }
+    ensures unfailed { IfOk result (λ l. W.Image.failures l.devices.image ≡ 0) }
+    ensures held { W.honest world.old → IfOk result (λ l. HoldFiles W.Image.Device W.Text.TextStore names.now (W.sight world.old) l.devices) }
+    ensures opened { W.honest world.old → IfOk result (λ l. AreLentTexts names.now l.exchanged (W.beside world.new) (W.sight world.old)) }
+    ensures found { W.honest world.old → IfOk result (λ l. IsFoundOf names.now.image (W.sight world.old)
+        (W.survives world.old) (W.Image.survives l.devices.image)) }
+    ensures why { W.honest world.old
+        → IfErr result (MayRefuseForgetting names.now (W.refusals world.old < W.refusals world.new) (W.sight world.old)) }
+    ensures seen { W.honest world.old → StaysSeen W.sight W.survives world.old world.new }
+    ensures note { W.honest world.old → W.note world.new ≡ W.note world.old }
+    ensures honesty { W.honest world.new ↔ W.honest world.old }
+{
+    let looked = match open_redo_to_forget(world, names) {
+        Ok(looked) => looked,
+        Err(unopened) => return Err(unopened),
+    };
+    match lend_files(world, looked) {
+        Ok(devices) => Ok(put_back(devices)),
+        Err(unopened) => Err(unopened),
+    }
+}
+
+/// The same of files whose journal is there.
+fn lend_own<W: World>(world: &mut W, names: &Names) -> Result<Lent<W::Image, W::Text>, Unopened>
+    requires there { W.honest world.old → (W.sight world.old).named names.now.journal ≡ None → ⊥ }
+    ensures below { IfOk result (λ l. AreBelow W.Image.Device W.Text.TextStore u64.MAX l.devices) }
+    ensures unfailed { IfOk result (λ l. W.Image.failures l.devices.image ≡ 0) }
+    ensures held { W.honest world.old → IfOk result (λ l. HoldFiles W.Image.Device W.Text.TextStore names.now (W.sight world.old) l.devices) }
+    ensures opened { W.honest world.old → IfOk result (λ l. AreLentTexts names.now l.exchanged (W.beside world.new) (W.sight world.old)) }
+    ensures found { W.honest world.old → IfOk result (λ l. IsFoundOf names.now.image (W.sight world.old)
+        (W.survives world.old) (W.Image.survives l.devices.image)) }
+    ensures why { W.honest world.old
+        → IfErr result (MayRefuseForgetting names.now (W.refusals world.old < W.refusals world.new) (W.sight world.old)) }
+    ensures seen { W.honest world.old → StaysSeen W.sight W.survives world.old world.new }
+    ensures note { W.honest world.old → W.note world.new ≡ W.note world.old }
+    ensures honesty { W.honest world.new ↔ W.honest world.old }
+{
+    match lend_named(world, names) {
+        Ok(devices) => Ok(Lent {
+            devices,
+            exchanged: false,
+        }),
+        Err(unopened) => Err(unopened),
+    }
+}
+
+/// Whether a name leads to no file.
+fn is_missing<W: World>(world: &mut W, name: &str) -> Result<bool, Refusal>
+    ensures missing { W.honest world.old → IfOk result (λ is. is ≡ true → (W.sight world.old).named name.now ≡ None) }
+    ensures there { W.honest world.old → IfOk result (λ is. is ≡ false → (W.sight world.old).named name.now ≡ None → ⊥) }
+    ensures why { W.honest world.old → IfErr result (IsRefusedFor ⊥ (W.refusals world.old < W.refusals world.new)) }
+    ensures calm { W.honest world.old → OnOk result (W.refusals world.new ≡ W.refusals world.old) }
+    ensures seen { W.honest world.old → StaysSeen W.sight W.survives world.old world.new }
+    ensures note { W.honest world.old → W.note world.new ≡ W.note world.old }
+    ensures honesty { W.honest world.new ↔ W.honest world.old }
+{
+    match world.look(name) {
+        Ok(look) => Ok(look.found.is_none()),
+        Err(refusal) => Err(refusal),
+    }
+}
+
+/// Opens the files of these names, the texts to change them, and lends them to be read. One of the texts may be missing.
+fn lend_texts<W: World>(world: &mut W, names: &Names) -> Result<Lent<W::Image, W::Text>, Unopened>
+    ensures below { IfOk result (λ l. AreBelow W.Image.Device W.Text.TextStore u64.MAX l.devices) }
+    ensures unfailed { IfOk result (λ l. W.Image.failures l.devices.image ≡ 0) }
+    ensures held { W.honest world.old → IfOk result (λ l. HoldFiles W.Image.Device W.Text.TextStore names.now (W.sight world.old) l.devices) }
+    ensures opened { W.honest world.old → IfOk result (λ l. AreLentTexts names.now l.exchanged (W.beside world.new) (W.sight world.old)) }
+    ensures found { W.honest world.old → IfOk result (λ l. IsFoundOf names.now.image (W.sight world.old)
+        (W.survives world.old) (W.Image.survives l.devices.image)) }
+    ensures why { W.honest world.old
+        → IfErr result (MayRefuseForgetting names.now (W.refusals world.old < W.refusals world.new) (W.sight world.old)) }
+    ensures seen { W.honest world.old → StaysSeen W.sight W.survives world.old world.new }
+    ensures note { W.honest world.old → W.note world.new ≡ W.note world.old }
+    ensures honesty { W.honest world.new ↔ W.honest world.old }
+{
+    match is_missing(world, names.journal.as_str()) {
+        Ok(true) => lend_alone(world, names),
+        Ok(false) => lend_own(world, names),
+        Err(refusal) => Err(Which::Journal.refused(refusal)),
+    }
+}
+
+/// Lends the texts to be changed, empties them, and closes the files.
+fn empty_lent<W: World>(
+    world: &mut W,
+    devices: Devices<W::Image, W::Text>,
+) -> Result<(), SessionFault>
+    requires unfailed { W.Image.failures devices.image ≡ 0 }
+    requires image { W.honest world.old → W.Image.honest devices.image }
+    requires beside { W.honest world.old → (f : ReadFiles) × (W.beside world.old ≡ Some f) }
+    ensures empties { W.honest world.old → (f : ReadFiles) → W.beside world.old ≡ Some f → IsAlone f
+        → W.Image.image devices.image ≡ (W.sight world.old).bytes f.image → Empties (texts_of false f) result (W.sight world.old) (W.sight world.new) }
+    ensures only { W.honest world.old → (f : ReadFiles) → W.beside world.old ≡ Some f → Spares (IsNoText f) (W.sight world.old) (W.sight world.new) }
+    ensures survives { W.honest world.old → (f : ReadFiles) → W.beside world.old ≡ Some f → IsAlone f
+        → W.Image.image devices.image ≡ (W.sight world.old).bytes f.image
+        → SurvivesEmptying (texts_of false f) result (W.sight world.old) (W.Image.survives devices.image) (W.survives world.old) (W.survives world.new) }
+    ensures note { W.honest world.old → W.note world.new ≡ W.note world.old }
+    ensures honesty { W.honest world.new ↔ W.honest world.old }
+{
+    let Devices {
+        image,
+        journal,
+        redo,
+    } = devices;
+    // The files that were looked at, under the locks of that look: nobody comes between.
+    let (journal, redo) = world.let_change(journal, redo);
+    let mut devices = Devices {
+        image,
+        journal,
+        redo,
+    };
+    let outcome = forget_devices(&mut devices);
+    let Devices {
+        image,
+        journal,
+        redo,
+    } = devices;
+    world.close_beside(image, journal, redo);
+    outcome
+}
+
+/// The same of a redo text that was lent in the place of the journal.
+fn empty_alone<W: World>(
+    world: &mut W,
+    devices: Devices<W::Image, W::Text>,
+) -> Result<(), SessionFault>
+    requires unfailed { W.Image.failures devices.image ≡ 0 }
+    requires image { W.honest world.old → W.Image.honest devices.image }
+    requires beside { W.honest world.old → (f : ReadFiles) × (W.beside world.old ≡ Some f) }
+    ensures empties { W.honest world.old → (f : ReadFiles) → W.beside world.old ≡ Some f → IsAlone f
+        → W.Image.image devices.image ≡ (W.sight world.old).bytes f.image → Empties (texts_of true f) result (W.sight world.old) (W.sight world.new) }
+    ensures only { W.honest world.old → (f : ReadFiles) → W.beside world.old ≡ Some f → Spares (IsNoText f) (W.sight world.old) (W.sight world.new) }
+    ensures survives { W.honest world.old → (f : ReadFiles) → W.beside world.old ≡ Some f → IsAlone f
+        → W.Image.image devices.image ≡ (W.sight world.old).bytes f.image
+        → SurvivesEmptying (texts_of true f) result (W.sight world.old) (W.Image.survives devices.image) (W.survives world.old) (W.survives world.new) }
+    ensures note { W.honest world.old → W.note world.new ≡ W.note world.old }
+    ensures honesty { W.honest world.new ↔ W.honest world.old }
+{
+    let Devices {
+        image,
+        journal,
+        redo,
+    } = devices;
+    // In the world the redo text has the journal's place, and the journal, which is missing, that of a redo text.
+    let (redo, journal) = world.let_change(redo, journal);
+    let mut devices = Devices {
+        image,
+        journal,
+        redo,
+    };
+    let outcome = forget_devices(&mut devices);
+    let Devices {
+        image,
+        journal,
+        redo,
+    } = devices;
+    world.close_beside(image, redo, journal);
+    outcome
+}
+
+/// Empties the texts that are lent, where they are.
+fn empty_texts<W: World>(
+    world: &mut W,
+    devices: Devices<W::Image, W::Text>,
+    exchanged: bool,
+) -> Result<(), SessionFault>
+    requires unfailed { W.Image.failures devices.image ≡ 0 }
+    requires image { W.honest world.old → W.Image.honest devices.image }
+    requires beside { W.honest world.old → (f : ReadFiles) × (W.beside world.old ≡ Some f) }
+    ensures empties { W.honest world.old → (f : ReadFiles) → W.beside world.old ≡ Some f → IsAlone f
+        → W.Image.image devices.image ≡ (W.sight world.old).bytes f.image → Empties (texts_of exchanged f) result (W.sight world.old) (W.sight world.new) }
+    ensures only { W.honest world.old → (f : ReadFiles) → W.beside world.old ≡ Some f → Spares (IsNoText f) (W.sight world.old) (W.sight world.new) }
+    ensures survives { W.honest world.old → (f : ReadFiles) → W.beside world.old ≡ Some f → IsAlone f
+        → W.Image.image devices.image ≡ (W.sight world.old).bytes f.image
+        → SurvivesEmptying (texts_of exchanged f) result (W.sight world.old) (W.Image.survives devices.image) (W.survives world.old) (W.survives world.new) }
+    ensures note { W.honest world.old → W.note world.new ≡ W.note world.old }
+    ensures honesty { W.honest world.new ↔ W.honest world.old }
+{
+    if exchanged {
+        empty_alone(world, devices)
+    } else {
+        empty_lent(world, devices)
+    }
+}
+
+/// Drops the history of an image: its journal and its redo text are empty then, whatever they were. The image is only read, and stays as
+/// it is. None of the three is made, and a text that is missing stays so: also a journal beside a redo text, and the history is empty then.
+///
+/// A change that is unfinished and that recovery would take back is dropped with it where the image isn't the one that it was made on, by
+/// the note beside the journal: the image stays as it stands, and nothing is recovered.
+///
+/// # Errors
+/// Where a file is not opened, or both texts are missing, and where memory or a device fails, or the note can't be read; where a text is
+/// damaged at its first line, and so may be any file. Texts that are damaged behind it, or don't fit the image, are emptied all the
+/// same.
+///
+/// `Unfinished` where what is unfinished is of this image, or nothing of it is to be written there: only a command that may write the
+/// image recovers it. `Another` where the journal was named beside another image, and where the note says nothing, unless the guard goes
+/// on anyway.
+pub fn forget_files<W: World>(
+    world: &mut W,
+    alloc: Global,
+    names: &Names,
+    guard: Guard,
+) -> Result<(), ReportError>
+    // Where it is done, nothing was unfinished, or the texts don't fit the image, or what was is dropped with them; both are empty then, and
+    // the image stands alone.
+    ensures may { W.honest world.old → OnOk result (MayForgetNamed guard (W.note world.old) names.now (W.sight world.old)) }
+    ensures done { W.honest world.old
+        → OnOk result (HasForgotten (held_by_names names.now (W.sight world.old)) (held_by_names names.now (W.sight world.new))) }
+
+    // Else all is as it was, and there is a reason; or it was stopped in the middle.
+    ensures stopped { W.honest world.old → IfErr result (StopsForgetting guard (W.note world.old) names.now
+        (W.refusals world.old < W.refusals world.new) (W.sight world.old) (W.sight world.new)) }
+
+    // After a loss of power, too, the image is as it was, and opening finds it with all changes, or with some or all of them dropped.
+    ensures survives { W.honest world.old → SurvivesForgetting names.now result (W.sight world.old) (W.survives world.old) (W.survives world.new) }
+
+    // No file is opened that the rule refuses, and none is changed but the texts. The note is only read.
+    ensures fit { W.honest world.old → unopened_in result ≡ None → AreReadable names.now (W.sight world.old) }
+    ensures others { W.honest world.old
+        → Spares (IsNoTextNamed names.now (W.sight world.old)) (W.sight world.old) (W.sight world.new) }
+    ensures note { W.honest world.old → W.note world.new ≡ W.note world.old }
+    ensures honesty { W.honest world.new ↔ W.honest world.old }
+{
+    let Lent { devices, exchanged } = match lend_texts(world, names) {
+        Ok(lent) => lent,
+        Err(unopened) => return Err(ReportError::Unopened(unopened)),
+    };
+    let known = read_note_line(world);
+    let Seen { devices, outcome } = judge(alloc, devices, known, guard);
+    match outcome {
+        Ok(()) => match empty_texts(world, devices, exchanged) {
+            Ok(()) => Ok(()),
+            Err(fault) => Err(ReportError::Stopped(Fault::Session(fault))),
+        },
+        Err(unseen) => {
+            let outcome = Err(unseen);
+            close(world, Seen { devices, outcome })
+        }
+    }
+}

@@ -1,0 +1,18 @@
+//! One call for every command on named files, and for dumps of an input, whose contract has all of them.
+//!
+//! `docs/HEADLINE.md` begins with its contract, and `docs/SAFETY.md` argues why it is so.
+#![tactic(auto)]
+
+mod dump;
+mod forget;
+pub mod laws;
+mod preview;
+mod renew;
+mod report;
+mod run;
+mod session;
+
+pub use preview::Proposal;
+pub use report::{Report, ReportError};
+pub use run::{Cause, Done, Failure, FileRole, Request, Step, Stop, run_request};
+pub use session::Task;

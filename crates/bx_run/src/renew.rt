@@ -1,0 +1,181 @@
+//! A change with which a history begins anew: the files are opened, their history is dropped, and the change is made on the image alone.
+ghost use Rattle.std.specs.Prelude.{◌≡◌, ◌↔◌, ◌<◌, List, ℕ, Option, None, IfSome, true};
+ghost use Rattle.bx_journal.specs.Images.{Images};
+ghost use Rattle.bx_cli_commands.specs.Refusal.{IsWholeRefusal};
+ghost use Rattle.bx_world.specs.files.Fit.{AreFit};
+ghost use Rattle.bx_world.specs.files.Reasons.{MayRefuseOpening};
+ghost use Rattle.bx_run.specs.session.Changes.{SaysRecovered};
+ghost use Rattle.bx_run.specs.session.Contents.{Holds};
+ghost use Rattle.bx_run.specs.session.Guarded.{WereOpened};
+ghost use Rattle.bx_run.specs.session.Named.{KeepsOthers, NothingDone, SurvivesTask, contents_of};
+ghost use Rattle.bx_run.specs.session.Task.{IsNearTask};
+ghost use Rattle.bx_run.specs.preview.Changing.{DoesChange};
+ghost use Rattle.bx_run.specs.run.Outcome.{first_unopened};
+ghost use Rattle.bx_run.specs.renew.Renewal.{DoesRenew, IsDroppable, IsOfAnother, JudgesOpening, KeepsNamed, MayDrop, MayNotOpen, NothingRenewed, OpensToDrop, SurvivesRenewal, TellsOpening, no_change, only_told};
+ghost use Rattle.bx_run.specs.Scene.{scene_beside};
+
+use crate::forget::forget_files;
+use crate::report::ReportError;
+use crate::session::{Answer, Task, change_files};
+use bx_cli_commands::{Command, Fault, Reply};
+use bx_journal::SessionFault;
+use bx_world::{Guard, Names, Unopened, Which, Why, World};
+use std::alloc::Global;
+use std::io::Read;
+
+/// What became of a change with which a history begins anew, by the step that it ended in.
+#[derive(Clone, Copy, Debug, PartialEq, Eq)]
+pub enum Renewed {
+    /// The files were not opened to be changed, or what is unfinished was not recovered: the history is kept.
+    Kept(Answer),
+    /// The history was not dropped, and the change was not asked for.
+    Undropped(ReportError),
+    /// The history was dropped, and this is the answer to the change.
+    Changed(Answer),
+}
+
+/// Whether the history may be dropped behind an opening with this reply.
+fn is_droppable(reply: &Reply) -> bool
+    ensures { (result ≡ true) ↔ IsDroppable reply.now }
+{
+    match reply {
+        Reply::Refused(Fault::Session(SessionFault::LengthDiffers { .. })) => true,
+        Reply::Refused(
+            Fault::Session(SessionFault::Damaged { line } | SessionFault::RedoDamaged { line }),
+        ) => *line > 1,
+        Reply::Refused(_) => false,
+        Reply::Changed { .. }
+        | Reply::Copied { .. }
+        | Reply::Undone { .. }
+        | Reply::Redone { .. } => true,
+    }
+}
+
+/// Whether a task wasn't begun as the image is another one.
+fn is_of_another(unopened: Option<Unopened>) -> bool
+    ensures { (result ≡ true) ↔ IsOfAnother unopened }
+{
+    match unopened {
+        Some(
+            Unopened {
+                which: Which::Image,
+                why: Why::Another,
+            },
+        ) => true,
+        Some(
+            Unopened {
+                which: Which::Journal | Which::Redo,
+                why: Why::Another,
+            },
+        )
+        | Some(
+            Unopened {
+                why: Why::System(_) | Why::Unfit(_) | Why::Alias,
+                ..
+            },
+        )
+        | None => false,
+    }
+}
+
+/// Whether the history may be dropped behind an opening: it was done, or refused for texts that are an image's, or for another image.
+fn may_drop(answer: &Answer) -> bool
+    ensures { (result ≡ true) ↔ MayDrop answer.now }
+{
+    is_droppable(&answer.reply) || is_of_another(answer.unopened)
+}
+
+/// The same, but what is unfinished is recovered only onto an image that the note tells to be the one.
+fn only_told(guard: Guard) -> Guard
+    ensures { result ≡ only_told guard }
+{
+    Guard {
+        mounted: guard.mounted,
+        anyway: false,
+        told: true,
+        named: guard.named,
+    }
+}
+
+/// Opens the files to change them, by an undo of no change: what is unfinished is recovered, where the note tells that the image is the
+/// one.
+fn open_to_drop<W: World, R: Read + Drop>(
+    world: &mut W,
+    alloc: Global,
+    names: &Names,
+    guard: Guard,
+) -> Answer
+    requires free { W.honest world.old → (W.sight world.old).lent ≡ None }
+    ensures does { W.honest world.old → DoesChange R.remaining names.now no_change result (W.sight world.old) (W.sight world.new) }
+    ensures opens { W.honest world.old → MayDrop result
+        → OpensToDrop R.remaining names.now result (W.sight world.old) (W.sight world.new) }
+    ensures made { W.honest world.old → MayDrop result
+        → (s : Images) → Holds (contents_of names.now (W.sight world.old)) s → IsWholeRefusal result.reply → ⊥ }
+    ensures survives { W.honest world.old
+        → SurvivesTask R.remaining names.now no_change result (W.sight world.old) (W.sight world.new)
+        (W.survives world.old) (W.survives world.new) }
+    ensures unopened { W.honest world.old
+        → IfSome result.unopened (λ _. NothingDone result.reply result.how (W.sight world.old) (W.sight world.new)) }
+    ensures why_unopened { W.honest world.old
+        → IfSome result.unopened (MayNotOpen R.remaining guard (W.note world.old) names.now (W.refusals world.old < W.refusals world.new)
+        (W.sight world.old)) }
+    ensures fit { W.honest world.old → WereOpened result.unopened → AreFit names.now guard.mounted (W.sight world.old) }
+    ensures opened { W.honest world.old → MayDrop result → WereOpened result.unopened }
+    ensures judged { W.honest world.old → JudgesOpening R.remaining guard (W.note world.old) names.now (W.sight world.old) result }
+    ensures others { W.honest world.old → KeepsOthers names.now (W.sight world.old) (W.sight world.new) }
+    ensures streams { W.honest world.old → SaysRecovered result.how (W.sight world.old) (W.sight world.new) }
+    ensures honesty { W.honest world.new ↔ W.honest world.old }
+{
+    change_files(
+        world,
+        alloc,
+        names,
+        only_told(guard),
+        Task::<R>::Run(Command::Undo { k: 0 }),
+    )
+}
+
+/// Changes an image with whose change the history begins anew: opens the files, which recovers what is unfinished and makes those that
+/// are missing, drops the history, a redo text alone too, and does the task on the image alone. Onto an image that the note doesn't tell
+/// to be the one nothing is recovered: what is unfinished is dropped with the history, as `forget_files` judges, and the change is made on
+/// what stands there. The history is kept where a file may not be changed.
+pub fn renew_files<W: World, R: Read + Drop>(
+    world: &mut W,
+    alloc: Global,
+    names: &Names,
+    guard: Guard,
+    task: Task<R>,
+) -> Renewed
+    requires near { IsNearTask task }
+    requires free { W.honest world.old → (W.sight world.old).lent ≡ None }
+
+    // The change is done on the image alone, so that the history is this change; or the step that was refused leaves all as it was.
+    ensures does { W.honest world.old → (written : Option (List ℕ)) → DoesRenew R.remaining names.now guard task result
+        (scene_beside W.sight W.refusals W.note written world.old) (scene_beside W.sight W.refusals W.note written world.new) }
+
+    // So it is behind a loss of power.
+    ensures survives { W.honest world.old
+        → SurvivesRenewal R.remaining names.now task result (W.sight world.old) (W.sight world.new)
+        (W.survives world.old) (W.survives world.new) }
+
+    // Files that are not opened are as they were, and why they are not; others may be changed.
+    ensures unopened { W.honest world.old → IfSome (first_unopened result) (NothingRenewed result (W.sight world.old) (W.sight world.new)) }
+    ensures why_unopened { W.honest world.old → IfSome (first_unopened result)
+        (MayRefuseOpening names.now guard.mounted true (W.refusals world.old < W.refusals world.new) (W.sight world.old)) }
+    ensures fit { W.honest world.old → first_unopened result ≡ None → AreFit names.now guard.mounted (W.sight world.old) }
+
+    // No other file is changed, and nothing is written but what was recovered.
+    ensures others { W.honest world.old → KeepsNamed names.now (W.sight world.old) (W.sight world.new) }
+    ensures streams { W.honest world.old → TellsOpening result (W.sight world.old) (W.sight world.new) }
+    ensures free { W.honest world.old → (W.sight world.new).lent ≡ None }
+    ensures honesty { W.honest world.new ↔ W.honest world.old }
+{
+    let opened = open_to_drop::<W, R>(world, alloc, names, guard);
+    if !may_drop(&opened) {
+        return Renewed::Kept(opened);
+    }
+    match forget_files(world, alloc, names, guard) {
+        Ok(()) => Renewed::Changed(change_files(world, alloc, names, guard, task)),
+        Err(unseen) => Renewed::Undropped(unseen),
+    }
+}

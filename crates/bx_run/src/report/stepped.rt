@@ -1,0 +1,59 @@
+//! The patch of what the next undos or redos would do, by the names of the files.
+ghost use Rattle.std.specs.Prelude.{◌≡◌, ◌↔◌, ◌<◌, None, IfErr, OnOk};
+ghost use Rattle.bx_world.specs.World.{NothingNewFound};
+ghost use Rattle.bx_world.specs.files.Reading.{AreReadable};
+ghost use Rattle.bx_run.specs.report.Looks.{unopened_in};
+ghost use Rattle.bx_run.specs.report.Stepped.{OfNamed, StopsPatch, WritesSteps};
+
+mod between;
+mod changes;
+mod patched;
+
+use crate::report::devices::Seen;
+use crate::report::error::ReportError;
+use crate::report::lent::{close, lend};
+use bx_journal::Way;
+use bx_world::{Names, Which, World, close_alone, lend_alone};
+use patched::patch_on;
+use std::alloc::Global;
+use std::io::Write;
+
+/// Writes the patch of what the next `count` undos of an image would do, or its next redos: of undos from the image behind them to the
+/// one that is there, of redos from that to the one behind them. The files are only read; the image is opened twice.
+///
+/// # Errors
+/// Where a file is not opened, where something is unfinished, and where a text is damaged, the image has another length, or memory or
+/// a device fails; where fewer changes are there, and where the patch can't be written: a prefix of it is out then.
+pub fn show_patch<W: World, O: Write>(
+    world: &mut W,
+    alloc: Global,
+    names: &Names,
+    way: Way,
+    count: u32,
+    out: &mut O,
+) -> Result<(), ReportError>
+    // Where it succeeds the files hold images, and exactly the patch between the newest one and that of the machine's step was written.
+    ensures shows { W.honest world.old
+        → OnOk result (OfNamed names.now (W.sight world.old) (λ s. WritesSteps way count s (O.contents out.old) (O.contents out.new))) }
+    ensures stops { W.honest world.old → IfErr result (StopsPatch names.now (W.refusals world.old < W.refusals world.new)
+        (W.sight world.old) way count (O.contents out.old) (O.contents out.new)) }
+    ensures fit { W.honest world.old → unopened_in result ≡ None → AreReadable names.now (W.sight world.old) }
+    ensures same { W.honest world.old → W.sight world.new ≡ W.sight world.old }
+    ensures survives { W.honest world.old → NothingNewFound (W.survives world.old) (W.survives world.new) }
+    ensures honesty { W.honest world.new ↔ W.honest world.old }
+{
+    let devices = match lend(world, names) {
+        Ok(devices) => devices,
+        Err(unopened) => return Err(ReportError::Unopened(unopened)),
+    };
+    let again = match lend_alone(world, names.image.as_str()) {
+        Ok(again) => again,
+        Err(why) => {
+            let outcome = Err(ReportError::Unopened(Which::Image.unopened(why)));
+            return close(world, Seen { devices, outcome });
+        }
+    };
+    let (seen, again) = patch_on(alloc, devices, again, way, count, out);
+    close_alone(world, again);
+    close(world, seen)
+}

@@ -1,0 +1,111 @@
+//! The one call.
+mod answer;
+mod answered;
+mod outcome;
+mod request;
+
+ghost use Rattle.std.specs.Prelude.{◌≡◌, ◌↔◌, ◌<◌, Option, None, IfSome};
+ghost use Rattle.bx_world.specs.declared.world.Outgrown.{Outgrown};
+ghost use Rattle.bx_run.specs.run.Commands.{Answers, Fulfills, IsNearRequest, LeavesOthers, MayOpen, HasRun, StandsAs, StopsUnopened, SurvivesLoss, WereJudged, Writes};
+ghost use Rattle.bx_run.specs.run.Outcome.{unopened_by};
+ghost use Rattle.bx_run.specs.Scene.{scene};
+ghost use Rattle.bx_run.specs.declared.run.outcome.Outcome.{Outcome};
+
+use crate::dump::{dump_file, dump_input};
+use crate::forget::forget_files;
+use crate::preview::{write_diff, write_preview};
+use crate::renew::renew_files;
+use crate::report::write_report;
+use crate::run::answered::answer_of;
+use crate::run::outcome::Outcome;
+use crate::session::{change_files, move_changes};
+pub use answer::{Cause, Done, Failure, FileRole, Step, Stop};
+use bx_world::World;
+pub use request::Request;
+use std::alloc::Global;
+use std::io::{Read, Write};
+
+/// Runs a command, and says how it ended as the crate says it that did it.
+fn run_command<W: World, R: Read + Drop, O: Write>(
+    world: &mut W,
+    alloc: Global,
+    request: Request<'_, R>,
+    out: &mut O,
+) -> Outcome
+    requires near { IsNearRequest request }
+    requires free { W.honest world.old → (W.sight world.old).lent ≡ None }
+    ensures answers { Answers request.entry result }
+    ensures does { W.honest world.old → Fulfills R.remaining request.entry result
+        (scene W.sight W.refusals W.note O.contents world.old out.old) (scene W.sight W.refusals W.note O.contents world.new out.new) }
+    ensures judged { W.honest world.old → WereJudged request.entry result
+        (scene W.sight W.refusals W.note O.contents world.old out.old) }
+    ensures survives { W.honest world.old → SurvivesLoss R.remaining request.entry result
+        (W.sight world.old) (W.sight world.new) (W.survives world.old) (W.survives world.new) }
+    ensures others { W.honest world.old → LeavesOthers request.entry (W.sight world.old) (W.sight world.new) }
+    ensures fit { W.honest world.old → unopened_by result ≡ None → MayOpen request.entry (W.sight world.old) }
+    ensures unopened { W.honest world.old → IfSome (unopened_by result) (StopsUnopened request.entry result
+        (scene W.sight W.refusals W.note O.contents world.old out.old) (scene W.sight W.refusals W.note O.contents world.new out.new)) }
+    ensures streams { W.honest world.old → Writes request.entry result
+        (scene W.sight W.refusals W.note O.contents world.old out.old) (scene W.sight W.refusals W.note O.contents world.new out.new) }
+    ensures free { W.honest world.old → (W.sight world.new).lent ≡ None }
+    ensures honesty { W.honest world.new ↔ W.honest world.old }
+{
+    match request {
+        Request::Move {
+            names,
+            guard,
+            way,
+            count,
+        } => Outcome::Moved(move_changes(world, alloc, names, guard, way, count)),
+        Request::Change { names, guard, task } => Outcome::Changed(change_files(
+            world, alloc, names, guard, task,
+        )),
+        Request::Dump { job, name } => Outcome::Dumped(dump_file(world, alloc, job, name, out)),
+        Request::DumpInput { job, input } => Outcome::Dumped(dump_input(alloc, job, input, out)),
+        Request::Diff { old, new, extent } => {
+            Outcome::Compared(write_diff(world, alloc, old, new, extent, out))
+        }
+        Request::Preview { name, proposal } => {
+            Outcome::Previewed(write_preview(world, alloc, name, proposal, out))
+        }
+        Request::Look { names, report } => {
+            Outcome::Looked(write_report(world, alloc, names, report, out))
+        }
+        Request::Forget { names, guard } => {
+            Outcome::Forgotten(forget_files(world, alloc, names, guard))
+        }
+        Request::Renew { names, guard, task } => Outcome::Renewed(renew_files(
+            world, alloc, names, guard, task,
+        )),
+    }
+}
+
+/// Runs a command on named files. An undo or a redo writes its number on standard output; dumps, patches and reports are written
+/// to `out`; what was recovered is said on standard error.
+///
+/// # Errors
+/// The fault that the command ended in, with the file that stopped it.
+pub fn run_request<W: World, R: Read + Drop, O: Write>(
+    world: &mut W,
+    alloc: Global,
+    request: Request<'_, R>,
+    out: &mut O,
+) -> Result<Done, Failure>
+    requires near { IsNearRequest request }
+    requires free { W.honest world.old → (W.sight world.old).lent ≡ None }
+
+    // The answer stands for how the command ended, fault for fault: it did what it is to, or it was refused or stopped, and says why; after
+    // a crash it did so on what is recovered, and after a loss of power opening finds an end of it, or the images behind some of its steps.
+    ensures runs { (outcome : Outcome) × (outgrown : Option Outgrown) × StandsAs request.entry outcome outgrown result × (W.honest world.old
+        → IfSome outgrown (λ o. o.has < o.wanted)
+        × HasRun R.remaining request.entry outcome (scene W.sight W.refusals W.note O.contents world.old out.old)
+        (scene W.sight W.refusals W.note O.contents world.new out.new) (W.survives world.old) (W.survives world.new)) }
+
+    // Whatever becomes of it, no file is changed but the three of an undo, a redo or a change, and the texts of a history that is dropped.
+    ensures others { W.honest world.old → LeavesOthers request.entry (W.sight world.old) (W.sight world.new) }
+    ensures free { W.honest world.old → (W.sight world.new).lent ≡ None }
+    ensures honesty { W.honest world.new ↔ W.honest world.old }
+{
+    let outcome = run_command(world, alloc, request, out);
+    answer_of(&outcome, world.outgrown())
+}

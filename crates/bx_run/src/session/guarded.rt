@@ -1,0 +1,269 @@
+//! A task on three devices that are lent, of whose image the note tells: it is judged before anything is written, and sealed before the
+//! task's first write.
+ghost use Rattle.std.specs.Prelude.{◌≡◌, ◌↔◌, None, Some, IfSome, true};
+ghost use Rattle.bx_cli_commands.specs.declared.command.Reply.TheVariants.{Refused};
+ghost use Rattle.bx_cli_commands.specs.declared.fault.Fault.TheVariants.{OpenFailed, Session};
+ghost use Rattle.bx_world.specs.declared.world.Noted.TheVariants.{Stands};
+ghost use Rattle.bx_world.specs.World.{NothingNewFound};
+ghost use Rattle.bx_run.specs.session.Contents.{AreFresh, AreHonest, AreInPlace, KeepHonesty, held_by};
+ghost use Rattle.bx_run.specs.session.Guarded.{AreFew, IsSealed, LookAt, RiseByOne, WasJudged, another, line_to_put};
+ghost use Rattle.bx_run.specs.session.Ran.{EndsAs, IsUnbegun, RunsTask};
+ghost use Rattle.bx_run.specs.session.Task.{IsNearTask};
+
+use crate::session::devices::{Closed, open_and_run};
+use crate::session::looked::{Looked, Ready, Seal, line_behind, look_at};
+use crate::session::task::Task;
+use crate::session::terms::{Terms, told_by};
+use bx_cli_commands::{Fault, Reply};
+use bx_image::Device;
+use bx_journal::{Devices, How, SessionFault};
+use bx_journal_image::{ImageLine, NO_CHANGES, write_line};
+use bx_journal_store::TextStore;
+use bx_world::{Guard, Noted, Unopened, Which, Why, World};
+use std::alloc::Global;
+use std::io::Read;
+
+/// Three devices behind a task, and what became of it.
+pub struct Ended<D: Device, T: TextStore> {
+    /// The image, its journal and its redo text.
+    pub devices: Devices<D, T>,
+    /// The reply.
+    pub reply: Reply,
+    /// What opening found unfinished; none where it was refused.
+    pub how: Option<How>,
+    /// Why the task wasn't begun; none where it was.
+    pub unopened: Option<Unopened>,
+}
+
+/// Whether the note has what it was to have, or nothing.
+fn is_put(noted: Noted) -> bool
+    ensures { (result ≡ true) ↔ (noted ≡ Stands → ⊥) }
+{
+    match noted {
+        Noted::Put | Noted::Without => true,
+        Noted::Stands => false,
+    }
+}
+
+/// The line that is put on the disk before a task. One that is kept is put too: a command that syncs nothing may have left it, and
+/// behind a loss of power an older one would be found.
+fn line_to_put(seal: Seal, found: Option<ImageLine>) -> Option<ImageLine>
+    ensures { result ≡ line_to_put seal found }
+{
+    match seal {
+        Seal::Kept => found,
+        Seal::Line(line) => Some(line),
+    }
+}
+
+/// Puts what the note is to have while a task writes, on the disk; says no where it stands as it was.
+fn put_seal<W: World>(world: &mut W, line: Option<ImageLine>) -> bool
+    ensures sealed { W.honest world.old → result ≡ true → IsSealed line (W.note world.old) (W.note world.new) (W.note_survives world.new) }
+    ensures same { W.honest world.old → W.sight world.new ≡ W.sight world.old }
+    ensures survives { W.honest world.old → NothingNewFound (W.survives world.old) (W.survives world.new) }
+    ensures honesty { W.honest world.new ↔ W.honest world.old }
+{
+    match line {
+        None => true,
+        Some(line) => {
+            let text = write_line(line);
+            is_put(world.put_note(text.as_bytes(), true))
+        }
+    }
+}
+
+/// Whether a task writes where it is done, by what the note has meanwhile.
+fn is_sealed(seal: Seal) -> bool {
+    match seal {
+        Seal::Kept => false,
+        Seal::Line(_) => true,
+    }
+}
+
+/// Whether the note tells nothing of the texts while a task writes, as before an undo.
+fn is_on_no_texts(seal: Seal) -> bool {
+    match seal {
+        Seal::Kept => false,
+        Seal::Line(line) => line.changes == NO_CHANGES,
+    }
+}
+
+/// Whether opening wrote something.
+fn is_recovered(how: Option<How>) -> bool {
+    match how {
+        None | Some(How::Clean) => false,
+        Some(How::Dropped | How::Restored { .. }) => true,
+    }
+}
+
+/// Whether a command ended whose line has to be written once more: it changed something, or the line before it tells nothing of the texts,
+/// and no device stopped it in the middle.
+fn is_ended(reply: &Reply, how: Option<How>, seal: Seal) -> bool {
+    match reply {
+        Reply::Refused(Fault::Session(SessionFault::Interrupted)) => false,
+        Reply::Refused(_) => is_on_no_texts(seal) || is_recovered(how),
+        Reply::Changed { .. }
+        | Reply::Copied { .. }
+        | Reply::Undone { .. }
+        | Reply::Redone { .. } => is_sealed(seal) || is_recovered(how),
+    }
+}
+
+/// Puts the line on the image behind a task in the note. It isn't put on the disk: where it is lost the line before it tells nothing of
+/// finished texts, as it counts other changes. What fails leaves that one too.
+fn put_end<W: World>(
+    world: &mut W,
+    alloc: &Global,
+    devices: &mut Devices<W::Image, W::Text>,
+    others: u32,
+)
+    requires few { AreFew W.Image.Device W.Text.TextStore devices.old }
+    ensures looks { LookAt W.Image.Device W.Text.TextStore devices.old devices.new }
+    ensures counts { RiseByOne W.Image.Device W.Text.TextStore devices.old devices.new }
+    ensures same { W.honest world.old → W.sight world.new ≡ W.sight world.old }
+    ensures survives { W.honest world.old → NothingNewFound (W.survives world.old) (W.survives world.new) }
+    ensures honesty { W.honest world.new ↔ W.honest world.old }
+{
+    if let Some(line) = line_behind(alloc, devices, others) {
+        let text = write_line(line);
+        let _ = world.put_note(text.as_bytes(), false);
+    }
+}
+
+/// A task that wasn't begun, as the image is another one: the three are as they were.
+fn unbegun<D: Device, T: TextStore>(devices: Devices<D, T>) -> Ended<D, T>
+    ensures devices { result.devices ≡ devices }
+    ensures reply { result.reply ≡ Refused OpenFailed }
+    ensures how { result.how ≡ None }
+    ensures unopened { result.unopened ≡ Some another }
+{
+    Ended {
+        devices,
+        reply: Reply::Refused(Fault::OpenFailed),
+        how: None,
+        unopened: Some(Which::Image.unopened(Why::Another)),
+    }
+}
+
+/// A task that a fault refused before opening.
+fn failed<D: Device, T: TextStore>(devices: Devices<D, T>, fault: SessionFault) -> Ended<D, T>
+    ensures devices { result.devices ≡ devices }
+    ensures reply { result.reply ≡ Refused (Session fault) }
+    ensures how { result.how ≡ None }
+    ensures unopened { result.unopened ≡ None }
+{
+    Ended {
+        devices,
+        reply: Reply::Refused(Fault::Session(fault)),
+        how: None,
+        unopened: None,
+    }
+}
+
+/// Does a task that may go on, and puts the line on the image behind it in the note.
+fn run_sealed<W: World, R: Read + Drop>(
+    world: &mut W,
+    alloc: Global,
+    devices: Devices<W::Image, W::Text>,
+    ready: Ready,
+    task: Task<R>,
+) -> Ended<W::Image, W::Text>
+    requires near { IsNearTask task }
+    requires fresh { AreFresh W.Image.Device W.Text.TextStore devices }
+    ensures order { AreInPlace W.Image.Device W.Text.TextStore result.devices }
+    ensures honest { KeepHonesty W.Image.Device W.Text.TextStore devices result.devices }
+    ensures runs { RunsTask W.Image.Device W.Text.TextStore R.remaining devices task result }
+    ensures unopened { result.unopened ≡ None }
+    ensures same { W.honest world.old → W.sight world.new ≡ W.sight world.old }
+    ensures survives { W.honest world.old → NothingNewFound (W.survives world.old) (W.survives world.new) }
+    ensures honesty { W.honest world.new ↔ W.honest world.old }
+{
+    let closed = open_and_run(alloc, devices, task);
+    let Closed {
+        mut devices,
+        reply,
+        how,
+    } = closed;
+    if is_ended(&reply, how, ready.seal) {
+        put_end(world, &alloc, &mut devices, ready.others);
+    }
+    Ended {
+        devices,
+        reply,
+        how,
+        unopened: None,
+    }
+}
+
+/// Does a task on an image that was looked at: unless it is another one, or the note can't take what is known of it.
+fn run_looked<W: World, R: Read + Drop>(
+    world: &mut W,
+    alloc: Global,
+    devices: Devices<W::Image, W::Text>,
+    looked: Looked,
+    found: Option<ImageLine>,
+    task: Task<R>,
+) -> Ended<W::Image, W::Text>
+    requires near { IsNearTask task }
+    requires fresh { AreFresh W.Image.Device W.Text.TextStore devices }
+    ensures order { AreInPlace W.Image.Device W.Text.TextStore result.devices }
+    ensures honest { KeepHonesty W.Image.Device W.Text.TextStore devices result.devices }
+    ensures runs { RunsTask W.Image.Device W.Text.TextStore R.remaining devices task result }
+    ensures unopened { EndsAs looked result.unopened result.how }
+    ensures left { IfSome result.unopened (IsUnbegun W.Image.Device W.Text.TextStore devices result) }
+    ensures same { W.honest world.old → W.sight world.new ≡ W.sight world.old }
+    ensures survives { W.honest world.old → NothingNewFound (W.survives world.old) (W.survives world.new) }
+    ensures honesty { W.honest world.new ↔ W.honest world.old }
+{
+    match looked {
+        Looked::Another => unbegun(devices),
+        Looked::Goes(ready) => {
+            if put_seal(world, line_to_put(ready.seal, found)) {
+                run_sealed(world, alloc, devices, ready, task)
+            } else {
+                failed(devices, SessionFault::DeviceFailed)
+            }
+        }
+    }
+}
+
+/// Does a task on three devices, behind what `guard` allows; `missing` says whether the image was made for it. The note is read, and the
+/// image is judged by it: a task for which that is another one isn't begun. One whose line the note can't take is refused as where a
+/// device failed.
+pub fn run_guarded<W: World, R: Read + Drop>(
+    world: &mut W,
+    alloc: Global,
+    devices: Devices<W::Image, W::Text>,
+    guard: Guard,
+    missing: bool,
+    task: Task<R>,
+) -> Ended<W::Image, W::Text>
+    requires near { IsNearTask task }
+    requires fresh { AreFresh W.Image.Device W.Text.TextStore devices }
+    ensures order { AreInPlace W.Image.Device W.Text.TextStore result.devices }
+    ensures honest { KeepHonesty W.Image.Device W.Text.TextStore devices result.devices }
+    ensures runs { RunsTask W.Image.Device W.Text.TextStore R.remaining devices task result }
+
+    // A task that isn't begun leaves the three as they were.
+    ensures left { IfSome result.unopened (IsUnbegun W.Image.Device W.Text.TextStore devices result) }
+
+    // The image was judged before, by the line that the note had.
+    ensures judged { W.honest world.old → AreHonest W.Image.Device W.Text.TextStore devices
+        → WasJudged guard missing (W.note world.old) (held_by W.Image.Device W.Text.TextStore devices) task result.unopened result.how }
+    ensures same { W.honest world.old → W.sight world.new ≡ W.sight world.old }
+    ensures survives { W.honest world.old → NothingNewFound (W.survives world.old) (W.survives world.new) }
+    ensures honesty { W.honest world.new ↔ W.honest world.old }
+{
+    let told = told_by(world);
+    let terms = Terms {
+        guard,
+        missing,
+        line: told.line,
+        unread: told.unread,
+    };
+    let mut devices = devices;
+    match look_at(&alloc, &mut devices, &terms, &task) {
+        Ok(looked) => run_looked(world, alloc, devices, looked, told.line, task),
+        Err(fault) => failed(devices, fault),
+    }
+}

@@ -1,0 +1,110 @@
+//! What a task goes by: what it may do, and what the note tells of its image.
+ghost use Rattle.std.specs.Prelude.{◌≡◌, ◌↔◌, ℕ, List, false, take};
+ghost use Rattle.bx_world.specs.World.{NothingNewFound};
+ghost use Rattle.bx_run.specs.session.Guarded.{NoteSays, is_kept_off, is_moved_off, keeps_off};
+
+use crate::session::task::Task;
+use bx_cli_commands::Command;
+use bx_journal_image::{
+    ImageLine, LINE, Standing, Verdict, is_redo_refused, is_undo_refused, read_line,
+};
+use bx_world::{Guard, World};
+use std::io::Read;
+
+/// How many bytes of the note are read: one more than the line has, so that a longer text isn't taken for it.
+const ROOM: usize = 440;
+
+/// What a task goes by.
+#[derive(Clone, Copy)]
+pub struct Terms {
+    /// What it may do.
+    pub guard: Guard,
+    /// Whether its image was missing, and is made for it.
+    pub missing: bool,
+    /// The line that the note has; none where it has none, or can't be read.
+    pub line: Option<ImageLine>,
+    /// Whether it can't be read.
+    pub unread: bool,
+}
+
+/// What the note tells.
+#[derive(Clone, Copy)]
+pub struct Told {
+    /// The line that it has; none where it has none, or can't be read.
+    pub line: Option<ImageLine>,
+    /// Whether it can't be read.
+    pub unread: bool,
+}
+
+/// The line that these are the first bytes of, where the text is no longer than the line.
+fn line_in(bytes: &[u8]) -> Option<ImageLine>
+    ensures { (note : List ℕ) → bytes.now ≡ take 440 note → NoteSays note result }
+{
+    if bytes.len() > LINE {
+        return None;
+    }
+    read_line(bytes)
+}
+
+/// What the note tells, which is only read.
+pub fn told_by<W: World>(world: &mut W) -> Told
+    ensures known { W.honest world.old → result.unread ≡ false → NoteSays (W.note world.old) result.line }
+    ensures same { W.honest world.old → W.sight world.new ≡ W.sight world.old }
+    ensures survives { W.honest world.old → NothingNewFound (W.survives world.old) (W.survives world.new) }
+    ensures honesty { W.honest world.new ↔ W.honest world.old }
+{
+    let mut room = [0u8; ROOM];
+    match world.read_note(&mut room) {
+        Ok(count) => Told {
+            line: line_in(&room[..count]),
+            unread: false,
+        },
+        Err(_) => Told {
+            line: None,
+            unread: true,
+        },
+    }
+}
+
+/// Whether an image that was judged so isn't written to.
+fn keeps_off(told: bool, missing: bool, verdict: Verdict) -> bool
+    ensures { result ≡ keeps_off told missing verdict }
+{
+    match verdict {
+        Verdict::Same => missing,
+        Verdict::Other => true,
+        Verdict::Untold => missing || told,
+    }
+}
+
+/// Whether a task is refused for what its image was judged to be.
+pub fn is_kept_off(terms: &Terms, verdict: Option<Verdict>) -> bool
+    ensures { result ≡ is_kept_off terms.now verdict }
+{
+    match verdict {
+        Some(verdict) => {
+            !terms.guard.anyway
+                && (terms.unread || keeps_off(terms.guard.told, terms.missing, verdict))
+        }
+        None => false,
+    }
+}
+
+/// Whether a line tells that an undo or a redo would find another image, by what is found of finished texts.
+pub fn is_moved_off<R: Read>(line: &ImageLine, now: &Standing, task: &Task<R>) -> bool
+    ensures { result ≡ is_moved_off line.now now.now task.now }
+{
+    match task {
+        Task::Run(Command::Undo { k }) => is_undo_refused(line, now, *k),
+        Task::Run(Command::Redo { j }) => is_redo_refused(line, now, *j),
+        Task::Run(
+            Command::Revert { .. }
+            | Command::RevertPlain { .. }
+            | Command::Dd { .. }
+            | Command::Copy { .. }
+            | Command::Patch { .. },
+        )
+        | Task::Put(_)
+        | Task::Keep(_) => false,
+    }
+}

@@ -1,0 +1,76 @@
+//! What stands under a name, and whether an open file has its name still.
+use crate::facts::alias::is_same;
+use crate::facts::stat::{is_group_given, stat_of, whole_stat_of};
+use crate::files::opened::{OpenFile, Role};
+use crate::refusal::{refused, unopened};
+use bx_world::{Look, Refusal, Stat, text_unfit};
+use std::fs::{self, File, Metadata};
+use std::io::ErrorKind;
+use std::rt::Files;
+use std::time::Clock;
+
+/// What the system tells of a file that stands under a name.
+fn told<R>(rt: &R, name: &str, found: &Metadata) -> Result<Option<Stat>, Refusal>
+where
+    R: Files<File = File> + AllocGlobal,
+{
+    match whole_stat_of(rt, found, is_group_given(rt, name, found)) {
+        Ok(stat) => Ok(Some(stat)),
+        Err(_) => Err(Refusal::Other(None)),
+    }
+}
+
+/// What stands behind a name that is a link.
+fn behind<R>(rt: &R, name: &str) -> Result<Option<Stat>, Refusal>
+where
+    R: Files<File = File> + AllocGlobal,
+{
+    match fs::metadata(rt, name) {
+        Ok(found) => told(rt, name, &found),
+        Err(e) if e.kind() == ErrorKind::NotFound => Ok(None),
+        Err(e) => Err(refused(e)),
+    }
+}
+
+/// Looks at what stands under a name. No file is opened.
+pub fn look<R>(rt: &R, name: &str) -> Result<Look, Refusal>
+where
+    R: Files<File = File> + AllocGlobal,
+{
+    let (is_link, found) = match fs::symlink_metadata(rt, name) {
+        Ok(found) if found.is_symlink() => (true, behind(rt, name)?),
+        Ok(found) => (false, told(rt, name, &found)?),
+        Err(e) if e.kind() == ErrorKind::NotFound => (false, None),
+        Err(e) => return Err(refused(e)),
+    };
+    Ok(Look { is_link, found })
+}
+
+/// Looks once more at a text that is to be opened, whose name may have been given to another file since it was looked at.
+pub fn look_at_text<R>(rt: &R, name: &str, caller: u32, image: &Stat) -> Result<Stat, Refusal>
+where
+    R: Files<File = File> + AllocGlobal,
+{
+    // The kit has no `O_NOFOLLOW`: the name is asked before, the open file behind it, and then the name again.
+    let found = Role::Text.found(rt, name).map_err(unopened)?;
+    let text = stat_of(&found, is_group_given(rt, name, &found));
+    match text_unfit(caller, image, found.is_symlink(), &text) {
+        None => Ok(text),
+        Some(_) => Err(Refusal::Moved),
+    }
+}
+
+/// Refuses an open file whose name leads to another one by now: another run may have taken it away. A text of one name is then the
+/// file that has this name, and no other one that a link led to.
+pub fn is_in_place<R>(rt: &R, name: &str, file: &OpenFile<'_, '_, R>) -> Result<(), Refusal>
+where
+    R: Files<File = File> + Eprint + Clock,
+{
+    let opened = file.metadata()?;
+    let named = file.known.role.found(rt, name).map_err(refused)?;
+    if is_same(&opened, &named) {
+        Ok(())
+    } else {
+        Err(Refusal::Moved)
+    }
+}

@@ -1,0 +1,4 @@
+pub mod Persons
+pub mod Rule
+pub mod World
+pub mod files

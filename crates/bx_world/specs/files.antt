@@ -1,0 +1,6 @@
+-- The files of an image.
+pub mod Fit
+pub mod Reasons
+pub mod Files
+pub mod Numbers
+pub mod Reading
