@@ -78,7 +78,7 @@ By the texts of each kind of fault, and the numbers of all.
   >   perl -0ne 'while (/#\[error\("(.*?)"\)\]\s+(\w+)/g) { my ($text, $name) = ($1, $2); $text =~ s/\{\w+\}/N/g; print "'$1'::$name $text\n" }' $2
   > }
   $ { texts IoFault bx_text/src/fault.rt; texts ReadFault bx_read/src/fault.rt; texts DdFault bx_dd/src/fault.rt
-  >   texts PatchFault bx_patch/src/read/fault.rt; texts Other bx_patch/src/other.rt; texts SessionFault bx_journal_read/src/fault.rt
+  >   texts PatchFault bx_patch/src/read/fault.rt; texts Other bx_patch/src/other.rt; texts SessionFault bx_journal_model/src/fault.rt
   >   texts Fault bx_cli_commands/src/fault.rt; } | sort > "$OLDPWD/texts"
   $ grep -oP '\b(\w*Fault|Other)::\w+( \{ \.\. \}|\(_\))? => \d+(?=,)' bx_cli_commands/src/fault.rt | sed -E 's/^(\w+::\w+).* /\1 /' | sort > "$OLDPWD/numbers"
   $ cd "$OLDPWD"; join numbers texts | cut -d ' ' -f 2- | sort -u > bx; wc -l < bx

@@ -11,7 +11,7 @@ use Rattle.bx_image.specs.Image.{end_of}
 use Rattle.bx_image.proofs.Changes.{KeepsUntouched_refl}
 use Rattle.bx_image.proofs.Records.{is_some-byte_in, KeepsUntouched-effect, len-saved, restore-saved, saved-maximal, saved-same}
 use Rattle.bx_journal_format.specs.Kept.{Kept, kept_of}
-use Rattle.bx_journal_protocol.specs.model.Taken.{taken}
+use Rattle.bx_journal_model.specs.Taken.{taken}
 use Rattle.bx_journal_protocol.proofs.Restored.{back_of}
 use Rattle.bx_journal_protocol.proofs.TakenText.{kept_byte_in, plain, saved_in}
 

@@ -1,21 +1,21 @@
 -- What opening finds in a text whose entries were counted.
 use Rattle.std.proofs.Common.{◌≡◌, ℕ, suc, List, [], ◌++◌, length, drop, arith, ap, sym, ◌∙◌, subst, inl, inr, ◌⊎◌, Option, Some, Result, Ok, Err}
 use Rattle.std.specs.Prelude.{IfSome, OnOk}
-use Rattle.bx_journal_read.specs.declared.answers.How.TheVariants.{Clean}
-use Rattle.bx_journal_read.specs.declared.fault.SessionFault.{SessionFault}
+use Rattle.bx_journal_model.specs.declared.answers.How.TheVariants.{Clean}
+use Rattle.bx_journal_model.specs.declared.fault.SessionFault.{SessionFault}
 use Rattle.bx_journal_format.specs.Text.{Between, Reading, Reads, split}
-use Rattle.bx_journal_read.specs.model.Stack.{HaveLengths, IsSound, Recovers, image_at, recovered, stack_of}
-use Rattle.bx_journal_read.specs.model.Phase.{IsAtRest}
-use Rattle.bx_journal_read.specs.declared.fault.SessionFault.TheVariants.{DeviceFailed, LengthDiffers}
-use Rattle.bx_journal_read.specs.model.Calls.{how_of, Differs, OpenFault}
-use Rattle.bx_journal_read.specs.model.Opening.{IsOpened, RefusesLength, left_over}
+use Rattle.bx_journal_model.specs.Stack.{HaveLengths, IsSound, Recovers, image_at, recovered, stack_of}
+use Rattle.bx_journal_model.specs.Phase.{IsAtRest}
+use Rattle.bx_journal_model.specs.declared.fault.SessionFault.TheVariants.{DeviceFailed, LengthDiffers}
+use Rattle.bx_journal_model.specs.Calls.{how_of, Differs, OpenFault}
+use Rattle.bx_journal_model.specs.Opening.{IsOpened, RefusesLength, left_over}
 use Rattle.bx_journal_format.specs.Shown.{shown}
 use Rattle.bx_journal_format.proofs.CleanLemmas.{clean_shown}
 use Rattle.std.proofs.Math.ListN.{drop_of_length-le}
 use Rattle.bx_journal_format.specs.count.Tally.{IsCounted}
 use Rattle.bx_journal_read.proofs.OpenLemmas.{begins_told, differs_of, one_told, same_lengths, some_same}
-use Rattle.bx_journal_read.proofs.Phases.{length-stack_of}
-use Rattle.bx_journal_read.proofs.ReadingLemmas.{read_sane, have_lengths}
+use Rattle.bx_journal_model.proofs.Phases.{length-stack_of}
+use Rattle.bx_journal_model.proofs.ReadingLemmas.{read_sane, have_lengths}
 
 pub left_none : (text : List ℕ) → shown text ≡ text → (split text).rest ≡ [] → left_over text ≡ []
 left_none text same whole = ap (λ t. (split t).rest ++ drop (length t) text) same ∙ ap (λ r. r ++ drop (length text) text) whole ∙ drop_of_length-le text (omega arith)

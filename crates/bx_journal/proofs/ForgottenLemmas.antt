@@ -6,12 +6,12 @@ use Rattle.bx_journal_protocol.proofs.Ready.{top_of_rest}
 use Rattle.bx_journal_protocol.proofs.RedoText.{empty_is_redo}
 use Rattle.bx_journal_protocol.proofs.StepSurvivors.{found_at_rest, found_of}
 use Rattle.bx_journal_protocol.proofs.TurnLemmas.{rest_is_found}
-use Rattle.bx_journal_protocol.specs.model.Power.{Found}
+use Rattle.bx_journal_model.specs.Power.{Found}
 use Rattle.bx_journal_protocol.specs.protocol.Turns.{AreAtRest}
-use Rattle.bx_journal_read.specs.model.Images.{Images}
-use Rattle.bx_journal_read.specs.model.Machine.{changes_of, top}
-use Rattle.bx_journal_read.specs.model.Phase.{IsAtRest}
-use Rattle.bx_journal_read.specs.model.Redo.{Finds, IsRedoOf}
+use Rattle.bx_journal_model.specs.Images.{Images}
+use Rattle.bx_journal_model.specs.Machine.{changes_of, top}
+use Rattle.bx_journal_model.specs.Phase.{IsAtRest}
+use Rattle.bx_journal_model.specs.Redo.{Finds, IsRedoOf}
 use Rattle.bx_journal.specs.Forgotten.{IsWhole, OfSome, forgotten, only}
 use Rattle.bx_journal.specs.Losses.{emptied}
 

@@ -3,32 +3,32 @@ use Rattle.std.proofs.Common.{◌≡◌, ℕ, suc, ◌+◌, ◌<◌, ◌≤◌, 
 use Rattle.std.specs.Prelude.{is_some, IsTrue, IfSome, IfNone, IfOk, IfErr, MatchResult}
 use Rattle.std.proofs.lemmas.List.{take_more, take-append-drop}
 use Rattle.std.proofs.Math.Seq.{drop-cons}
-use Rattle.bx_journal_read.specs.declared.fault.SessionFault.{SessionFault}
-use Rattle.bx_journal_read.specs.declared.fault.SessionFault.TheVariants.{NoMemory, TooLarge, DeviceFailed, Damaged, TooFew, JournalFull, Interrupted, Broken, LengthDiffers, NothingToRedo, RedoDamaged}
+use Rattle.bx_journal_model.specs.declared.fault.SessionFault.{SessionFault}
+use Rattle.bx_journal_model.specs.declared.fault.SessionFault.TheVariants.{NoMemory, TooLarge, DeviceFailed, Damaged, TooFew, JournalFull, Interrupted, Broken, LengthDiffers, NothingToRedo, RedoDamaged}
 use Rattle.bx_journal_format.specs.declared.read.whole.JournalRead.{JournalRead}
 use Rattle.bx_journal_format.specs.declared.read.types.EntryRead.{EntryRead}
 use Rattle.bx_journal_format.specs.declared.read.types.StageRead.TheVariants.{Between as BetweenRead, Saving as SavingRead, Ending as EndingRead}
 use Rattle.bx_journal_read.specs.declared.scan.count.CountedText.{CountedText}
 use Rattle.bx_journal.specs.private.RedoFound.{IsOfText}
-use Rattle.bx_journal_read.specs.model.Calls.{ReadFault}
+use Rattle.bx_journal_model.specs.Calls.{ReadFault}
 use Rattle.bx_journal_format.specs.read.Journal.{HasRead}
-use Rattle.bx_journal_read.specs.model.Judging.{RefusesRedo, AllTold, IsBeyondAt, IsFit, IsRedoCounted, IsUnfitAt, IsUnfitFrom, IsUntoldAt, IsUnfitIn, JudgeFault, LastLineFault, RedoTextFault}
+use Rattle.bx_journal_read.specs.scan.Judging.{RefusesRedo, AllTold, IsBeyondAt, IsFit, IsRedoCounted, IsUnfitAt, IsUnfitFrom, IsUntoldAt, IsUnfitIn, JudgeFault, LastLineFault, RedoTextFault}
 use Rattle.bx_journal_read.specs.scan.Damage.{IsDamagedIn}
-use Rattle.bx_journal_read.specs.scan.Looking.{FaultCounts}
-use Rattle.bx_journal_read.specs.model.Fault.{redo_fault}
+use Rattle.bx_journal_model.specs.Looking.{FaultCounts}
+use Rattle.bx_journal_model.specs.Fault.{redo_fault}
 use Rattle.bx_journal_format.specs.count.Mark.{IsMark, HasMarks}
 use Rattle.bx_journal_format.specs.Parsed.{entry_of, entries_onto, entries_of, stage_of, reading_of, AreMarked, IsStageMarked}
 use Rattle.bx_journal_format.specs.Finished.{AllTell, IsFinished}
-use Rattle.bx_journal_read.specs.model.Redo.{IsRedoOf, DamagedLine, Tail, FirstForm, IsRefusedAt, NoRedo, TooMany, Off}
-use Rattle.bx_journal_read.specs.model.Stack.{stack_of}
+use Rattle.bx_journal_model.specs.Redo.{IsRedoOf, DamagedLine, Tail, FirstForm, IsRefusedAt, NoRedo, TooMany, Off}
+use Rattle.bx_journal_model.specs.Stack.{stack_of}
 use Rattle.bx_journal_format.specs.count.Tally.{IsCounted, IsCountedAll}
 use Rattle.bx_journal_format.specs.Text.{Entry, Between, IsDamagedAt, Reading, Reads, split}
-use Rattle.bx_journal_read.proofs.Phases.{length-stack_of}
+use Rattle.bx_journal_model.proofs.Phases.{length-stack_of}
 use Rattle.bx_journal_format.proofs.ReadLemmas.{length-entries_of}
 use Rattle.bx_journal_protocol.proofs.RedoText.{one_reading}
 use Rattle.bx_journal.proofs.Refused.{not_no_redo, too_many, refused_once, none_refused}
 use Rattle.bx_journal_read.proofs.TailLemmas.{begins_at, begin_mark, begins_of}
-use Rattle.bx_journal_read.proofs.Tails.{rest_none}
+use Rattle.bx_journal_model.proofs.Tails.{rest_none}
 use Rattle.bx_journal.proofs.CountedLemmas.{counted_lengths}
 
 -- entries that were read, in parts

@@ -2,7 +2,7 @@
 use Rattle.std.proofs.Common.{◌≡◌, ℕ, List, [], sym, ◌∙◌, subst, Option, Some, append-nil}
 use Rattle.bx_journal_format.specs.Text.{Between, Reading, Reads}
 use Rattle.bx_journal_format.specs.count.Tally.{IsCounted}
-use Rattle.bx_journal_read.specs.model.Undoing.{HasLeft}
+use Rattle.bx_journal_model.specs.Undoing.{HasLeft}
 
 one_reading : {A : Type 0} (x y : A) → Some x ≡ Some y → x ≡ y
 one_reading x y e = cc

@@ -22,4 +22,4 @@ pub mod ForgottenLemmas
 pub mod StoppedLooks
 pub mod ShownEnd
 pub use Rattle.bx_journal_protocol.proofs.Ready
-pub use Rattle.bx_journal_read.proofs.Phases
+pub use Rattle.bx_journal_model.proofs.Phases

@@ -19,12 +19,12 @@ use Rattle.bx_journal_format.proofs.Inverse.{next_between, next_saving, next_end
 use Rattle.bx_journal_format.proofs.Runs.{after_lines-append}
 use Rattle.bx_journal_format.proofs.Splits.{split-append, split-ended}
 use Rattle.bx_journal_format.proofs.TallyLemmas.{HasForm, IsFirstLine, has_form, last, line_taken, take_sum}
-use Rattle.bx_journal_read.specs.model.Calls.{rows_of}
-use Rattle.bx_journal_read.specs.declared.answers.LogRow.{LogRow}
-use Rattle.bx_journal_read.specs.declared.fault.SessionFault.{SessionFault}
+use Rattle.bx_journal_model.specs.Calls.{rows_of}
+use Rattle.bx_journal_model.specs.declared.answers.LogRow.{LogRow}
+use Rattle.bx_journal_model.specs.declared.fault.SessionFault.{SessionFault}
 use Rattle.bx_journal_read.specs.declared.scan.windows.Reached.{Reached}
 use Rattle.bx_journal.specs.declared.session.log.windows.RowScan.{RowScan}
-use Rattle.bx_journal_read.specs.scan.Looking.{LooksAt}
+use Rattle.bx_journal_model.specs.Looking.{LooksAt}
 use Rattle.bx_journal.specs.private.Rows.{AreRowsOf, FindsRows, IsListed, ended_row}
 use Rattle.bx_journal_read.specs.scan.Windows.{IsReached}
 use Rattle.bx_journal_read.proofs.ScanLemmas.{reached_all}

@@ -7,8 +7,8 @@ use Rattle.std.proofs.lemmas.List.Sums.{sum-map, sum_by_more_le}
 use Rattle.bx_text.specs.declared.owned.pieces.Piece.{Piece}
 use Rattle.bx_journal_format.specs.Kept.{Run, run_of, kept_of}
 use Rattle.bx_journal_format.specs.declared.read.types.EntryRead.{EntryRead}
-use Rattle.bx_journal_read.specs.declared.answers.LogRow.{LogRow}
-use Rattle.bx_journal_read.specs.model.Calls.{rows_of}
+use Rattle.bx_journal_model.specs.declared.answers.LogRow.{LogRow}
+use Rattle.bx_journal_model.specs.Calls.{rows_of}
 use Rattle.bx_journal_format.specs.count.Rows.{saved_length}
 use Rattle.bx_journal_format.specs.Parsed.{entry_of, entries_of}
 use Rattle.bx_journal_format.proofs.ReadLemmas.{onto-push, length-entries_of}

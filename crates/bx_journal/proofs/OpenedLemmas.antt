@@ -2,30 +2,30 @@
 use Rattle.std.proofs.Common.{◌≡◌, ℕ, suc, ◌+◌, ◌≤◌, List, [], ◌∷◌, length, refl, ap, sym, ◌∙◌, subst, inl, inr, ◌⊎◌, arith, Option, Some, None, Result, Ok, Err}
 use Rattle.std.specs.Prelude.{IfOk, IfErr, OnOk, OnErr, MatchResult}
 use Rattle.std.proofs.lemmas.Bool.{cases_lt}
-use Rattle.bx_journal_read.specs.declared.answers.How.{How}
-use Rattle.bx_journal_read.specs.declared.answers.How.TheVariants.{Clean, Dropped, Restored}
-use Rattle.bx_journal_read.specs.declared.answers.Recovered.{Recovered}
-use Rattle.bx_journal_read.specs.declared.fault.SessionFault.{SessionFault}
-use Rattle.bx_journal_read.specs.declared.fault.SessionFault.TheVariants.{NoMemory, TooLarge, DeviceFailed, Damaged, TooFew, JournalFull, Interrupted, Broken, LengthDiffers, NothingToRedo, RedoDamaged}
+use Rattle.bx_journal_model.specs.declared.answers.How.{How}
+use Rattle.bx_journal_model.specs.declared.answers.How.TheVariants.{Clean, Dropped, Restored}
+use Rattle.bx_journal_model.specs.declared.answers.Recovered.{Recovered}
+use Rattle.bx_journal_model.specs.declared.fault.SessionFault.{SessionFault}
+use Rattle.bx_journal_model.specs.declared.fault.SessionFault.TheVariants.{NoMemory, TooLarge, DeviceFailed, Damaged, TooFew, JournalFull, Interrupted, Broken, LengthDiffers, NothingToRedo, RedoDamaged}
 use Rattle.bx_journal_read.specs.declared.scan.journal.Found.{Found}
 use Rattle.bx_journal_read.specs.declared.scan.journal.Found.TheVariants.{Finished, Unfinished}
 use Rattle.bx_journal_read.specs.declared.scan.torn.Torn.{Torn}
 use Rattle.bx_journal_format.specs.declared.read.window.Counted.{Counted}
-use Rattle.bx_journal_read.specs.model.Calls.{AfterFault, Differs, OpenFault}
-use Rattle.bx_journal_read.specs.model.Images.{Images}
-use Rattle.bx_journal_read.specs.model.Judging.{RefusesRedo}
-use Rattle.bx_journal_read.specs.model.Machine.{changes_of}
-use Rattle.bx_journal_read.specs.model.Opening.{IsOpened, RefusesLength}
+use Rattle.bx_journal_model.specs.Calls.{AfterFault, Differs, OpenFault}
+use Rattle.bx_journal_model.specs.Images.{Images}
+use Rattle.bx_journal_read.specs.scan.Judging.{RefusesRedo}
+use Rattle.bx_journal_model.specs.Machine.{changes_of}
+use Rattle.bx_journal_model.specs.Opening.{IsOpened, RefusesLength}
 use Rattle.bx_journal_format.specs.Parsed.{told_by}
 use Rattle.bx_journal_read.specs.scan.Recovery.{FindFault, FinishedFault, HasOtherLength, HasToldLength, HasUndoneCount, IsCountedIn, IsFoundIn, IsUnfinishedIn, KeepsUndone, RecoverFault}
 use Rattle.bx_journal_format.specs.Shown.{shown}
 use Rattle.bx_journal_format.proofs.CleanLemmas.{clean_shown}
-use Rattle.bx_journal_protocol.specs.model.Power.{Found as FoundOnDisk}
-use Rattle.bx_journal_read.specs.model.Redo.{IsClean, IsRedoOf, IsRefusedAt, RefusesRedoAt, found_undone}
-use Rattle.bx_journal_read.specs.model.Stack.{Recovers, image_at}
+use Rattle.bx_journal_model.specs.Power.{Found as FoundOnDisk}
+use Rattle.bx_journal_model.specs.Redo.{IsClean, IsRedoOf, IsRefusedAt, RefusesRedoAt, found_undone}
+use Rattle.bx_journal_model.specs.Stack.{Recovers, image_at}
 use Rattle.bx_journal_format.specs.count.Tally.{IsCounted}
 use Rattle.bx_journal_format.specs.Text.{Between, Entry, IsAccepted, Reading, Reads}
-use Rattle.bx_journal_read.proofs.Judged.{undamaged}
+use Rattle.bx_journal_model.proofs.Judged.{undamaged}
 use Rattle.bx_journal_read.proofs.OpenLemmas.{after_same, differs_of}
 use Rattle.bx_journal.proofs.TornLemmas.{torn_stack}
 use Rattle.bx_journal_protocol.proofs.RedoText.{empty_is_redo, one_list}

@@ -1,17 +1,17 @@
 -- A redo text that is read again, and what redoing leaves.
 use Rattle.std.proofs.Common.{◌≡◌, ℕ, zero, suc, ◌+◌, ◌≤◌, List, [], ◌∷◌, length, ap, sym, ◌∙◌, subst, inl, inr, arith, length-drop}
-use Rattle.bx_journal_read.specs.declared.fault.SessionFault.{SessionFault}
-use Rattle.bx_journal_read.specs.declared.fault.SessionFault.TheVariants.{NoMemory, TooLarge, DeviceFailed, Damaged, TooFew, JournalFull, Interrupted, Broken, LengthDiffers, NothingToRedo, RedoDamaged}
-use Rattle.bx_journal_read.specs.model.Images.{Images, redo_of, redone_by}
-use Rattle.bx_journal_read.specs.model.Machine.{changes_of}
-use Rattle.bx_journal_read.specs.model.Redo.{IsRedoOf}
-use Rattle.bx_journal_read.specs.scan.Looking.{FaultCounts}
+use Rattle.bx_journal_model.specs.declared.fault.SessionFault.{SessionFault}
+use Rattle.bx_journal_model.specs.declared.fault.SessionFault.TheVariants.{NoMemory, TooLarge, DeviceFailed, Damaged, TooFew, JournalFull, Interrupted, Broken, LengthDiffers, NothingToRedo, RedoDamaged}
+use Rattle.bx_journal_model.specs.Images.{Images, redo_of, redone_by}
+use Rattle.bx_journal_model.specs.Machine.{changes_of}
+use Rattle.bx_journal_model.specs.Redo.{IsRedoOf}
+use Rattle.bx_journal_model.specs.Looking.{FaultCounts}
 use Rattle.bx_journal_format.specs.Finished.{IsFinished}
 use Rattle.bx_journal_format.specs.Text.{Between, Entry}
-use Rattle.bx_journal_protocol.specs.model.Taken.{taken_by}
-use Rattle.bx_journal_read.specs.model.Undoing.{AgainFault, HasCount, RedoAgainFault}
-use Rattle.bx_journal_read.specs.model.Fault.{redo_fault}
-use Rattle.bx_journal_read.proofs.Judged.{undamaged}
+use Rattle.bx_journal_model.specs.Taken.{taken_by}
+use Rattle.bx_journal_model.specs.Undoing.{AgainFault, HasCount, RedoAgainFault}
+use Rattle.bx_journal_model.specs.Fault.{redo_fault}
+use Rattle.bx_journal_model.proofs.Judged.{undamaged}
 
 pub redo_again : (honest : Type 0) (text : List ℕ) (count : ℕ) (e : SessionFault) → AgainFault honest text count e → RedoAgainFault honest text count (redo_fault e)
 redo_again honest text count NoMemory h = h

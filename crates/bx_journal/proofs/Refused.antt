@@ -5,14 +5,14 @@ use Rattle.std.proofs.lemmas.Bool.{cases_lt}
 use Rattle.std.proofs.Math.Seq.{take-add}
 use Rattle.bx_journal_format.specs.Parsed.{told_by}
 use Rattle.bx_journal_format.specs.Text.{Entry, Between, Reading, split, start, after_lines}
-use Rattle.bx_journal_read.specs.model.Stack.{HaveLengths}
+use Rattle.bx_journal_model.specs.Stack.{HaveLengths}
 use Rattle.bx_journal_format.specs.Finished.{IsFinished, AllTell}
 use Rattle.bx_journal_format.proofs.Foreign.{no_way_back}
 use Rattle.bx_journal_protocol.proofs.LawProofs.{damaged_at_one}
-use Rattle.bx_journal_read.proofs.Phases.{length-stack_of}
+use Rattle.bx_journal_model.proofs.Phases.{length-stack_of}
 use Rattle.bx_journal_format.proofs.Runs.{after_lines-append}
-use Rattle.bx_journal_read.specs.model.Redo.{IsRedoOf, BeginsAt, HasTailAt, IsTooManyAt, IsNoRedoAt, DamagedLine, Tail, FirstForm, IsRefusedAt, NoRedo, TooMany, Off}
-use Rattle.bx_journal_protocol.specs.model.RedoLaws.{RedoLineOne}
+use Rattle.bx_journal_model.specs.Redo.{IsRedoOf, BeginsAt, HasTailAt, IsTooManyAt, IsNoRedoAt, DamagedLine, Tail, FirstForm, IsRefusedAt, NoRedo, TooMany, Off}
+use Rattle.bx_journal_model.specs.RedoLaws.{RedoLineOne}
 use Rattle.bx_journal_protocol.proofs.RedoText.{one_reading, one_list}
 
 -- where the first a lines and the first b lines lead to the same finished entries, b is not above a

@@ -4,23 +4,23 @@ use Rattle.bx_journal_format.specs.Shown.{shown}
 use Rattle.bx_journal_format.specs.Text.{Between, Reading, Reads, IsDamagedAt}
 use Rattle.bx_journal_format.specs.Finished.{IsFinished}
 use Rattle.bx_journal_format.proofs.CleanLemmas.{clean_shown}
-use Rattle.bx_journal_read.specs.declared.answers.How.{How}
-use Rattle.bx_journal_read.specs.declared.answers.How.TheVariants.{Clean, Dropped, Restored}
-use Rattle.bx_journal_read.specs.declared.fault.SessionFault.{SessionFault}
-use Rattle.bx_journal_read.specs.declared.fault.SessionFault.TheVariants.{NoMemory, TooLarge, DeviceFailed, Damaged, TooFew, JournalFull, Interrupted, Broken, LengthDiffers, NothingToRedo, RedoDamaged}
-use Rattle.bx_journal_read.specs.model.Calls.{how_of}
-use Rattle.bx_journal_read.specs.model.Fault.{DeviceFault}
-use Rattle.bx_journal_read.specs.model.Images.{Images}
-use Rattle.bx_journal_read.specs.model.Machine.{changes_of}
-use Rattle.bx_journal_read.specs.model.Opening.{left_over}
-use Rattle.bx_journal_read.specs.model.Phase.{IsAtRest}
-use Rattle.bx_journal_protocol.specs.model.Power.{Found}
+use Rattle.bx_journal_model.specs.declared.answers.How.{How}
+use Rattle.bx_journal_model.specs.declared.answers.How.TheVariants.{Clean, Dropped, Restored}
+use Rattle.bx_journal_model.specs.declared.fault.SessionFault.{SessionFault}
+use Rattle.bx_journal_model.specs.declared.fault.SessionFault.TheVariants.{NoMemory, TooLarge, DeviceFailed, Damaged, TooFew, JournalFull, Interrupted, Broken, LengthDiffers, NothingToRedo, RedoDamaged}
+use Rattle.bx_journal_model.specs.Calls.{how_of}
+use Rattle.bx_journal_model.specs.Fault.{DeviceFault}
+use Rattle.bx_journal_model.specs.Images.{Images}
+use Rattle.bx_journal_model.specs.Machine.{changes_of}
+use Rattle.bx_journal_model.specs.Opening.{left_over}
+use Rattle.bx_journal_model.specs.Phase.{IsAtRest}
+use Rattle.bx_journal_model.specs.Power.{Found}
 use Rattle.bx_journal.specs.Recovery.{OpenKind}
-use Rattle.bx_journal_read.specs.model.Redo.{IsClean, IsRedoOf, found_undone}
-use Rattle.bx_journal_read.specs.model.Stack.{Recovers}
+use Rattle.bx_journal_model.specs.Redo.{IsClean, IsRedoOf, found_undone}
+use Rattle.bx_journal_model.specs.Stack.{Recovers}
 use Rattle.bx_journal.proofs.CountedLemmas.{left_none}
 use Rattle.bx_journal_protocol.proofs.LawProofs.{damaged_at_one}
-use Rattle.bx_journal_read.proofs.Phases.{rest_recovers}
+use Rattle.bx_journal_model.proofs.Phases.{rest_recovers}
 
 -- where nothing was unfinished, what was undone is kept
 pub kept_undone : (redo x : List ℕ) (changes count : ℕ) (how : How) (undone : List (List ℕ)) → how ≡ Clean → IsRedoOf redo x changes (found_undone how undone) → count ≡ length (found_undone how undone)

@@ -1,16 +1,16 @@
 -- How a call of a session ends: it is accepted, refused before its first write, or interrupted.
 use Rattle.std.proofs.Common.{◌≡◌, ◌∙◌, ℕ, Bool, true, false, sym, subst, Result, Ok, Err}
 use Rattle.std.specs.Prelude.{IfErr}
-use Rattle.bx_journal_read.specs.model.Calls.{AfterFault}
-use Rattle.bx_journal_read.specs.model.Fault.{DeviceFault}
-use Rattle.bx_journal_read.specs.model.Opening.{OneMoreOfThree, ThreeCounts}
-use Rattle.bx_journal_protocol.specs.model.Session.{FailsSafely, IsUnfailed}
-use Rattle.bx_journal_protocol.specs.model.SessionView.{SessionView, devices_of}
+use Rattle.bx_journal_model.specs.Calls.{AfterFault}
+use Rattle.bx_journal_model.specs.Fault.{DeviceFault}
+use Rattle.bx_journal_model.specs.Opening.{OneMoreOfThree, ThreeCounts}
+use Rattle.bx_journal_model.specs.Session.{FailsSafely, IsUnfailed}
+use Rattle.bx_journal_model.specs.SessionView.{SessionView, devices_of}
 use Rattle.bx_image.specs.declared.device.Device.{Ghosts as DeviceViews}
 use Rattle.bx_journal_store.specs.declared.store.TextStore.{Ghosts as StoreViews}
-use Rattle.bx_journal_read.specs.declared.fault.SessionFault.{SessionFault}
-use Rattle.bx_journal_read.specs.declared.fault.SessionFault.TheVariants.{NoMemory, TooLarge, DeviceFailed, Damaged, TooFew, JournalFull, Interrupted, Broken, LengthDiffers, NothingToRedo, RedoDamaged}
-use Rattle.bx_journal_protocol.specs.ThreeDevices.{HaveStayed, StepsOn}
+use Rattle.bx_journal_model.specs.declared.fault.SessionFault.{SessionFault}
+use Rattle.bx_journal_model.specs.declared.fault.SessionFault.TheVariants.{NoMemory, TooLarge, DeviceFailed, Damaged, TooFew, JournalFull, Interrupted, Broken, LengthDiffers, NothingToRedo, RedoDamaged}
+use Rattle.bx_journal_model.specs.ThreeDevices.{HaveStayed, StepsOn}
 
 -- a session that is whole isn't broken
 not_both : {A : Type 0} (b : Bool) → b ≡ false → b ≡ true → A

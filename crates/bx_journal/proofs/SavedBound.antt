@@ -12,7 +12,7 @@ use Rattle.bx_journal_format.specs.Text.{Entry, Stage, Between, Saving, Ending, 
 use Rattle.bx_journal_format.specs.count.Rows.{saved_length}
 use Rattle.bx_journal_format.specs.Parsed.{entry_of, entries_onto, entries_of}
 use Rattle.bx_journal_format.proofs.Inverse.{bind_some, map_some, test_some, next_between, next_ending}
-use Rattle.bx_journal_read.proofs.Tails.{joined_rest}
+use Rattle.bx_journal_model.proofs.Tails.{joined_rest}
 use Rattle.bx_journal.proofs.LogLemmas.{run_length}
 use Rattle.bx_journal_format.proofs.PieceBound.{piece_short}
 

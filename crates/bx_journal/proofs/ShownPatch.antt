@@ -18,9 +18,9 @@ use Rattle.bx_journal_format.specs.Text.{Between, Entry, Reading, split}
 use Rattle.bx_journal_format.proofs.Bounds.{read_bounded, read_told}
 use Rattle.bx_journal_format.proofs.GrammarLemmas.{saved_found}
 use Rattle.bx_journal_read.specs.declared.show.way.Steps.{Steps}
-use Rattle.bx_journal_read.specs.model.Images.{Images, redone_by}
-use Rattle.bx_journal_read.specs.model.Machine.{changes_of, top}
-use Rattle.bx_journal_read.specs.model.Stack.{HaveLengths, StandsFor, stack_of}
+use Rattle.bx_journal_model.specs.Images.{Images, redone_by}
+use Rattle.bx_journal_model.specs.Machine.{changes_of, top}
+use Rattle.bx_journal_model.specs.Stack.{HaveLengths, StandsFor, stack_of}
 use Rattle.bx_journal_read.specs.show.Differences.{diff_text, lines_beside, signed_line}
 use Rattle.bx_journal_read.specs.show.ShownSteps.{first_number, heading, length_told, lines_text, patch_length, shown_steps, shows_patch, step_text, steps_text}
 use Rattle.bx_journal_read.proofs.OpenLemmas.{some_same}

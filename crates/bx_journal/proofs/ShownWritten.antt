@@ -13,11 +13,11 @@ use Rattle.bx_journal_format.specs.Text.{Between, Entry, Reading}
 use Rattle.bx_journal_format.proofs.Gathered.{with_run-byte}
 use Rattle.bx_journal_format.proofs.GrammarLemmas.{saved_found}
 use Rattle.bx_journal_format.proofs.RowLemmas.{or_assoc, or_none}
-use Rattle.bx_journal_read.specs.model.Machine.{top}
-use Rattle.bx_journal_read.specs.model.Stack.{stack_of}
+use Rattle.bx_journal_model.specs.Machine.{top}
+use Rattle.bx_journal_model.specs.Stack.{stack_of}
 use Rattle.bx_journal_read.specs.show.Differences.{line_made, made_text, signed_line}
 use Rattle.bx_journal_read.proofs.OpenLemmas.{some_same}
-use Rattle.bx_journal_read.proofs.Phases.{length-stack_of}
+use Rattle.bx_journal_model.proofs.Phases.{length-stack_of}
 use Rattle.bx_journal_protocol.proofs.Ready.{top_of}
 use Rattle.bx_journal.specs.ShowLaws.{ShownIsWritten, ShowsAsDump, dump_of, run_then, shown_runs, step_onto, steps_onto}
 

@@ -11,7 +11,7 @@ use Rattle.bx_journal_format.specs.Text.{Entry, IsPrefix, Reading, Stage, text_o
 use Rattle.bx_journal_format.specs.count.Marks.{marks_of}
 use Rattle.bx_journal_format.proofs.Foreign.{joined_lines, lines_plain}
 use Rattle.bx_journal_format.proofs.Splits.{AllPlain}
-use Rattle.bx_journal_read.specs.declared.fault.SessionFault.{SessionFault}
+use Rattle.bx_journal_model.specs.declared.fault.SessionFault.{SessionFault}
 use Rattle.bx_journal_read.specs.declared.scan.torn.Torn.{Torn}
 use Rattle.bx_journal_read.specs.declared.show.fault.ShowFault.{ShowFault}
 use Rattle.bx_journal_read.specs.declared.show.fault.ShowFault.TheVariants.{Text}

@@ -10,21 +10,21 @@ use Rattle.bx_journal_format.specs.Text.{Entry, Stage, Between, Saving, Ending, 
 use Rattle.bx_journal_format.specs.declared.format.version.Version.{Version}
 use Rattle.bx_journal_format.specs.count.Mark.{IsMark}
 use Rattle.bx_journal_format.proofs.ShownLemmas.{shown_is_front, shown_short, take_shown}
-use Rattle.bx_journal_read.specs.declared.scan.mark.Mark.{Mark}
+use Rattle.bx_journal_model.specs.declared.mark.Mark.{Mark}
 use Rattle.bx_journal_read.specs.declared.scan.torn.Torn.{Torn}
-use Rattle.bx_journal_read.specs.declared.answers.How.{How}
-use Rattle.bx_journal_read.specs.declared.answers.How.TheVariants.{Dropped, Restored}
-use Rattle.bx_journal_read.specs.model.Calls.{how_of}
-use Rattle.bx_journal_read.specs.model.Opening.{IsOpened, left_over}
-use Rattle.bx_journal_read.specs.model.Redo.{IsClean}
-use Rattle.bx_journal_read.specs.model.Stack.{HaveLengths, Recovers, image_at, stack_of}
-use Rattle.bx_journal_read.specs.model.Undoing.{HasLeft}
+use Rattle.bx_journal_model.specs.declared.answers.How.{How}
+use Rattle.bx_journal_model.specs.declared.answers.How.TheVariants.{Dropped, Restored}
+use Rattle.bx_journal_model.specs.Calls.{how_of}
+use Rattle.bx_journal_model.specs.Opening.{IsOpened, left_over}
+use Rattle.bx_journal_model.specs.Redo.{IsClean}
+use Rattle.bx_journal_model.specs.Stack.{HaveLengths, Recovers, image_at, stack_of}
+use Rattle.bx_journal_model.specs.Undoing.{HasLeft}
 use Rattle.bx_journal_read.specs.scan.Recovery.{HasMark, IsTorn}
-use Rattle.bx_journal_read.specs.scan.Restoring.{StandsAt}
-use Rattle.bx_journal_read.specs.scan.Step.{HasTail}
+use Rattle.bx_journal_model.specs.Restoring.{StandsAt}
+use Rattle.bx_journal_model.specs.Step.{HasTail}
 use Rattle.bx_journal_read.proofs.OpenLemmas.{begins_told}
-use Rattle.bx_journal_read.proofs.ReadingLemmas.{IsSane, have_lengths, length-restore, read_sane}
-use Rattle.bx_journal_read.proofs.Tails.{counted_stack, tail_of}
+use Rattle.bx_journal_model.proofs.ReadingLemmas.{IsSane, have_lengths, length-restore, read_sane}
+use Rattle.bx_journal_model.proofs.Tails.{counted_stack, tail_of}
 
 same_reading : (q r : Reading) → Some q ≡ Some r → q ≡ r
 same_reading q r e = cc

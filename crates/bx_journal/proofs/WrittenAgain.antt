@@ -18,18 +18,18 @@ use Rattle.bx_journal_format.proofs.KeptLemmas.{is_of_in, same_byte, same_restor
 use Rattle.bx_journal_format.proofs.Inverse.{bind_some, next_between, next_saving, next_ending}
 use Rattle.bx_journal_format.proofs.Runs.{after_lines-append}
 use Rattle.bx_journal_format.proofs.Splits.{split-append}
-use Rattle.bx_journal_protocol.specs.model.Laws.{HasBytes}
-use Rattle.bx_journal_read.specs.model.Redo.{IsRedoOf}
-use Rattle.bx_journal_protocol.specs.model.RedoLaws.{IsWrittenAgain}
-use Rattle.bx_journal_read.specs.model.Stack.{StandsFor}
-use Rattle.bx_journal_protocol.specs.model.Taken.{taken, taken_by, AreKept, IsKeptOf}
-use Rattle.bx_journal_read.specs.model.Undoing.{HasLeft}
+use Rattle.bx_journal_model.specs.Laws.{HasBytes}
+use Rattle.bx_journal_model.specs.Redo.{IsRedoOf}
+use Rattle.bx_journal_model.specs.RedoLaws.{IsWrittenAgain}
+use Rattle.bx_journal_model.specs.Stack.{StandsFor}
+use Rattle.bx_journal_model.specs.Taken.{taken, taken_by, AreKept, IsKeptOf}
+use Rattle.bx_journal_model.specs.Undoing.{HasLeft}
 use Rattle.bx_journal.proofs.AgainTaken.{saved_is_of, taken_again}
 use Rattle.bx_journal_protocol.proofs.LeftOut.{kept_back}
 use Rattle.bx_journal_protocol.proofs.LawProofs.{written_is_read}
 use Rattle.bx_journal_protocol.proofs.Performed.{performed, restored_same, top_of_stands}
 use Rattle.bx_journal_protocol.proofs.RedoText.{one_reading}
-use Rattle.bx_journal_read.proofs.Phases.{length-stack_of, may_begin_of}
+use Rattle.bx_journal_model.proofs.Phases.{length-stack_of, may_begin_of}
 
 abbrev between : List Entry → Reading
 between es = record { entries = es; stage = Between }

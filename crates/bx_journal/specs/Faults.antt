@@ -5,11 +5,11 @@ use Rattle.bx_image.specs.declared.change.TheConstants.{MAX_LEN}
 use Rattle.bx_image.specs.declared.device.Device.{Ghosts as DeviceViews}
 use Rattle.bx_image.specs.Change.{Fits}
 use Rattle.bx_journal_store.specs.declared.store.TextStore.{Ghosts as StoreViews}
-use Rattle.bx_journal_read.specs.declared.fault.SessionFault.{SessionFault}
-use Rattle.bx_journal_read.specs.declared.fault.SessionFault.TheVariants.{Damaged, Interrupted, JournalFull, NoMemory, NothingToRedo, RedoDamaged, TooFew, TooLarge}
-use Rattle.bx_journal_protocol.specs.model.SessionView.{SessionView}
-use Rattle.bx_journal_protocol.specs.model.Standing.{PerformFault}
-use Rattle.bx_journal_read.specs.model.Undoing.{HasCount, IsOutOfStep, RedoFault, UndoFault}
+use Rattle.bx_journal_model.specs.declared.fault.SessionFault.{SessionFault}
+use Rattle.bx_journal_model.specs.declared.fault.SessionFault.TheVariants.{Damaged, Interrupted, JournalFull, NoMemory, NothingToRedo, RedoDamaged, TooFew, TooLarge}
+use Rattle.bx_journal_model.specs.SessionView.{SessionView}
+use Rattle.bx_journal_model.specs.Standing.{PerformFault}
+use Rattle.bx_journal_model.specs.Undoing.{HasCount, IsOutOfStep, RedoFault, UndoFault}
 
 -- Of a change: `JournalFull` comes exactly where the journal is full, a change that fits is never too large, and the other faults come of one that fits
 pub record FaultsOfChange {D T A V : Type 0} (d : DeviceViews D) (c : Change A) (old : SessionView D T) (result : Result V SessionFault) : Type 0 where

@@ -4,20 +4,20 @@ use Rattle.bx_image.specs.Power.{AllFade, Only}
 use Rattle.bx_image.specs.declared.device.Device.{Ghosts as DeviceViews}
 use Rattle.bx_journal_store.specs.Store.{IsCutInPart}
 use Rattle.bx_journal_store.specs.declared.store.TextStore.{Ghosts as StoreViews}
-use Rattle.bx_journal_protocol.specs.declared.devices.Devices.{Devices}
-use Rattle.bx_journal_protocol.specs.model.Performing.{FindsBehind}
-use Rattle.bx_journal_protocol.specs.model.Power.{Found, Survive}
-use Rattle.bx_journal_protocol.specs.model.Session.{HasUndone, IsReady, SessionFinds}
-use Rattle.bx_journal_protocol.specs.model.SessionView.{SessionView}
-use Rattle.bx_journal_protocol.specs.model.Standing.{IsStanding}
+use Rattle.bx_journal_model.specs.declared.devices.Devices.{Devices}
+use Rattle.bx_journal_model.specs.Performing.{FindsBehind}
+use Rattle.bx_journal_model.specs.Power.{Found, Survive}
+use Rattle.bx_journal_model.specs.Session.{HasUndone, IsReady, SessionFinds}
+use Rattle.bx_journal_model.specs.SessionView.{SessionView}
+use Rattle.bx_journal_model.specs.Standing.{IsStanding}
 use Rattle.bx_journal_protocol.specs.protocol.Written.{AreSettled}
-use Rattle.bx_journal_read.specs.declared.fault.SessionFault.{SessionFault}
-use Rattle.bx_journal_read.specs.declared.fault.SessionFault.TheVariants.{Broken, DeviceFailed, Interrupted}
-use Rattle.bx_journal_read.specs.model.Calls.{AfterFault}
-use Rattle.bx_journal_read.specs.model.Images.{Images}
-use Rattle.bx_journal_read.specs.model.Machine.{changes_of, top}
-use Rattle.bx_journal_read.specs.model.Phase.{IsAtRest}
-use Rattle.bx_journal_read.specs.model.Redo.{IsRedoOf}
+use Rattle.bx_journal_model.specs.declared.fault.SessionFault.{SessionFault}
+use Rattle.bx_journal_model.specs.declared.fault.SessionFault.TheVariants.{Broken, DeviceFailed, Interrupted}
+use Rattle.bx_journal_model.specs.Calls.{AfterFault}
+use Rattle.bx_journal_model.specs.Images.{Images}
+use Rattle.bx_journal_model.specs.Machine.{changes_of, top}
+use Rattle.bx_journal_model.specs.Phase.{IsAtRest}
+use Rattle.bx_journal_model.specs.Redo.{IsRedoOf}
 use Rattle.bx_journal.specs.Losses.{emptied}
 
 -- the newest image alone

@@ -2,7 +2,7 @@
 use Rattle.std.specs.Prelude.{◌≡◌, ℕ, List}
 use Rattle.bx_image.specs.declared.device.Device.{Ghosts as DeviceViews}
 use Rattle.bx_journal_store.specs.declared.store.TextStore.{Ghosts as StoreViews}
-use Rattle.bx_journal_protocol.specs.model.SessionView.{SessionView}
+use Rattle.bx_journal_model.specs.SessionView.{SessionView}
 
 -- the image is as it was, and all else is untouched
 pub record OnlyLooks {D T : Type 0} (d : DeviceViews D) (t : StoreViews T) (old new : SessionView D T) : Type 0 where

@@ -2,12 +2,12 @@
 use Rattle.std.specs.Prelude.{◌≡◌, ◌⊎◌, ℕ, List, [], ◌∷◌, Result, Ok, Err}
 use Rattle.bx_image.specs.declared.device.Device.{Ghosts as DeviceViews}
 use Rattle.bx_journal_store.specs.declared.store.TextStore.{Ghosts as StoreViews}
-use Rattle.bx_journal_protocol.specs.declared.devices.Devices.{Devices}
-use Rattle.bx_journal_protocol.specs.model.Power.{Found}
-use Rattle.bx_journal_protocol.specs.model.SessionView.{devices_of}
+use Rattle.bx_journal_model.specs.declared.devices.Devices.{Devices}
+use Rattle.bx_journal_model.specs.Power.{Found}
+use Rattle.bx_journal_model.specs.SessionView.{devices_of}
 use Rattle.bx_journal_protocol.specs.protocol.Written.{AreSettled}
-use Rattle.bx_journal_read.specs.model.Images.{Images}
-use Rattle.bx_journal_read.specs.model.Redo.{Finds}
+use Rattle.bx_journal_model.specs.Images.{Images}
+use Rattle.bx_journal_model.specs.Redo.{Finds}
 use Rattle.bx_journal.specs.Opened.{Opening, OpensDevices}
 
 -- what opening finds of a text it finds of it behind a loss of power that left it as it is: a sound text has no zero

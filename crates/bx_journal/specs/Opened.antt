@@ -4,29 +4,29 @@ use Rattle.bx_image.specs.declared.device.Device.{Ghosts as DeviceViews}
 use Rattle.bx_journal_store.specs.declared.store.TextStore.{Ghosts as StoreViews}
 use Rattle.bx_journal_format.specs.Shown.{shown}
 use Rattle.bx_journal_format.specs.Text.{IsAccepted, IsDamagedAt, Reading, Reads}
-use Rattle.bx_journal_read.specs.declared.answers.How.{How}
-use Rattle.bx_journal_read.specs.declared.answers.How.TheVariants.{Clean}
-use Rattle.bx_journal_read.specs.declared.answers.Recovered.{Recovered}
-use Rattle.bx_journal_read.specs.declared.fault.SessionFault.{SessionFault}
-use Rattle.bx_journal_read.specs.declared.fault.SessionFault.TheVariants.{Damaged, Interrupted, LengthDiffers, RedoDamaged}
-use Rattle.bx_journal_read.specs.model.Calls.{AfterFault, Differs, OpenFault}
-use Rattle.bx_journal_read.specs.model.Fault.{DeviceFault}
-use Rattle.bx_journal_read.specs.model.Images.{Images}
-use Rattle.bx_journal_read.specs.model.Judging.{RefusesRedo}
-use Rattle.bx_journal_read.specs.model.Machine.{changes_of}
-use Rattle.bx_journal_read.specs.model.Opening.{IsOpened, RefusesLength as RefusesTold, RefusesText}
-use Rattle.bx_journal_read.specs.model.Phase.{IsAtRest}
-use Rattle.bx_journal_read.specs.model.Redo.{IsClean, IsRedoOf, RefusesRedoAt, found_undone}
-use Rattle.bx_journal_read.specs.model.Stack.{Recovers, image_at, recovered}
-use Rattle.bx_journal_read.specs.model.Undoing.{HasLeft}
+use Rattle.bx_journal_model.specs.declared.answers.How.{How}
+use Rattle.bx_journal_model.specs.declared.answers.How.TheVariants.{Clean}
+use Rattle.bx_journal_model.specs.declared.answers.Recovered.{Recovered}
+use Rattle.bx_journal_model.specs.declared.fault.SessionFault.{SessionFault}
+use Rattle.bx_journal_model.specs.declared.fault.SessionFault.TheVariants.{Damaged, Interrupted, LengthDiffers, RedoDamaged}
+use Rattle.bx_journal_model.specs.Calls.{AfterFault, Differs, OpenFault}
+use Rattle.bx_journal_model.specs.Fault.{DeviceFault}
+use Rattle.bx_journal_model.specs.Images.{Images}
+use Rattle.bx_journal_read.specs.scan.Judging.{RefusesRedo}
+use Rattle.bx_journal_model.specs.Machine.{changes_of}
+use Rattle.bx_journal_model.specs.Opening.{IsOpened, RefusesLength as RefusesTold, RefusesText}
+use Rattle.bx_journal_model.specs.Phase.{IsAtRest}
+use Rattle.bx_journal_model.specs.Redo.{IsClean, IsRedoOf, RefusesRedoAt, found_undone}
+use Rattle.bx_journal_model.specs.Stack.{Recovers, image_at, recovered}
+use Rattle.bx_journal_model.specs.Undoing.{HasLeft}
 use Rattle.bx_journal_read.specs.scan.Recovery.{HasUndoneCount, KeepsStack, KeepsUndone}
-use Rattle.bx_journal_protocol.specs.declared.devices.Devices.{Devices}
-use Rattle.bx_journal_protocol.specs.ThreeDevices.{AreCounted}
-use Rattle.bx_journal_protocol.specs.model.Power.{Found, FoundBefore, RecoverySurvives}
-use Rattle.bx_journal_protocol.specs.model.Session.{HasUndone, IsReady}
+use Rattle.bx_journal_model.specs.declared.devices.Devices.{Devices}
+use Rattle.bx_journal_model.specs.ThreeDevices.{AreCounted}
+use Rattle.bx_journal_model.specs.Power.{Found, FoundBefore, RecoverySurvives}
+use Rattle.bx_journal_model.specs.Session.{HasUndone, IsReady}
 use Rattle.bx_journal_protocol.specs.protocol.Written.{AreSettled}
-use Rattle.bx_journal_protocol.specs.model.SessionView.{SessionView, devices_of}
-use Rattle.bx_journal_protocol.specs.model.Standing.{IsStanding}
+use Rattle.bx_journal_model.specs.SessionView.{SessionView, devices_of}
+use Rattle.bx_journal_model.specs.Standing.{IsStanding}
 use Rattle.bx_journal.specs.Recovery.{OpenKind}
 
 -- what opening answers: a session and what was found, or the three devices and a fault

@@ -8,10 +8,10 @@ use Rattle.bx_journal_format.specs.Line.{saved_in}
 use Rattle.bx_journal_format.specs.Spelled.{EntryLines, IsSpelled, entry_in}
 use Rattle.bx_journal_format.specs.Text.{Entry}
 use Rattle.bx_journal_read.specs.declared.show.way.Steps.{Steps}
-use Rattle.bx_journal_read.specs.model.Images.{Images}
-use Rattle.bx_journal_read.specs.model.Machine.{RedoStep, UndoStep, changes_of, top}
-use Rattle.bx_journal_read.specs.model.Redo.{IsRedoOf}
-use Rattle.bx_journal_read.specs.model.Stack.{StandsFor}
+use Rattle.bx_journal_model.specs.Images.{Images}
+use Rattle.bx_journal_model.specs.Machine.{RedoStep, UndoStep, changes_of, top}
+use Rattle.bx_journal_model.specs.Redo.{IsRedoOf}
+use Rattle.bx_journal_model.specs.Stack.{StandsFor}
 use Rattle.bx_journal_read.specs.show.Differences.{made_text, signed_line}
 use Rattle.bx_journal_read.specs.show.ShownSteps.{shows_patch}
 use Rattle.bx_journal.specs.ShownText.{shown_patch}

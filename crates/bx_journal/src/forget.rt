@@ -2,17 +2,17 @@
 ghost use Rattle.std.specs.Prelude.{◌≡◌, ◌↔◌, ◌<◌, [], IfErr, OnOk, is_err};
 ghost use Rattle.bx_image.specs.Device.{GoesOn};
 ghost use Rattle.bx_image.specs.Power.{AllFade, Only};
-ghost use Rattle.bx_journal_protocol.specs.ThreeDevices.{AreBelow, AreCounted, AreUnfailed, StepsOn};
-ghost use Rattle.bx_journal_protocol.specs.model.Power.{FoundBefore};
+ghost use Rattle.bx_journal_model.specs.ThreeDevices.{AreBelow, AreCounted, AreUnfailed, StepsOn};
+ghost use Rattle.bx_journal_model.specs.Power.{FoundBefore};
 ghost use Rattle.bx_journal_protocol.specs.protocol.Written.{AreSettled};
-ghost use Rattle.bx_journal_read.specs.model.Calls.{AfterFault};
+ghost use Rattle.bx_journal_model.specs.Calls.{AfterFault};
 ghost use Rattle.bx_journal_store.specs.Store.{IsCutInPart};
 ghost use Rattle.bx_journal.specs.Forgotten.{AreAlone, BehindInterruption, FadesInOrder, ForgetDevicesFault, ForgetsInPart, KeepImage, LeavesTexts, LoseOrKeep};
 ghost use Rattle.bx_journal.specs.Opened.{OfAll};
 
 use bx_image::{Device, DeviceFailed};
-use bx_journal_protocol::{Devices, settle};
-use bx_journal_read::SessionFault;
+use bx_journal_model::{Devices, SessionFault};
+use bx_journal_protocol::settle;
 use bx_journal_store::TextStore;
 
 /// Empties a text, and puts that on the disk.

@@ -1,8 +1,8 @@
 //! Laws over the definitions alone.
 ghost use Rattle.bx_journal.specs.Losses.{FindsIsFound, OpeningFinds, OpeningsFind};
 ghost use Rattle.bx_journal.specs.ShowLaws.{FinishedIsSpelled, ShownIsWritten, ShownRedoIsAPatch, ShownUndoIsAPatch, ShowsAsDump};
-ghost use Rattle.bx_journal_protocol.specs.model.Laws.{WrittenIsRead, StandsForOne, DamagedAtOne, EmptyIsSound};
-ghost use Rattle.bx_journal_protocol.specs.model.RedoLaws.{EmptyIsRedo, IsWrittenAgain, RedoIsOne, RedoLineOne};
+ghost use Rattle.bx_journal_model.specs.Laws.{WrittenIsRead, StandsForOne, DamagedAtOne, EmptyIsSound};
+ghost use Rattle.bx_journal_model.specs.RedoLaws.{EmptyIsRedo, IsWrittenAgain, RedoIsOne, RedoLineOne};
 
 use bx_image::Device;
 use bx_journal_store::TextStore;

@@ -11,9 +11,9 @@ mod step;
 use crate::look::entries::put_rows;
 use crate::look::step::{put_last, put_steps};
 use bx_image::{Device, DeviceFailed};
+use bx_journal_model::{SessionFault, of_redo};
 use bx_journal_read::{
-    Marked, SessionFault, ShowFault, Steps, Torn, Way, all_marks, begin_writing, front_marks,
-    line_from, of_redo, put_torn,
+    Marked, ShowFault, Steps, Torn, Way, all_marks, begin_writing, front_marks, line_from, put_torn,
 };
 use bx_journal_store::TextStore;
 use std::alloc::Allocator;

@@ -1,6 +1,6 @@
 //! Recovery, which opening begins with: what image, journal and redo text hold, and how an unfinished entry is discarded or rolled back.
 ghost use Rattle.std.specs.Prelude.{◌+◌, ◌≤◌, IfOk};
-ghost use Rattle.bx_journal_protocol.specs.ThreeDevices.{AreBelow};
+ghost use Rattle.bx_journal_model.specs.ThreeDevices.{AreBelow};
 ghost use Rattle.bx_journal.specs.Opened.{CountsStack, FindsNothingNew, Opens, SettlesRecovered, SurvivesOpening};
 ghost use Rattle.bx_journal.specs.private.Recovering.{AnswersAsRead, CallsCount, JudgesJournal, LeavesRead, RefusesRedoText, SetsRedo, SparesAll};
 
@@ -12,8 +12,8 @@ mod unfinished;
 use crate::recovery::finished::open_finished;
 use crate::recovery::unfinished::recover_read;
 use bx_image::Device;
-use bx_journal_protocol::Devices;
-use bx_journal_read::{Found, How, Recovered, SessionFault, read_text};
+use bx_journal_model::{Devices, How, Recovered, SessionFault};
+use bx_journal_read::{Found, read_text};
 use bx_journal_store::TextStore;
 use std::alloc::Allocator;
 

@@ -1,6 +1,6 @@
 //! A session: changes to an image, each with its entry in the journal, a write-ahead undo log.
 ghost use Rattle.std.specs.Prelude.{◌≡◌, ◌+◌, ◌<◌, ◌≤◌, [], false, IfOk, IfErr, OnOk};
-ghost use Rattle.bx_journal_read.specs.model.Machine.{PerformStep, changed};
+ghost use Rattle.bx_journal_model.specs.Machine.{PerformStep, changed};
 
 mod compare;
 mod forget;
@@ -12,8 +12,8 @@ mod view;
 
 use bx_image::{Change, Device};
 use bx_journal_format::MOST_CHANGES;
-use bx_journal_protocol::{Devices, RedoCut, prepare_change, write_change};
-use bx_journal_read::SessionFault;
+use bx_journal_model::{Devices, SessionFault};
+use bx_journal_protocol::{RedoCut, prepare_change, write_change};
 use bx_journal_store::TextStore;
 use std::alloc::{Allocator, Global};
 use std::marker::Model;
@@ -31,7 +31,7 @@ pub struct Session<D: Device, T: TextStore, A: Allocator = Global> {
 }
 
 impl<D: Device, T: TextStore, A: Allocator> Model for Session<D, T, A> {
-    ghost use Rattle.bx_journal_protocol.specs.model.SessionView.{SessionView};
+    ghost use Rattle.bx_journal_model.specs.SessionView.{SessionView};
 
     ghost Value = { SessionView D T };
 
@@ -39,12 +39,12 @@ impl<D: Device, T: TextStore, A: Allocator> Model for Session<D, T, A> {
 }
 
 impl<D: Device, T: TextStore, A: Allocator + Clone> Session<D, T, A> {
-    ghost use Rattle.bx_journal_protocol.specs.model.Performing.{AppendsEntry, FindsOne, StaysReady, Steps, StopsPerform};
-    ghost use Rattle.bx_journal_read.specs.model.Calls.{AfterFault};
-    ghost use Rattle.bx_journal_protocol.specs.model.Power.{NothingNew, ChangeSurvives};
-    ghost use Rattle.bx_journal_protocol.specs.model.SessionView.{devices_of};
+    ghost use Rattle.bx_journal_model.specs.Performing.{AppendsEntry, FindsOne, StaysReady, Steps, StopsPerform};
+    ghost use Rattle.bx_journal_model.specs.Calls.{AfterFault};
+    ghost use Rattle.bx_journal_model.specs.Power.{NothingNew, ChangeSurvives};
+    ghost use Rattle.bx_journal_model.specs.SessionView.{devices_of};
     ghost use Rattle.bx_journal_protocol.specs.protocol.Written.{AreSettled};
-    ghost use Rattle.bx_journal_protocol.specs.model.Session.{FailsSafely, HasUndone};
+    ghost use Rattle.bx_journal_model.specs.Session.{FailsSafely, HasUndone};
     ghost use Rattle.bx_journal.specs.Faults.{FaultsOfChange};
 
     /// Changes the image, and answers the change's number, which is how many changes then stand. What was undone is

@@ -4,7 +4,7 @@ use Rattle.bx_image.specs.declared.device.Device.{Ghosts as DeviceViews}
 use Rattle.bx_image.proofs.Devices.{GoesOn_refl, GoesOn_then}
 use Rattle.bx_image.proofs.Survivors.{NoMore_then}
 use Rattle.bx_journal_store.specs.declared.store.TextStore.{Ghosts as StoreViews}
-use Rattle.bx_journal_read.specs.scan.Looking.{OnlyReadsText}
+use Rattle.bx_journal_model.specs.Looking.{OnlyReadsText}
 use Rattle.bx_journal_image.specs.Blocks.{OnlyReadsImage}
 use Rattle.bx_journal_image.specs.Looks.{BothCount, LooksAtBoth, LeavesDevice}
 

@@ -22,12 +22,12 @@ use Rattle.bx_journal_format.proofs.StepLemmas.{adds, ends, goes_on, saves, stop
 use Rattle.bx_journal_format.specs.Shown.{shown}
 use Rattle.bx_journal_format.proofs.ShownLemmas.{take_shown}
 use Rattle.std.proofs.lemmas.List.{drop-take, length-take}
-use Rattle.bx_journal_read.specs.declared.scan.mark.Mark.{Mark}
+use Rattle.bx_journal_model.specs.declared.mark.Mark.{Mark}
 use Rattle.bx_journal_read.specs.declared.scan.torn.Torn.{Torn}
 use Rattle.bx_journal_read.specs.scan.Recovery.{HasMark, IsTorn, IsTornIn}
-use Rattle.bx_journal_read.specs.scan.Restoring.{StandsAt}
+use Rattle.bx_journal_model.specs.Restoring.{StandsAt}
 use Rattle.bx_journal_read.specs.scan.Windows.{rest_to}
-use Rattle.bx_journal_read.proofs.RestoreLemmas.{lines_more}
+use Rattle.bx_journal_model.proofs.RestoreLemmas.{lines_more}
 use Rattle.bx_journal_image.specs.declared.judging.judge.Verdict.TheVariants.{Other, Untold}
 use Rattle.bx_journal_image.specs.declared.line.form.ImageLine.{ImageLine}
 use Rattle.bx_journal_image.specs.declared.line.ranges.Range.{Range}

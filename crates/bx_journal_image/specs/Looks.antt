@@ -3,8 +3,8 @@ use Rattle.std.specs.Prelude.{◌≡◌, ◌↔◌, ℕ, Bool, true, false, List
 use Rattle.bx_image.specs.declared.device.Device.{Ghosts as DeviceViews}
 use Rattle.bx_image.specs.Power.{NoMore}
 use Rattle.bx_journal_store.specs.declared.store.TextStore.{Ghosts as StoreViews}
-use Rattle.bx_journal_read.specs.model.Opening.{OneMoreOfThree}
-use Rattle.bx_journal_read.specs.scan.Looking.{OneMore}
+use Rattle.bx_journal_model.specs.Opening.{OneMoreOfThree}
+use Rattle.bx_journal_model.specs.Looking.{OneMore}
 
 -- calls that only look at a device, the image's or a text's: it stays, and a loss of power finds no more than before
 pub record LeavesDevice {D : Type 0} (honest : D → Type 0) (view : D → List ℕ) (found : D → List ℕ → Type 0) (old new : D) : Type 0 where

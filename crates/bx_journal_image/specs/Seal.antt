@@ -1,7 +1,7 @@
 -- The line of an image before a command's first write.
 use Rattle.std.specs.Prelude.{ℕ, ◌≡◌, ◌⊎◌, ◌-◌, ◌^◌, ◌<◌, Option, None, Some, List, length, replicate}
 use Rattle.bx_journal_format.specs.Text.{split}
-use Rattle.bx_journal_read.specs.declared.scan.mark.Mark.{Mark}
+use Rattle.bx_journal_model.specs.declared.mark.Mark.{Mark}
 use Rattle.bx_journal_read.specs.declared.scan.torn.Torn.{Torn}
 use Rattle.bx_journal_read.specs.scan.Recovery.{IsTornIn}
 use Rattle.bx_journal_image.specs.declared.advice.Standing.{Standing}

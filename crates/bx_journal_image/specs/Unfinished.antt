@@ -6,9 +6,9 @@ use Rattle.bx_journal_format.specs.Kept.{Kept}
 use Rattle.bx_journal_format.specs.Shown.{shown}
 use Rattle.bx_journal_format.specs.Text.{Ending, Reading, Reads, split}
 use Rattle.bx_journal_format.specs.declared.format.version.Version.{Version}
-use Rattle.bx_journal_read.specs.declared.scan.mark.Mark.{Mark}
+use Rattle.bx_journal_model.specs.declared.mark.Mark.{Mark}
 use Rattle.bx_journal_read.specs.declared.scan.torn.Torn.{Torn}
-use Rattle.bx_journal_read.specs.model.Redo.{IsClean}
+use Rattle.bx_journal_model.specs.Redo.{IsClean}
 use Rattle.bx_journal_read.specs.scan.Recovery.{IsTornIn}
 use Rattle.bx_journal_read.specs.scan.Windows.{rest_to}
 use Rattle.bx_journal_image.specs.declared.judging.judge.Verdict.{Verdict}

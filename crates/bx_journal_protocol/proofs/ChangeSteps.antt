@@ -9,13 +9,13 @@ use Rattle.bx_image.specs.Change.{effect, saved, IsAsGood}
 use Rattle.bx_journal_format.specs.declared.format.version.Version.TheVariants.{Second}
 use Rattle.bx_journal_format.specs.Entry.{head_text, end_text, rows}
 use Rattle.bx_journal_format.specs.Text.{IsPrefix}
-use Rattle.bx_journal_read.specs.model.Stack.{Recovers}
-use Rattle.bx_journal_read.specs.model.Phase.{IsAtRest, IsOpen, as_read}
-use Rattle.bx_journal_read.specs.scan.Step.{StartsEntry, EndsEntry, WritesEntry}
+use Rattle.bx_journal_model.specs.Stack.{Recovers}
+use Rattle.bx_journal_model.specs.Phase.{IsAtRest, IsOpen, as_read}
+use Rattle.bx_journal_model.specs.Step.{StartsEntry, EndsEntry, WritesEntry}
 use Rattle.bx_journal_store.specs.Store.{IsPartlyAppended}
 use Rattle.bx_journal_format.proofs.Gathered.{as_read_byte}
 use Rattle.bx_journal_format.proofs.RowLemmas.{restore_same, covers_same}
-use Rattle.bx_journal_read.proofs.Phases.{head_recovers, head_opens, end_rests, open_moves}
+use Rattle.bx_journal_model.proofs.Phases.{head_recovers, head_opens, end_rests, open_moves}
 
 front_of : (k : ℕ) (bytes text : List ℕ) → bytes ≡ text → IsPrefix (take k bytes) text
 front_of k bytes text is = (drop k bytes, sym is ∙ sym (take-append-drop k bytes))

@@ -5,8 +5,8 @@ use Rattle.std.proofs.lemmas.Result.{on_ok_weaker, on_err_weaker}
 use Rattle.bx_image.specs.Device.{GoesOn}
 use Rattle.bx_image.specs.declared.device.Device.{Ghosts as DeviceViews}
 use Rattle.bx_journal_store.specs.declared.store.TextStore.{Ghosts as StoreViews}
-use Rattle.bx_journal_protocol.specs.declared.devices.Devices.{Devices}
-use Rattle.bx_journal_protocol.specs.ThreeDevices.{StepsOn}
+use Rattle.bx_journal_model.specs.declared.devices.Devices.{Devices}
+use Rattle.bx_journal_model.specs.ThreeDevices.{StepsOn}
 
 none_ok : {T E : Type 0} (P : Type 0) (r : Result T E) (e : E) → r ≡ Err e → OnOk r P
 none_ok P r e is = subst (λ q. OnOk q P) (sym is) tt

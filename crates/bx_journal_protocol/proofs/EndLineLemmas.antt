@@ -9,15 +9,15 @@ use Rattle.bx_journal_format.specs.declared.format.version.Version.TheVariants.{
 use Rattle.bx_journal_format.specs.Line.{end_line}
 use Rattle.bx_journal_format.specs.Entry.{end_text}
 use Rattle.bx_journal_format.specs.Text.{IsPrefix, Reading, Entry, Between, Ending, split, start, after_lines}
-use Rattle.bx_journal_read.specs.model.Stack.{stack_of, Recovers}
-use Rattle.bx_journal_read.specs.model.Phase.{RecoversEither, IsOpen}
+use Rattle.bx_journal_model.specs.Stack.{stack_of, Recovers}
+use Rattle.bx_journal_model.specs.Phase.{RecoversEither, IsOpen}
 use Rattle.bx_journal_format.proofs.EntryRun.{end_run, ending}
 use Rattle.bx_journal_format.proofs.Foreign.{way_in_end}
 use Rattle.bx_journal_format.proofs.Runs.{SafeRun, Goes, safe_prefix}
-use Rattle.bx_journal_read.proofs.Phases.{Fine, ReadsShort, ended_fine, extends, length-stack_of, open_fine, open_is_whole, open_recovers, recovers_by}
-use Rattle.bx_journal_read.proofs.Cuts.{Newest, newest_of, cut_leaves}
-use Rattle.bx_journal_read.specs.model.Redo.{IsClean, RecoversOpen}
-use Rattle.bx_journal_protocol.specs.model.RedoLaws.{OpenIsNotClean, EndIsSharp, CutIsSharp}
+use Rattle.bx_journal_model.proofs.Phases.{Fine, ReadsShort, ended_fine, extends, length-stack_of, open_fine, open_is_whole, open_recovers, recovers_by}
+use Rattle.bx_journal_model.proofs.Cuts.{Newest, newest_of, cut_leaves}
+use Rattle.bx_journal_model.specs.Redo.{IsClean, RecoversOpen}
+use Rattle.bx_journal_model.specs.RedoLaws.{OpenIsNotClean, EndIsSharp, CutIsSharp}
 use Rattle.bx_journal_protocol.proofs.RedoText.{one_reading}
 
 -- a text that reads as something unfinished isn't finished entries alone

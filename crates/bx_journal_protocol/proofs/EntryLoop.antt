@@ -9,9 +9,9 @@ use Rattle.bx_journal_format.specs.declared.read.types.EntryRead.{EntryRead}
 use Rattle.bx_journal_format.specs.count.Mark.{HasMarks}
 use Rattle.bx_journal_format.specs.Parsed.{AllKept, entry_of, entries_onto}
 use Rattle.bx_journal_format.proofs.ReadLemmas.{onto-push}
-use Rattle.bx_journal_read.specs.model.Undoing.{HasLeft, AreReadFrom}
+use Rattle.bx_journal_model.specs.Undoing.{HasLeft, AreReadFrom}
 use Rattle.bx_journal_protocol.proofs.RedoText.{one_list}
-use Rattle.bx_journal_read.proofs.UndoLoop.{IsUndone, IsUndoing, popped, finished_mark, drop_one, kept_next, kept_more}
+use Rattle.bx_journal_model.proofs.UndoLoop.{IsUndone, IsUndoing, popped, finished_mark, drop_one, kept_next, kept_more}
 use Rattle.bx_journal_protocol.proofs.UndoSteps.{mark_in}
 
 -- behind i turns, with n of k to come: the entries that are left, in a text that was `first` and is now the front of it that ends with them

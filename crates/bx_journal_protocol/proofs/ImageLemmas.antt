@@ -2,7 +2,7 @@
 use Rattle.std.proofs.Common.{◌≡◌, ℕ, zero, suc, ◌+◌, ◌≤◌, Bool, true, false, List, [], ◌∷◌, length, drop, refl, ap, ◌∙◌, arith}
 use Rattle.std.specs.Prelude.{nat_le, if◌then◌else◌}
 use Rattle.bx_image.specs.declared.change.TheConstants.{MAX_LEN}
-use Rattle.bx_journal_read.specs.model.Images.{Images, with_undone, undone_by, redone_by, undo_of, redo_of}
+use Rattle.bx_journal_model.specs.Images.{Images, with_undone, undone_by, redone_by, undo_of, redo_of}
 
 -- one more, behind some others
 pub undone_by_more : (k : ℕ) (stack u : List (List ℕ)) → undone_by (suc k) stack u ≡ undone_by 1 (drop k stack) (undone_by k stack u)

@@ -1,9 +1,9 @@
 -- Memory that is lacking behind a look at a device.
 use Rattle.std.proofs.Common.{◌≡◌, ℕ, List, Result, Ok, Err, refl, sym, subst}
 use Rattle.std.specs.Prelude.{IsErrAnd}
-use Rattle.bx_journal_read.specs.declared.fault.SessionFault.{SessionFault}
-use Rattle.bx_journal_read.specs.declared.fault.SessionFault.TheVariants.{NoMemory}
-use Rattle.bx_journal_read.specs.scan.Looking.{FaultCounts, LooksAt}
+use Rattle.bx_journal_model.specs.declared.fault.SessionFault.{SessionFault}
+use Rattle.bx_journal_model.specs.declared.fault.SessionFault.TheVariants.{NoMemory}
+use Rattle.bx_journal_model.specs.Looking.{FaultCounts, LooksAt}
 
 -- the device stays as the look left it
 pub lacks_behind : {D X R : Type 0} (honest : D → Type 0) (view : D → List ℕ) (failures : D → ℕ) (old new : D) (x : X) → LooksAt {R = X} honest view failures (Ok x) old new

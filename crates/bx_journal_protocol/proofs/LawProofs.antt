@@ -2,18 +2,18 @@
 use Rattle.std.proofs.Common.{◌≡◌, ℕ, suc, List, [], ◌∷◌, ◌++◌, length, refl, ap, sym, ◌∙◌, subst, inl, inr, arith, append_assoc, Some}
 use Rattle.std.proofs.lemmas.Bool.{cases_lt}
 use Rattle.bx_journal_format.specs.declared.format.version.Version.TheVariants.{Second}
-use Rattle.bx_journal_protocol.specs.model.Laws.{WrittenIsRead, StandsForOne, DamagedAtOne, EmptyIsSound}
+use Rattle.bx_journal_model.specs.Laws.{WrittenIsRead, StandsForOne, DamagedAtOne, EmptyIsSound}
 use Rattle.bx_journal_format.specs.Line.{end_line}
 use Rattle.bx_journal_format.specs.Entry.{head_lines, entry_text}
 use Rattle.bx_journal_format.specs.Text.{Entry, Between, Reading, Reads, IsRest, split, text_of_lines, start, after_lines}
-use Rattle.bx_journal_read.specs.model.Stack.{stack_of}
-use Rattle.bx_journal_read.specs.model.Phase.{as_read}
+use Rattle.bx_journal_model.specs.Stack.{stack_of}
+use Rattle.bx_journal_model.specs.Phase.{as_read}
 use Rattle.bx_journal_format.proofs.Splits.{split-append}
 use Rattle.bx_journal_format.proofs.Runs.{SafeRun, GoesAllBy, safe_all, after_lines-append}
 use Rattle.bx_journal_format.proofs.Gathered.{as_read_byte}
 use Rattle.bx_journal_format.proofs.RowLemmas.{all_rows_are}
 use Rattle.bx_journal_format.proofs.EntryRun.{head_run, end_run, between}
-use Rattle.bx_journal_read.proofs.Judged.{undamaged}
+use Rattle.bx_journal_model.proofs.Judged.{undamaged}
 
 pub joined-append : (a b : List (List ℕ)) → text_of_lines (a ++ b) ≡ text_of_lines a ++ text_of_lines b
 joined-append [] b = refl

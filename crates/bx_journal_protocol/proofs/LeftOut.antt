@@ -21,7 +21,7 @@ use Rattle.bx_journal_format.specs.declared.read.types.EntryRead.{EntryRead}
 use Rattle.bx_journal_format.proofs.KeptLemmas.{is_of_in, same_byte}
 use Rattle.bx_journal_protocol.specs.declared.before.overwritten.Overwritten.{Overwritten}
 use Rattle.bx_journal_protocol.specs.before.Overwritten.{AreOverwritten, AreOverwrittenOf, HaveRoom, HaveZeros, IsOverwrittenOf}
-use Rattle.bx_journal_protocol.specs.model.Taken.{taken, IsKeptOf}
+use Rattle.bx_journal_model.specs.Taken.{taken, IsKeptOf}
 use Rattle.bx_journal_protocol.specs.protocol.Takens.{AreRoomFrom, AreZeros, IsFirstBelow, IsRoomFor, IsZeros}
 use Rattle.bx_journal_protocol.proofs.Restored.{back_of, keeps_restored}
 use Rattle.bx_journal_protocol.proofs.TakenLemmas.{reverse_last}

@@ -4,23 +4,23 @@ use Rattle.bx_image.proofs.Survivors.{NoMore_then}
 use Rattle.bx_journal_format.specs.Finished.{IsFinished}
 use Rattle.bx_journal_format.specs.Text.{Entry}
 use Rattle.bx_journal_format.specs.declared.read.types.EntryRead.{EntryRead}
-use Rattle.bx_journal_read.specs.model.Images.{Images}
-use Rattle.bx_journal_read.specs.model.Machine.{changes_of}
-use Rattle.bx_journal_read.specs.model.Phase.{IsAtRest}
-use Rattle.bx_journal_protocol.specs.model.Power.{FoundBefore}
-use Rattle.bx_journal_read.specs.model.Redo.{IsRedoOf}
-use Rattle.bx_journal_protocol.specs.model.Session.{HasUndone, IsReady}
-use Rattle.bx_journal_protocol.specs.model.SessionView.{SessionView, devices_of}
+use Rattle.bx_journal_model.specs.Images.{Images}
+use Rattle.bx_journal_model.specs.Machine.{changes_of}
+use Rattle.bx_journal_model.specs.Phase.{IsAtRest}
+use Rattle.bx_journal_model.specs.Power.{FoundBefore}
+use Rattle.bx_journal_model.specs.Redo.{IsRedoOf}
+use Rattle.bx_journal_model.specs.Session.{HasUndone, IsReady}
+use Rattle.bx_journal_model.specs.SessionView.{SessionView, devices_of}
 use Rattle.bx_image.specs.declared.device.Device.{Ghosts as DeviceViews}
 use Rattle.bx_journal_store.specs.declared.store.TextStore.{Ghosts as StoreViews}
-use Rattle.bx_journal_protocol.specs.declared.devices.Devices.{Devices}
-use Rattle.bx_journal_read.specs.model.Stack.{StandsFor}
-use Rattle.bx_journal_protocol.specs.model.Standing.{IsStanding}
-use Rattle.bx_journal_protocol.specs.model.Taken.{AreKept}
-use Rattle.bx_journal_read.specs.model.Undoing.{HasLeft, AreReadFrom, IsLastFrom}
-use Rattle.bx_journal_read.specs.declared.fault.SessionFault.{SessionFault}
-use Rattle.bx_journal_protocol.specs.ThreeDevices.{HaveStayed}
-use Rattle.bx_journal_read.specs.scan.Looking.{LooksAt}
+use Rattle.bx_journal_model.specs.declared.devices.Devices.{Devices}
+use Rattle.bx_journal_model.specs.Stack.{StandsFor}
+use Rattle.bx_journal_model.specs.Standing.{IsStanding}
+use Rattle.bx_journal_model.specs.Taken.{AreKept}
+use Rattle.bx_journal_model.specs.Undoing.{HasLeft, AreReadFrom, IsLastFrom}
+use Rattle.bx_journal_model.specs.declared.fault.SessionFault.{SessionFault}
+use Rattle.bx_journal_model.specs.ThreeDevices.{HaveStayed}
+use Rattle.bx_journal_model.specs.Looking.{LooksAt}
 use Rattle.bx_journal_protocol.specs.protocol.Turns.{AreAtRest, AreStanding}
 use Rattle.bx_journal_protocol.proofs.DeviceLemmas.{HaveGoneOn, both_ways}
 

@@ -11,15 +11,15 @@ use Rattle.bx_journal_format.specs.Text.{Entry, Between, Reads}
 use Rattle.bx_journal_format.specs.declared.read.types.EntryRead.{EntryRead}
 use Rattle.bx_journal_format.specs.count.Mark.{HasMarks}
 use Rattle.bx_journal_format.specs.Parsed.{AllKept, entry_of, entries_onto}
-use Rattle.bx_journal_read.specs.model.Images.{Images}
-use Rattle.bx_journal_read.specs.model.Undoing.{HasLeft, AreReadFrom}
+use Rattle.bx_journal_model.specs.Images.{Images}
+use Rattle.bx_journal_model.specs.Undoing.{HasLeft, AreReadFrom}
 use Rattle.bx_journal_protocol.specs.protocol.Takens.{IsTakenBy, AllShaped, AreZeros, AreFilled, AreReady, IsFirstBelow, entries_len}
 use Rattle.bx_journal_protocol.specs.protocol.Turns.{AreAtRest, AreStanding}
 use Rattle.bx_journal_protocol.proofs.EntryLoop.{EntriesLeft, EntryTurn, all_left, entry_turn, one_less, left_at as front_left, places as entry_places, long_at as entry_within, marks_at as entry_marks, finished_below as without_entry, entries_same as same_entries}
 use Rattle.bx_journal_protocol.proofs.LeftOut.{rooms_of_zeros}
 use Rattle.bx_journal_protocol.proofs.PlacedLemmas.{kept_reading}
 use Rattle.bx_journal_protocol.proofs.TakenLemmas.{len_pop, reverse_last, shaped_pop}
-use Rattle.bx_journal_read.proofs.UndoLoop.{IsUndone, IsUndoing}
+use Rattle.bx_journal_model.proofs.UndoLoop.{IsUndone, IsUndoing}
 
 pub standing : {text x redo : List ℕ} {s : Images} → AreAtRest text x redo s → AreStanding text x redo s
 standing rest = record { stands = rest.rest.stands; undone = rest.undone }

@@ -10,8 +10,8 @@ use Rattle.bx_image.proofs.Records.{IsAsGood-unmapped}
 use Rattle.bx_image.proofs.Images.{IsPartlyCut-cut, IsPartlyWritten-place}
 use Rattle.bx_journal_format.specs.Kept.{Kept}
 use Rattle.bx_journal_protocol.specs.protocol.Fading.{AllKeepUnmapped}
-use Rattle.bx_journal_read.specs.model.Phase.{IsCutOf, IsPartOf, StaysOpen}
-use Rattle.bx_journal_read.proofs.Phases.{open_moves}
+use Rattle.bx_journal_model.specs.Phase.{IsCutOf, IsPartOf, StaysOpen}
+use Rattle.bx_journal_model.proofs.Phases.{open_moves}
 
 -- what keeps all that a record leaves out keeps a pair open on it
 pub unmapped_moves : (s : Kept) (x y : List ℕ) → KeepsUnmapped s x y → StaysOpen s x y

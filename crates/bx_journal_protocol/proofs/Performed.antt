@@ -6,13 +6,13 @@ use Rattle.bx_journal_format.specs.Kept.{Kept, kept_of}
 use Rattle.bx_image.specs.declared.change.Change.{Change}
 use Rattle.bx_image.specs.Change.{effect, saved, restore, IsOf, IsAsGood}
 use Rattle.bx_journal_format.specs.declared.format.version.Version.TheVariants.{Second}
-use Rattle.bx_journal_protocol.specs.model.Laws.{HasBytes}
+use Rattle.bx_journal_model.specs.Laws.{HasBytes}
 use Rattle.bx_journal_format.specs.Line.{end_line}
 use Rattle.bx_journal_format.specs.Entry.{head_text, end_text, entry_text}
 use Rattle.bx_journal_format.specs.Text.{Entry, Between, Reads, Split, split, with_first_byte}
-use Rattle.bx_journal_read.specs.model.Stack.{StandsFor, HaveLengths, stack_of}
-use Rattle.bx_journal_read.specs.model.Machine.{top}
-use Rattle.bx_journal_read.proofs.Phases.{may_begin_of, length-stack_of, whole_behind}
+use Rattle.bx_journal_model.specs.Stack.{StandsFor, HaveLengths, stack_of}
+use Rattle.bx_journal_model.specs.Machine.{top}
+use Rattle.bx_journal_model.proofs.Phases.{may_begin_of, length-stack_of, whole_behind}
 use Rattle.bx_journal_format.proofs.RowLemmas.{restore_same}
 use Rattle.bx_journal_protocol.proofs.Ready.{IsPrepared, top_of}
 use Rattle.bx_journal_protocol.proofs.LawProofs.{written_is_read}

@@ -9,14 +9,14 @@ use Rattle.bx_journal_format.specs.declared.read.types.EntryRead.{EntryRead}
 use Rattle.bx_journal_format.specs.Parsed.{AllKept, AreMarked, entries_onto, entry_of}
 use Rattle.bx_journal_format.proofs.Bounds.{AreBounded, read_bounded}
 use Rattle.bx_journal_protocol.specs.declared.protocol.undo_entry.Placed.{Placed}
-use Rattle.bx_journal_read.specs.declared.scan.mark.Mark.{Mark}
+use Rattle.bx_journal_model.specs.declared.mark.Mark.{Mark}
 use Rattle.bx_journal_protocol.specs.protocol.Placed.{AllFit, ArePlaced, IsPlaced}
-use Rattle.bx_journal_read.specs.model.Redo.{LeavesEither, Side}
-use Rattle.bx_journal_read.specs.scan.Restoring.{IsEnough, StandsAt}
-use Rattle.bx_journal_read.specs.scan.Step.{TakesBack}
+use Rattle.bx_journal_model.specs.Redo.{LeavesEither, Side}
+use Rattle.bx_journal_model.specs.Restoring.{IsEnough, StandsAt}
+use Rattle.bx_journal_model.specs.Step.{TakesBack}
 use Rattle.bx_journal_protocol.specs.protocol.Turns.{kept_text, side_of}
-use Rattle.bx_journal_read.specs.model.Undoing.{AreReadFrom}
-use Rattle.bx_journal_read.proofs.ReadingLemmas.{AreSane, read_sane}
+use Rattle.bx_journal_model.specs.Undoing.{AreReadFrom}
+use Rattle.bx_journal_model.proofs.ReadingLemmas.{AreSane, read_sane}
 use Rattle.bx_journal_protocol.proofs.TakenLemmas.{reverse_last}
 use Rattle.bx_journal_protocol.proofs.UndoSteps.{mark_in}
 

@@ -8,7 +8,7 @@ use Rattle.bx_journal_protocol.specs.protocol.Placed.{AllFit, ArePlaced, ArePrep
 use Rattle.bx_journal_protocol.specs.protocol.Takens.{AllShaped, AreFilled}
 use Rattle.bx_journal_protocol.proofs.LoopLemmas.{AreLeft, IsTurn, long_at, none_gone, one_gone, places, turn_of}
 use Rattle.bx_journal_protocol.proofs.PlacedLemmas.{Fits, all_before, fit_more, fit_popped, place_popped, placed_cut}
-use Rattle.bx_journal_read.proofs.UndoLoop.{popped}
+use Rattle.bx_journal_model.proofs.UndoLoop.{popped}
 
 -- behind i turns: the places that are left, for entries that stand in what is left of the text
 pub record PlacesLeft {A : Type 0} (text_honest honest : Type 0) (first now x : List ℕ) (room window i : ℕ) (takens ts : List (Saved A)) (ps : List Placed) : Type 0 where

@@ -17,9 +17,9 @@ use Rattle.bx_journal_protocol.specs.declared.protocol.undo_entry.Placed.{Placed
 use Rattle.bx_journal_protocol.specs.declared.before.overwritten.Overwritten.{Overwritten}
 use Rattle.bx_journal_protocol.specs.before.Overwritten.{AreAllWithin, AreOrdered, AreOverwritten, HaveZeros, IsOrdered, IsOverwritten, place_in}
 use Rattle.bx_journal_protocol.specs.protocol.Placed.{AllFit, ArePlaced, IsPlaced}
-use Rattle.bx_journal_read.specs.scan.Restoring.{IsEnough, StandsAt}
+use Rattle.bx_journal_model.specs.Restoring.{IsEnough, StandsAt}
 use Rattle.bx_journal_protocol.specs.protocol.Takens.{AreZeros, IsZeros, length_at}
-use Rattle.bx_journal_read.proofs.StandLemmas.{stands_of}
+use Rattle.bx_journal_model.proofs.StandLemmas.{stands_of}
 use Rattle.bx_journal_protocol.proofs.TakenLemmas.{reverse_last}
 use Rattle.bx_journal_protocol.proofs.TakingLemmas.{length_here}
 use Rattle.bx_journal_format.proofs.Splits.{split-append}

@@ -6,10 +6,10 @@ use Rattle.bx_image.specs.declared.change.Change.{Change}
 use Rattle.bx_image.specs.Change.{effect, saved, IsOf}
 use Rattle.bx_journal_format.specs.Entry.{head_text, end_text}
 use Rattle.bx_journal_format.specs.Text.{Entry}
-use Rattle.bx_journal_read.specs.model.Stack.{stack_of}
-use Rattle.bx_journal_read.specs.model.Machine.{top}
-use Rattle.bx_journal_read.specs.model.Phase.{IsAtRest}
-use Rattle.bx_journal_read.specs.scan.Step.{WritesEntry}
+use Rattle.bx_journal_model.specs.Stack.{stack_of}
+use Rattle.bx_journal_model.specs.Machine.{top}
+use Rattle.bx_journal_model.specs.Phase.{IsAtRest}
+use Rattle.bx_journal_model.specs.Step.{WritesEntry}
 
 pub top_of : (es : List Entry) (x : List ℕ) → top (stack_of es x) ≡ x
 unfolding stack_of

@@ -14,25 +14,25 @@ use Rattle.bx_journal_format.specs.Parsed.{entry_of, entries_onto}
 use Rattle.bx_journal_format.proofs.Bounds.{AreBounded, read_bounded, read_told}
 use Rattle.bx_journal_format.proofs.KeptLemmas.{within_out, same_restore}
 use Rattle.bx_journal_format.proofs.ReadLemmas.{onto-push}
-use Rattle.bx_journal_read.specs.model.Images.{Images, redo_of}
-use Rattle.bx_journal_read.specs.model.Machine.{changes_of}
-use Rattle.bx_journal_read.specs.model.Phase.{IsAtRest, RecoversEither}
-use Rattle.bx_journal_read.specs.model.Redo.{IsRedoOf, Finds, LeavesEither}
-use Rattle.bx_journal_protocol.specs.model.OnTop.{OnTop}
-use Rattle.bx_journal_read.specs.model.Stack.{HaveLengths, Recovers, StandsFor, stack_of}
-use Rattle.bx_journal_protocol.specs.model.Taken.{taken_by}
-use Rattle.bx_journal_read.specs.scan.Step.{WritesEntry}
+use Rattle.bx_journal_model.specs.Images.{Images, redo_of}
+use Rattle.bx_journal_model.specs.Machine.{changes_of}
+use Rattle.bx_journal_model.specs.Phase.{IsAtRest, RecoversEither}
+use Rattle.bx_journal_model.specs.Redo.{IsRedoOf, Finds, LeavesEither}
+use Rattle.bx_journal_model.specs.OnTop.{OnTop}
+use Rattle.bx_journal_model.specs.Stack.{HaveLengths, Recovers, StandsFor, stack_of}
+use Rattle.bx_journal_model.specs.Taken.{taken_by}
+use Rattle.bx_journal_model.specs.Step.{WritesEntry}
 use Rattle.bx_journal_protocol.specs.protocol.Turns.{AreAtRest, AreStanding, RedoesOne, side_of}
 use Rattle.bx_journal_protocol.proofs.ImageLemmas.{redo_of_more}
 use Rattle.bx_journal_protocol.proofs.EntryLoop.{EntriesLeft, EntryTurn, entries_same, finished_now, marks_at}
 use Rattle.bx_journal_protocol.proofs.LoopLemmas.{standing}
 use Rattle.bx_journal_protocol.proofs.Performed.{performed}
-use Rattle.bx_journal_read.proofs.Phases.{length-stack_of}
+use Rattle.bx_journal_model.proofs.Phases.{length-stack_of}
 use Rattle.bx_journal_protocol.proofs.RedoText.{one_list}
 use Rattle.bx_journal_protocol.proofs.TakenText.{kept_turn}
 use Rattle.bx_journal_protocol.proofs.TouchedLemmas.{IsKeptOf}
 use Rattle.bx_journal_protocol.proofs.TurnLemmas.{redo_back, redo_one, redo_stops}
-use Rattle.bx_journal_read.proofs.UndoLoop.{drop_one}
+use Rattle.bx_journal_model.proofs.UndoLoop.{drop_one}
 
 -- the images below the first
 below_is : (e : Entry) (es : List Entry) (x : List ℕ) → drop 1 (stack_of (e ∷ es) x) ≡ stack_of es (restore e.saved x)

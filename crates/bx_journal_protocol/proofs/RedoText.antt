@@ -6,12 +6,12 @@ use Rattle.bx_image.specs.declared.change.TheConstants.{MAX_LEN}
 use Rattle.bx_image.specs.Change.{restore}
 use Rattle.bx_journal_format.specs.Entry.{entry_text}
 use Rattle.bx_journal_format.specs.Text.{Entry, Between, Reading, Reads, IsRest, split, after_lines}
-use Rattle.bx_journal_read.specs.model.Stack.{StandsFor, HaveLengths, stack_of}
+use Rattle.bx_journal_model.specs.Stack.{StandsFor, HaveLengths, stack_of}
 use Rattle.bx_journal_protocol.proofs.Performed.{performed, top_of_stands}
-use Rattle.bx_journal_read.proofs.Phases.{may_begin_of, length-stack_of}
+use Rattle.bx_journal_model.proofs.Phases.{may_begin_of, length-stack_of}
 use Rattle.bx_journal_protocol.proofs.LawProofs.{written_is_read}
 use Rattle.bx_journal_format.specs.Finished.{AllTell}
-use Rattle.bx_journal_protocol.specs.model.RedoLaws.{EmptyIsRedo, RedoIsOne, PushedIsRedo, PoppedIsRedo}
+use Rattle.bx_journal_model.specs.RedoLaws.{EmptyIsRedo, RedoIsOne, PushedIsRedo, PoppedIsRedo}
 
 pub one_reading : {p q : Reading} → Some p ≡ Some q → p ≡ q
 one_reading e = cc

@@ -13,22 +13,22 @@ use Rattle.bx_journal_format.specs.declared.read.types.EntryRead.{EntryRead}
 use Rattle.bx_journal_format.specs.Parsed.{entry_of, entries_onto}
 use Rattle.bx_journal_format.proofs.Bounds.{AreBounded, read_bounded}
 use Rattle.bx_journal_format.proofs.KeptLemmas.{within_out}
-use Rattle.bx_journal_read.specs.model.Images.{Images, with_undone, undo_of}
-use Rattle.bx_journal_read.specs.model.Phase.{IsAtRest, RecoversEither}
-use Rattle.bx_journal_read.specs.model.Redo.{Finds, LeavesEither}
-use Rattle.bx_journal_read.specs.model.Stack.{StandsFor, HaveLengths, Recovers, stack_of}
-use Rattle.bx_journal_protocol.specs.model.Taken.{AreKept}
-use Rattle.bx_journal_read.specs.scan.Step.{TakesBack}
+use Rattle.bx_journal_model.specs.Images.{Images, with_undone, undo_of}
+use Rattle.bx_journal_model.specs.Phase.{IsAtRest, RecoversEither}
+use Rattle.bx_journal_model.specs.Redo.{Finds, LeavesEither}
+use Rattle.bx_journal_model.specs.Stack.{StandsFor, HaveLengths, Recovers, stack_of}
+use Rattle.bx_journal_model.specs.Taken.{AreKept}
+use Rattle.bx_journal_model.specs.Step.{TakesBack}
 use Rattle.bx_journal_protocol.specs.protocol.Takens.{entries_len}
 use Rattle.bx_journal_protocol.specs.protocol.Turns.{kept_text, AreAtRest, AreStanding, UndoesOne, side_of}
 use Rattle.bx_journal_protocol.proofs.ImageLemmas.{undo_of_more}
 use Rattle.bx_journal_protocol.proofs.LeftOut.{kept_back}
 use Rattle.bx_journal_protocol.proofs.LoopLemmas.{AreLeft, IsTurn, entries_same, finished_below, marks_at}
-use Rattle.bx_journal_read.proofs.Phases.{length-stack_of}
+use Rattle.bx_journal_model.proofs.Phases.{length-stack_of}
 use Rattle.bx_journal_protocol.proofs.Shapes.{entry_long}
 use Rattle.bx_journal_protocol.proofs.TakenText.{kept_turned}
 use Rattle.bx_journal_protocol.proofs.TurnLemmas.{redo_part, undo_one, undo_stops}
-use Rattle.bx_journal_read.proofs.UndoLoop.{drop_one}
+use Rattle.bx_journal_model.proofs.UndoLoop.{drop_one}
 
 -- the change that puts an entry's record back
 abbrev change_back : {A : Type 0} → EntryRead A → Change A

@@ -11,24 +11,24 @@ use Rattle.bx_journal_format.proofs.ShownLemmas.{IsLeft, begun_left, calm_left, 
 use Rattle.bx_journal_format.proofs.RestLemmas.{sound_plain, unfinished_calm}
 use Rattle.bx_journal_format.specs.declared.format.version.Version.{Version}
 use Rattle.bx_journal_format.specs.declared.format.version.Version.TheVariants.{Second}
-use Rattle.bx_journal_read.specs.model.Phase.{IsAtRest, IsOpen}
+use Rattle.bx_journal_model.specs.Phase.{IsAtRest, IsOpen}
 use Rattle.bx_image.specs.declared.device.Device.{Ghosts as DeviceViews}
 use Rattle.bx_journal_store.specs.declared.store.TextStore.{Ghosts as StoreViews}
-use Rattle.bx_journal_protocol.specs.declared.devices.Devices.{Devices}
+use Rattle.bx_journal_model.specs.declared.devices.Devices.{Devices}
 use Rattle.bx_journal_protocol.specs.protocol.Written.{AreSettled}
 use Rattle.bx_journal_format.proofs.CalmLemmas.{head_calm, end_calm, short_plain, ending_calm, tail_calm}
 use Rattle.bx_journal_format.proofs.RowLemmas.{all_rows_are}
-use Rattle.bx_journal_read.specs.model.Stack.{Recovers, image_at}
-use Rattle.bx_journal_read.specs.scan.Step.{StartsEntry, EndsEntry, HasTail, TakesBack}
-use Rattle.bx_journal_read.specs.model.Redo.{RecoversOpen, IsClean, IsRedoOf, Finds}
-use Rattle.bx_journal_read.specs.model.Images.{Images}
-use Rattle.bx_journal_read.specs.model.Machine.{changes_of}
-use Rattle.bx_journal_protocol.specs.model.Power.{Found}
+use Rattle.bx_journal_model.specs.Stack.{Recovers, image_at}
+use Rattle.bx_journal_model.specs.Step.{StartsEntry, EndsEntry, HasTail, TakesBack}
+use Rattle.bx_journal_model.specs.Redo.{RecoversOpen, IsClean, IsRedoOf, Finds}
+use Rattle.bx_journal_model.specs.Images.{Images}
+use Rattle.bx_journal_model.specs.Machine.{changes_of}
+use Rattle.bx_journal_model.specs.Power.{Found}
 use Rattle.bx_journal_format.proofs.CleanLemmas.{clean_shown}
 use Rattle.bx_journal_protocol.proofs.TurnLemmas.{rest_is_found}
 use Rattle.bx_journal_protocol.proofs.ChangeSteps.{head_ok, head_fault, end_ok}
 use Rattle.bx_journal_protocol.proofs.EndLineLemmas.{end_is_sharp, cut_is_sharp}
-use Rattle.bx_journal_read.proofs.Tails.{joined_rest, rest_plain, tail_fault}
+use Rattle.bx_journal_model.proofs.Tails.{joined_rest, rest_plain, tail_fault}
 use Rattle.bx_journal_store.specs.Store.{IsCutInPart}
 use Rattle.bx_journal_format.specs.Text.{Entry, Stage, Between, Ending, Reading, after_lines, split, start}
 

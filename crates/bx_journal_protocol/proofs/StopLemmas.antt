@@ -2,10 +2,10 @@
 use Rattle.std.proofs.Common.{◌≡◌, ℕ, List, inl, inr, ◌⊎◌}
 use Rattle.bx_journal_format.specs.Kept.{Kept}
 use Rattle.bx_journal_format.specs.declared.format.version.Version.{Version}
-use Rattle.bx_journal_read.specs.model.Phase.{IsOpen}
-use Rattle.bx_journal_read.specs.model.Stack.{Recovers}
+use Rattle.bx_journal_model.specs.Phase.{IsOpen}
+use Rattle.bx_journal_model.specs.Stack.{Recovers}
 use Rattle.bx_journal_protocol.proofs.EndLineLemmas.{open_is_not_clean}
-use Rattle.bx_journal_read.specs.model.Redo.{RecoversOpen, Side, LeavesEither, Before, Behind, WithinOld, WithinNew}
+use Rattle.bx_journal_model.specs.Redo.{RecoversOpen, Side, LeavesEither, Before, Behind, WithinOld, WithinNew}
 
 -- the first step of an undo stopped
 pub first_stops : (text x redo : List ℕ) (old new : Side) → x ≡ old.image → redo ≡ old.redo → Recovers text x old.stack ⊎ RecoversOpen text x new.stack → LeavesEither text x redo old new

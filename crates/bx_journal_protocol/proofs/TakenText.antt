@@ -15,7 +15,7 @@ use Rattle.bx_journal_format.specs.Kept.{Run, Kept, run_of, kept_of}
 use Rattle.bx_journal_format.specs.Text.{Entry}
 use Rattle.bx_journal_format.specs.declared.read.types.EntryRead.{EntryRead}
 use Rattle.bx_journal_format.specs.Parsed.{entry_of}
-use Rattle.bx_journal_protocol.specs.model.Taken.{taken, taken_by, AreKept}
+use Rattle.bx_journal_model.specs.Taken.{taken, taken_by, AreKept}
 use Rattle.bx_journal_protocol.specs.protocol.Takens.{IsTakenBy}
 use Rattle.bx_journal_protocol.specs.protocol.Turns.{kept_text}
 

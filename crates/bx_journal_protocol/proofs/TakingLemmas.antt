@@ -6,7 +6,7 @@ use Rattle.bx_image.specs.declared.record.Saved.{Saved}
 use Rattle.bx_image.specs.Change.{AllWithin}
 use Rattle.bx_journal_format.specs.Kept.{kept_of}
 use Rattle.bx_journal_format.specs.Entry.{head_text, end_text}
-use Rattle.bx_journal_read.specs.model.Machine.{changes_of}
+use Rattle.bx_journal_model.specs.Machine.{changes_of}
 use Rattle.bx_journal_format.specs.declared.read.types.EntryRead.{EntryRead}
 use Rattle.bx_journal_protocol.specs.protocol.Takens.{AllShaped, entries_len, length_at}
 use Rattle.bx_journal_protocol.proofs.Shapes.{end_long}

@@ -3,11 +3,11 @@ use Rattle.std.proofs.Common.{◌≡◌, ℕ, ◌≤◌, List, ◌∷◌, length
 use Rattle.std.proofs.lemmas.List.{take-take}
 use Rattle.bx_journal_format.specs.declared.format.version.Version.{Version}
 use Rattle.bx_journal_format.specs.Text.{Entry, Between, Ending, Reading}
-use Rattle.bx_journal_read.specs.model.Phase.{RecoversEither, IsOpen}
+use Rattle.bx_journal_model.specs.Phase.{RecoversEither, IsOpen}
 use Rattle.bx_journal_format.specs.count.Mark.{IsMark}
-use Rattle.bx_journal_read.specs.scan.Step.{HasTail, TakesBack}
+use Rattle.bx_journal_model.specs.Step.{HasTail, TakesBack}
 use Rattle.bx_journal_store.specs.Store.{IsCutInPart}
-use Rattle.bx_journal_read.proofs.Cuts.{Newest, newest_of, cut_end_fault, cut_end_ok}
+use Rattle.bx_journal_model.proofs.Cuts.{Newest, newest_of, cut_end_fault, cut_end_ok}
 
 pub mark_in : (text : List ℕ) (m n : ℕ) (r : Reading) → IsMark text m r → m ≤ n → n ≤ length text → IsMark (take n text) m r
 mark_in text m n r mark order within =

@@ -3,7 +3,6 @@
 #![tactic(auto)]
 
 mod before;
-mod devices;
 mod protocol;
 mod write;
 
@@ -12,7 +11,6 @@ pub use before::lengths::ranges_len;
 pub use before::ranges::prepare_redo;
 pub use before::records::prepare_takens;
 pub use before::settle::settle;
-pub use devices::Devices;
 pub use protocol::entry::write_change;
 pub use protocol::fill::fill_last;
 pub use protocol::redo_entry::{begin_last, redo_entries};

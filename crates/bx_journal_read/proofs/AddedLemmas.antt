@@ -17,7 +17,7 @@ use Rattle.bx_journal_read.specs.show.Stopping.{CountsBytes, StopsPrefix}
 use Rattle.bx_journal_read.proofs.StopLemmas.{counts_both, stops_first, stops_later}
 use Rattle.bx_journal_read.specs.show.Showing.{lines_at}
 use Rattle.bx_journal_read.proofs.RowTexts.{lines_there}
-use Rattle.bx_journal_read.proofs.WindowLemmas.{front_of}
+use Rattle.bx_journal_model.proofs.WindowBytes.{front_of}
 
 -- no line yet
 pub added_none : (show : List ℕ → List ℕ) (window text : List ℕ) → AreAdded show window 0 text text

@@ -11,15 +11,15 @@ use Rattle.bx_journal_format.specs.Ranges.{AreRanged, IsRangedIn, RangesOn}
 use Rattle.bx_journal_format.specs.Spelled.{runs_behind, with_found}
 use Rattle.bx_journal_format.specs.Text.{split}
 use Rattle.bx_journal_format.proofs.Stops.{saved_same}
-use Rattle.bx_journal_read.specs.declared.scan.long.Cut.{Cut}
+use Rattle.bx_journal_model.specs.declared.long.Cut.{Cut}
 use Rattle.bx_journal_read.specs.declared.show.fault.ShowFault.{ShowFault}
 use Rattle.bx_journal_read.specs.declared.show.ranges.Done.{Done}
-use Rattle.bx_journal_read.specs.scan.Long.{IsCut, passed_of}
+use Rattle.bx_journal_model.specs.Long.{IsCut, passed_of}
 use Rattle.bx_journal_read.specs.show.Differences.{diff_line, line_made, lines_beside, made_line, shown_between, AreAdded, AreWritten}
 use Rattle.bx_journal_read.specs.show.Showing.{PutsOn, StopsRanges}
 use Rattle.bx_journal_read.specs.show.Stopping.{CountsBytes, StopsPrefix}
 use Rattle.bx_journal_read.proofs.AddedLemmas.{window_counted, window_stopped, written_window}
-use Rattle.bx_journal_read.proofs.LongLines.{StandsFor, stands_for}
+use Rattle.bx_journal_model.proofs.LongLines.{StandsFor, stands_for}
 use Rattle.bx_journal_read.proofs.PutLemmas.{ranges_stopped}
 
 -- a line's first bytes say what is shown of it

@@ -1,5 +1,5 @@
 -- A text that is damaged behind its lines in place.
-use Rattle.std.proofs.Common.{◌≡◌, ℕ, suc, ◌+◌, ◌-◌, ◌≤◌, Bool, true, false, List, [], ◌++◌, length, length-append, length-take, take, drop, refl, ap, sym, ◌∙◌, subst, arith, Some, Option, None, Result, Ok, Err, append-nil}
+use Rattle.std.proofs.Common.{◌≡◌, ℕ, suc, ◌+◌, ◌-◌, ◌≤◌, Bool, true, false, List, [], ◌++◌, length, length-append, take, drop, refl, ap, sym, ◌∙◌, subst, arith, Some, Option, None, Result, Ok, Err, append-nil}
 use Rattle.std.specs.Prelude.{IfOk, IfSome}
 use Rattle.std.proofs.Math.Seq.{take-append_seam, drop-append_seam}
 use Rattle.bx_journal_format.specs.Text.{Reading, IsDamagedAt, split, start, after_lines}
@@ -8,13 +8,12 @@ use Rattle.bx_journal_format.specs.count.Tally.{tally_of}
 use Rattle.bx_journal_format.specs.read.Stops.{StopsAt}
 use Rattle.bx_journal_format.proofs.ReadLoop.{drop_twice}
 use Rattle.bx_journal_format.proofs.Stops.{endless_stops, stopped}
-use Rattle.bx_journal_format.proofs.Splits.{plain-append}
-use Rattle.bx_journal_format.specs.read.Plain.{HasNoNewline}
 use Rattle.bx_journal_format.proofs.TallyLemmas.{take_sum}
 use Rattle.bx_journal_read.specs.declared.scan.count.Walk.{Walk}
 use Rattle.bx_journal_read.specs.declared.scan.damage.PlaceScan.{PlaceScan}
 use Rattle.bx_journal_read.specs.declared.scan.windows.Reached.{Reached}
-use Rattle.bx_journal_read.specs.scan.Damage.{IsDamagedIn, IsInPlace, IsPlainTo}
+use Rattle.bx_journal_read.specs.scan.Damage.{IsDamagedIn, IsInPlace}
+use Rattle.bx_journal_model.specs.Long.{IsPlainTo}
 use Rattle.bx_journal_read.specs.scan.Windows.{IsReached, IsWalkedTo}
 
 -- lines in place were walked along
@@ -67,25 +66,6 @@ pub line_all : {A E : Type 0} → (P Q : A → Type 0) (result : Result (Option 
 line_all P Q (Ok (Some t)) all h = all t h
 line_all P Q (Ok None) all h = tt
 line_all P Q (Err e) all h = tt
-
--- nothing of a text was looked at
-pub plain_none : (H : Type 0) (stored : List ℕ) (from : ℕ) → IsPlainTo H stored from from
-plain_none H stored from =
-    let zero : from - from ≡ 0 = omega arith in
-    record { bytes = []; is = λ h. sym (ap (λ m. take m (drop from stored)) zero); long = omega arith; plain = tt }
-
--- a window more has no newline
-pub plain_on : (H : Type 0) (stored part : List ℕ) (from at n : ℕ) → IsPlainTo H stored from at → (H → part ≡ take n (drop at stored)) → length part ≡ n → HasNoNewline part → IsPlainTo H stored from (at + n)
-plain_on H stored part from at n p read long plain = record {
-  bytes = p.bytes ++ part;
-  is = λ h.
-      let first : from + (at - from) ≡ at = omega (arith, p.long) in
-      let count : at + n - from ≡ (at - from) + n = omega (arith, p.long) in
-      ap (λ u. u ++ part) (p.is h) ∙ ap (λ u. take (at - from) (drop from stored) ++ u) (read h ∙ ap (λ m. take n (drop m stored)) (sym first) ∙ ap (take n) (sym (drop_twice from (at - from) stored)))
-      ∙ sym (take_sum (at - from) n (drop from stored)) ∙ ap (λ m. take m (drop from stored)) (sym count);
-  long = omega (arith, p.long, long, length-append p.bytes part);
-  plain = plain-append p.bytes part p.plain plain;
-}
 
 -- what ends in a line that is surely too long is damaged there
 pub damaged_long : (H : Type 0) (stored : List ℕ) (len : ℕ) (w : Walk) → IsWalkedTo H stored false len w → 1024 ≤ len - w.at → IsPlainTo H stored w.at len → IsDamagedIn H (take len stored) (w.lines + 1)

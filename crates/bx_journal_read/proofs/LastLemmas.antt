@@ -11,10 +11,11 @@ use Rattle.bx_journal_format.specs.read.Lines.{IsFront, IsReadUpTo}
 use Rattle.bx_journal_format.specs.Parsed.{entries_onto, reading_onto, AreMarked, IsStageMarked}
 use Rattle.bx_journal_format.specs.count.Mark.{IsMark}
 use Rattle.bx_journal_format.specs.count.Tally.{IsCounted}
-use Rattle.bx_journal_read.specs.declared.scan.entries.FinishedRead.{FinishedRead}
-use Rattle.bx_journal_read.specs.declared.fault.SessionFault.{SessionFault}
-use Rattle.bx_journal_read.specs.declared.fault.SessionFault.TheVariants.{NoMemory, DeviceFailed}
-use Rattle.bx_journal_read.specs.model.Undoing.{AgainFault, IsReadFrom, IsReadLast, IsReadBehind, IsLastFrom}
+use Rattle.bx_journal_model.specs.declared.entries.FinishedRead.{FinishedRead}
+use Rattle.bx_journal_model.specs.declared.fault.SessionFault.{SessionFault}
+use Rattle.bx_journal_model.specs.declared.fault.SessionFault.TheVariants.{NoMemory, DeviceFailed}
+use Rattle.bx_journal_model.specs.Undoing.{AgainFault, IsReadLast, IsLastFrom}
+use Rattle.bx_journal_read.specs.scan.Entries.{IsReadFrom, IsReadBehind}
 use Rattle.bx_journal_read.specs.scan.Windows.{IsFrontCounted}
 
 -- what was counted is a front

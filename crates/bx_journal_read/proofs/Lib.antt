@@ -1,18 +1,10 @@
-pub mod Phases
-pub mod Cuts
-pub mod ReadingLemmas
-pub mod Tails
 pub mod TailLemmas
-pub mod UndoLoop
 pub mod OpenLemmas
-pub mod Judged
 pub mod AgainLemmas
-pub mod RestoreLemmas
-pub mod StandLemmas
 pub mod RecoverLemmas
 pub mod WindowLemmas
 pub mod WalkLemmas
-pub mod TextReads
+pub mod TextWalks
 pub mod NewlineLemmas
 pub mod ScanLemmas
 pub mod DamageLemmas
@@ -20,7 +12,6 @@ pub mod ZeroLemmas
 pub mod ShownTail
 pub mod UnfitLemmas
 pub mod LastLemmas
-pub mod LongLines
 pub mod MarkedLemmas
 pub mod PutLemmas
 pub mod RowTexts

@@ -4,8 +4,8 @@ use Rattle.std.specs.Prelude.{Vec}
 use Rattle.std.proofs.lemmas.List.{take_all}
 use Rattle.std.proofs.lemmas.Result.{IfErr-weaker, IfOk-weaker}
 use Rattle.bx_journal_format.specs.Shown.{shown}
-use Rattle.bx_journal_read.specs.declared.fault.SessionFault.{SessionFault}
-use Rattle.bx_journal_read.specs.scan.Looking.{LooksAt}
+use Rattle.bx_journal_model.specs.declared.fault.SessionFault.{SessionFault}
+use Rattle.bx_journal_model.specs.Looking.{LooksAt}
 use Rattle.bx_journal_read.specs.scan.Recovery.{FindFault}
 use Rattle.bx_journal_read.proofs.WindowLemmas.{fault_is, looks_before}
 use Rattle.bx_journal_format.specs.declared.read.count.Place.TheVariants.{Between as BetweenPlace}

@@ -2,16 +2,16 @@
 use Rattle.std.proofs.Common.{◌≡◌, ℕ, true, List, [], ◌∷◌, length, refl, sym, ◌∙◌, subst, arith, Option, Some, None}
 use Rattle.std.specs.Prelude.{IfSome}
 use Rattle.std.proofs.lemmas.Grind.{common_steps}
-use Rattle.bx_journal_read.specs.declared.fault.SessionFault.{SessionFault}
-use Rattle.bx_journal_read.specs.declared.fault.SessionFault.TheVariants.{NoMemory, TooLarge, DeviceFailed, Damaged, TooFew, JournalFull, Interrupted, Broken, LengthDiffers, NothingToRedo, RedoDamaged}
+use Rattle.bx_journal_model.specs.declared.fault.SessionFault.{SessionFault}
+use Rattle.bx_journal_model.specs.declared.fault.SessionFault.TheVariants.{NoMemory, TooLarge, DeviceFailed, Damaged, TooFew, JournalFull, Interrupted, Broken, LengthDiffers, NothingToRedo, RedoDamaged}
 use Rattle.bx_journal_format.specs.declared.read.whole.JournalRead.{JournalRead}
 use Rattle.bx_journal_format.specs.Text.{Entry, Reading, Reads, may_begin}
-use Rattle.bx_journal_read.specs.model.Stack.{HaveLengths, Recovers, image_at}
+use Rattle.bx_journal_model.specs.Stack.{HaveLengths, Recovers, image_at}
 use Rattle.bx_journal_format.specs.read.Journal.{HasRead}
 use Rattle.bx_journal_format.specs.Parsed.{told_by, reading_of}
-use Rattle.bx_journal_read.specs.model.Calls.{Differs, OpenFault, AfterFault}
-use Rattle.bx_journal_read.specs.model.Opening.{RefusesLength}
-use Rattle.bx_journal_read.specs.scan.Looking.{LookFault}
+use Rattle.bx_journal_model.specs.Calls.{Differs, OpenFault, AfterFault}
+use Rattle.bx_journal_model.specs.Opening.{RefusesLength}
+use Rattle.bx_journal_model.specs.Looking.{LookFault}
 
 pub some_same : {A : Type 0} (x y : A) → Some x ≡ Some y → x ≡ y
 some_same x y e = cc

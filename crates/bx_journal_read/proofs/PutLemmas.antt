@@ -17,13 +17,13 @@ use Rattle.bx_journal_format.proofs.ReadLoop.{drop_twice}
 use Rattle.bx_journal_format.proofs.Splits.{split-append}
 use Rattle.bx_journal_format.proofs.TallyLemmas.{take_sum}
 use Rattle.bx_journal_read.specs.declared.show.ranges.Done.{Done}
-use Rattle.bx_journal_read.specs.declared.fault.SessionFault.{SessionFault}
+use Rattle.bx_journal_model.specs.declared.fault.SessionFault.{SessionFault}
 use Rattle.bx_journal_read.specs.declared.show.fault.ShowFault.{ShowFault}
 use Rattle.bx_journal_read.specs.declared.show.fault.ShowFault.TheVariants.{Text}
 use Rattle.bx_journal_read.specs.show.Showing.{ArePutTo, PutsOn, StopsRanges, ranges_at}
 use Rattle.bx_journal_read.specs.show.Stopping.{CountsBytes, StopsPrefix}
 use Rattle.bx_journal_read.proofs.StopLemmas.{counts_both, stops_first, stops_later, stops_none}
-use Rattle.bx_journal_read.proofs.WindowLemmas.{front_of}
+use Rattle.bx_journal_model.proofs.WindowBytes.{front_of}
 use Rattle.std.specs.Io.KnownBytes.{Appends}
 
 -- nothing is put yet

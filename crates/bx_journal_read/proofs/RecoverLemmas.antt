@@ -3,23 +3,23 @@ use Rattle.std.proofs.Common.{◌≡◌, ◌⊎◌, inl, inr, ℕ, List, length,
 use Rattle.bx_journal_format.specs.declared.read.whole.JournalRead.{JournalRead}
 use Rattle.bx_journal_format.specs.declared.read.types.StageRead.{StageRead}
 use Rattle.bx_journal_format.specs.declared.read.types.StageRead.TheVariants.{Between as BetweenRead, Saving as SavingRead, Ending as EndingRead}
-use Rattle.bx_journal_read.specs.declared.fault.SessionFault.{SessionFault}
-use Rattle.bx_journal_read.specs.declared.fault.SessionFault.TheVariants.{NoMemory, TooLarge, DeviceFailed, Damaged, TooFew, JournalFull, Interrupted, Broken, LengthDiffers, NothingToRedo, RedoDamaged}
+use Rattle.bx_journal_model.specs.declared.fault.SessionFault.{SessionFault}
+use Rattle.bx_journal_model.specs.declared.fault.SessionFault.TheVariants.{NoMemory, TooLarge, DeviceFailed, Damaged, TooFew, JournalFull, Interrupted, Broken, LengthDiffers, NothingToRedo, RedoDamaged}
 use Rattle.bx_journal_format.specs.read.Journal.{HasRead}
-use Rattle.bx_journal_read.specs.model.Calls.{AfterFault}
-use Rattle.bx_journal_read.specs.model.Opening.{OneMoreOfThree, ThreeCounts}
-use Rattle.bx_journal_read.specs.scan.Looking.{FaultCounts, OneMore, LookFault}
-use Rattle.bx_journal_read.specs.model.Judging.{JudgeFault}
+use Rattle.bx_journal_model.specs.Calls.{AfterFault}
+use Rattle.bx_journal_model.specs.Opening.{OneMoreOfThree, ThreeCounts}
+use Rattle.bx_journal_model.specs.Looking.{FaultCounts, OneMore, LookFault}
+use Rattle.bx_journal_read.specs.scan.Judging.{JudgeFault}
 use Rattle.bx_journal_format.specs.Parsed.{told_by, entries_of, stage_of, reading_of}
 use Rattle.bx_journal_read.specs.scan.Recovery.{FinishedFault, HasToldLength, RecoverFault}
-use Rattle.bx_journal_read.specs.model.Redo.{IsClean, IsRefusedAt}
+use Rattle.bx_journal_model.specs.Redo.{IsClean, IsRefusedAt}
 use Rattle.bx_journal_format.specs.count.Tally.{IsCounted}
 use Rattle.bx_journal_format.specs.Shown.{shown}
 use Rattle.bx_journal_format.proofs.CleanLemmas.{clean_shown}
 use Rattle.bx_journal_format.specs.Text.{Entry, Between, Reading, Reads}
 use Rattle.bx_journal_read.proofs.OpenLemmas.{read_once}
 use Rattle.bx_journal_format.proofs.ReadLemmas.{length-entries_of}
-use Rattle.bx_journal_read.proofs.Tails.{rest_none}
+use Rattle.bx_journal_model.proofs.Tails.{rest_none}
 
 -- finished entries alone that were read are counted
 pub read_counted : {A : Type 0} → (text : List ℕ) (j : JournalRead A) (count : ℕ) (told : Option ℕ) → HasRead text j → j.stage ≡ BetweenRead → j.whole ≡ length text

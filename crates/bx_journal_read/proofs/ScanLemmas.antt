@@ -7,9 +7,9 @@ use Rattle.bx_journal_read.specs.declared.scan.count.CountScan.{CountScan}
 use Rattle.bx_journal_read.specs.declared.scan.windows.Reached.{Reached}
 use Rattle.bx_journal_read.specs.declared.scan.windows.Taken.{Taken}
 use Rattle.bx_journal_format.specs.Text.{ended}
-use Rattle.bx_journal_read.specs.scan.Long.{IsLongLine}
+use Rattle.bx_journal_model.specs.Long.{IsLongLine}
 use Rattle.bx_journal_read.specs.scan.Windows.{IfReached, IsCountedBy, IsLedTo, IsReached, IsWalkedTo, TakesLong}
-use Rattle.bx_journal_read.proofs.WindowLemmas.{front_of}
+use Rattle.bx_journal_model.proofs.WindowBytes.{front_of}
 
 -- a window more
 pub reached_on : {S : Type 0} → (honest : Type 0) (stored window : List ℕ) (Leads : S → List ℕ → Type 0) (len at m n : ℕ) (old new : S)

@@ -27,13 +27,13 @@ use Rattle.bx_journal_read.specs.declared.show.way.Steps.{Steps}
 use Rattle.bx_journal_read.specs.declared.show.way.Way.{Way}
 use Rattle.bx_journal_read.specs.declared.show.way.Way.TheVariants.{Undo, Redo}
 use Rattle.bx_journal_read.specs.declared.show.unfinished.Marked.{Marked}
-use Rattle.bx_journal_read.specs.declared.scan.mark.Mark.{Mark as Place}
+use Rattle.bx_journal_model.specs.declared.mark.Mark.{Mark as Place}
 use Rattle.bx_journal_read.specs.declared.scan.torn.Torn.{Torn}
-use Rattle.bx_journal_read.specs.declared.fault.SessionFault.{SessionFault}
-use Rattle.bx_journal_read.specs.declared.fault.SessionFault.TheVariants.{NoMemory, TooLarge, DeviceFailed, Damaged, TooFew, JournalFull, Interrupted, Broken, LengthDiffers, NothingToRedo, RedoDamaged}
-use Rattle.bx_journal_read.specs.scan.Looking.{FaultCounts, LooksAt}
-use Rattle.bx_journal_read.specs.model.Fault.{LacksOrFails, redo_fault}
-use Rattle.bx_journal_read.specs.model.Redo.{BeginsAt}
+use Rattle.bx_journal_model.specs.declared.fault.SessionFault.{SessionFault}
+use Rattle.bx_journal_model.specs.declared.fault.SessionFault.TheVariants.{NoMemory, TooLarge, DeviceFailed, Damaged, TooFew, JournalFull, Interrupted, Broken, LengthDiffers, NothingToRedo, RedoDamaged}
+use Rattle.bx_journal_model.specs.Looking.{FaultCounts, LooksAt}
+use Rattle.bx_journal_model.specs.Fault.{LacksOrFails, redo_fault}
+use Rattle.bx_journal_model.specs.Redo.{BeginsAt}
 use Rattle.bx_journal_read.proofs.TailLemmas.{begins_of}
 use Rattle.bx_text.specs.declared.fault.IoFault.TheVariants.{NoMemory as IoMemory, ReadFailed, WriteFailed, InputTooLong, SkipPastEnd}
 use Rattle.bx_journal_read.specs.scan.Recovery.{FindFault, HasMark, IsTornIn, IsUnfinishedIn}

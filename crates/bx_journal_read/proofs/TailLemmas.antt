@@ -6,7 +6,7 @@ use Rattle.bx_journal_format.specs.declared.read.types.StageRead.{StageRead}
 use Rattle.bx_journal_format.specs.declared.read.types.StageRead.TheVariants.{Between as BetweenRead, Saving as SavingRead, Ending as EndingRead}
 use Rattle.bx_journal_format.specs.Text.{Entry, Between, Split, split, start, after_lines}
 use Rattle.bx_journal_format.proofs.Damage.{split_at_mark}
-use Rattle.bx_journal_read.specs.model.Redo.{BeginsAt}
+use Rattle.bx_journal_model.specs.Redo.{BeginsAt}
 use Rattle.bx_journal_format.specs.count.Mark.{IsMark}
 use Rattle.bx_journal_format.specs.Parsed.{entries_of, reading_of, stage_of, told_by, IsStageMarked}
 use Rattle.bx_journal_format.specs.read.Journal.{HasRead}

@@ -7,8 +7,8 @@ use Rattle.bx_journal_format.specs.count.Mark.{IsMark}
 use Rattle.bx_journal_format.specs.declared.read.types.Front.{Front}
 use Rattle.bx_journal_format.proofs.Inverse.{bind_some, next_between, next_ending, next_saving}
 use Rattle.bx_journal_read.specs.declared.scan.torn.Torn.{Torn}
-use Rattle.bx_journal_read.specs.model.Judging.{IsUnfitIn}
-use Rattle.bx_journal_read.specs.model.Redo.{BeginsAt, FirstForm, HasTailAt, IsFirstFormAt, IsTooManyAt, Tail}
+use Rattle.bx_journal_read.specs.scan.Judging.{IsUnfitIn}
+use Rattle.bx_journal_model.specs.Redo.{BeginsAt, FirstForm, HasTailAt, IsFirstFormAt, IsTooManyAt, Tail}
 use Rattle.bx_journal_read.specs.scan.Recovery.{HasTorn, IsTornFront}
 use Rattle.bx_journal_read.specs.scan.Windows.{AreAround, AreMoreThan, IsFrontCounted}
 use Rattle.bx_journal_read.proofs.TailLemmas.{begins_of}

@@ -16,15 +16,15 @@ use Rattle.bx_journal_format.proofs.Foreign.{joined_lines, no_way_back}
 use Rattle.bx_journal_format.specs.Finished.{IsFinished}
 use Rattle.bx_journal_format.specs.declared.read.types.Front.{Front}
 use Rattle.bx_journal_format.specs.read.Plain.{HasNoNewline}
-use Rattle.bx_journal_read.specs.declared.scan.mark.Mark.{Mark}
+use Rattle.bx_journal_model.specs.declared.mark.Mark.{Mark}
 use Rattle.bx_journal_read.specs.declared.scan.count.Walk.{Walk}
 use Rattle.bx_journal_read.specs.scan.Recovery.{HasMark, HasTorn}
 use Rattle.std.proofs.lemmas.List.{take-append-drop}
-use Rattle.bx_journal_read.specs.scan.Restoring.{StandsAt}
+use Rattle.bx_journal_model.specs.Restoring.{StandsAt}
 use Rattle.bx_journal_read.specs.scan.Windows.{IsFrontCounted, IsWalkedTo}
 use Rattle.bx_journal_format.proofs.TallyLemmas.{has_form, take_sum}
-use Rattle.bx_journal_read.proofs.RestoreLemmas.{lines_more, same_reading}
-use Rattle.bx_journal_read.proofs.StandLemmas.{saving_of}
+use Rattle.bx_journal_model.proofs.RestoreLemmas.{lines_more, same_reading}
+use Rattle.bx_journal_model.proofs.StandLemmas.{saving_of}
 
 -- where no entry was finished the finished entries are the same
 entries_next : (es : List Entry) (stage : Stage) (line : List ℕ) (q : Reading) → next_at es stage line ≡ Some q → length q.entries ≤ length es → q.entries ≡ es

@@ -1,10 +1,9 @@
 -- Counting in windows.
-use Rattle.std.proofs.Common.{◌≡◌, ℕ, ◌+◌, ◌-◌, ◌≤◌, Bool, List, length, take, ap, sym, ◌∙◌, subst, arith, length-take, Result, Ok}
+use Rattle.std.proofs.Common.{◌≡◌, ℕ, Bool, List, length, take, ap, sym, ◌∙◌, subst, arith, Result, Ok}
 use Rattle.bx_image.specs.Power.{NoMore}
 use Rattle.bx_image.proofs.Survivors.{NoMore_then}
 use Rattle.bx_journal_store.specs.declared.store.TextStore.{Ghosts as StoreViews}
 use Rattle.bx_journal_format.specs.Shown.{shown}
-use Rattle.bx_journal_format.proofs.TallyLemmas.{take_less}
 use Rattle.std.specs.Prelude.{IfErr, OnOk}
 use Rattle.std.proofs.lemmas.List.{take_all}
 use Rattle.std.proofs.lemmas.Result.{IfErr-weaker, IfOk-weaker}
@@ -12,18 +11,12 @@ use Rattle.bx_journal_format.specs.Text.{IsDamagedAt}
 use Rattle.bx_journal_format.specs.declared.read.types.Front.{Front}
 use Rattle.bx_journal_read.specs.declared.scan.journal.Found.{Found}
 use Rattle.bx_journal_read.specs.declared.scan.journal.Found.TheVariants.{Finished, Unfinished}
-use Rattle.bx_journal_read.specs.declared.fault.SessionFault.{SessionFault}
-use Rattle.bx_journal_read.specs.declared.fault.SessionFault.TheVariants.{NoMemory, TooLarge, DeviceFailed, Damaged, TooFew, JournalFull, Interrupted, Broken, LengthDiffers, NothingToRedo, RedoDamaged}
-use Rattle.bx_journal_read.specs.model.Undoing.{AgainFault, IsOutOfStep}
-use Rattle.bx_journal_read.specs.scan.Looking.{FaultCounts, LooksAt}
+use Rattle.bx_journal_model.specs.declared.fault.SessionFault.{SessionFault}
+use Rattle.bx_journal_model.specs.declared.fault.SessionFault.TheVariants.{NoMemory, TooLarge, DeviceFailed, Damaged, TooFew, JournalFull, Interrupted, Broken, LengthDiffers, NothingToRedo, RedoDamaged}
+use Rattle.bx_journal_model.specs.Undoing.{AgainFault, IsOutOfStep}
+use Rattle.bx_journal_model.specs.Looking.{FaultCounts, LooksAt}
 use Rattle.bx_journal_read.specs.scan.Recovery.{FindFault, FindsText, IsFoundIn, IsTornIn}
 use Rattle.bx_journal_read.specs.scan.Windows.{IsFrontCounted, IsAllCounted}
-
--- a front of a window that was filled
-pub front_of : (n m : ℕ) (window from : List ℕ) → n ≤ length window → window ≡ take m from → take n window ≡ take n from
-front_of n m window from less is =
-    let more : n + (m - n) ≡ m = omega (arith, less, ap length is, length-take m from) in
-    ap (take n) is ∙ ap (λ k. take n (take k from)) (sym more) ∙ take_less n (m - n) from
 
 -- what was counted of a store is so of it later
 pub front_after : (H now : Type 0) (stored text : List ℕ) (only : Bool) (f : Front) → (now → H) → (H → text ≡ stored) → IsFrontCounted H stored only f → IsFrontCounted now text only f

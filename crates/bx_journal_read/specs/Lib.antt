@@ -1,3 +1,2 @@
-pub mod model
 pub mod scan
 pub mod show

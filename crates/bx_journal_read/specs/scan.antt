@@ -1,8 +1,6 @@
 -- How a text is read in windows.
 pub mod Damage
-pub mod Long
-pub mod Looking
+pub mod Entries
+pub mod Judging
 pub mod Recovery
-pub mod Restoring
-pub mod Step
 pub mod Windows

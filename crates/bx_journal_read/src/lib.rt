@@ -1,24 +1,18 @@
 //! A journal's text, read from its store and shown; memory is taken, and nothing is written to a device. An inner part of `bx_journal`.
 #![tactic(auto)]
 
-mod answers;
-mod fault;
 mod scan;
 mod show;
 
-pub use answers::{How, LogRow, Recovered};
-pub use fault::{SessionFault, of_redo, of_text};
 pub use scan::count::{CountedText, count_text};
 pub use scan::damage::text_damage;
-pub use scan::entries::{FinishedRead, read_again, read_last_of};
+pub use scan::entries::{read_again, read_last_of};
 pub use scan::journal::{Found, read_text};
-pub use scan::long::{Cut, passed, read_cut};
-pub use scan::mark::{Mark, enough_of, start_size};
 pub use scan::newlines::{line_from, newlines};
 pub use scan::torn::Torn;
 pub use scan::unfit::unfit_line;
 pub use scan::whole::read_journal;
-pub use scan::windows::{Scan, Taken, WINDOW, scan_windows};
+pub use scan::windows::{Scan, Taken, scan_windows};
 pub use show::differences::put_differences;
 pub use show::fault::ShowFault;
 pub use show::heading::put_heading;

@@ -3,8 +3,6 @@ pub(crate) mod count;
 pub(crate) mod damage;
 pub(crate) mod entries;
 pub(crate) mod journal;
-pub(crate) mod long;
-pub(crate) mod mark;
 pub(crate) mod newlines;
 pub(crate) mod shown;
 pub(crate) mod torn;

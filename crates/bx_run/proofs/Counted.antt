@@ -2,7 +2,7 @@
 use Rattle.std.proofs.Common.{◌≡◌, ◌∙◌, ℕ, List, Ok, subst, arith}
 use Rattle.bx_image.specs.declared.device.Device.{Ghosts as DeviceViews}
 use Rattle.bx_journal_store.specs.declared.store.TextStore.{Ghosts as StoreViews}
-use Rattle.bx_journal_read.proofs.Phases.{length-stack_of}
+use Rattle.bx_journal_model.proofs.Phases.{length-stack_of}
 use Rattle.bx_journal.specs.Devices.{Devices}
 use Rattle.bx_journal.specs.How.TheVariants.{Clean}
 use Rattle.bx_journal.specs.Machine.{changes_of}

@@ -7,9 +7,9 @@ use Rattle.bx_image.specs.declared.device.Device.{Ghosts as DeviceViews}
 use Rattle.bx_journal_store.specs.declared.store.TextStore.{Ghosts as StoreViews}
 use Rattle.bx_journal_format.specs.Shown.{shown}
 use Rattle.bx_journal_format.specs.Text.{IsAccepted, IsDamagedAt}
-use Rattle.bx_journal_read.specs.model.Fault.{DeviceFault}
+use Rattle.bx_journal_model.specs.Fault.{DeviceFault}
 use Rattle.bx_journal_read.specs.scan.Recovery.{FindFault}
-use Rattle.bx_journal_read.proofs.Judged.{undamaged}
+use Rattle.bx_journal_model.proofs.Judged.{undamaged}
 use Rattle.bx_journal_format.specs.Text.{Between, Reads}
 use Rattle.bx_journal_format.proofs.CleanLemmas.{clean_shown}
 use Rattle.bx_journal.specs.Phase.{IsAtRest}

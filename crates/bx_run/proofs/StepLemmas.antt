@@ -24,8 +24,8 @@ use Rattle.bx_journal.specs.Undoing.{HasCount}
 use Rattle.bx_journal.specs.Way.{Way}
 use Rattle.bx_journal.specs.Way.TheVariants.{Undo, Redo}
 use Rattle.bx_journal_read.proofs.OpenLemmas.{some_same}
-use Rattle.bx_journal_read.proofs.Phases.{length-stack_of}
-use Rattle.bx_journal_read.proofs.UndoLoop.{drop_one, kept_next}
+use Rattle.bx_journal_model.proofs.Phases.{length-stack_of}
+use Rattle.bx_journal_model.proofs.UndoLoop.{drop_one, kept_next}
 use Rattle.bx_run.specs.report.Stepped.{HoldImages, IsPatchCut, patch_between, stopped_by}
 use Rattle.bx_run.specs.declared.report.error.ReportError.{ReportError}
 

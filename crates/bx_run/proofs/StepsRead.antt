@@ -13,7 +13,7 @@ use Rattle.bx_journal.specs.Text.{Between, Entry, Reading, split}
 use Rattle.bx_journal.specs.Undoing.{AgainFault, HasCount, IsLastFrom}
 use Rattle.bx_journal_format.proofs.Bounds.{AreBounded, read_bounded}
 use Rattle.bx_journal_read.proofs.AgainLemmas.{in_step}
-use Rattle.bx_journal_read.proofs.ReadingLemmas.{AreSane, read_sane}
+use Rattle.bx_journal_model.proofs.ReadingLemmas.{AreSane, read_sane}
 use Rattle.bx_cli_commands.specs.declared.fault.Fault.TheVariants.{Session}
 use Rattle.bx_run.specs.report.Devices.{IsDeviceStop}
 use Rattle.bx_run.specs.report.Stepped.{HoldImages}

@@ -3,21 +3,21 @@ use Rattle.std.specs.Prelude.{◌≡◌, ◌↔◌, ◌⊎◌, [], ℕ, List, Re
 use Rattle.bx_image.specs.declared.device.Device.{Ghosts as DeviceViews}
 use Rattle.bx_journal_store.specs.declared.store.TextStore.{Ghosts as StoreViews}
 use Rattle.bx_image.specs.Power.{Only}
-use Rattle.bx_journal_protocol.specs.declared.devices.Devices.{Devices}
-use Rattle.bx_journal_protocol.specs.ThreeDevices.{AreCounted, AreUnfailed}
-use Rattle.bx_journal_read.specs.declared.answers.How.TheVariants.{Clean}
-use Rattle.bx_journal_read.specs.declared.answers.Recovered.{Recovered}
-use Rattle.bx_journal_read.specs.declared.fault.SessionFault.{SessionFault}
-use Rattle.bx_journal_read.specs.declared.fault.SessionFault.TheVariants.{Damaged, Interrupted}
+use Rattle.bx_journal_model.specs.declared.devices.Devices.{Devices}
+use Rattle.bx_journal_model.specs.ThreeDevices.{AreCounted, AreUnfailed}
+use Rattle.bx_journal_model.specs.declared.answers.How.TheVariants.{Clean}
+use Rattle.bx_journal_model.specs.declared.answers.Recovered.{Recovered}
+use Rattle.bx_journal_model.specs.declared.fault.SessionFault.{SessionFault}
+use Rattle.bx_journal_model.specs.declared.fault.SessionFault.TheVariants.{Damaged, Interrupted}
 use Rattle.bx_journal_read.specs.declared.scan.torn.Torn.{Torn}
 use Rattle.bx_journal_format.specs.Shown.{shown}
 use Rattle.bx_journal_format.specs.Text.{IsAccepted, IsDamagedAt, Reading, Reads}
-use Rattle.bx_journal_read.specs.model.Calls.{AfterFault}
-use Rattle.bx_journal_read.specs.model.Opening.{IsOpened, RefusesText}
-use Rattle.bx_journal_read.specs.model.Redo.{IsClean}
+use Rattle.bx_journal_model.specs.Calls.{AfterFault}
+use Rattle.bx_journal_model.specs.Opening.{IsOpened, RefusesText}
+use Rattle.bx_journal_model.specs.Redo.{IsClean}
 use Rattle.bx_journal_read.specs.scan.Recovery.{IsTorn, LookReadFault}
-use Rattle.bx_journal_read.specs.model.Undoing.{HasLeft}
-use Rattle.bx_journal_read.specs.model.Stack.{HaveLengths, image_at}
+use Rattle.bx_journal_model.specs.Undoing.{HasLeft}
+use Rattle.bx_journal_model.specs.Stack.{HaveLengths, image_at}
 use Rattle.bx_journal.specs.Opened.{FaultsAsRead, FindsAgain, KeepsFoundUndone, KeepsPair, KeepsRedoText, IsLengthRefused, SparesClean, SparesPair, TellsRefused, TellsUndone, TellsUnfit}
 use Rattle.bx_journal.specs.Recovery.{OpenKind}
 

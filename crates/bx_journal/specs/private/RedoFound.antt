@@ -3,11 +3,11 @@ use Rattle.std.specs.Prelude.{◌≡◌, ◌≤◌, ◌+◌, ℕ, List, length, 
 use Rattle.bx_journal_read.specs.declared.scan.count.CountedText.{CountedText}
 use Rattle.bx_journal.specs.declared.recovery.redo.RedoFound.{RedoFound}
 use Rattle.bx_journal.specs.declared.recovery.redo.RedoFound.TheVariants.{Counted, Unfit, Text}
-use Rattle.bx_journal_read.specs.declared.fault.SessionFault.{SessionFault}
-use Rattle.bx_journal_read.specs.declared.fault.SessionFault.TheVariants.{NoMemory, RedoDamaged}
+use Rattle.bx_journal_model.specs.declared.fault.SessionFault.{SessionFault}
+use Rattle.bx_journal_model.specs.declared.fault.SessionFault.TheVariants.{NoMemory, RedoDamaged}
 use Rattle.bx_journal_format.specs.Text.{split}
-use Rattle.bx_journal_read.specs.model.Judging.{RefusesRedo, IsRedoCounted, IsUnfitAt}
-use Rattle.bx_journal_read.specs.model.Redo.{IsRedoOf, IsRefusedAt}
+use Rattle.bx_journal_read.specs.scan.Judging.{RefusesRedo, IsRedoCounted, IsUnfitAt}
+use Rattle.bx_journal_model.specs.Redo.{IsRedoOf, IsRefusedAt}
 
 -- the text was counted as a redo text beside `changes` changes, or isn't one at a line, or is there as it is
 abbrev pub IsRedoFound : {A : Type 0} → List ℕ → ℕ → RedoFound A → Type 0

@@ -8,12 +8,12 @@ use Rattle.bx_journal_format.specs.declared.read.rows.Summed.{Summed}
 use Rattle.bx_journal_format.specs.count.Rows.{summed_of}
 use Rattle.bx_journal_format.specs.Finished.{IsFinished}
 use Rattle.bx_journal_format.specs.Text.{Entry, Reading, split, start, after_lines}
-use Rattle.bx_journal_read.specs.declared.answers.LogRow.{LogRow}
+use Rattle.bx_journal_model.specs.declared.answers.LogRow.{LogRow}
 use Rattle.bx_journal.specs.declared.session.log.windows.Listed.{Listed}
-use Rattle.bx_journal_read.specs.declared.fault.SessionFault.{SessionFault}
-use Rattle.bx_journal_read.specs.model.Calls.{rows_of}
-use Rattle.bx_journal_read.specs.model.Undoing.{AgainFault}
-use Rattle.bx_journal_read.specs.scan.Looking.{LooksAt}
+use Rattle.bx_journal_model.specs.declared.fault.SessionFault.{SessionFault}
+use Rattle.bx_journal_model.specs.Calls.{rows_of}
+use Rattle.bx_journal_model.specs.Undoing.{AgainFault}
+use Rattle.bx_journal_model.specs.Looking.{LooksAt}
 
 -- the row of the entry that the last line ended, where the text stands at such a place
 abbrev pub ended_row : Place → Summed → List LogRow

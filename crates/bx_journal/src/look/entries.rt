@@ -5,7 +5,8 @@ ghost use Rattle.bx_journal_read.specs.show.Showing.{CountsNone, LiesWithin, Loo
 ghost use Rattle.bx_journal_read.specs.show.Stopping.{CountsBytes, StopsPrefix};
 
 use bx_journal_format::Mark;
-use bx_journal_read::{ShowFault, WINDOW, put, put_ranges};
+use bx_journal_model::WINDOW;
+use bx_journal_read::{ShowFault, put, put_ranges};
 use bx_journal_store::TextStore;
 use std::alloc::{AllocError, Allocator};
 use std::fmt::Write as _;

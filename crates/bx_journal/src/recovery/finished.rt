@@ -1,10 +1,10 @@
 //! Opening beside a journal of committed entries alone: the redo text is read and judged.
 ghost use Rattle.std.specs.Prelude.{◌≡◌, ◌↔◌, ◌+◌, ◌<◌, ◌≤◌, ℕ, OnOk, IfOk, IfErr, IfSome, MatchResult};
-ghost use Rattle.bx_journal_read.specs.model.Judging.{IsUnfitIn};
-ghost use Rattle.bx_journal_read.specs.model.Opening.{RefusesLength};
+ghost use Rattle.bx_journal_read.specs.scan.Judging.{IsUnfitIn};
+ghost use Rattle.bx_journal_model.specs.Opening.{RefusesLength};
 ghost use Rattle.bx_image.specs.Power.{NoMore};
-ghost use Rattle.bx_journal_read.specs.scan.Looking.{FaultCounts, LooksAt};
-ghost use Rattle.bx_journal_read.specs.model.Fault.{LacksOrFails};
+ghost use Rattle.bx_journal_model.specs.Looking.{FaultCounts, LooksAt};
+ghost use Rattle.bx_journal_model.specs.Fault.{LacksOrFails};
 ghost use Rattle.bx_journal_read.specs.scan.Recovery.{FaultBeside, HasOtherLength, HasToldLength, RefusesBeside, TellsCount};
 ghost use Rattle.bx_journal.specs.private.RedoFound.{IsRedoCountedIn, IsRedoIn};
 
@@ -12,9 +12,8 @@ use crate::recovery::length::check_length;
 use crate::recovery::redo::{RedoFound, judge_redo};
 use bx_image::Device;
 use bx_journal_format::{Counted, MOST_CHANGES};
-use bx_journal_read::{
-    CountedText, How, Recovered, SessionFault, count_text, of_text, text_damage, unfit_line,
-};
+use bx_journal_model::{How, Recovered, SessionFault, of_text};
+use bx_journal_read::{CountedText, count_text, text_damage, unfit_line};
 use bx_journal_store::TextStore;
 use std::alloc::Allocator;
 

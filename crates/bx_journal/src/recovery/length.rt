@@ -1,11 +1,11 @@
 //! Whether an image has the length that a journal records.
 ghost use Rattle.std.specs.Prelude.{◌≡◌, ◌<◌, length, OnOk, IfErr, IfSome};
 ghost use Rattle.bx_image.specs.Power.{NoMore};
-ghost use Rattle.bx_journal_read.specs.scan.Looking.{LooksAt};
+ghost use Rattle.bx_journal_model.specs.Looking.{LooksAt};
 ghost use Rattle.bx_journal_read.specs.scan.Recovery.{LengthFault};
 
 use bx_image::Device;
-use bx_journal_read::SessionFault;
+use bx_journal_model::SessionFault;
 
 /// Whether the image has the length that the last entry tells, if it tells one.
 pub fn check_length<D: Device>(image: &mut D, told: Option<u64>) -> Result<(), SessionFault>

@@ -1,16 +1,17 @@
 //! Whether a text is a redo text: finished entries of the second form, no more than a journal holds beside its changes.
 ghost use Rattle.std.specs.Prelude.{◌≡◌, ◌⊎◌, ◌+◌, ◌<◌, ◌≤◌, List, ℕ, suc, length, take, Some, OnOk, IfOk, IfErr, IfSome, IfNone, MatchResult};
 ghost use Rattle.bx_journal_format.specs.read.Journal.{HasRead};
-ghost use Rattle.bx_journal_read.specs.model.Judging.{RefusesRedo, AllTold, IsBeyondAt, IsFit, IsRedoCounted, IsUnfitAt, IsUnfitFrom, IsUntoldAt, JudgeFault, LastLineFault, RedoTextFault};
+ghost use Rattle.bx_journal_read.specs.scan.Judging.{RefusesRedo, AllTold, IsBeyondAt, IsFit, IsRedoCounted, IsUnfitAt, IsUnfitFrom, IsUntoldAt, JudgeFault, LastLineFault, RedoTextFault};
 ghost use Rattle.bx_image.specs.Power.{NoMore};
-ghost use Rattle.bx_journal_read.specs.scan.Looking.{LooksAt};
+ghost use Rattle.bx_journal_model.specs.Looking.{LooksAt};
 ghost use Rattle.bx_journal_read.specs.scan.Recovery.{HasUndoneCount};
 ghost use Rattle.bx_journal_format.specs.Parsed.{entries_of};
 ghost use Rattle.bx_journal_format.specs.Text.{split};
 
 use bx_image::Device;
 use bx_journal_format::{Counted, EntryRead, JournalRead, MOST_CHANGES, StageRead, told_length};
-use bx_journal_read::{CountedText, SessionFault, newlines, of_redo, read_journal};
+use bx_journal_model::{SessionFault, of_redo};
+use bx_journal_read::{CountedText, newlines, read_journal};
 use std::alloc::{Allocator, Global};
 
 /// What a redo text is.

@@ -1,24 +1,25 @@
 //! An unfinished entry at the end of a journal, and how opening discards it or rolls it back.
 ghost use Rattle.std.specs.Prelude.{◌≡◌, ◌↔◌, ◌⊎◌, ◌+◌, ◌<◌, ◌≤◌, [], List, ℕ, OnOk, OnErr, IfOk, IfErr};
-ghost use Rattle.bx_journal_read.specs.model.Calls.{AfterFault};
-ghost use Rattle.bx_journal_protocol.specs.ThreeDevices.{AreBelow, AreCounted, AreUnfailed, HaveStayed, StepsOn};
-ghost use Rattle.bx_journal_read.specs.scan.Looking.{LooksAt, OneMore, LookFault};
+ghost use Rattle.bx_journal_model.specs.Calls.{AfterFault};
+ghost use Rattle.bx_journal_model.specs.ThreeDevices.{AreBelow, AreCounted, AreUnfailed, HaveStayed, StepsOn};
+ghost use Rattle.bx_journal_model.specs.Looking.{LooksAt, OneMore, LookFault};
 ghost use Rattle.bx_journal_protocol.specs.protocol.Entries.{StaySettled};
 ghost use Rattle.bx_journal_protocol.specs.protocol.Fading.{OpeningSurvives, PairSurvives};
 ghost use Rattle.bx_journal_protocol.specs.protocol.Written.{AreSettled};
 ghost use Rattle.bx_image.specs.Power.{NoMore, Only};
-ghost use Rattle.bx_journal_protocol.specs.model.Power.{FoundBefore, RecoverySurvives};
+ghost use Rattle.bx_journal_model.specs.Power.{FoundBefore, RecoverySurvives};
 ghost use Rattle.bx_journal_protocol.specs.protocol.Opening.{HasBuffersFor, HasRoomToRestore};
 ghost use Rattle.bx_journal.specs.Opened.{CountsStack, FaultsAsRead, KeepsPair, OfAll, Opens, IsLengthRefused, SparesPair};
 ghost use Rattle.bx_journal.specs.private.Recovering.{CallsCount, EmptiesRedo, FaultsOfTorn, LeavesRead, OpensRead, WherePairSettled};
 ghost use Rattle.bx_journal_read.specs.scan.Recovery.{IsTorn, IsUnfinishedIn, KeepsStack, RecoverFault};
-ghost use Rattle.bx_journal_read.specs.model.Stack.{HaveLengths, image_at};
+ghost use Rattle.bx_journal_model.specs.Stack.{HaveLengths, image_at};
 ghost use Rattle.bx_journal_format.specs.Text.{Reading};
 
 use crate::recovery::length::check_length;
 use bx_image::{Device, DeviceFailed};
-use bx_journal_protocol::{Buffers, Devices, buffers_of, cut_redo, drop_tail, settle, take_back};
-use bx_journal_read::{How, Mark, Recovered, SessionFault, Torn};
+use bx_journal_model::{Devices, How, Mark, Recovered, SessionFault};
+use bx_journal_protocol::{Buffers, buffers_of, cut_redo, drop_tail, settle, take_back};
+use bx_journal_read::Torn;
 use bx_journal_store::TextStore;
 use std::alloc::Allocator;
 

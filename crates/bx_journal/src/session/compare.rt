@@ -6,14 +6,14 @@ ghost use Rattle.bx_patch.specs.Read.{asked_of};
 
 use crate::Session;
 use bx_image::Device;
-use bx_journal_read::SessionFault;
+use bx_journal_model::SessionFault;
 use bx_journal_store::TextStore;
 use bx_patch::{Other, Patch, find_other};
 use std::alloc::Allocator;
 
 impl<D: Device, T: TextStore, A: Allocator> Session<D, T, A> {
-    ghost use Rattle.bx_journal_protocol.specs.model.Power.{NothingNew};
-    ghost use Rattle.bx_journal_protocol.specs.model.Session.{FailsSafely};
+    ghost use Rattle.bx_journal_model.specs.Power.{NothingNew};
+    ghost use Rattle.bx_journal_model.specs.Session.{FailsSafely};
 
     /// What the image has otherwise than a patch expects, the first in the order of the text; none where it agrees with the patch.
     /// Nothing is changed, and no memory is taken.

@@ -6,16 +6,16 @@ ghost use Rattle.bx_journal.specs.Forgotten.{LeavesTexts};
 use crate::Session;
 use crate::forget::empty_texts;
 use bx_image::Device;
+use bx_journal_model::SessionFault;
 use bx_journal_protocol::settle;
-use bx_journal_read::SessionFault;
 use bx_journal_store::TextStore;
 use std::alloc::Allocator;
 
 impl<D: Device, T: TextStore, A: Allocator + Clone> Session<D, T, A> {
-    ghost use Rattle.bx_journal_read.specs.model.Calls.{AfterFault};
-    ghost use Rattle.bx_journal_protocol.specs.model.Power.{NothingNew};
-    ghost use Rattle.bx_journal_protocol.specs.model.SessionView.{devices_of};
-    ghost use Rattle.bx_journal_protocol.specs.model.Session.{FailsSafely, HasUndone, IsReady};
+    ghost use Rattle.bx_journal_model.specs.Calls.{AfterFault};
+    ghost use Rattle.bx_journal_model.specs.Power.{NothingNew};
+    ghost use Rattle.bx_journal_model.specs.SessionView.{devices_of};
+    ghost use Rattle.bx_journal_model.specs.Session.{FailsSafely, HasUndone, IsReady};
     ghost use Rattle.bx_journal.specs.Forgotten.{FindsForgotten, ForgetFault, ForgetsStack, ForgettingSurvives, KeepsImage};
 
     /// Accepts all changes, drops the history, and answers how many changes stood: nothing can be undone or redone then. The

@@ -1,11 +1,11 @@
 //! The rows of a log: a row for each change.
 ghost use Rattle.std.specs.Prelude.{◌≡◌, ◌+◌, ◌<◌, ◌≤◌, ◌^◌, List, ℕ, length, All, IfOk, IfErr, OnOk};
-ghost use Rattle.bx_journal_read.specs.model.Calls.{rows_of};
+ghost use Rattle.bx_journal_model.specs.Calls.{rows_of};
 ghost use Rattle.bx_journal_format.specs.Parsed.{entries_of};
 ghost use Rattle.bx_journal_format.specs.Kept.{kept_of};
 ghost use Rattle.bx_journal_format.specs.count.Rows.{saved_length};
 ghost use Rattle.bx_journal_format.specs.Text.{Entry};
-ghost use Rattle.bx_journal_read.specs.model.Undoing.{AgainFault, HasCount};
+ghost use Rattle.bx_journal_model.specs.Undoing.{AgainFault, HasCount};
 ghost use Rattle.bx_journal_format.specs.Finished.{IsFinished};
 
 mod windows;
@@ -14,7 +14,8 @@ use crate::Session;
 use crate::session::log::windows::rows_in_windows;
 use bx_image::{Device, Saved};
 use bx_journal_format::EntryRead;
-use bx_journal_read::{LogRow, SessionFault, read_again};
+use bx_journal_model::{LogRow, SessionFault};
+use bx_journal_read::read_again;
 use bx_journal_store::TextStore;
 use bx_text::NoMemory;
 use std::alloc::Allocator;
@@ -94,8 +95,8 @@ fn rows_of_text<T: TextStore, A: Allocator + Clone>(
 }
 
 impl<D: Device, T: TextStore, A: Allocator + Clone> Session<D, T, A> {
-    ghost use Rattle.bx_journal_protocol.specs.model.Power.{NothingNew};
-    ghost use Rattle.bx_journal_protocol.specs.model.Session.{FailsSafely};
+    ghost use Rattle.bx_journal_model.specs.Power.{NothingNew};
+    ghost use Rattle.bx_journal_model.specs.Session.{FailsSafely};
 
     /// One row for each change, the oldest first. It reads the journal's text again, and changes nothing.
     pub fn log(&mut self) -> Result<Vec<LogRow, A>, SessionFault>

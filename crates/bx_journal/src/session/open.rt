@@ -1,12 +1,11 @@
 //! Opening an image with its journal and its redo text, with recovery.
 ghost use Rattle.std.specs.Prelude.{◌≡◌, ◌<◌};
-ghost use Rattle.bx_journal_protocol.specs.ThreeDevices.{AreBelow};
+ghost use Rattle.bx_journal_model.specs.ThreeDevices.{AreBelow};
 
 use crate::Session;
 use crate::recovery::recover;
 use bx_image::Device;
-use bx_journal_protocol::Devices;
-use bx_journal_read::{Recovered, SessionFault};
+use bx_journal_model::{Devices, Recovered, SessionFault};
 use bx_journal_store::TextStore;
 use std::alloc::Allocator;
 

@@ -1,15 +1,16 @@
 //! Redo: undone changes are made again.
 ghost use Rattle.std.specs.Prelude.{◌≡◌, ◌↔◌, ◌+◌, ◌<◌, ◌≤◌, ℕ, length, true, false, IfOk, IfErr, OnOk, IsErrOf};
 ghost use Rattle.bx_image.specs.Power.{NoMore};
-ghost use Rattle.bx_journal_read.specs.model.Images.{redo_of};
-ghost use Rattle.bx_journal_read.specs.scan.Looking.{LooksAt};
+ghost use Rattle.bx_journal_model.specs.Images.{redo_of};
+ghost use Rattle.bx_journal_model.specs.Looking.{LooksAt};
 ghost use Rattle.bx_journal_format.specs.Text.{IsPrefix};
-ghost use Rattle.bx_journal_read.specs.model.Undoing.{IsLastFrom, RedoAgainFault};
+ghost use Rattle.bx_journal_model.specs.Undoing.{IsLastFrom, RedoAgainFault};
 
 use crate::Session;
 use bx_image::Device;
+use bx_journal_model::{FinishedRead, SessionFault, of_redo};
 use bx_journal_protocol::{prepare_redo, redo_entries};
-use bx_journal_read::{FinishedRead, SessionFault, of_redo, read_last_of};
+use bx_journal_read::read_last_of;
 use bx_journal_store::TextStore;
 use std::alloc::Allocator;
 
@@ -52,14 +53,14 @@ fn undone_left(undone: u32, made: u32) -> u32
 }
 
 impl<D: Device, T: TextStore, A: Allocator + Clone> Session<D, T, A> {
-    ghost use Rattle.bx_journal_read.specs.model.Calls.{AfterFault};
-    ghost use Rattle.bx_journal_protocol.specs.model.Power.{NothingNew, StepsSurvive};
-    ghost use Rattle.bx_journal_protocol.specs.model.SessionView.{devices_of};
+    ghost use Rattle.bx_journal_model.specs.Calls.{AfterFault};
+    ghost use Rattle.bx_journal_model.specs.Power.{NothingNew, StepsSurvive};
+    ghost use Rattle.bx_journal_model.specs.SessionView.{devices_of};
     ghost use Rattle.bx_journal_protocol.specs.protocol.Written.{AreSettled};
-    ghost use Rattle.bx_journal_protocol.specs.model.Session.{FailsSafely};
-    ghost use Rattle.bx_journal_protocol.specs.model.Performing.{FindsSome, GrowsByTaken, KeepsOldStack, RedoesImages, StaysRedone};
+    ghost use Rattle.bx_journal_model.specs.Session.{FailsSafely};
+    ghost use Rattle.bx_journal_model.specs.Performing.{FindsSome, GrowsByTaken, KeepsOldStack, RedoesImages, StaysRedone};
     ghost use Rattle.bx_journal.specs.Faults.{FaultsOfRedo};
-    ghost use Rattle.bx_journal_read.specs.model.Undoing.{LeavesFront};
+    ghost use Rattle.bx_journal_model.specs.Undoing.{LeavesFront};
 
     /// Makes the last j undone changes again, the one undone last first, and answers how many changes then stand.
     ///

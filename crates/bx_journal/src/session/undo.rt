@@ -1,12 +1,13 @@
 //! Undo: changes are taken back, the newest first.
 ghost use Rattle.std.specs.Prelude.{◌≡◌, ◌↔◌, ◌+◌, ◌<◌, ◌≤◌, ℕ, drop, true, false, IfOk, IfErr, OnOk, IsErrOf};
-ghost use Rattle.bx_journal_read.specs.model.Images.{undo_of};
-ghost use Rattle.bx_journal_read.specs.model.Machine.{UndoStep};
+ghost use Rattle.bx_journal_model.specs.Images.{undo_of};
+ghost use Rattle.bx_journal_model.specs.Machine.{UndoStep};
 
 use crate::Session;
 use bx_image::Device;
+use bx_journal_model::SessionFault;
 use bx_journal_protocol::{prepare_takens, undo_entries};
-use bx_journal_read::{SessionFault, read_last_of};
+use bx_journal_read::read_last_of;
 use bx_journal_store::TextStore;
 use std::alloc::Allocator;
 
@@ -20,14 +21,14 @@ fn count_left(count: u32, undone: u32) -> u32
 }
 
 impl<D: Device, T: TextStore, A: Allocator + Clone> Session<D, T, A> {
-    ghost use Rattle.bx_journal_read.specs.model.Calls.{AfterFault};
-    ghost use Rattle.bx_journal_protocol.specs.model.Power.{NothingNew, StepsSurvive};
-    ghost use Rattle.bx_journal_protocol.specs.model.SessionView.{devices_of};
+    ghost use Rattle.bx_journal_model.specs.Calls.{AfterFault};
+    ghost use Rattle.bx_journal_model.specs.Power.{NothingNew, StepsSurvive};
+    ghost use Rattle.bx_journal_model.specs.SessionView.{devices_of};
     ghost use Rattle.bx_journal_protocol.specs.protocol.Written.{AreSettled};
-    ghost use Rattle.bx_journal_protocol.specs.model.Session.{FailsSafely};
-    ghost use Rattle.bx_journal_protocol.specs.model.Performing.{FindsSome, KeepsTaken, StaysReady, Steps, StopsUndo, UndoesImages};
+    ghost use Rattle.bx_journal_model.specs.Session.{FailsSafely};
+    ghost use Rattle.bx_journal_model.specs.Performing.{FindsSome, KeepsTaken, StaysReady, Steps, StopsUndo, UndoesImages};
     ghost use Rattle.bx_journal.specs.Faults.{FaultsOfUndo};
-    ghost use Rattle.bx_journal_read.specs.model.Undoing.{LeavesFront};
+    ghost use Rattle.bx_journal_model.specs.Undoing.{LeavesFront};
 
     /// Takes the last k changes back, the newest first, and answers how many are left. Their images are then undone, and
     /// can be made again; but an image of more than `MAX_LEN` bytes, and what was undone before it, is given up.

@@ -3,7 +3,7 @@ ghost use Rattle.std.specs.Prelude.{◌≡◌, max};
 
 use crate::Session;
 use bx_image::Device;
-use bx_journal_protocol::Devices;
+use bx_journal_model::Devices;
 use bx_journal_store::TextStore;
 use std::alloc::Allocator;
 

@@ -1,7 +1,7 @@
 //! The blocks that the saved lines of an entry touch.
 ghost use Rattle.std.specs.Prelude.{◌≡◌, ◌<◌, ◌≤◌, [], ◌∷◌, length, take, is_err, true, false, IfOk};
 ghost use Rattle.bx_journal_format.specs.Text.{split};
-ghost use Rattle.bx_journal_read.specs.scan.Looking.{OnlyReadsText};
+ghost use Rattle.bx_journal_model.specs.Looking.{OnlyReadsText};
 ghost use Rattle.bx_journal_read.specs.scan.Windows.{rest_to};
 ghost use Rattle.bx_journal_image.specs.Blocks.{AreStruck, HasLongLine, ranges_in};
 

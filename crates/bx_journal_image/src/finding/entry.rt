@@ -1,6 +1,6 @@
 //! The last entry of a text: where it begins, and what its first line and its last one tell.
 ghost use Rattle.std.specs.Prelude.{◌≡◌, ◌+◌, ◌<◌, ◌≤◌, ◌^◌, ℕ, length, take, drop, is_err, IfOk, IfSome, IfNone};
-ghost use Rattle.bx_journal_read.specs.scan.Looking.{OnlyReadsText};
+ghost use Rattle.bx_journal_model.specs.Looking.{OnlyReadsText};
 ghost use Rattle.bx_journal_image.specs.Entry.{IsBefore, IsLastEntryAt, beginning_line};
 ghost use Rattle.bx_journal_image.specs.Ranges.{EndsIn};
 

@@ -1,7 +1,7 @@
 //! What a command finds of an image beside two finished texts.
 ghost use Rattle.std.specs.Prelude.{◌≡◌, ◌+◌, ◌<◌, ◌≤◌, length, take, drop, is_err, IfOk, IfErr, OnOk};
-ghost use Rattle.bx_journal_read.specs.model.Fault.{LacksOrFails};
-ghost use Rattle.bx_journal_read.specs.model.Opening.{ThreeCounts};
+ghost use Rattle.bx_journal_model.specs.Fault.{LacksOrFails};
+ghost use Rattle.bx_journal_model.specs.Opening.{ThreeCounts};
 ghost use Rattle.bx_journal_image.specs.Blocks.{OnlyReadsImage};
 ghost use Rattle.bx_journal_image.specs.Looks.{ThreeCount, LooksAtBoth, LeavesDevice};
 ghost use Rattle.bx_journal_image.specs.Stand.{IsDigested, IsLastRead, IsStandOf};
@@ -13,7 +13,7 @@ use crate::finding::summed::{nothing_summed, sum_end};
 use crate::finding::written::{Part, sum_text};
 use crate::line::digest::{Digest, digest_of};
 use bx_image::{Device, DeviceFailed};
-use bx_journal_read::SessionFault;
+use bx_journal_model::SessionFault;
 use bx_journal_store::TextStore;
 use std::alloc::Allocator;
 

@@ -2,8 +2,8 @@
 ghost use Rattle.std.specs.Prelude.{◌≡◌, ◌↔◌, ◌<◌, ◌≤◌, length, is_err, IfOk, IfErr, OnOk};
 ghost use Rattle.bx_image.specs.Power.{NoMore};
 ghost use Rattle.bx_journal_format.specs.Shown.{shown};
-ghost use Rattle.bx_journal_read.specs.model.Fault.{LacksOrFails};
-ghost use Rattle.bx_journal_read.specs.scan.Looking.{FaultCounts, OnlyReadsText};
+ghost use Rattle.bx_journal_model.specs.Fault.{LacksOrFails};
+ghost use Rattle.bx_journal_model.specs.Looking.{FaultCounts, OnlyReadsText};
 ghost use Rattle.bx_journal_read.specs.scan.Recovery.{FindFault};
 ghost use Rattle.bx_journal_image.specs.Looks.{LooksAtBoth};
 ghost use Rattle.bx_journal_image.specs.Unfinished.{IsJudgedAt, IsJudgedBy, IsStruckAt, IsUnfinishedJudged};
@@ -14,7 +14,8 @@ use crate::judging::judge::{Verdict, judge_image};
 use crate::line::form::ImageLine;
 use crate::line::marks::{BLOCK, Marks};
 use bx_image::{Device, DeviceFailed};
-use bx_journal_read::{Found, Mark, SessionFault, read_text};
+use bx_journal_model::{Mark, SessionFault};
+use bx_journal_read::{Found, read_text};
 use bx_journal_store::TextStore;
 use std::alloc::Allocator;
 

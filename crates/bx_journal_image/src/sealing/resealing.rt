@@ -2,7 +2,7 @@
 ghost use Rattle.std.specs.Prelude.{◌≡◌, ◌<◌, ◌≤◌, length, IfOk, IfErr};
 ghost use Rattle.bx_image.specs.Power.{NoMore};
 ghost use Rattle.bx_journal_format.specs.Shown.{shown};
-ghost use Rattle.bx_journal_read.specs.scan.Looking.{LooksAt, LooksThrough};
+ghost use Rattle.bx_journal_model.specs.Looking.{LooksAt, LooksThrough};
 ghost use Rattle.bx_journal_read.specs.scan.Recovery.{FindFault};
 ghost use Rattle.bx_journal_image.specs.Seal.{AreKeptAt, AreKeptBehind, IsOpenSeal, bare_line, open_line};
 
@@ -11,7 +11,8 @@ use crate::judging::unfinished::strike_marked;
 use crate::line::digest::Digest;
 use crate::line::form::ImageLine;
 use crate::line::marks::Marks;
-use bx_journal_read::{Found, Mark, SessionFault, read_text};
+use bx_journal_model::{Mark, SessionFault};
+use bx_journal_read::{Found, read_text};
 use bx_journal_store::TextStore;
 use std::alloc::Allocator;
 

@@ -1,8 +1,8 @@
 //! The line of an image that is written before a command's first write, so that it can be judged where the command is stopped.
 ghost use Rattle.std.specs.Prelude.{◌≡◌, ◌↔◌, ℕ, List, ◌+◌, ◌<◌, ◌≤◌, min, max, length, is_err, IfOk, IfErr, OnOk};
 ghost use Rattle.bx_image.specs.Power.{NoMore};
-ghost use Rattle.bx_journal_read.specs.model.Fault.{LacksOrFails};
-ghost use Rattle.bx_journal_read.specs.scan.Looking.{FaultCounts, LooksAt};
+ghost use Rattle.bx_journal_model.specs.Fault.{LacksOrFails};
+ghost use Rattle.bx_journal_model.specs.Looking.{FaultCounts, LooksAt};
 ghost use Rattle.bx_journal_image.specs.Looks.{LooksAtBoth, LeavesDevice};
 ghost use Rattle.bx_journal_image.specs.Seal.{AreStepsMarks, IsLineOf, IsSealOf, IsStepsSealOf, any_length};
 
@@ -12,7 +12,7 @@ use crate::judging::judge::{Blocks, mark_image};
 use crate::line::form::ImageLine;
 use crate::line::marks::BLOCK;
 use bx_image::{Device, DeviceFailed};
-use bx_journal_read::SessionFault;
+use bx_journal_model::SessionFault;
 use bx_journal_store::TextStore;
 use std::alloc::Allocator;
 

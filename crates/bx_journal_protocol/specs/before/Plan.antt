@@ -6,7 +6,7 @@ use Rattle.bx_journal_protocol.specs.declared.before.records.Plan.{Plan}
 use Rattle.bx_journal_protocol.specs.declared.before.records.Taking.{Taking}
 use Rattle.bx_journal_protocol.specs.before.Overwritten.{AreAllWithin, place_in}
 use Rattle.bx_journal_protocol.specs.protocol.Takens.{AllShaped}
-use Rattle.bx_journal_read.specs.scan.Restoring.{IsEnough}
+use Rattle.bx_journal_model.specs.Restoring.{IsEnough}
 
 -- where they stand, and ranges for each of them
 pub record IsPlan {A B : Type 0} (es : List (EntryRead A)) (k : ℕ) (p : Plan B) : Type 0 where

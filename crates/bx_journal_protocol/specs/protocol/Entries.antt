@@ -2,16 +2,16 @@
 use Rattle.std.specs.Prelude.{◌≡◌, ◌≤◌, ℕ, List, length, drop, Result, IfOk, OnOk, OnErr}
 use Rattle.bx_image.specs.declared.device.Device.{Ghosts as DeviceViews}
 use Rattle.bx_journal_store.specs.declared.store.TextStore.{Ghosts as StoreViews}
-use Rattle.bx_journal_protocol.specs.declared.devices.Devices.{Devices}
+use Rattle.bx_journal_model.specs.declared.devices.Devices.{Devices}
 use Rattle.bx_journal_format.specs.Finished.{IsFinished}
 use Rattle.bx_journal_format.specs.Text.{Entry}
-use Rattle.bx_journal_read.specs.model.Images.{Images, redo_of, undo_of}
-use Rattle.bx_journal_read.specs.model.Machine.{changes_of}
-use Rattle.bx_journal_read.specs.model.Phase.{IsAtRest}
-use Rattle.bx_journal_read.specs.model.Redo.{Finds}
-use Rattle.bx_journal_protocol.specs.model.Taken.{taken_by, AreKept}
-use Rattle.bx_journal_protocol.specs.model.OnTop.{OnTop}
-use Rattle.bx_journal_read.specs.model.Stack.{Recovers, StandsFor}
+use Rattle.bx_journal_model.specs.Images.{Images, redo_of, undo_of}
+use Rattle.bx_journal_model.specs.Machine.{changes_of}
+use Rattle.bx_journal_model.specs.Phase.{IsAtRest}
+use Rattle.bx_journal_model.specs.Redo.{Finds}
+use Rattle.bx_journal_model.specs.Taken.{taken_by, AreKept}
+use Rattle.bx_journal_model.specs.OnTop.{OnTop}
+use Rattle.bx_journal_model.specs.Stack.{Recovers, StandsFor}
 use Rattle.bx_journal_format.specs.Shown.{shown}
 use Rattle.bx_journal_protocol.specs.protocol.Written.{AreSettled}
 use Rattle.bx_journal_protocol.specs.protocol.Turns.{AreAtRest, AreStanding}

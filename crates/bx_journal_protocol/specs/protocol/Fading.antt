@@ -4,14 +4,14 @@ use Rattle.bx_image.specs.declared.change.Change.{Change}
 use Rattle.bx_journal_format.specs.Kept.{Kept}
 use Rattle.bx_journal_format.specs.Shown.{shown}
 use Rattle.bx_image.specs.Change.{KeepsUnmapped}
-use Rattle.bx_journal_read.specs.model.Images.{Images}
-use Rattle.bx_journal_protocol.specs.model.Power.{Found}
+use Rattle.bx_journal_model.specs.Images.{Images}
+use Rattle.bx_journal_model.specs.Power.{Found}
 use Rattle.bx_journal_format.specs.Text.{Entry, Stage, Ending, split}
 use Rattle.bx_journal_format.specs.declared.format.version.Version.{Version}
-use Rattle.bx_journal_read.specs.model.Phase.{StaysOpen, StaysOpenFor}
-use Rattle.bx_journal_read.specs.model.Redo.{RecoversOpen}
-use Rattle.bx_journal_read.specs.scan.Step.{StartsEntry, EndsEntry, HasTail, TakesBack}
-use Rattle.bx_journal_read.specs.model.Stack.{Recovers, image_at}
+use Rattle.bx_journal_model.specs.Phase.{StaysOpen, StaysOpenFor}
+use Rattle.bx_journal_model.specs.Redo.{RecoversOpen}
+use Rattle.bx_journal_model.specs.Step.{StartsEntry, EndsEntry, HasTail, TakesBack}
+use Rattle.bx_journal_model.specs.Stack.{Recovers, image_at}
 
 -- of a text at rest with the head of an entry behind it: opening finds its stack
 abbrev pub HeadSurvives : List ℕ → List ℕ → (List ℕ → Type 0) → Type 0

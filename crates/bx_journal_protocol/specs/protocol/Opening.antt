@@ -1,8 +1,8 @@
 -- What opening a pair finds and leaves.
 use Rattle.std.specs.Prelude.{◌<◌, ◌≤◌, ℕ, Option, length, IfSome, vec_capacity}
 use Rattle.bx_journal_protocol.specs.declared.protocol.restore.Buffers.{Buffers}
-use Rattle.bx_journal_read.specs.declared.scan.mark.Mark.{Mark}
-use Rattle.bx_journal_read.specs.scan.Restoring.{IsEnough}
+use Rattle.bx_journal_model.specs.declared.mark.Mark.{Mark}
+use Rattle.bx_journal_model.specs.Restoring.{IsEnough}
 
 -- restoring what is unfinished takes no more memory
 abbrev pub HasRoomToRestore : Option Mark → ℕ → Type 0

@@ -3,13 +3,13 @@ use Rattle.std.specs.Prelude.{◌≡◌, ◌≤◌, ℕ, List, [], ◌∷◌, le
 use Rattle.bx_image.specs.declared.device.Device.{Ghosts as DeviceViews}
 use Rattle.bx_journal_store.specs.declared.store.TextStore.{Ghosts as StoreViews}
 use Rattle.bx_image.specs.declared.record.Saved.{Saved}
-use Rattle.bx_journal_protocol.specs.declared.devices.Devices.{Devices}
+use Rattle.bx_journal_model.specs.declared.devices.Devices.{Devices}
 use Rattle.bx_journal_format.specs.Kept.{kept_of}
 use Rattle.bx_journal_format.specs.declared.read.types.EntryRead.{EntryRead}
 use Rattle.bx_journal_protocol.specs.declared.protocol.undo_entry.Placed.{Placed}
-use Rattle.bx_journal_read.specs.scan.Restoring.{IsEnough, StandsAt}
+use Rattle.bx_journal_model.specs.Restoring.{IsEnough, StandsAt}
 use Rattle.bx_journal_protocol.specs.protocol.Takens.{AreReady}
-use Rattle.bx_journal_read.specs.model.Undoing.{AreReadFrom}
+use Rattle.bx_journal_model.specs.Undoing.{AreReadFrom}
 
 -- an entry begins at this place and restores this length; its record stands in the text, where that is the honest store's
 pub record IsPlaced {A : Type 0} (honest : Type 0) (text : List ℕ) (e : EntryRead A) (p : Placed) : Type 0 where

@@ -10,7 +10,7 @@ use Rattle.bx_journal_store.specs.declared.store.TextStore.{Ghosts as StoreViews
 use Rattle.bx_journal_format.specs.Kept.{kept_of}
 use Rattle.bx_journal_format.specs.Entry.{entry_text}
 use Rattle.bx_journal_format.specs.declared.read.types.EntryRead.{EntryRead}
-use Rattle.bx_journal_protocol.specs.model.Taken.{IsKeptOf}
+use Rattle.bx_journal_model.specs.Taken.{IsKeptOf}
 
 -- a record with zeros of what restoring an entry overwrites in an image of this length, if an entry can tell it
 pub record IsZeros {A : Type 0} (len : ℕ) (e : EntryRead A) (t : Saved A) : Type 0 where

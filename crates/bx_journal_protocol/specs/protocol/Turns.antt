@@ -6,18 +6,18 @@ use Rattle.bx_image.specs.declared.record.Saved.{Saved}
 use Rattle.bx_image.specs.Change.{effect, restore, IsOf}
 use Rattle.bx_journal_format.specs.Kept.{Kept}
 use Rattle.bx_journal_format.specs.Entry.{entry_text}
-use Rattle.bx_journal_read.specs.model.Machine.{changes_of}
+use Rattle.bx_journal_model.specs.Machine.{changes_of}
 use Rattle.bx_journal_format.specs.count.Mark.{HasMarks}
-use Rattle.bx_journal_read.specs.model.Phase.{IsAtRest}
-use Rattle.bx_journal_read.specs.model.Stack.{StandsFor}
+use Rattle.bx_journal_model.specs.Phase.{IsAtRest}
+use Rattle.bx_journal_model.specs.Stack.{StandsFor}
 use Rattle.bx_journal_format.specs.Text.{Entry}
 use Rattle.bx_journal_format.specs.Finished.{IsFinished}
 use Rattle.bx_journal_format.specs.declared.format.version.Version.{Version}
 use Rattle.bx_journal_protocol.specs.declared.protocol.redo_text.RedoCut.{RedoCut}
 use Rattle.bx_journal_protocol.specs.declared.protocol.redo_text.RedoCut.TheVariants.{All, From}
-use Rattle.bx_journal_read.specs.model.Images.{Images, undo_of, redo_of, change_to}
-use Rattle.bx_journal_read.specs.model.Redo.{IsRedoOf, Finds, Side, LeavesEither}
-use Rattle.bx_journal_protocol.specs.model.RedoLaws.{RestoresKept}
+use Rattle.bx_journal_model.specs.Images.{Images, undo_of, redo_of, change_to}
+use Rattle.bx_journal_model.specs.Redo.{IsRedoOf, Finds, Side, LeavesEither}
+use Rattle.bx_journal_model.specs.RedoLaws.{RestoresKept}
 
 -- the redo text behind an undone entry: with what it overwrote, or empty where the image was too long
 abbrev pub kept_text : List ℕ → Kept → ℕ → ℕ → List ℕ

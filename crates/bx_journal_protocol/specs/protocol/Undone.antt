@@ -2,22 +2,22 @@
 use Rattle.std.specs.Prelude.{◌≡◌, ◌⊎◌, ◌<◌, ◌≤◌, ◌+◌, ℕ, List, [], ◌∷◌, length, take, vec_capacity, Result, OnOk, OnErr}
 use Rattle.bx_image.specs.declared.device.Device.{Ghosts as DeviceViews}
 use Rattle.bx_journal_store.specs.declared.store.TextStore.{Ghosts as StoreViews}
-use Rattle.bx_journal_protocol.specs.declared.devices.Devices.{Devices}
+use Rattle.bx_journal_model.specs.declared.devices.Devices.{Devices}
 use Rattle.bx_image.specs.declared.record.Saved.{Saved}
 use Rattle.bx_image.specs.Change.{AllWithin, KeepsUnmapped, restore}
 use Rattle.bx_journal_format.specs.Entry.{entry_text}
 use Rattle.bx_journal_format.specs.Kept.{Kept, kept_of}
 use Rattle.bx_journal_format.specs.Text.{Entry}
 use Rattle.bx_journal_format.specs.declared.format.version.Version.{Version}
-use Rattle.bx_journal_read.specs.model.Phase.{IsAtRest, RecoversEither}
+use Rattle.bx_journal_model.specs.Phase.{IsAtRest, RecoversEither}
 use Rattle.bx_journal_format.specs.Shown.{shown}
 use Rattle.bx_journal_protocol.specs.declared.protocol.restore.Buffers.{Buffers}
-use Rattle.bx_journal_read.specs.declared.scan.mark.Mark.{Mark}
+use Rattle.bx_journal_model.specs.declared.mark.Mark.{Mark}
 use Rattle.bx_journal_protocol.specs.declared.protocol.undo_entry.Placed.{Placed}
-use Rattle.bx_journal_read.specs.scan.Restoring.{IsEnough, StandsAt}
+use Rattle.bx_journal_model.specs.Restoring.{IsEnough, StandsAt}
 use Rattle.bx_journal_protocol.specs.protocol.Written.{AreSettled}
-use Rattle.bx_journal_read.specs.model.Redo.{LeavesEither}
-use Rattle.bx_journal_read.specs.scan.Step.{TakesBack}
+use Rattle.bx_journal_model.specs.Redo.{LeavesEither}
+use Rattle.bx_journal_model.specs.Step.{TakesBack}
 use Rattle.bx_journal_protocol.specs.protocol.Turns.{kept_text, side_of}
 use Rattle.bx_journal_store.specs.Store.{IsCutInPart}
 

@@ -2,7 +2,7 @@
 use Rattle.std.specs.Prelude.{◌∷◌, ℕ, List, take, Result, OnOk, OnErr}
 use Rattle.bx_image.specs.declared.device.Device.{Ghosts as DeviceViews}
 use Rattle.bx_journal_store.specs.declared.store.TextStore.{Ghosts as StoreViews}
-use Rattle.bx_journal_protocol.specs.declared.devices.Devices.{Devices}
+use Rattle.bx_journal_model.specs.declared.devices.Devices.{Devices}
 use Rattle.bx_journal_protocol.specs.declared.write.head.Head.{Head}
 use Rattle.bx_image.specs.declared.change.Change.{Change}
 use Rattle.bx_image.specs.Change.{effect}
@@ -12,9 +12,9 @@ use Rattle.bx_journal_protocol.specs.declared.protocol.redo_text.RedoCut.{RedoCu
 use Rattle.bx_image.specs.declared.record.spans.Span.{Span}
 use Rattle.bx_journal_format.specs.Entry.{head_text}
 use Rattle.bx_journal_protocol.specs.write.Ranges.{kept_over}
-use Rattle.bx_journal_read.specs.model.Phase.{IsAtRest, RecoversEither}
-use Rattle.bx_journal_read.specs.model.Redo.{LeavesEither}
-use Rattle.bx_journal_read.specs.scan.Step.{WritesEntry}
+use Rattle.bx_journal_model.specs.Phase.{IsAtRest, RecoversEither}
+use Rattle.bx_journal_model.specs.Redo.{LeavesEither}
+use Rattle.bx_journal_model.specs.Step.{WritesEntry}
 use Rattle.bx_journal_protocol.specs.protocol.Turns.{cut_place, side_of}
 
 -- the image and both texts are on the disk as they are

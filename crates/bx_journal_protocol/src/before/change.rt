@@ -2,17 +2,17 @@
 ghost use Rattle.std.specs.Prelude.{◌≡◌, ◌↔◌, ◌+◌, ◌<◌, ◌≤◌, [], length, IfOk, IfErr, OnOk, IsErrOf};
 ghost use Rattle.bx_image.specs.Change.{effect, Fits};
 ghost use Rattle.bx_journal_protocol.specs.before.Ready.{IsReadyChange};
-ghost use Rattle.bx_journal_protocol.specs.model.Power.{FoundBefore};
+ghost use Rattle.bx_journal_model.specs.Power.{FoundBefore};
 ghost use Rattle.bx_journal_protocol.specs.write.Begun.{rest_of, IsOpenHead};
-ghost use Rattle.bx_journal_protocol.specs.ThreeDevices.{AreCounted, AreUnfailed, HaveStayed};
-ghost use Rattle.bx_journal_read.specs.model.Fault.{PrepareFault};
+ghost use Rattle.bx_journal_model.specs.ThreeDevices.{AreCounted, AreUnfailed, HaveStayed};
+ghost use Rattle.bx_journal_model.specs.Fault.{PrepareFault};
 ghost use Rattle.bx_journal_protocol.specs.protocol.Written.{AreSettled};
 
 use crate::before::head::begin_change;
-use crate::{Devices, Head, settle};
+use crate::{Head, settle};
 use bx_image::{Change, Device, MAX_LEN, Span, check};
 use bx_journal_format::{Words, entry_end};
-use bx_journal_read::SessionFault;
+use bx_journal_model::{Devices, SessionFault};
 use bx_journal_store::TextStore;
 use std::alloc::{Allocator, Global};
 

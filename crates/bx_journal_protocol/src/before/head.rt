@@ -2,14 +2,14 @@
 ghost use Rattle.std.specs.Prelude.{◌≡◌, ◌+◌, ◌-◌, ◌^◌, ◌<◌, ◌≤◌, length, min, IfOk, IfErr};
 ghost use Rattle.bx_image.specs.Power.{NoMore};
 ghost use Rattle.bx_journal_protocol.specs.write.Begun.{rest_of, BeginsEntry, IsOpenHead};
-ghost use Rattle.bx_journal_read.specs.scan.Looking.{LooksAt};
-ghost use Rattle.bx_journal_read.specs.model.Fault.{LacksOrFails};
+ghost use Rattle.bx_journal_model.specs.Looking.{LooksAt};
+ghost use Rattle.bx_journal_model.specs.Fault.{LacksOrFails};
 ghost use Rattle.bx_journal_protocol.specs.write.Ranges.{left_len, AreRanges};
 
 use crate::{Head, look_and_begin, ranges_len};
 use bx_image::{Change, Device, MAX_LEN, Span, touched_by};
 use bx_journal_format::new_page;
-use bx_journal_read::SessionFault;
+use bx_journal_model::SessionFault;
 use std::alloc::{Allocator, Global};
 
 /// The ranges that an entry keeps, its head that is begun, and the length of its text up to its save line, at most `u64::MAX`.

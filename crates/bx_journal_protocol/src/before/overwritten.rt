@@ -4,14 +4,14 @@ ghost use Rattle.bx_journal_protocol.specs.before.Overwritten.{AreAllWithin, Are
 ghost use Rattle.bx_journal_protocol.specs.protocol.Takens.{AllShaped, length_at};
 ghost use Rattle.bx_image.specs.Over.{LieWithin};
 ghost use Rattle.bx_image.specs.Power.{NoMore};
-ghost use Rattle.bx_journal_read.specs.model.Fault.{LacksOrFails};
-ghost use Rattle.bx_journal_read.specs.scan.Looking.{LooksAt};
+ghost use Rattle.bx_journal_model.specs.Fault.{LacksOrFails};
+ghost use Rattle.bx_journal_model.specs.Looking.{LooksAt};
 
 use bx_image::{
     Device, ImageFault, MAX_LEN, Saved, Span, touched_but_zeros, touched_to_restore, zeros_over,
 };
 use bx_journal_format::EntryRead;
-use bx_journal_read::SessionFault;
+use bx_journal_model::SessionFault;
 use std::alloc::{Allocator, Global};
 
 /// The ranges that restoring an entry overwrites of an image of `len` bytes.

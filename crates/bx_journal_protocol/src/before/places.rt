@@ -4,7 +4,7 @@ ghost use Rattle.bx_journal_protocol.specs.before.Overwritten.{AreOrdered, IsOrd
 
 use crate::Placed;
 use bx_journal_format::EntryRead;
-use bx_journal_read::{Mark, SessionFault, start_size};
+use bx_journal_model::{Mark, SessionFault, start_size};
 use std::alloc::Allocator;
 
 /// What the type of a place says of it.

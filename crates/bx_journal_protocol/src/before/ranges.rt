@@ -3,23 +3,23 @@
 ghost use Rattle.std.specs.Prelude.{◌≡◌, ◌+◌, ◌-◌, ◌^◌, ◌<◌, ◌≤◌, [], length, drop, min, reverse, vec_capacity, All, IfOk, IfErr, OnOk, is_err};
 ghost use Rattle.bx_image.specs.Device.{GoesOn};
 ghost use Rattle.bx_image.specs.Power.{NoMore};
-ghost use Rattle.bx_journal_read.specs.model.Fault.{DeviceFault};
-ghost use Rattle.bx_journal_protocol.specs.model.Power.{FoundBefore};
+ghost use Rattle.bx_journal_model.specs.Fault.{DeviceFault};
+ghost use Rattle.bx_journal_model.specs.Power.{FoundBefore};
 ghost use Rattle.bx_journal_protocol.specs.before.Again.{IsReadyAgain};
-ghost use Rattle.bx_journal_protocol.specs.ThreeDevices.{AreCounted, AreUnfailed, HaveStayed};
+ghost use Rattle.bx_journal_model.specs.ThreeDevices.{AreCounted, AreUnfailed, HaveStayed};
 ghost use Rattle.bx_journal_protocol.specs.protocol.Takens.{length_at};
 ghost use Rattle.bx_journal_protocol.specs.write.Touched.{AreTouched, AreToldRanges, HasRoomForRanges, IsFirstBegun, IsFirstWithin, IsTouched, entries_over as entries_long};
-ghost use Rattle.bx_journal_read.specs.model.Undoing.{HasRoomFor};
+ghost use Rattle.bx_journal_model.specs.Undoing.{HasRoomFor};
 ghost use Rattle.bx_journal_protocol.specs.protocol.Written.{AreSettled};
 
 use crate::before::head::{SPARE, WINDOW};
 use crate::before::overwritten::length_above;
 use crate::before::records::longest_of;
 use crate::before::room::make_room;
-use crate::{Devices, Head, Place, begin_last, ranges_len, settle};
+use crate::{Head, Place, begin_last, ranges_len, settle};
 use bx_image::{Device, DeviceFailed, MAX_LEN, Span, touched_to_restore};
 use bx_journal_format::{EntryRead, new_page};
-use bx_journal_read::{FinishedRead, SessionFault};
+use bx_journal_model::{Devices, FinishedRead, SessionFault};
 use bx_journal_store::TextStore;
 use std::alloc::{Allocator, Global};
 

@@ -1,24 +1,24 @@
 //! What some undos take before their first write: records of what they will overwrite, the places of their entries, a page and room.
 ghost use Rattle.std.specs.Prelude.{◌≡◌, ◌+◌, ◌-◌, ◌^◌, ◌<◌, ◌≤◌, [], length, drop, map, min, reverse, vec_capacity, All, IfOk, IfErr, OnOk};
 ghost use Rattle.bx_image.specs.Power.{NoMore};
-ghost use Rattle.bx_journal_read.specs.model.Fault.{DeviceFault, LacksOrFails};
-ghost use Rattle.bx_journal_read.specs.scan.Looking.{LooksAt};
-ghost use Rattle.bx_journal_protocol.specs.model.Power.{FoundBefore};
-ghost use Rattle.bx_journal_protocol.specs.ThreeDevices.{AreCounted, AreUnfailed, HaveStayed};
+ghost use Rattle.bx_journal_model.specs.Fault.{DeviceFault, LacksOrFails};
+ghost use Rattle.bx_journal_model.specs.Looking.{LooksAt};
+ghost use Rattle.bx_journal_model.specs.Power.{FoundBefore};
+ghost use Rattle.bx_journal_model.specs.ThreeDevices.{AreCounted, AreUnfailed, HaveStayed};
 ghost use Rattle.bx_journal_protocol.specs.protocol.Written.{AreSettled};
 ghost use Rattle.bx_journal_protocol.specs.before.Overwritten.{AreOrdered, AreOverwrittenOf, place_in};
 ghost use Rattle.bx_journal_protocol.specs.protocol.Placed.{AllFit, ArePreparedIn};
 ghost use Rattle.bx_journal_protocol.specs.before.Plan.{IsPlan, IsTakenFor};
 ghost use Rattle.bx_journal_protocol.specs.protocol.Takens.{AreReadyLast, AreRoomFrom, AllShaped, HasRoomForEntries, entries_len as entries_long};
-ghost use Rattle.bx_journal_read.specs.model.Undoing.{AreReadFrom, HasRoomFor};
+ghost use Rattle.bx_journal_model.specs.Undoing.{AreReadFrom, HasRoomFor};
 
 use crate::before::overwritten::{Overwritten, all_zeros, overwritten_from};
 use crate::before::places::places;
 use crate::before::room::make_room;
-use crate::{Buffers, Devices, Placed, buffers_of, fill_last, settle};
+use crate::{Buffers, Placed, buffers_of, fill_last, settle};
 use bx_image::{Device, Saved};
 use bx_journal_format::{EntryRead, head_len, new_page};
-use bx_journal_read::{FinishedRead, SessionFault};
+use bx_journal_model::{Devices, FinishedRead, SessionFault};
 use bx_journal_store::TextStore;
 use std::alloc::{Allocator, Global};
 

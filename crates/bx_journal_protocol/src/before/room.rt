@@ -1,10 +1,10 @@
 //! Room in all three devices, made before the first write.
 ghost use Rattle.std.specs.Prelude.{◌≡◌, ◌^◌, ◌≤◌, OnOk};
-ghost use Rattle.bx_journal_protocol.specs.model.Power.{FoundBefore};
-ghost use Rattle.bx_journal_protocol.specs.ThreeDevices.{HaveStayed};
+ghost use Rattle.bx_journal_model.specs.Power.{FoundBefore};
+ghost use Rattle.bx_journal_model.specs.ThreeDevices.{HaveStayed};
 
-use crate::Devices;
 use bx_image::Device;
+use bx_journal_model::Devices;
 use bx_journal_store::TextStore;
 use bx_text::NoMemory;
 

@@ -1,11 +1,11 @@
 //! All three devices synced before the first write, so that what they hold is durable.
 ghost use Rattle.std.specs.Prelude.{◌≡◌, ◌≤◌, OnOk};
-ghost use Rattle.bx_journal_protocol.specs.model.Power.{FoundBefore};
-ghost use Rattle.bx_journal_protocol.specs.ThreeDevices.{AreBelow, HaveStayed, StepsOn};
+ghost use Rattle.bx_journal_model.specs.Power.{FoundBefore};
+ghost use Rattle.bx_journal_model.specs.ThreeDevices.{AreBelow, HaveStayed, StepsOn};
 ghost use Rattle.bx_journal_protocol.specs.protocol.Written.{AreSettled};
 
-use crate::devices::Devices;
 use bx_image::{Device, DeviceFailed};
+use bx_journal_model::Devices;
 use bx_journal_store::TextStore;
 
 /// Puts on the disk what journal, image and redo text have: whatever was written before, a loss of power then leaves them.

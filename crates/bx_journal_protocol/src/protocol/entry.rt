@@ -7,23 +7,23 @@ ghost use Rattle.bx_image.specs.Power.{Only};
 ghost use Rattle.bx_journal_format.specs.Entry.{head_text};
 ghost use Rattle.bx_journal_format.specs.Text.{IsPrefix};
 ghost use Rattle.bx_journal_protocol.specs.write.Begun.{rest_of, IsBegunOver, IsOpenHead, KeepsBuffers};
-ghost use Rattle.bx_journal_protocol.specs.ThreeDevices.{AreBelow, GoOnPaired, ImageIsFirst, StepsOn};
-ghost use Rattle.bx_journal_read.specs.scan.Looking.{OneMore};
+ghost use Rattle.bx_journal_model.specs.ThreeDevices.{AreBelow, GoOnPaired, ImageIsFirst, StepsOn};
+ghost use Rattle.bx_journal_model.specs.Looking.{OneMore};
 ghost use Rattle.bx_journal_protocol.specs.protocol.Fading.{AllStayOpenFor, EndSurvives, HeadSurvives};
-ghost use Rattle.bx_journal_read.specs.model.Phase.{StaysOpenFor};
+ghost use Rattle.bx_journal_model.specs.Phase.{StaysOpenFor};
 ghost use Rattle.bx_journal_protocol.specs.write.First.{WhereSettled};
 ghost use Rattle.bx_journal_protocol.specs.write.Page.{HasAppended};
 ghost use Rattle.bx_journal_protocol.specs.write.Ranges.{kept_over};
-ghost use Rattle.bx_journal_read.specs.scan.Step.{EndRests, EndStops, HeadOpens, HeadStops};
+ghost use Rattle.bx_journal_model.specs.Step.{EndRests, EndStops, HeadOpens, HeadStops};
 ghost use Rattle.bx_journal_protocol.specs.protocol.Turns.{cut_place};
 ghost use Rattle.bx_journal_protocol.specs.protocol.Written.{entry_on, head_on, EntrySettles, LeavesBoth, RestsBehind, StopsEither, SurvivesBoth};
 
-use crate::devices::Devices;
 use crate::protocol::image::change_image;
 use crate::protocol::redo_text::{RedoCut, cut_redo};
 use crate::write::head::Head;
 use crate::write::ranges::put_head_from;
 use bx_image::{Change, Device, DeviceFailed, Span};
+use bx_journal_model::Devices;
 use bx_journal_store::TextStore;
 use std::alloc::Allocator;
 

@@ -6,7 +6,7 @@ ghost use Rattle.bx_image.specs.Image.{place, cut};
 ghost use Rattle.bx_image.specs.Power.{Follows, Only};
 ghost use Rattle.bx_journal_format.specs.Kept.{Kept, kept_of};
 ghost use Rattle.bx_journal_protocol.specs.protocol.Fading.{AllKeepUnmapped, AllStayOpenFor};
-ghost use Rattle.bx_journal_read.specs.model.Phase.{IsCutOf, IsPartOf, RecoversOpenFor, StaysOpen, StaysOpenFor};
+ghost use Rattle.bx_journal_model.specs.Phase.{IsCutOf, IsPartOf, RecoversOpenFor, StaysOpen, StaysOpenFor};
 
 use bx_image::{Change, Device, DeviceFailed, apply};
 use std::alloc::Allocator;

@@ -3,19 +3,19 @@ ghost use Rattle.std.specs.Prelude.{◌≡◌, ◌+◌, ◌-◌, ◌^◌, ◌<�
 ghost use Rattle.bx_image.specs.Device.{GoesOn};
 ghost use Rattle.bx_image.specs.Power.{NoMore};
 ghost use Rattle.bx_journal_format.specs.Parsed.{AllKept};
-ghost use Rattle.bx_journal_protocol.specs.ThreeDevices.{AreBelow, StepsOn};
-ghost use Rattle.bx_journal_read.specs.model.Undoing.{LeavesFront, AreReadFrom};
+ghost use Rattle.bx_journal_model.specs.ThreeDevices.{AreBelow, StepsOn};
+ghost use Rattle.bx_journal_model.specs.Undoing.{LeavesFront, AreReadFrom};
 ghost use Rattle.bx_journal_protocol.specs.protocol.Entries.{RedoAll, RedoRests, RedoSome, RedoSomeSurvives, RedoTakes, RestsOnTop, RedoStands, StaySettled, StopsOnTop};
 ghost use Rattle.bx_journal_protocol.specs.write.Touched.{AreTouchedFrom, IsFirstBegun, IsFirstHead, IsFirstWithin, entries_over};
 ghost use Rattle.bx_journal_format.specs.Text.{IsPrefix};
 
-use crate::devices::Devices;
 use crate::protocol::entry::write_change;
 use crate::protocol::redo_text::RedoCut;
 use crate::write::head::{Head, Place};
 use crate::write::look::look_and_begin;
 use bx_image::{Device, DeviceFailed, Span};
 use bx_journal_format::{EntryRead, entry_end};
+use bx_journal_model::Devices;
 use bx_journal_store::TextStore;
 use std::alloc::Allocator;
 

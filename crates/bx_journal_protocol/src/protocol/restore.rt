@@ -6,15 +6,15 @@ ghost use Rattle.bx_image.specs.Image.{cut};
 ghost use Rattle.bx_image.specs.Power.{Follows, NoMore, Only};
 ghost use Rattle.bx_journal_format.specs.Kept.{Kept};
 ghost use Rattle.bx_journal_format.specs.count.Parts.{LiesIn, part_run};
-ghost use Rattle.bx_journal_read.specs.scan.Looking.{OneMore};
+ghost use Rattle.bx_journal_model.specs.Looking.{OneMore};
 ghost use Rattle.bx_journal_protocol.specs.protocol.Fading.{AllKeepUnmapped};
-ghost use Rattle.bx_journal_read.specs.model.Phase.{StaysOpen};
-ghost use Rattle.bx_journal_read.specs.scan.Restoring.{AreNamed, IsRestoredTo, IsEnough, Names, RestoresWindow, StandsAt};
+ghost use Rattle.bx_journal_model.specs.Phase.{StaysOpen};
+ghost use Rattle.bx_journal_model.specs.Restoring.{AreNamed, IsRestoredTo, IsEnough, Names, RestoresWindow, StandsAt};
 
 use crate::protocol::image::{restore_len, restore_part};
 use bx_image::{Device, DeviceFailed};
 use bx_journal_format::{Part, parts_in};
-use bx_journal_read::{Mark, SessionFault, enough_of, passed, read_cut};
+use bx_journal_model::{Mark, SessionFault, enough_of, passed, read_cut};
 use bx_journal_store::TextStore;
 use std::alloc::{Allocator, Global};
 

@@ -10,13 +10,13 @@ ghost use Rattle.bx_journal_format.specs.read.Faded.{HasFirst};
 ghost use Rattle.bx_journal_store.specs.Store.{IsCutInPart};
 ghost use Rattle.bx_journal_protocol.specs.write.First.{AllLeft, WhereSettled};
 ghost use Rattle.bx_journal_protocol.specs.protocol.Opening.{HasBuffersFor};
-ghost use Rattle.bx_journal_read.specs.scan.Restoring.{StandsAt};
-ghost use Rattle.bx_journal_read.specs.scan.Step.{StopsTail, TailRests, TailStops, TakesTail};
-ghost use Rattle.bx_journal_read.specs.scan.Looking.{OneMore};
+ghost use Rattle.bx_journal_model.specs.Restoring.{StandsAt};
+ghost use Rattle.bx_journal_model.specs.Step.{StopsTail, TailRests, TailStops, TakesTail};
+ghost use Rattle.bx_journal_model.specs.Looking.{OneMore};
 
 use crate::protocol::restore::{Buffers, restore_windows};
 use bx_image::{Device, DeviceFailed};
-use bx_journal_read::Mark;
+use bx_journal_model::Mark;
 use bx_journal_store::TextStore;
 use std::alloc::Allocator;
 

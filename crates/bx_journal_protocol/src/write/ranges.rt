@@ -5,7 +5,7 @@ ghost use Rattle.bx_image.specs.Power.{FadesBehind, NoMore, Only};
 ghost use Rattle.bx_journal_store.specs.Store.{IsPartlyAppended};
 ghost use Rattle.bx_journal_format.specs.Entry.{rows, head_text, rows_text};
 ghost use Rattle.bx_journal_format.specs.Text.{ended, IsPrefix};
-ghost use Rattle.bx_journal_protocol.specs.ThreeDevices.{GoOnPaired};
+ghost use Rattle.bx_journal_model.specs.ThreeDevices.{GoOnPaired};
 ghost use Rattle.bx_journal_protocol.specs.write.Begun.{rest_of, IsOpenHead, KeepsBuffers};
 ghost use Rattle.bx_journal_protocol.specs.write.First.{AllHaveFirst};
 ghost use Rattle.bx_journal_protocol.specs.write.Page.{IsPaged, row_text};

@@ -1,10 +1,9 @@
 -- The lines of a text that are in place, and where it is damaged behind them.
-use Rattle.std.specs.Prelude.{◌≡◌, ◌≤◌, ℕ, ◌+◌, ◌-◌, Bool, false, List, length, take, drop, if◌then◌else◌}
+use Rattle.std.specs.Prelude.{◌≡◌, ◌≤◌, ℕ, Bool, false, List, length, if◌then◌else◌}
 use Rattle.bx_journal_read.specs.declared.scan.damage.PlaceScan.{PlaceScan}
 use Rattle.bx_journal_format.specs.count.Tally.{IsTallied}
 use Rattle.bx_journal_format.specs.Shown.{shown}
 use Rattle.bx_journal_format.specs.Text.{IsDamagedAt}
-use Rattle.bx_journal_format.specs.read.Plain.{HasNoNewline}
 
 -- the lines of a text are in place, and were counted
 pub record IsInPlace (now : PlaceScan) (text : List ℕ) : Type 0 where
@@ -21,10 +20,3 @@ pub record IsDamagedIn (honest : Type 0) (stored : List ℕ) (line : ℕ) : Type
   pub text : List ℕ
   pub is : honest → stored ≡ text
   pub damaged : IsDamagedAt text line
-
--- the bytes of a text between two places have no newline: the store's, where that is honest
-pub record IsPlainTo (honest : Type 0) (stored : List ℕ) (from at : ℕ) : Type 0 where
-  pub bytes : List ℕ
-  pub is : honest → bytes ≡ take (at - from) (drop from stored)
-  pub long : from + length bytes ≡ at
-  pub plain : HasNoNewline bytes

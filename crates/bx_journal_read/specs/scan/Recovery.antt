@@ -2,21 +2,21 @@
 use Rattle.std.specs.Prelude.{◌≡◌, ◌⊎◌, ◌≤◌, ℕ, Option, None, Some, List, length, take, IfSome, Result, IfOk, IfErr, MatchResult, OnOk, OnErr}
 use Rattle.bx_image.specs.Power.{NoMore}
 use Rattle.bx_journal_store.specs.declared.store.TextStore.{Ghosts as StoreViews}
-use Rattle.bx_journal_read.specs.declared.answers.Recovered.{Recovered}
-use Rattle.bx_journal_read.specs.declared.fault.SessionFault.{SessionFault}
-use Rattle.bx_journal_read.specs.declared.fault.SessionFault.TheVariants.{DeviceFailed, Damaged, Interrupted, LengthDiffers, RedoDamaged}
-use Rattle.bx_journal_read.specs.model.Fault.{DeviceFault}
+use Rattle.bx_journal_model.specs.declared.answers.Recovered.{Recovered}
+use Rattle.bx_journal_model.specs.declared.fault.SessionFault.{SessionFault}
+use Rattle.bx_journal_model.specs.declared.fault.SessionFault.TheVariants.{DeviceFailed, Damaged, Interrupted, LengthDiffers, RedoDamaged}
+use Rattle.bx_journal_model.specs.Fault.{DeviceFault}
 use Rattle.bx_journal_read.specs.declared.scan.journal.Found.{Found}
 use Rattle.bx_journal_read.specs.declared.scan.journal.Found.TheVariants.{Finished, Unfinished}
-use Rattle.bx_journal_read.specs.declared.scan.mark.Mark.{Mark}
+use Rattle.bx_journal_model.specs.declared.mark.Mark.{Mark}
 use Rattle.bx_journal_read.specs.declared.scan.torn.Torn.{Torn}
 use Rattle.bx_journal_format.specs.count.Mark.{IsMark}
-use Rattle.bx_journal_read.specs.model.Judging.{RefusesRedo}
-use Rattle.bx_journal_read.specs.scan.Looking.{LooksAt, LookFault}
-use Rattle.bx_journal_read.specs.model.Phase.{IsAtRest}
-use Rattle.bx_journal_read.specs.model.Stack.{Recovers, image_at}
-use Rattle.bx_journal_read.specs.model.Redo.{IsClean, IsRedoOf, IsRefusedAt, found_undone}
-use Rattle.bx_journal_read.specs.scan.Restoring.{StandsAt}
+use Rattle.bx_journal_read.specs.scan.Judging.{RefusesRedo}
+use Rattle.bx_journal_model.specs.Looking.{LooksAt, LookFault}
+use Rattle.bx_journal_model.specs.Phase.{IsAtRest}
+use Rattle.bx_journal_model.specs.Stack.{Recovers, image_at}
+use Rattle.bx_journal_model.specs.Redo.{IsClean, IsRedoOf, IsRefusedAt, found_undone}
+use Rattle.bx_journal_model.specs.Restoring.{StandsAt}
 use Rattle.bx_journal_format.specs.Parsed.{told_by}
 use Rattle.bx_journal_format.specs.count.Tally.{IsCounted}
 use Rattle.bx_journal_format.specs.Shown.{shown}

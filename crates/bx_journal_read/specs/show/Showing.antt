@@ -10,14 +10,14 @@ use Rattle.bx_journal_format.specs.Shown.{shown}
 use Rattle.bx_journal_format.specs.Text.{Entry, IsDamagedAt, split}
 use Rattle.bx_journal_read.specs.declared.show.fault.ShowFault.{ShowFault}
 use Rattle.bx_journal_read.specs.declared.show.fault.ShowFault.TheVariants.{Text, Io}
-use Rattle.bx_journal_read.specs.declared.fault.SessionFault.TheVariants.{Damaged}
-use Rattle.bx_journal_read.specs.model.Fault.{DeviceFault}
-use Rattle.bx_journal_read.specs.model.Redo.{IsClean}
+use Rattle.bx_journal_model.specs.declared.fault.SessionFault.TheVariants.{Damaged}
+use Rattle.bx_journal_model.specs.Fault.{DeviceFault}
+use Rattle.bx_journal_model.specs.Redo.{IsClean}
 use Rattle.bx_journal_format.specs.declared.read.marks.Mark.{Mark}
 use Rattle.bx_journal_format.specs.Spelled.{EntryLines, IsSpelled, runs_behind}
 use Rattle.bx_journal_format.specs.count.Marks.{marks_of}
-use Rattle.bx_journal_read.specs.declared.fault.SessionFault.{SessionFault}
-use Rattle.bx_journal_read.specs.scan.Looking.{FaultCounts, LooksAt}
+use Rattle.bx_journal_model.specs.declared.fault.SessionFault.{SessionFault}
+use Rattle.bx_journal_model.specs.Looking.{FaultCounts, LooksAt}
 use Rattle.bx_text.specs.declared.fault.IoFault.TheVariants.{WriteFailed}
 use Rattle.bx_journal_read.specs.scan.Recovery.{FindFault}
 use Rattle.bx_journal_read.specs.declared.show.ranges.Done.{Done}

@@ -7,8 +7,8 @@ use Rattle.bx_journal_format.specs.Shown.{shown}
 use Rattle.bx_journal_format.specs.Spelled.{EntryLines, IsSpelled, entry_in}
 use Rattle.bx_journal_format.specs.Text.{Entry, Stage, Between, Saving, Ending, IsPrefix, Reading, Reads, IsDamagedAt, split}
 use Rattle.bx_journal_read.specs.show.Differences.{diff_text, made_text}
-use Rattle.bx_journal_read.specs.model.Fault.{DeviceFault, redo_fault}
-use Rattle.bx_journal_read.specs.model.Redo.{BeginsAt, IsClean}
+use Rattle.bx_journal_model.specs.Fault.{DeviceFault, redo_fault}
+use Rattle.bx_journal_model.specs.Redo.{BeginsAt, IsClean}
 use Rattle.bx_journal_read.specs.show.Showing.{after_text, bytes_of, PutFault, lines_at, ranges_at}
 use Rattle.bx_journal_read.specs.declared.show.fault.ShowFault.{ShowFault}
 use Rattle.bx_journal_read.specs.declared.show.fault.ShowFault.TheVariants.{Text, Io}
@@ -16,15 +16,15 @@ use Rattle.bx_journal_read.specs.show.Stopping.{StopsPrefix}
 use Rattle.bx_journal_read.specs.declared.show.way.Steps.{Steps}
 use Rattle.bx_journal_read.specs.declared.show.way.Way.{Way}
 use Rattle.bx_journal_read.specs.declared.show.way.Way.TheVariants.{Undo, Redo}
-use Rattle.bx_journal_read.specs.declared.fault.SessionFault.TheVariants.{Damaged, RedoDamaged, TooFew, NothingToRedo}
+use Rattle.bx_journal_model.specs.declared.fault.SessionFault.TheVariants.{Damaged, RedoDamaged, TooFew, NothingToRedo}
 use Rattle.bx_journal_format.specs.declared.read.marks.Mark.{Mark}
 use Rattle.bx_journal_format.specs.count.Mark.{IsMark}
 use Rattle.bx_journal_format.specs.count.Marks.{marks_of}
 use Rattle.bx_journal_read.specs.declared.show.unfinished.Marked.{Marked}
-use Rattle.bx_journal_read.specs.declared.scan.mark.Mark.{Mark as Place}
+use Rattle.bx_journal_model.specs.declared.mark.Mark.{Mark as Place}
 use Rattle.bx_journal_read.specs.declared.scan.torn.Torn.{Torn}
-use Rattle.bx_journal_read.specs.declared.fault.SessionFault.{SessionFault}
-use Rattle.bx_journal_read.specs.scan.Looking.{LooksAt}
+use Rattle.bx_journal_model.specs.declared.fault.SessionFault.{SessionFault}
+use Rattle.bx_journal_model.specs.Looking.{LooksAt}
 use Rattle.bx_journal_read.specs.scan.Recovery.{FindFault}
 
 -- the word for a way

@@ -1,16 +1,16 @@
 //! A text that is counted in windows.
 ghost use Rattle.std.specs.Prelude.{◌≡◌, ◌<◌, ◌≤◌, length, take, is_err, IfOk, IfErr, IfSome};
 ghost use Rattle.bx_image.specs.Power.{NoMore};
-ghost use Rattle.bx_journal_read.specs.scan.Looking.{LooksAt, LooksThrough, OnlyReadsText};
-ghost use Rattle.bx_journal_read.specs.model.Fault.{LacksOrFails};
+ghost use Rattle.bx_journal_model.specs.Looking.{LooksAt, LooksThrough, OnlyReadsText};
+ghost use Rattle.bx_journal_model.specs.Fault.{LacksOrFails};
 ghost use Rattle.bx_journal_read.specs.scan.Windows.{IsAllCounted, IsCountedBy, IsFrontCounted, IsWalkedTo};
 
-use crate::fault::SessionFault;
-use crate::scan::windows::{Scan, Taken, WINDOW, scan_start};
+use crate::scan::windows::{Scan, Taken, scan_start};
 use bx_image::DeviceFailed;
 use bx_journal_format::{
     Counted, Front, MOST_CHANGES, Tally, count_lines, count_one, counted_by, no_entries,
 };
+use bx_journal_model::{SessionFault, WINDOW};
 use bx_journal_store::TextStore;
 use bx_text::NoMemory;
 use std::alloc::Allocator;

@@ -1,17 +1,17 @@
 //! At which line a text is damaged: found a window at a time, however long the text or the line is.
 ghost use Rattle.std.specs.Prelude.{◌≡◌, ◌+◌, ◌<◌, ◌≤◌, length, take, false, IsTrue, is_err, IfOk, IfErr, IfSome};
 ghost use Rattle.bx_journal_format.specs.Shown.{shown};
-ghost use Rattle.bx_journal_read.specs.scan.Damage.{IsDamagedIn, IsInPlace, IsPlainTo, read_of};
-ghost use Rattle.bx_journal_read.specs.scan.Looking.{LooksThrough, OnlyReadsText};
+ghost use Rattle.bx_journal_read.specs.scan.Damage.{IsDamagedIn, IsInPlace, read_of};
+ghost use Rattle.bx_journal_model.specs.Long.{IsPlainTo};
+ghost use Rattle.bx_journal_model.specs.Looking.{LooksThrough, OnlyReadsText};
 ghost use Rattle.bx_journal_read.specs.scan.Windows.{IsWalkedTo};
 
-use crate::fault::SessionFault;
 use crate::scan::count::Walk;
-use crate::scan::long::newline_from;
 use crate::scan::shown::shown_in;
-use crate::scan::windows::{Scan, Taken, WINDOW, scan_start};
+use crate::scan::windows::{Scan, Taken, scan_start};
 use bx_image::DeviceFailed;
 use bx_journal_format::{SURELY_LONG, Tally, count_one, is_damaged, lines_in_place, no_entries};
+use bx_journal_model::{SessionFault, WINDOW, newline_from};
 use bx_journal_store::TextStore;
 use bx_text::NoMemory;
 use std::alloc::Allocator;

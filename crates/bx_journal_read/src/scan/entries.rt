@@ -4,27 +4,21 @@ ghost use Rattle.bx_image.specs.Power.{NoMore};
 ghost use Rattle.bx_journal_format.specs.Text.{Entry};
 ghost use Rattle.bx_journal_format.specs.read.Journal.{HasRead};
 ghost use Rattle.bx_journal_format.specs.read.Lines.{IsReadUpTo};
-ghost use Rattle.bx_journal_read.specs.scan.Looking.{LooksAt, LooksThrough};
-ghost use Rattle.bx_journal_read.specs.model.Undoing.{AgainFault, HasCount, FindsLast, IsLastFrom, IsReadAgain, IsReadBehind, IsReadFrom, LooksForLast, read_whole};
+ghost use Rattle.bx_journal_model.specs.Looking.{LooksAt, LooksThrough};
+ghost use Rattle.bx_journal_model.specs.Undoing.{AgainFault, HasCount, IsLastFrom};
+ghost use Rattle.bx_journal_read.specs.scan.Entries.{FindsLast, IsReadAgain, IsReadBehind, IsReadFrom, LooksForLast, read_whole};
 ghost use Rattle.bx_journal_read.specs.scan.Windows.{IsFrontCounted};
 
-use crate::fault::{SessionFault, of_text};
 use crate::scan::count::count_front;
 use crate::scan::whole::read_journal;
-use crate::scan::windows::{Scan, Taken, WINDOW, scan_windows};
+use crate::scan::windows::{Scan, Taken, scan_windows};
 use bx_journal_format::{
     EntryRead, Front, JournalRead, LinesRead, StageRead, nothing_read, read_lines, read_long,
 };
+use bx_journal_model::{FinishedRead, SessionFault, WINDOW, of_text};
 use bx_journal_store::TextStore;
 use bx_text::NoMemory;
 use std::alloc::{Allocator, Global};
-
-/// How many bytes a text of finished entries alone has, and those entries, or the last of them.
-#[derive(Drop)]
-pub struct FinishedRead<A: Allocator = Global> {
-    pub len: u64,
-    pub entries: Vec<EntryRead<A>, A>,
-}
 
 /// What was read in a text of `len` bytes, where it is `count` finished entries alone.
 fn finished<A: Allocator>(len: u64, journal: JournalRead<A>, count: u32) -> Option<FinishedRead<A>>

@@ -4,15 +4,13 @@ ghost use Rattle.bx_journal_format.specs.Shown.{shown};
 ghost use Rattle.bx_journal_format.specs.read.Journal.{HasRead};
 ghost use Rattle.bx_journal_format.specs.count.Tally.{IsCounted};
 
-use crate::fault::{SessionFault, of_text};
 use crate::scan::count::{ALL, walk_windows};
 use crate::scan::damage::text_damage;
-use crate::scan::mark::{Mark, start_size};
 use crate::scan::torn::{Torn, find_faded, find_torn};
 use crate::scan::whole::read_journal;
-use crate::scan::windows::WINDOW;
 use bx_image::DeviceFailed;
 use bx_journal_format::{Counted, JournalRead, StageRead, counted_by, shown_len, told_length};
+use bx_journal_model::{Mark, SessionFault, WINDOW, of_text, start_size};
 use bx_journal_store::TextStore;
 use std::alloc::Allocator;
 
@@ -48,7 +46,7 @@ fn as_counted<A: Allocator>(journal: &JournalRead<A>, len: u64) -> Option<Counte
     }
 }
 
-ghost use Rattle.bx_journal_read.specs.scan.Looking.{LooksThrough, OnlyReadsText};
+ghost use Rattle.bx_journal_model.specs.Looking.{LooksThrough, OnlyReadsText};
 ghost use Rattle.bx_journal_read.specs.scan.Recovery.{FindsText, IsFoundIn, IsTorn};
 ghost use Rattle.bx_journal_format.specs.Parsed.{reading_of};
 

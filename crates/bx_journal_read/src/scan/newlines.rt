@@ -1,11 +1,10 @@
 //! The newlines of a text, counted: a window at a time, however long the text is.
 ghost use Rattle.std.specs.Prelude.{◌≡◌, ◌<◌, ◌≤◌, suc, length, take, is_err, IfOk};
 ghost use Rattle.bx_journal_format.specs.Text.{split};
-ghost use Rattle.bx_journal_read.specs.scan.Looking.{LooksThrough, OnlyReadsText};
+ghost use Rattle.bx_journal_model.specs.Looking.{LooksThrough, OnlyReadsText};
 
-use crate::fault::SessionFault;
-use crate::scan::windows::WINDOW;
 use bx_image::DeviceFailed;
+use bx_journal_model::{SessionFault, WINDOW};
 use bx_journal_store::TextStore;
 use std::alloc::Allocator;
 

@@ -2,7 +2,7 @@
 ghost use Rattle.std.specs.Prelude.{◌≡◌, ◌+◌, ◌<◌, ◌≤◌, length, take, drop, is_err, IfOk};
 ghost use Rattle.bx_journal_format.specs.Shown.{before_zero, shown};
 ghost use Rattle.bx_journal_format.specs.read.Left.{is_torn};
-ghost use Rattle.bx_journal_read.specs.scan.Looking.{OnlyReadsText};
+ghost use Rattle.bx_journal_model.specs.Looking.{OnlyReadsText};
 
 use bx_image::DeviceFailed;
 use bx_journal_format::{LastLine, follow_zero, zero_at};

@@ -6,16 +6,16 @@ ghost use Rattle.bx_journal_format.specs.declared.format.version.Version.{Versio
 ghost use Rattle.bx_journal_format.specs.count.Mark.{IsMark};
 ghost use Rattle.bx_journal_format.specs.read.Plain.{HasNoNewline};
 ghost use Rattle.bx_journal_format.specs.count.Tally.{tally_of};
-ghost use Rattle.bx_journal_read.specs.scan.Looking.{OnlyReadsText};
+ghost use Rattle.bx_journal_model.specs.Looking.{OnlyReadsText};
 ghost use Rattle.bx_journal_read.specs.scan.Recovery.{HasMark, IsTornFront, IsUnfinishedIn};
-ghost use Rattle.bx_journal_read.specs.scan.Restoring.{StandsAt};
+ghost use Rattle.bx_journal_model.specs.Restoring.{StandsAt};
 ghost use Rattle.bx_journal_read.specs.scan.Windows.{IsWalkedTo, rest_to};
 
 use crate::scan::count::{ALL, Walk, count_windows, walk_windows};
-use crate::scan::mark::{Mark, start_size};
 use crate::scan::shown::{shown_in, zero_from};
 use bx_image::DeviceFailed;
 use bx_journal_format::{Place, Tally, Version, count_lines, next_end, rest_may_follow};
+use bx_journal_model::{Mark, start_size};
 use bx_journal_store::TextStore;
 
 /// What is unfinished at the end of a text: `count` finished entries stand before it, the last one records the length `told`, and it

@@ -1,16 +1,15 @@
 //! At which line a text isn't a redo text: found a window at a time, however long the text is.
 ghost use Rattle.std.specs.Prelude.{◌≡◌, ◌<◌, ◌≤◌, IsTrue, length, is_err, IfOk, IfSome};
-ghost use Rattle.bx_journal_read.specs.model.Judging.{IsUnfitIn};
-ghost use Rattle.bx_journal_read.specs.scan.Looking.{LooksThrough, OnlyReadsText};
+ghost use Rattle.bx_journal_read.specs.scan.Judging.{IsUnfitIn};
+ghost use Rattle.bx_journal_model.specs.Looking.{LooksThrough, OnlyReadsText};
 ghost use Rattle.bx_journal_read.specs.scan.Windows.{AreAround, AreMoreThan};
 
-use crate::fault::SessionFault;
 use crate::scan::count::{ALL, count_windows, walk_windows};
 use crate::scan::newlines::newlines_to;
 use crate::scan::torn::find_end;
-use crate::scan::windows::WINDOW;
 use bx_image::DeviceFailed;
 use bx_journal_format::{Front, MOST_CHANGES};
+use bx_journal_model::{SessionFault, WINDOW};
 use bx_journal_store::TextStore;
 use std::alloc::Allocator;
 

@@ -3,10 +3,10 @@ ghost use Rattle.std.specs.Prelude.{IfOk, IfErr};
 ghost use Rattle.bx_journal_format.specs.Text.{Reads};
 ghost use Rattle.bx_journal_format.specs.read.Journal.{HasRead};
 ghost use Rattle.bx_journal_format.specs.Parsed.{reading_of};
-ghost use Rattle.bx_journal_read.specs.model.Calls.{ReadFault};
+ghost use Rattle.bx_journal_model.specs.Calls.{ReadFault};
 
-use crate::fault::SessionFault;
 use bx_journal_format::{EntryFault, JournalRead, read_journal as read_entries};
+use bx_journal_model::SessionFault;
 use std::alloc::Allocator;
 
 /// Reads a journal's text, or says at which line it is damaged. What it reads takes the text's memory where it can.

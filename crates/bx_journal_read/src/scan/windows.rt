@@ -2,17 +2,14 @@
 ghost use Rattle.std.specs.Prelude.{◌≡◌, ◌+◌, ◌<◌, ◌≤◌, ◌++◌, ◌^◌, ℕ, List, [], length, take, is_err, IfOk, IfSome};
 ghost use Rattle.bx_journal_format.specs.Text.{ended, split};
 ghost use Rattle.bx_journal_format.specs.read.Plain.{HasNoNewline};
-ghost use Rattle.bx_journal_read.specs.scan.Looking.{OnlyReadsText};
+ghost use Rattle.bx_journal_model.specs.Looking.{OnlyReadsText};
 ghost use Rattle.bx_journal_read.specs.scan.Windows.{IfReached, IsLedTo, IsReached, TakesLong};
 
-use crate::scan::long::long_line;
 use bx_image::DeviceFailed;
 use bx_journal_format::SURELY_LONG;
+use bx_journal_model::long_line;
 use bx_journal_store::TextStore;
 use bx_text::NoMemory;
-
-/// The count of bytes of a text that are read at a time.
-pub const WINDOW: u64 = 262_144;
 
 /// What the whole lines at the start of a window lead to, and how many bytes they have.
 #[derive(Drop)]

@@ -7,14 +7,13 @@ ghost use Rattle.bx_journal_read.specs.show.Differences.{diff_line, diff_text, s
 ghost use Rattle.bx_journal_read.specs.show.Showing.{WritesBeside, WritesFrom, lines_at};
 ghost use Rattle.bx_journal_read.specs.show.Stopping.{CountsBytes, IsOfReading, StopsPrefix};
 
-use crate::SessionFault;
-use crate::scan::long::{passed, read_cut};
 use crate::show::cache::{Cached, keep};
 use crate::show::fault::ShowFault;
 use crate::show::lines::{GATHERED, push_signed};
 use crate::show::writing::{Writing, put};
 use bx_image::Device;
 use bx_journal_format::{Mark, line_end, saved_in};
+use bx_journal_model::{SessionFault, passed, read_cut};
 use bx_journal_store::TextStore;
 use std::alloc::Allocator;
 use std::io::Write;

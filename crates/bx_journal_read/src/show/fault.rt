@@ -1,10 +1,10 @@
 //! What stops a look at the changes of a text.
 ghost use Rattle.std.specs.Prelude.{◌≡◌};
 ghost use Rattle.bx_journal_read.specs.declared.show.fault.ShowFault.TheVariants.{Text as OfText, Io as OfIo};
-ghost use Rattle.bx_journal_read.specs.declared.fault.SessionFault.TheVariants.{NoMemory as OutOfMemory, DeviceFailed as CallFailed};
+ghost use Rattle.bx_journal_model.specs.declared.fault.SessionFault.TheVariants.{NoMemory as OutOfMemory, DeviceFailed as CallFailed};
 
-use crate::SessionFault;
 use bx_image::DeviceFailed;
+use bx_journal_model::SessionFault;
 use bx_text::{IoFault, NoMemory};
 use std::alloc::AllocError;
 

@@ -7,11 +7,10 @@ ghost use Rattle.bx_journal_read.specs.show.Differences.{made_line, made_text, s
 ghost use Rattle.bx_journal_read.specs.show.Showing.{WritesFrom, lines_at};
 ghost use Rattle.bx_journal_read.specs.show.Stopping.{CountsBytes, StopsPrefix};
 
-use crate::SessionFault;
-use crate::scan::long::{passed, read_cut};
 use crate::show::fault::ShowFault;
 use crate::show::writing::{Writing, put};
 use bx_journal_format::{Mark, line_end, row_of, saved_in};
+use bx_journal_model::{SessionFault, passed, read_cut};
 use bx_journal_store::TextStore;
 use std::alloc::{AllocError, Allocator};
 use std::io::Write;

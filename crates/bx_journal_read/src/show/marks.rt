@@ -1,12 +1,13 @@
 //! The marks of a text's entries, from a text that is read in windows.
 ghost use Rattle.std.specs.Prelude.{◌≡◌, ◌<◌, ◌≤◌, length, true, IfOk, IfErr, IfSome};
 ghost use Rattle.bx_journal_format.specs.count.Marks.{IsMarked};
-ghost use Rattle.bx_journal_read.specs.scan.Looking.{LooksAt};
-ghost use Rattle.bx_journal_read.specs.model.Fault.{LacksOrFails};
+ghost use Rattle.bx_journal_model.specs.Looking.{LooksAt};
+ghost use Rattle.bx_journal_model.specs.Fault.{LacksOrFails};
 ghost use Rattle.bx_journal_read.specs.show.Showing.{AreAllMarks, AreMarksOf, FindsMarks};
 
-use crate::{Scan, SessionFault, Taken, WINDOW, read_text, scan_windows};
+use crate::{Scan, Taken, read_text, scan_windows};
 use bx_journal_format::{Mark, Marking, Place, mark_lines, mark_long, nothing_marked};
+use bx_journal_model::{SessionFault, WINDOW};
 use bx_journal_store::TextStore;
 use bx_text::NoMemory;
 use std::alloc::{Allocator, Global};

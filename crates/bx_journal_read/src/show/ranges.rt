@@ -4,11 +4,10 @@ ghost use Rattle.std.specs.Io.KnownBytes.{Appends};
 ghost use Rattle.bx_journal_read.specs.show.Showing.{PutsOn, StopsRanges, WritesFrom, ranges_at};
 ghost use Rattle.bx_journal_read.specs.show.Stopping.{CountsBytes, StopsPrefix};
 
-use crate::SessionFault;
-use crate::scan::long::{passed, read_cut};
 use crate::show::fault::ShowFault;
 use crate::show::writing::put;
 use bx_journal_format::{Mark, RangedLines, Ranging, nothing_ranged, range_last, range_lines};
+use bx_journal_model::{SessionFault, passed, read_cut};
 use bx_journal_store::TextStore;
 use std::alloc::Allocator;
 use std::io::Write;

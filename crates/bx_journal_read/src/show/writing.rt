@@ -4,8 +4,8 @@ ghost use Rattle.std.specs.Io.KnownBytes.{Appends};
 ghost use Rattle.bx_journal_read.specs.show.Showing.{CountsNone, PutFault};
 ghost use Rattle.bx_journal_read.specs.show.Stopping.{CountsBytes, StopsPrefix};
 
-use crate::WINDOW;
 use crate::show::fault::ShowFault;
+use bx_journal_model::WINDOW;
 use bx_text::emit_after;
 use std::alloc::{AllocError, Allocator, Global};
 use std::io::Write;

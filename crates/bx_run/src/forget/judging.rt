@@ -2,7 +2,7 @@
 ghost use Rattle.std.specs.Prelude.{◌≡◌, ◌↔◌, ◌<◌, List, ℕ, IfErr, IfOk, OnOk, is_err, false, true};
 ghost use Rattle.bx_image.specs.Power.{NoMore};
 ghost use Rattle.bx_journal_format.specs.Shown.{shown};
-ghost use Rattle.bx_journal_read.specs.scan.Looking.{FaultCounts, OnlyReadsText};
+ghost use Rattle.bx_journal_model.specs.Looking.{FaultCounts, OnlyReadsText};
 ghost use Rattle.bx_journal_read.specs.scan.Recovery.{FindFault};
 ghost use Rattle.bx_journal.specs.ThreeDevices.{AreBelow};
 ghost use Rattle.bx_run.specs.report.Devices.{HoldBytes};

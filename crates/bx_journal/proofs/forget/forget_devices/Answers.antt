@@ -1,6 +1,6 @@
 use Rattle.std.proofs.Common.{◌≡◌, List, ℕ, [], ap, sym, ◌∙◌, subst, arith}
 use Rattle.bx_journal_protocol.proofs.RedoText.{empty_is_redo}
-use Rattle.bx_journal_read.specs.model.Redo.{IsRedoOf}
+use Rattle.bx_journal_model.specs.Redo.{IsRedoOf}
 use Rattle.bx_journal.proofs.ForgottenLemmas.{alone_at_rest, found_first, found_in_part, left_first}
 use Rattle.bx_journal.proofs.forget.forget_devices.Goals as goal
 use Rattle.bx_journal.proofs.forget.forget_devices.Goals.{After-empty_texts}

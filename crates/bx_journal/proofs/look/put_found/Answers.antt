@@ -2,7 +2,7 @@ use Rattle.std.proofs.Common.{◌≤◌, List, length, subst, sym}
 use Rattle.std.specs.Prelude.{All}
 use Rattle.bx_journal_read.specs.show.Showing.{LiesWithin}
 use Rattle.bx_journal_read.specs.show.ShownSteps.{AreStepsPut}
-use Rattle.bx_journal_read.specs.declared.fault.SessionFault.TheVariants.{NoMemory}
+use Rattle.bx_journal_model.specs.declared.fault.SessionFault.TheVariants.{NoMemory}
 use Rattle.bx_journal_read.specs.declared.show.fault.ShowFault.TheVariants.{Text}
 use Rattle.bx_journal_read.specs.show.ShownSteps.{newest_steps, torn_text}
 use Rattle.bx_journal_read.specs.show.Stopping.{CountsBytes, StopsPrefix}

@@ -1,12 +1,12 @@
 use Rattle.std.proofs.Common.{rules, ◌≡◌, List, ℕ, sym, ◌∙◌, subst, inl, inr, ◌⊎◌, Result, Ok, Err}
 use Rattle.std.specs.Prelude.{IfErr, OnErr}
 use Rattle.bx_image.proofs.Changes.{OnErr-known}
-use Rattle.bx_journal_read.specs.model.Calls.{AfterFault}
-use Rattle.bx_journal_protocol.specs.model.Power.{Found as FoundOnDisk}
+use Rattle.bx_journal_model.specs.Calls.{AfterFault}
+use Rattle.bx_journal_model.specs.Power.{Found as FoundOnDisk}
 use Rattle.bx_image.proofs.Survivors.{NoMore_then}
 use Rattle.bx_journal_read.proofs.OpenLemmas.{after_same}
-use Rattle.bx_journal_read.specs.model.Phase.{IsAtRest}
-use Rattle.bx_journal_read.specs.model.Stack.{Recovers}
+use Rattle.bx_journal_model.specs.Phase.{IsAtRest}
+use Rattle.bx_journal_model.specs.Stack.{Recovers}
 use Rattle.bx_journal_format.specs.Shown.{shown}
 use Rattle.bx_journal_format.proofs.CleanLemmas.{clean_shown}
 use Rattle.bx_journal_format.specs.Text.{Between, IsAccepted, Reads}

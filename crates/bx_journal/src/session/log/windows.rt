@@ -1,14 +1,15 @@
 //! The rows of a log, from a text that is read in windows.
 ghost use Rattle.std.specs.Prelude.{◌≡◌, ◌<◌, ◌++◌, true, OnOk, IfOk, IfErr, IfSome};
 ghost use Rattle.bx_image.specs.Power.{NoMore};
-ghost use Rattle.bx_journal_read.specs.scan.Looking.{LooksAt};
-ghost use Rattle.bx_journal_read.specs.model.Fault.{LacksOrFails};
+ghost use Rattle.bx_journal_model.specs.Looking.{LooksAt};
+ghost use Rattle.bx_journal_model.specs.Fault.{LacksOrFails};
 ghost use Rattle.bx_journal.specs.private.Rows.{AreRowsOf, IsListed, IsListedIn, ended_row};
 
 use bx_journal_format::{
     ENDED, Place, Summed, full_behind, next_end, nothing_summed, sum_full, sum_one,
 };
-use bx_journal_read::{LogRow, Scan, SessionFault, Taken, WINDOW, scan_windows};
+use bx_journal_model::{LogRow, SessionFault, WINDOW};
+use bx_journal_read::{Scan, Taken, scan_windows};
 use bx_journal_store::TextStore;
 use bx_text::NoMemory;
 use std::alloc::{Allocator, Global};

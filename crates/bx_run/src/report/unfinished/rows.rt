@@ -7,7 +7,8 @@ ghost use Rattle.bx_run.specs.report.Unfinished.{front_at, ranges_if, row_at, ro
 
 use bx_journal::ShowFault;
 use bx_journal_format::Mark;
-use bx_journal_read::{WINDOW, put, put_ranges};
+use bx_journal_model::WINDOW;
+use bx_journal_read::{put, put_ranges};
 use bx_journal_store::TextStore;
 use std::alloc::{AllocError, Global};
 use std::fmt::Write as _;

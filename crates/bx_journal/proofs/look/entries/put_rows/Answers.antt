@@ -4,7 +4,7 @@ use Rattle.std.proofs.KnownBytes.{Appends-nil}
 use Rattle.std.specs.Io.KnownBytes.{Appends}
 use Rattle.bx_journal_read.proofs.RowTexts.{rows_none, rows_written}
 use Rattle.bx_journal_read.proofs.StopLemmas.{handed_on, refused_on}
-use Rattle.bx_journal_read.specs.declared.fault.SessionFault.TheVariants.{NoMemory}
+use Rattle.bx_journal_model.specs.declared.fault.SessionFault.TheVariants.{NoMemory}
 use Rattle.bx_journal_read.specs.show.Showing.{mark_rows}
 use Rattle.bx_journal.proofs.StoppedLooks.{row_counted, row_stopped}
 use Rattle.std.proofs.lemmas.List.Elements.{All-get_or}

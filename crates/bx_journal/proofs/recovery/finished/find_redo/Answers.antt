@@ -2,7 +2,7 @@ use Rattle.std.proofs.Common.{◌≡◌, length, sym, subst, arith}
 use Rattle.std.specs.Prelude.{IfSome}
 use Rattle.std.proofs.lemmas.Result.{IfOk-weaker}
 use Rattle.bx_journal_format.specs.Text.{split}
-use Rattle.bx_journal_read.specs.model.Judging.{IsRedoCounted}
+use Rattle.bx_journal_read.specs.scan.Judging.{IsRedoCounted}
 use Rattle.bx_journal.specs.private.RedoFound.{IsRedoCountedIn, IsRedoFound, IsRedoIn}
 use Rattle.bx_journal.proofs.recovery.finished.find_redo.Goals as goal
 

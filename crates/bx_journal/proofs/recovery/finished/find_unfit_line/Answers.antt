@@ -1,6 +1,6 @@
 use Rattle.std.specs.Prelude.{IfSome}
 use Rattle.std.proofs.lemmas.Result.{IfOk-weaker}
-use Rattle.bx_journal_read.specs.model.Judging.{IsUnfitIn}
+use Rattle.bx_journal_read.specs.scan.Judging.{IsUnfitIn}
 use Rattle.bx_journal_read.specs.scan.Damage.{IsDamagedIn}
 use Rattle.bx_journal.proofs.JudgeLemmas.{damaged_unfit, some_weaker, unfit_before}
 use Rattle.bx_journal.proofs.recovery.finished.find_unfit_line.Goals as goal

@@ -1,6 +1,6 @@
 use Rattle.std.proofs.Common.{◌∙◌, subst}
 use Rattle.std.specs.Prelude.{IfSome}
-use Rattle.bx_journal_read.specs.model.Judging.{IsUnfitIn}
+use Rattle.bx_journal_read.specs.scan.Judging.{IsUnfitIn}
 use Rattle.bx_journal.proofs.recovery.finished.read_redo.Goals as goal
 
 pub returns-in-Some-clause-found : goal.returns-in-Some-clause-found

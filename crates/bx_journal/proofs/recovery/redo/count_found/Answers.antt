@@ -1,7 +1,7 @@
 use Rattle.std.proofs.Common.{◌+◌, ◌≤◌, ℕ, List, subst, arith}
 use Rattle.std.proofs.lemmas.Result.{IfErr-weaker, IfOk-weaker}
 use Rattle.bx_journal.specs.private.RedoFound.{IsFewFound, IsOfText, IsRedoFound}
-use Rattle.bx_journal_read.specs.model.Judging.{IsRedoCounted, RedoTextFault}
+use Rattle.bx_journal_read.specs.scan.Judging.{IsRedoCounted, RedoTextFault}
 use Rattle.bx_journal.proofs.JudgeLemmas.{of_text}
 use Rattle.bx_journal.proofs.recovery.redo.count_found.Goals as goal
 

@@ -1,6 +1,6 @@
 use Rattle.std.proofs.Common.{sym, subst}
-use Rattle.bx_journal_read.specs.model.Calls.{ReadFault}
-use Rattle.bx_journal_read.specs.model.Judging.{RedoTextFault}
+use Rattle.bx_journal_model.specs.Calls.{ReadFault}
+use Rattle.bx_journal_read.specs.scan.Judging.{RedoTextFault}
 use Rattle.bx_journal.proofs.JudgeLemmas.{fault_refuses, read_fault_redo, unfit_refuses}
 use Rattle.bx_journal.proofs.recovery.redo.redo_counted.Goals as goal
 

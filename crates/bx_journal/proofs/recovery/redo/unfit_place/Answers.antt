@@ -1,5 +1,5 @@
 use Rattle.std.proofs.Common.{◌≡◌, ◌⊎◌, length, subst, arith}
-use Rattle.bx_journal_read.specs.model.Judging.{IsUntoldAt, IsBeyondAt, IsUnfitFrom, AllTold}
+use Rattle.bx_journal_read.specs.scan.Judging.{IsUntoldAt, IsBeyondAt, IsUnfitFrom, AllTold}
 use Rattle.bx_journal.proofs.JudgeLemmas.{rest_unfit, saving_unfit, ending_unfit, entry_unfit, fit_read, some_weaker, none_weaker}
 use Rattle.bx_journal.proofs.recovery.redo.unfit_place.Goals as goal
 

@@ -3,11 +3,11 @@ use Rattle.std.specs.Prelude.{IfSome, OnErr, OnOk}
 use Rattle.std.proofs.lemmas.Result.{err_from_is_err_and}
 use Rattle.bx_journal_format.specs.Shown.{shown}
 use Rattle.bx_journal_format.specs.Text.{Reading}
-use Rattle.bx_journal_read.specs.declared.answers.How.TheVariants.{Dropped, Restored}
-use Rattle.bx_journal_read.specs.model.Stack.{HaveLengths, Recovers, image_at}
-use Rattle.bx_journal_read.specs.model.Opening.{IsOpened}
-use Rattle.bx_journal_read.specs.model.Undoing.{HasLeft}
-use Rattle.bx_journal_read.specs.scan.Step.{HasTail}
+use Rattle.bx_journal_model.specs.declared.answers.How.TheVariants.{Dropped, Restored}
+use Rattle.bx_journal_model.specs.Stack.{HaveLengths, Recovers, image_at}
+use Rattle.bx_journal_model.specs.Opening.{IsOpened}
+use Rattle.bx_journal_model.specs.Undoing.{HasLeft}
+use Rattle.bx_journal_model.specs.Step.{HasTail}
 use Rattle.bx_journal.proofs.TornLemmas.{stands_in, torn_begins, torn_dropped, torn_left, torn_once, torn_opened, torn_restored, torn_same, torn_tail, torn_way}
 use Rattle.bx_journal.proofs.recovery.unfinished.cut_unfinished.Goals as goal
 

@@ -1,14 +1,14 @@
 use Rattle.std.proofs.Common.{inl, ◌≡◌, ℕ, suc, List, [], refl, ap, sym, ◌∙◌, subst, arith}
 use Rattle.bx_journal_format.specs.Shown.{shown}
 use Rattle.bx_journal_format.specs.Text.{Reading, Reads}
-use Rattle.bx_journal_protocol.specs.model.Power.{Found}
-use Rattle.bx_journal_read.specs.model.Stack.{Recovers, image_at, HaveLengths}
-use Rattle.bx_journal_read.specs.model.Calls.{Differs}
-use Rattle.bx_journal_read.specs.model.Opening.{IsOpened}
+use Rattle.bx_journal_model.specs.Power.{Found}
+use Rattle.bx_journal_model.specs.Stack.{Recovers, image_at, HaveLengths}
+use Rattle.bx_journal_model.specs.Calls.{Differs}
+use Rattle.bx_journal_model.specs.Opening.{IsOpened}
 use Rattle.bx_journal_read.proofs.OpenLemmas.{look_opens, look_refuses, after_same, same_lengths}
 use Rattle.bx_journal.proofs.TornLemmas.{torn_once, torn_stack}
 use Rattle.bx_journal_read.proofs.RecoverLemmas.{look_kind, look_silent}
-use Rattle.bx_journal_read.specs.model.Undoing.{HasLeft}
+use Rattle.bx_journal_model.specs.Undoing.{HasLeft}
 use Rattle.bx_journal_read.specs.scan.Recovery.{IsTornIn}
 use Rattle.bx_journal.proofs.recovery.unfinished.recover_read.Goals as goal
 

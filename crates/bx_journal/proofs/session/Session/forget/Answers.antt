@@ -2,8 +2,8 @@ use Rattle.std.proofs.Common.{◌≡◌, ℕ, List, [], ◌∷◌, refl, ap, sym
 use Rattle.bx_journal_protocol.proofs.Performed.{top_of_stands}
 use Rattle.bx_journal_protocol.proofs.Ready.{top_of_rest}
 use Rattle.bx_journal_protocol.proofs.RedoText.{empty_is_redo}
-use Rattle.bx_journal_read.specs.model.Redo.{IsRedoOf}
-use Rattle.bx_journal_read.specs.model.Stack.{StandsFor}
+use Rattle.bx_journal_model.specs.Redo.{IsRedoOf}
+use Rattle.bx_journal_model.specs.Stack.{StandsFor}
 use Rattle.bx_journal.proofs.ForgottenLemmas.{alone_at_rest, finds_some, found_first, found_rest, found_some, left_first, ready_rests, rests_alone}
 use Rattle.bx_journal.specs.Forgotten.{forgotten}
 use Rattle.bx_journal.proofs.session.Session.forget.Goals as goal

@@ -1,8 +1,8 @@
 use Rattle.std.proofs.Common.{◌≡◌, ℕ, sym, subst, arith}
 use Rattle.std.proofs.lemmas.Grind.{common_steps}
-use Rattle.bx_journal_protocol.specs.model.Power.{FoundBefore}
-use Rattle.bx_journal_read.specs.declared.fault.SessionFault.TheVariants.{Damaged}
-use Rattle.bx_journal_read.specs.model.Undoing.{AgainFault}
+use Rattle.bx_journal_model.specs.Power.{FoundBefore}
+use Rattle.bx_journal_model.specs.declared.fault.SessionFault.TheVariants.{Damaged}
+use Rattle.bx_journal_model.specs.Undoing.{AgainFault}
 use Rattle.bx_journal_format.specs.Finished.{IsFinished}
 use Rattle.bx_journal_read.proofs.AgainLemmas.{in_step}
 use Rattle.bx_journal.proofs.session.Session.log.Goals as goal

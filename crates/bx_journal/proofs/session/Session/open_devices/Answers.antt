@@ -1,7 +1,7 @@
 use Rattle.std.proofs.Common.{ℕ, List, refl, ap, suc, sym, ◌∙◌}
 use Rattle.bx_journal_format.specs.Shown.{shown}
-use Rattle.bx_journal_read.specs.model.Stack.{image_at}
-use Rattle.bx_journal_read.proofs.Phases.{length-stack_of}
+use Rattle.bx_journal_model.specs.Stack.{image_at}
+use Rattle.bx_journal_model.proofs.Phases.{length-stack_of}
 use Rattle.bx_journal_read.proofs.OpenLemmas.{recovers_same}
 use Rattle.bx_journal.proofs.Reopening.{kept_undone, rest_clean, rest_fault, rest_found, rest_reads, rest_recovers_shown}
 use Rattle.bx_journal.proofs.session.Session.open_devices.Goals as goal

@@ -5,17 +5,17 @@ use Rattle.bx_image.specs.Change.{effect, saved, Fits, IsOf}
 use Rattle.bx_journal_format.specs.Entry.{head_text, end_text}
 use Rattle.bx_journal_protocol.specs.write.Begun.{BeginsEntry}
 use Rattle.bx_journal_protocol.specs.write.Ranges.{kept_over}
-use Rattle.bx_journal_read.specs.model.Machine.{top, changes_of}
-use Rattle.bx_journal_read.specs.model.Phase.{IsAtRest}
-use Rattle.bx_journal_read.specs.model.Redo.{IsRedoOf}
-use Rattle.bx_journal_read.specs.model.Stack.{StandsFor}
+use Rattle.bx_journal_model.specs.Machine.{top, changes_of}
+use Rattle.bx_journal_model.specs.Phase.{IsAtRest}
+use Rattle.bx_journal_model.specs.Redo.{IsRedoOf}
+use Rattle.bx_journal_model.specs.Stack.{StandsFor}
 use Rattle.bx_journal_protocol.proofs.RedoText.{empty_is_redo}
 use Rattle.bx_journal_protocol.proofs.TurnLemmas.{change_stops}
 use Rattle.bx_journal_protocol.proofs.Performed.{appended, performs, top_of_stands}
-use Rattle.bx_journal_protocol.specs.ThreeDevices.{HaveStayed}
+use Rattle.bx_journal_model.specs.ThreeDevices.{HaveStayed}
 use Rattle.bx_journal.proofs.SafeLemmas.{any_fault}
 use Rattle.bx_journal_protocol.proofs.LookedLemmas.{pair_stays, rest_step}
-use Rattle.bx_journal_read.specs.scan.Step.{WritesEntry}
+use Rattle.bx_journal_model.specs.Step.{WritesEntry}
 use Rattle.bx_journal_protocol.proofs.Ready.{IsPrepared, writes_entry, top_of_rest}
 use Rattle.bx_journal_protocol.proofs.StepSurvivors.{found_at_rest, found_either, found_of}
 use Rattle.bx_journal.proofs.session.Session.perform.Goals as goal

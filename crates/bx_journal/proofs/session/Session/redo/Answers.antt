@@ -1,23 +1,23 @@
 use Rattle.std.proofs.Common.{rules, ◌≡◌, ◌+◌, ℕ, length, length-append, refl, ap, sym, ◌∙◌, subst, arith, Err}
 use Rattle.std.specs.Prelude.{IfErr}
-use Rattle.bx_journal_read.specs.model.Fault.{DeviceFault}
+use Rattle.bx_journal_model.specs.Fault.{DeviceFault}
 use Rattle.std.proofs.lemmas.Grind.{common_steps}
-use Rattle.bx_journal_read.specs.declared.fault.SessionFault.TheVariants.{RedoDamaged}
+use Rattle.bx_journal_model.specs.declared.fault.SessionFault.TheVariants.{RedoDamaged}
 use Rattle.bx_journal_format.specs.Text.{IsPrefix}
-use Rattle.bx_journal_read.specs.model.Machine.{changes_of}
-use Rattle.bx_journal_read.specs.model.Phase.{IsAtRest}
-use Rattle.bx_journal_read.specs.model.Stack.{StandsFor}
-use Rattle.bx_journal_read.specs.model.Undoing.{IsOutOfStep, RedoAgainFault}
+use Rattle.bx_journal_model.specs.Machine.{changes_of}
+use Rattle.bx_journal_model.specs.Phase.{IsAtRest}
+use Rattle.bx_journal_model.specs.Stack.{StandsFor}
+use Rattle.bx_journal_model.specs.Undoing.{IsOutOfStep, RedoAgainFault}
 use Rattle.bx_journal_read.proofs.AgainLemmas.{has_count}
 use Rattle.bx_journal.proofs.RedoingLemmas.{grown_since, redo_in_step, redone}
 use Rattle.std.proofs.lemmas.Result.{err_from_is_err_and}
-use Rattle.bx_journal_protocol.specs.ThreeDevices.{HaveStayed}
+use Rattle.bx_journal_model.specs.ThreeDevices.{HaveStayed}
 use Rattle.bx_image.proofs.Survivors.{NoMore_then}
 use Rattle.bx_journal_protocol.proofs.DeviceLemmas.{one_more}
-use Rattle.bx_journal_protocol.specs.model.Power.{FoundBefore}
+use Rattle.bx_journal_model.specs.Power.{FoundBefore}
 use Rattle.bx_journal.proofs.SafeLemmas.{accepts, any_fault, image_after, interrupts, refuses}
 use Rattle.bx_journal_protocol.proofs.LookedLemmas.{left_since, none_failed, pair_step, redo_looked_at, read_since, rest_step, standing_step}
-use Rattle.bx_journal_read.specs.model.Images.{redo_of}
+use Rattle.bx_journal_model.specs.Images.{redo_of}
 use Rattle.bx_journal_protocol.proofs.TouchedLemmas.{begun_same}
 use Rattle.bx_journal_protocol.proofs.StepSurvivors.{found_at_rest, found_of, found_some}
 use Rattle.bx_journal.proofs.session.Session.redo.Goals as goal

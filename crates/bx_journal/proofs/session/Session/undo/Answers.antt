@@ -1,19 +1,19 @@
 use Rattle.std.proofs.Common.{rules, ◌≡◌, ℕ, refl, ◌∙◌, sym, subst, arith, length-drop}
 use Rattle.std.proofs.lemmas.Grind.{common_steps}
-use Rattle.bx_journal_read.specs.declared.fault.SessionFault.TheVariants.{Damaged}
-use Rattle.bx_journal_read.specs.model.Phase.{IsAtRest}
-use Rattle.bx_journal_read.specs.model.Stack.{StandsFor}
-use Rattle.bx_journal_read.specs.model.Undoing.{AgainFault, IsOutOfStep}
+use Rattle.bx_journal_model.specs.declared.fault.SessionFault.TheVariants.{Damaged}
+use Rattle.bx_journal_model.specs.Phase.{IsAtRest}
+use Rattle.bx_journal_model.specs.Stack.{StandsFor}
+use Rattle.bx_journal_model.specs.Undoing.{AgainFault, IsOutOfStep}
 use Rattle.bx_journal_read.proofs.AgainLemmas.{has_count, in_step}
 use Rattle.bx_journal_protocol.proofs.TakingLemmas.{changes_left}
 use Rattle.std.proofs.lemmas.Result.{err_from_is_err_and}
-use Rattle.bx_journal_protocol.specs.ThreeDevices.{HaveStayed}
+use Rattle.bx_journal_model.specs.ThreeDevices.{HaveStayed}
 use Rattle.bx_image.proofs.Survivors.{NoMore_then}
 use Rattle.bx_journal_protocol.proofs.DeviceLemmas.{one_more}
-use Rattle.bx_journal_protocol.specs.model.Power.{FoundBefore}
+use Rattle.bx_journal_model.specs.Power.{FoundBefore}
 use Rattle.bx_journal.proofs.SafeLemmas.{accepts, any_fault, interrupts, refuses}
 use Rattle.bx_journal_protocol.proofs.LookedLemmas.{left_since, looked_at, none_failed, pair_step, read_since, rest_step, standing_step, kept_step}
-use Rattle.bx_journal_read.specs.model.Images.{undo_of}
+use Rattle.bx_journal_model.specs.Images.{undo_of}
 use Rattle.bx_journal_protocol.proofs.LoopLemmas.{standing}
 use Rattle.bx_journal_protocol.proofs.StepSurvivors.{found_at_rest, found_of, found_some}
 use Rattle.bx_journal.proofs.session.Session.undo.Goals as goal

@@ -1,5 +1,5 @@
 use Rattle.std.proofs.Common.{◌≡◌, take}
-use Rattle.bx_journal_read.specs.model.Calls.{rows_of}
+use Rattle.bx_journal_model.specs.Calls.{rows_of}
 use Rattle.bx_journal_format.specs.Parsed.{entries_of}
 use Rattle.bx_journal.proofs.session.log.rows.Given as goal
 

@@ -1,5 +1,5 @@
 use Rattle.std.proofs.Common.{◌≤◌, length, ap, ◌∙◌, arith, rules}
-use Rattle.bx_journal_read.specs.model.Calls.{rows_of}
+use Rattle.bx_journal_model.specs.Calls.{rows_of}
 use Rattle.bx_journal_format.specs.Parsed.{entries_of}
 use Rattle.bx_journal_format.proofs.ReadLemmas.{length-entries_of}
 use Rattle.bx_journal.proofs.SavedBound.{saved_countable}

@@ -1,6 +1,6 @@
 use Rattle.std.proofs.Common.{sym, subst}
-use Rattle.bx_journal_read.specs.scan.Looking.{FaultCounts}
-use Rattle.bx_journal_read.specs.model.Undoing.{RedoAgainFault}
+use Rattle.bx_journal_model.specs.Looking.{FaultCounts}
+use Rattle.bx_journal_model.specs.Undoing.{RedoAgainFault}
 use Rattle.bx_journal.proofs.RedoingLemmas.{redo_again, redo_counts}
 use Rattle.bx_journal.proofs.session.redo.read_undone.Goals as goal
 

@@ -1,6 +1,6 @@
 use Rattle.std.proofs.Common.{◌≡◌, ◌-◌, ◌≤◌, ◌∙◌, ℕ, length, take, drop, min, ap, refl, sym, arith}
 use Rattle.bx_journal_format.specs.Text.{split}
-use Rattle.bx_journal_read.proofs.TextReads.{read_bytes, read_none, read_then}
+use Rattle.bx_journal_model.proofs.TextReads.{read_bytes, read_none, read_then}
 use Rattle.bx_journal_image.proofs.BlockLemmas.{none_taken, nothing_struck, nothing_to, window_ends, window_struck}
 use Rattle.bx_journal_image.proofs.blocks.strikes.strike_text.Goals as goal
 

@@ -1,5 +1,5 @@
 use Rattle.std.proofs.Common.{◌≡◌, ◌+◌, ◌-◌, ◌≤◌, ℕ, arith, length}
-use Rattle.bx_journal_read.proofs.TextReads.{read_bytes, read_then}
+use Rattle.bx_journal_model.proofs.TextReads.{read_bytes, read_then}
 use Rattle.bx_journal_image.specs.Entry.{BeginsBehind}
 use Rattle.bx_journal_image.proofs.EntryLemmas.{last_in, none_at, none_in}
 use Rattle.bx_journal_image.proofs.finding.entry.last_entry.Goals as goal

@@ -1,5 +1,5 @@
 use Rattle.std.proofs.Common.{◌≡◌, ◌≤◌, ◌+◌, ℕ, false, length}
-use Rattle.bx_journal_read.specs.scan.Looking.{OnlyReadsText}
+use Rattle.bx_journal_model.specs.Looking.{OnlyReadsText}
 use Rattle.bx_journal_image.specs.Entry.{BeginsBehind}
 use Rattle.bx_journal_image.proofs.finding.entry.last_entry.Given as goal
 

@@ -1,6 +1,6 @@
 use Rattle.std.proofs.Common.{None, inr, subst}
 use Rattle.std.proofs.lemmas.List.{get_or-replicate}
-use Rattle.bx_journal_read.proofs.TextReads.{failed_through}
+use Rattle.bx_journal_model.proofs.TextReads.{failed_through}
 use Rattle.bx_journal_image.specs.Unfinished.{IsStruckAt}
 use Rattle.bx_journal_image.proofs.sealing.resealing.keep_marks.Goals as goal
 

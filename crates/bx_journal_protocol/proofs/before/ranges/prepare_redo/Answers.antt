@@ -1,6 +1,6 @@
 use Rattle.std.proofs.Common.{◌≡◌, ◌-◌, length, drop, ap, arith}
 use Rattle.bx_journal_protocol.proofs.LookedLemmas.{found_then, stayed_then}
-use Rattle.bx_journal_read.proofs.UndoLoop.{kept_more}
+use Rattle.bx_journal_model.proofs.UndoLoop.{kept_more}
 use Rattle.bx_journal_protocol.proofs.before.ranges.prepare_redo.Goals as goal
 
 pub returns-clause-kept : goal.returns-clause-kept

@@ -2,14 +2,14 @@ use Rattle.std.proofs.Common.{◌≡◌, ◌-◌, ◌∙◌, length, drop, refl,
 use Rattle.std.specs.Prelude.{reverse, Vec}
 use Rattle.bx_image.specs.declared.record.spans.Span.{Span}
 use Rattle.bx_image.proofs.Survivors.{NoMore_then}
-use Rattle.bx_journal_protocol.specs.model.Power.{FoundBefore}
-use Rattle.bx_journal_protocol.specs.ThreeDevices.{HaveStayed}
+use Rattle.bx_journal_model.specs.Power.{FoundBefore}
+use Rattle.bx_journal_model.specs.ThreeDevices.{HaveStayed}
 use Rattle.bx_journal_protocol.specs.write.Touched.{AreTouched, entries_over}
 use Rattle.bx_journal_protocol.proofs.DeviceLemmas.{both_ways, with_device}
 use Rattle.bx_journal_protocol.proofs.LookedLemmas.{found_then, stayed_then}
 use Rattle.bx_journal_protocol.proofs.TouchedLemmas.{begun_same, first_within}
-use Rattle.bx_journal_read.proofs.AgainLemmas.{kept_last}
-use Rattle.bx_journal_read.proofs.UndoLoop.{kept_more}
+use Rattle.bx_journal_model.proofs.LongestLemmas.{kept_last}
+use Rattle.bx_journal_model.proofs.UndoLoop.{kept_more}
 use Rattle.bx_journal_protocol.proofs.before.ranges.take_ranges.Goals as goal
 use Rattle.bx_journal_protocol.proofs.before.ranges.take_ranges.Goals.{After-begin_first, After-make_room}
 

@@ -3,7 +3,7 @@ use Rattle.std.specs.Prelude.{All}
 use Rattle.std.proofs.lemmas.Grind.{common_steps}
 use Rattle.std.proofs.lemmas.List.{take_all}
 use Rattle.bx_journal_format.specs.declared.read.types.EntryRead.{EntryRead}
-use Rattle.bx_journal_read.proofs.AgainLemmas.{longest_more}
+use Rattle.bx_journal_model.proofs.LongestLemmas.{longest_more}
 use Rattle.bx_journal_protocol.proofs.before.records.longest_of.Goals as goal
 
 pub loop-entry-preserved : goal.loop-entry-preserved

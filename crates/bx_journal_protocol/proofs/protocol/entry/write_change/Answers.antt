@@ -5,14 +5,14 @@ use Rattle.bx_image.specs.Change.{effect, saved, IsAsGood}
 use Rattle.bx_journal_format.specs.Kept.{Kept, kept_of}
 use Rattle.bx_journal_format.specs.Entry.{head_text}
 use Rattle.bx_journal_format.specs.declared.format.version.Version.TheVariants.{Second}
-use Rattle.bx_journal_read.specs.model.Phase.{IsAtRest, RecoversEither, as_read, StaysOpenFor}
-use Rattle.bx_journal_read.specs.model.Stack.{Recovers}
+use Rattle.bx_journal_model.specs.Phase.{IsAtRest, RecoversEither, as_read, StaysOpenFor}
+use Rattle.bx_journal_model.specs.Stack.{Recovers}
 use Rattle.bx_journal_protocol.specs.write.Ranges.{kept_over}
 use Rattle.bx_journal_protocol.proofs.ChangeSteps.{ends_of}
-use Rattle.bx_journal_read.specs.model.Redo.{LeavesEither, RecoversOpen}
+use Rattle.bx_journal_model.specs.Redo.{LeavesEither, RecoversOpen}
 use Rattle.bx_journal_protocol.specs.protocol.Turns.{cut_place, side_of}
 use Rattle.bx_journal_protocol.proofs.StopLemmas.{before_stops, within_old, last_stops}
-use Rattle.bx_journal_read.proofs.Phases.{open_recovers}
+use Rattle.bx_journal_model.proofs.Phases.{open_recovers}
 use Rattle.bx_journal_protocol.proofs.EndLineLemmas.{either_of}
 use Rattle.bx_journal_format.specs.Shown.{shown}
 use Rattle.bx_image.specs.Power.{Only}

@@ -2,11 +2,11 @@ use Rattle.std.proofs.Common.{Result, Ok, Err}
 use Rattle.std.specs.Prelude.{OnErr}
 use Rattle.bx_image.specs.Change.{saved, IsAsGood}
 use Rattle.bx_journal_format.specs.Kept.{kept_of}
-use Rattle.bx_journal_read.specs.model.Phase.{as_read}
+use Rattle.bx_journal_model.specs.Phase.{as_read}
 use Rattle.bx_journal_format.specs.declared.format.version.Version.TheVariants.{Second}
 use Rattle.bx_journal_protocol.proofs.ChangeSteps.{change_moves}
 use Rattle.bx_journal_format.proofs.KeptLemmas.{good_in}
-use Rattle.bx_journal_read.proofs.Phases.{open_recovers}
+use Rattle.bx_journal_model.proofs.Phases.{open_recovers}
 use Rattle.bx_image.proofs.Records.{IsAsGood-saved}
 use Rattle.bx_journal_protocol.proofs.protocol.image.change_image.Goals as goal
 

@@ -7,19 +7,19 @@ use Rattle.bx_image.specs.Over.{LieWithin}
 use Rattle.bx_image.proofs.Records.{length-restore}
 use Rattle.bx_journal_format.specs.Kept.{kept_of}
 use Rattle.bx_journal_format.proofs.KeptLemmas.{within_out}
-use Rattle.bx_journal_read.specs.model.Images.{redo_of}
-use Rattle.bx_journal_read.specs.model.Phase.{IsAtRest}
-use Rattle.bx_journal_protocol.specs.model.Taken.{taken_by}
-use Rattle.bx_journal_protocol.specs.model.OnTop.{OnTop}
-use Rattle.bx_journal_read.specs.model.Stack.{StandsFor}
-use Rattle.bx_journal_read.specs.model.Undoing.{HasLeft}
+use Rattle.bx_journal_model.specs.Images.{redo_of}
+use Rattle.bx_journal_model.specs.Phase.{IsAtRest}
+use Rattle.bx_journal_model.specs.Taken.{taken_by}
+use Rattle.bx_journal_model.specs.OnTop.{OnTop}
+use Rattle.bx_journal_model.specs.Stack.{StandsFor}
+use Rattle.bx_journal_model.specs.Undoing.{HasLeft}
 use Rattle.bx_journal_protocol.specs.write.Ranges.{kept_over, left_len}
 use Rattle.bx_journal_protocol.specs.write.Touched.{AreTouched, IsHeadBegun, IsFirstBegun, IsFirstWithin, IsTouched, entries_over}
 use Rattle.bx_journal_protocol.specs.protocol.Turns.{AreAtRest, AreStanding}
 use Rattle.bx_journal_protocol.proofs.DeviceLemmas.{always_err, filling_fails, goes_further, none_yet, step_fails}
 use Rattle.bx_journal_protocol.proofs.EntryLoop.{EntryTurn, all_left, entry_turn, left_at, long_at, one_less, places}
 use Rattle.bx_journal_protocol.proofs.LoopLemmas.{standing}
-use Rattle.bx_journal_read.proofs.Phases.{rest_recovers}
+use Rattle.bx_journal_model.proofs.Phases.{rest_recovers}
 use Rattle.bx_journal_protocol.proofs.PrefixLemmas.{prefix_then}
 use Rattle.bx_journal_protocol.proofs.RangeLemmas.{are_ranges, ranges_more}
 use Rattle.bx_journal_protocol.proofs.RedoLoop.{IsRedoBy, IsMadeAgain, restored, redo_stopped, stopped_on, some_stands, rests_again, rests_on, stands_on, redone_next, grown_next}
@@ -28,7 +28,7 @@ use Rattle.bx_journal_protocol.proofs.TouchedLemmas.{IsKeptOf, begun_pop, begun_
 use Rattle.bx_journal_protocol.proofs.TurnLemmas.{rest_is_found}
 use Rattle.bx_journal_protocol.proofs.StepSurvivors.{found_at_rest, looked_at, survive_err}
 use Rattle.bx_journal_format.specs.Shown.{shown}
-use Rattle.bx_journal_read.specs.model.Redo.{Finds}
+use Rattle.bx_journal_model.specs.Redo.{Finds}
 use Rattle.bx_journal_protocol.proofs.protocol.redo_entry.redo_entries.Goals as goal
 use Rattle.bx_journal_protocol.proofs.protocol.redo_entry.redo_entries.Goals.{After-take_both-entry, After-as_slice-spans, After-as_bytes, After-begin_last, After-loop-i}
 

@@ -1,12 +1,12 @@
 use Rattle.std.proofs.Common.{◌≡◌, ◌+◌, ◌≤◌, ℕ, List, length, drop}
 use Rattle.bx_journal_format.specs.Finished.{IsFinished}
-use Rattle.bx_journal_protocol.specs.model.Taken.{taken_by}
-use Rattle.bx_journal_protocol.specs.model.OnTop.{OnTop}
-use Rattle.bx_journal_read.specs.model.Stack.{StandsFor}
+use Rattle.bx_journal_model.specs.Taken.{taken_by}
+use Rattle.bx_journal_model.specs.OnTop.{OnTop}
+use Rattle.bx_journal_model.specs.Stack.{StandsFor}
 use Rattle.std.specs.Prelude.{reverse, vec_capacity}
-use Rattle.bx_journal_read.specs.model.Images.{Images, redo_of}
-use Rattle.bx_journal_read.specs.model.Machine.{changes_of}
-use Rattle.bx_journal_read.specs.model.Phase.{IsAtRest}
+use Rattle.bx_journal_model.specs.Images.{Images, redo_of}
+use Rattle.bx_journal_model.specs.Machine.{changes_of}
+use Rattle.bx_journal_model.specs.Phase.{IsAtRest}
 use Rattle.bx_journal_protocol.specs.write.Touched.{AreTouchedFrom, IsFirstBegun, entries_over}
 use Rattle.bx_journal_format.specs.Text.{Entry, IsPrefix}
 use Rattle.bx_journal_protocol.specs.protocol.Turns.{AreAtRest, AreStanding}

@@ -5,7 +5,7 @@ use Rattle.bx_image.proofs.Survivors.{Follows_same, Follows_then, NoMore_then}
 use Rattle.bx_journal_format.specs.Kept.{with_runs}
 use Rattle.bx_journal_format.specs.count.Parts.{IsIn}
 use Rattle.bx_journal_protocol.proofs.PartLemmas.{keeps_on, keeps_same}
-use Rattle.bx_journal_read.proofs.RestoreLemmas.{all_given, not_ended, placed_restores, restored_none, restored_on, takes_room}
+use Rattle.bx_journal_model.proofs.RestoreLemmas.{all_given, not_ended, placed_restores, restored_none, restored_on, takes_room}
 use Rattle.bx_journal_protocol.proofs.protocol.restore.restore_lines.Goals as goal
 
 pub loop-at-init : goal.loop-at-init

@@ -3,7 +3,7 @@ use Rattle.std.specs.Prelude.{vec_capacity}
 use Rattle.bx_image.specs.Change.{KeepsUnmapped}
 use Rattle.bx_image.specs.Power.{Follows, NoMore}
 use Rattle.bx_journal_format.specs.Kept.{Kept}
-use Rattle.bx_journal_read.specs.scan.Restoring.{IsRestoredTo, Names, StandsAt}
+use Rattle.bx_journal_model.specs.Restoring.{IsRestoredTo, Names, StandsAt}
 use Rattle.bx_journal_protocol.proofs.protocol.restore.restore_lines.Given as goal
 
 -- the lines before this place are restored

@@ -5,9 +5,9 @@ use Rattle.bx_image.proofs.Devices.{GoesOn_refl, GoesOn_then}
 use Rattle.bx_image.proofs.Survivors.{Follows_same, Follows_then}
 use Rattle.bx_journal_format.specs.declared.read.parts.Part.{Part}
 use Rattle.bx_journal_format.specs.count.Parts.{part_run}
-use Rattle.bx_journal_read.specs.model.Phase.{IsPartOf}
+use Rattle.bx_journal_model.specs.Phase.{IsPartOf}
 use Rattle.bx_journal_protocol.proofs.PartLemmas.{keeps_on, keeps_same}
-use Rattle.bx_journal_read.proofs.RestoreLemmas.{named_at, part_placed, placed_end}
+use Rattle.bx_journal_model.proofs.RestoreLemmas.{named_at, part_placed, placed_end}
 use Rattle.bx_journal_protocol.proofs.protocol.restore.restore_parts.Goals as goal
 
 abbrev no_part : Part

@@ -4,7 +4,7 @@ use Rattle.bx_image.specs.Device.{GoesOn}
 use Rattle.bx_image.specs.Power.{Follows}
 use Rattle.bx_journal_format.specs.Kept.{Kept}
 use Rattle.bx_journal_format.specs.count.Parts.{part_run}
-use Rattle.bx_journal_read.specs.scan.Restoring.{AreNamed}
+use Rattle.bx_journal_model.specs.Restoring.{AreNamed}
 use Rattle.bx_journal_protocol.proofs.protocol.restore.restore_parts.Given as goal
 
 -- the parts before this one are written

@@ -4,10 +4,10 @@ use Rattle.bx_image.specs.Change.{placed}
 use Rattle.bx_journal_format.specs.declared.read.parts.Part.{Part}
 use Rattle.bx_journal_format.specs.Kept.{with_runs}
 use Rattle.bx_journal_format.specs.count.Parts.{IsIn, part_run}
-use Rattle.bx_journal_read.specs.scan.Long.{BeginsAlike, IsCut}
-use Rattle.bx_journal_read.specs.scan.Restoring.{AreNamed}
-use Rattle.bx_journal_read.proofs.LongLines.{passed_most, passed_within}
-use Rattle.bx_journal_read.proofs.RestoreLemmas.{cut_given, cut_some, parts_within, placed_long, window_named}
+use Rattle.bx_journal_model.specs.Long.{BeginsAlike, IsCut}
+use Rattle.bx_journal_model.specs.Restoring.{AreNamed}
+use Rattle.bx_journal_model.proofs.LongLines.{passed_most, passed_within}
+use Rattle.bx_journal_model.proofs.RestoreLemmas.{cut_given, cut_some, parts_within, placed_long, window_named}
 use Rattle.bx_journal_protocol.proofs.protocol.restore.restore_window.Goals as goal
 
 pub returns-in_err-restore_parts-clause-keeps : goal.returns-in_err-restore_parts-clause-keeps

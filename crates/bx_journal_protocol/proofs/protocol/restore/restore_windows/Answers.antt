@@ -2,7 +2,7 @@ use Rattle.std.proofs.Common.{◌∙◌, ap, length}
 use Rattle.std.proofs.lemmas.Result.{on_ok_weaker}
 use Rattle.bx_image.proofs.Images.{length-cut}
 use Rattle.bx_journal_protocol.proofs.PartLemmas.{all_keep_on, keeps_on, unmapped_moves}
-use Rattle.bx_journal_read.proofs.RestoreLemmas.{cut_named}
+use Rattle.bx_journal_model.proofs.RestoreLemmas.{cut_named}
 use Rattle.bx_journal_protocol.proofs.protocol.restore.restore_windows.Goals as goal
 
 pub returns-in_err-restore_len-clause-keeps : goal.returns-in_err-restore_len-clause-keeps

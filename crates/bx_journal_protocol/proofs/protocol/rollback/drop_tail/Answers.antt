@@ -4,7 +4,7 @@ use Rattle.bx_journal_protocol.proofs.PageLemmas.{at_err}
 use Rattle.bx_journal_protocol.proofs.FirstLemmas.{cut_twice, first_behind, front_faded, take_part}
 use Rattle.bx_journal_format.proofs.ShownLemmas.{take_shown}
 use Rattle.bx_journal_protocol.proofs.StepSurvivors.{left_of, partly_cut, partly_faded, tail_left, tail_survives}
-use Rattle.bx_journal_read.proofs.Tails.{tail_ok, tail_fault}
+use Rattle.bx_journal_model.proofs.Tails.{tail_ok, tail_fault}
 use Rattle.bx_journal_protocol.proofs.protocol.rollback.drop_tail.Goals as goal
 
 pub returns-in_err-keep_first-clause-fault : goal.returns-in_err-keep_first-clause-fault

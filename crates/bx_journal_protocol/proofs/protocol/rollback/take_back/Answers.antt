@@ -4,10 +4,10 @@ use Rattle.std.proofs.lemmas.Result.{on_ok_weaker}
 use Rattle.bx_journal_format.specs.Shown.{shown}
 use Rattle.bx_journal_format.specs.Text.{Ending}
 use Rattle.bx_image.proofs.Records.{IsAsGood-unmapped}
-use Rattle.bx_journal_read.specs.model.Stack.{Recovers}
-use Rattle.bx_journal_read.specs.scan.Step.{HasTail}
-use Rattle.bx_journal_read.proofs.RestoreLemmas.{names_itself}
-use Rattle.bx_journal_read.proofs.Tails.{tail_recovers, tail_moves}
+use Rattle.bx_journal_model.specs.Stack.{Recovers}
+use Rattle.bx_journal_model.specs.Step.{HasTail}
+use Rattle.bx_journal_model.proofs.RestoreLemmas.{names_itself}
+use Rattle.bx_journal_model.proofs.Tails.{tail_recovers, tail_moves}
 use Rattle.bx_journal_protocol.proofs.protocol.rollback.take_back.Goals as goal
 
 always_err : {T E P : Type 0} (r : Result T E) → P → OnErr r P

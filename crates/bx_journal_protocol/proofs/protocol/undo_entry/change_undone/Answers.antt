@@ -2,7 +2,7 @@ use Rattle.std.proofs.Common.{inl, inr, refl, Result, Ok, Err}
 use Rattle.std.specs.Prelude.{OnOk}
 use Rattle.bx_journal_protocol.proofs.DeviceLemmas.{always_err}
 use Rattle.bx_journal_protocol.proofs.PartLemmas.{unmapped_moves}
-use Rattle.bx_journal_read.proofs.RestoreLemmas.{names_itself}
+use Rattle.bx_journal_model.proofs.RestoreLemmas.{names_itself}
 use Rattle.bx_journal_protocol.proofs.protocol.undo_entry.change_undone.Goals as goal
 
 always_ok : {T E P : Type 0} (r : Result T E) → P → OnOk r P

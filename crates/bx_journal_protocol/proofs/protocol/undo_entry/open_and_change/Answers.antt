@@ -2,10 +2,10 @@ use Rattle.std.proofs.Common.{◌≡◌, ◌⊎◌, ◌≤◌, ℕ, List, ◌∷
 use Rattle.bx_image.specs.Change.{restore}
 use Rattle.bx_journal_format.specs.Kept.{Kept, kept_of}
 use Rattle.bx_journal_format.specs.Shown.{shown}
-use Rattle.bx_journal_read.specs.model.Stack.{Recovers}
-use Rattle.bx_journal_read.specs.declared.scan.mark.Mark.{Mark}
-use Rattle.bx_journal_read.specs.model.Redo.{RecoversOpen, LeavesEither, Side}
-use Rattle.bx_journal_read.specs.scan.Restoring.{StandsAt}
+use Rattle.bx_journal_model.specs.Stack.{Recovers}
+use Rattle.bx_journal_model.specs.declared.mark.Mark.{Mark}
+use Rattle.bx_journal_model.specs.Redo.{RecoversOpen, LeavesEither, Side}
+use Rattle.bx_journal_model.specs.Restoring.{StandsAt}
 use Rattle.bx_journal_protocol.specs.protocol.Turns.{kept_text, side_of}
 use Rattle.bx_journal_protocol.proofs.PartLemmas.{keeps_same}
 use Rattle.bx_journal_protocol.proofs.PlacedLemmas.{stands_cut}

@@ -4,24 +4,24 @@ use Rattle.std.proofs.lemmas.Result.{err_from_is_err_and}
 use Rattle.bx_image.specs.declared.change.TheConstants.{MAX_LEN}
 use Rattle.bx_journal_format.specs.Kept.{kept_of}
 use Rattle.bx_journal_format.specs.Parsed.{entry_of}
-use Rattle.bx_journal_read.specs.model.Images.{undo_of}
-use Rattle.bx_journal_read.specs.model.Phase.{IsAtRest}
-use Rattle.bx_journal_read.specs.model.Stack.{StandsFor}
-use Rattle.bx_journal_protocol.specs.model.Taken.{AreKept}
-use Rattle.bx_journal_read.specs.model.Undoing.{HasLeft}
+use Rattle.bx_journal_model.specs.Images.{undo_of}
+use Rattle.bx_journal_model.specs.Phase.{IsAtRest}
+use Rattle.bx_journal_model.specs.Stack.{StandsFor}
+use Rattle.bx_journal_model.specs.Taken.{AreKept}
+use Rattle.bx_journal_model.specs.Undoing.{HasLeft}
 use Rattle.bx_journal_protocol.specs.protocol.Takens.{AreFilled}
 use Rattle.bx_journal_protocol.specs.protocol.Turns.{AreStanding, kept_text}
 use Rattle.bx_journal_protocol.proofs.DeviceLemmas.{always_err, filling_fails, goes_further, none_yet, step_fails}
 use Rattle.bx_journal_protocol.proofs.LoopLemmas.{first_below, left_at, standing}
 use Rattle.bx_journal_protocol.proofs.PlacedLemmas.{placed_marks, at_place}
 use Rattle.bx_journal_protocol.proofs.PlacedLoop.{PlacedTurn, all_placed, one_taken, placed_turn, saved_within}
-use Rattle.bx_journal_read.proofs.Phases.{rest_recovers}
+use Rattle.bx_journal_model.proofs.Phases.{rest_recovers}
 use Rattle.bx_journal_protocol.proofs.Shapes.{entry_long}
 use Rattle.bx_journal_protocol.proofs.StandingLoop.{IsTakenBack, rest_stops, undo_stopped, rests_below, stood_below, undone_next, room_left, taken_next}
 use Rattle.bx_journal_protocol.proofs.TurnLemmas.{rest_is_found}
 use Rattle.bx_journal_protocol.proofs.StepSurvivors.{found_at_rest, looked_at, survive_err}
 use Rattle.bx_journal_format.specs.Shown.{shown}
-use Rattle.bx_journal_read.specs.model.Redo.{Finds}
+use Rattle.bx_journal_model.specs.Redo.{Finds}
 use Rattle.bx_journal_protocol.proofs.protocol.undo_entry.undo_entries.Goals as goal
 use Rattle.bx_journal_protocol.proofs.protocol.undo_entry.undo_entries.Goals.{After-take_last-taken, After-fill_last, After-loop-i}
 

@@ -2,10 +2,10 @@ use Rattle.std.proofs.Common.{◌≡◌, ◌+◌, ◌<◌, ◌≤◌, ℕ, [], L
 use Rattle.std.specs.Prelude.{vec_capacity}
 use Rattle.bx_journal_format.specs.Finished.{IsFinished}
 use Rattle.bx_journal_format.specs.Text.{Entry}
-use Rattle.bx_journal_read.specs.model.Images.{Images, undo_of}
-use Rattle.bx_journal_read.specs.model.Phase.{IsAtRest}
-use Rattle.bx_journal_read.specs.model.Stack.{StandsFor}
-use Rattle.bx_journal_protocol.specs.model.Taken.{AreKept}
+use Rattle.bx_journal_model.specs.Images.{Images, undo_of}
+use Rattle.bx_journal_model.specs.Phase.{IsAtRest}
+use Rattle.bx_journal_model.specs.Stack.{StandsFor}
+use Rattle.bx_journal_model.specs.Taken.{AreKept}
 use Rattle.bx_journal_protocol.specs.protocol.Takens.{entries_len}
 use Rattle.bx_journal_protocol.specs.protocol.Turns.{AreStanding}
 use Rattle.bx_journal_protocol.specs.protocol.Written.{AreSettled}

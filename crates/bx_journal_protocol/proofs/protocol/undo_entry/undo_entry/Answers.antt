@@ -4,14 +4,14 @@ use Rattle.std.proofs.lemmas.Result.{on_ok_weaker, on_err_weaker}
 use Rattle.bx_image.specs.Change.{restore}
 use Rattle.bx_image.proofs.Records.{IsAsGood-unmapped}
 use Rattle.bx_journal_format.specs.Kept.{kept_of}
-use Rattle.bx_journal_read.specs.model.Redo.{RecoversOpen, Side}
-use Rattle.bx_journal_read.specs.model.Stack.{Recovers}
+use Rattle.bx_journal_model.specs.Redo.{RecoversOpen, Side}
+use Rattle.bx_journal_model.specs.Stack.{Recovers}
 use Rattle.bx_journal_format.specs.Text.{Ending}
 use Rattle.bx_journal_protocol.specs.protocol.Turns.{kept_text, side_of}
 use Rattle.bx_journal_protocol.proofs.DeviceLemmas.{always_err}
 use Rattle.bx_journal_protocol.proofs.PartLemmas.{unmapped_moves}
-use Rattle.bx_journal_read.proofs.Tails.{tail_moves}
-use Rattle.bx_journal_read.proofs.Phases.{open_recovers}
+use Rattle.bx_journal_model.proofs.Tails.{tail_moves}
+use Rattle.bx_journal_model.proofs.Phases.{open_recovers}
 use Rattle.bx_journal_protocol.proofs.EndLineLemmas.{cut_is_sharp, either_below}
 use Rattle.bx_journal_protocol.proofs.StopLemmas.{first_stops, within_new, behind_stops}
 use Rattle.bx_journal_protocol.proofs.UndoSteps.{first_ok, first_tail}

@@ -1,6 +1,7 @@
 use Rattle.std.proofs.Common.{◌+◌, length, arith}
 use Rattle.std.specs.Prelude.{IsTrue, take}
-use Rattle.bx_journal_read.specs.scan.Damage.{IsDamagedIn, IsPlainTo}
+use Rattle.bx_journal_read.specs.scan.Damage.{IsDamagedIn}
+use Rattle.bx_journal_model.specs.Long.{IsPlainTo}
 use Rattle.std.proofs.lemmas.Result.{IfOk-weaker}
 use Rattle.bx_journal_read.proofs.DamageLemmas.{damaged_long}
 use Rattle.bx_journal_read.proofs.scan.damage.ends_long.Goals as goal

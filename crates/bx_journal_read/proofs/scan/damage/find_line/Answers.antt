@@ -2,7 +2,7 @@ use Rattle.std.proofs.Common.{◌∙◌, ◌+◌, false, length, take, ap, subst
 use Rattle.std.specs.Prelude.{IfSome}
 use Rattle.bx_journal_read.specs.scan.Windows.{IsWalkedTo}
 use Rattle.bx_journal_read.proofs.DamageLemmas.{damaged_before}
-use Rattle.bx_journal_read.proofs.TextReads.{read_walked}
+use Rattle.bx_journal_read.proofs.TextWalks.{read_walked}
 use Rattle.bx_journal_read.proofs.scan.damage.find_line.Goals as goal
 
 pub is_damaged_at-requires-clause-walked : goal.is_damaged_at-requires-clause-walked

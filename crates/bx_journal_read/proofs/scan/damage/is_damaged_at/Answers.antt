@@ -3,7 +3,7 @@ use Rattle.std.specs.Prelude.{IsTrue}
 use Rattle.std.proofs.lemmas.Result.{IfOk-weaker}
 use Rattle.bx_journal_read.specs.scan.Damage.{IsDamagedIn}
 use Rattle.bx_journal_read.proofs.DamageLemmas.{damaged_before}
-use Rattle.bx_journal_read.proofs.TextReads.{read_walked}
+use Rattle.bx_journal_read.proofs.TextWalks.{read_walked}
 use Rattle.bx_journal_read.proofs.scan.damage.is_damaged_at.Goals as goal
 
 pub ends_long-requires-clause-walked : goal.ends_long-requires-clause-walked

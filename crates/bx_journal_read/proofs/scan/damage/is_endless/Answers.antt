@@ -1,6 +1,6 @@
 use Rattle.std.proofs.Common.{◌≡◌, subst, arith}
 use Rattle.std.proofs.lemmas.Grind.{common_steps}
-use Rattle.bx_journal_read.specs.scan.Damage.{IsPlainTo}
+use Rattle.bx_journal_model.specs.Long.{IsPlainTo}
 use Rattle.bx_journal_read.proofs.scan.damage.is_endless.Goals as goal
 
 pub returns-clause-plain : goal.returns-clause-plain

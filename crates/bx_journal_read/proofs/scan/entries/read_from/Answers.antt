@@ -1,7 +1,7 @@
 use Rattle.std.proofs.Common.{◌≡◌, ◌∙◌, List, ℕ, sym, refl, subst, rules}
 use Rattle.std.specs.Prelude.{IfSome}
 use Rattle.bx_journal_format.specs.declared.read.lines.LinesRead.{LinesRead}
-use Rattle.bx_journal_read.specs.model.Undoing.{IsReadBehind}
+use Rattle.bx_journal_read.specs.scan.Entries.{IsReadBehind}
 use Rattle.bx_journal_read.proofs.LastLemmas.{behind_all, last_from}
 use Rattle.bx_journal_read.proofs.scan.entries.read_from.Goals as goal
 

@@ -1,8 +1,8 @@
 use Rattle.std.proofs.Common.{◌≤◌, length, subst}
 use Rattle.std.specs.Prelude.{IfSome}
 use Rattle.bx_image.proofs.Survivors.{NoMore_then}
-use Rattle.bx_journal_read.specs.declared.scan.entries.FinishedRead.{FinishedRead}
-use Rattle.bx_journal_read.specs.model.Undoing.{IsLastFrom}
+use Rattle.bx_journal_model.specs.declared.entries.FinishedRead.{FinishedRead}
+use Rattle.bx_journal_model.specs.Undoing.{IsLastFrom}
 use Rattle.bx_journal_read.proofs.LastLemmas.{again_last, again_fault, few_of_all}
 use Rattle.bx_journal_read.proofs.WindowLemmas.{again_behind, looks_before}
 use Rattle.bx_journal_read.proofs.scan.entries.read_last_of.Goals as goal

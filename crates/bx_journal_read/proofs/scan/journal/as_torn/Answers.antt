@@ -3,8 +3,8 @@ use Rattle.bx_journal_format.specs.Kept.{kept_of}
 use Rattle.bx_journal_format.specs.Parsed.{told_by, IsStageMarked, entries_of, stage_of}
 use Rattle.bx_journal_format.proofs.ReadLoop.{marked_few}
 use Rattle.bx_journal_read.specs.scan.Recovery.{HasMark}
-use Rattle.bx_journal_read.specs.scan.Restoring.{StandsAt}
-use Rattle.bx_journal_read.proofs.StandLemmas.{ending_fits, ending_stands}
+use Rattle.bx_journal_model.specs.Restoring.{StandsAt}
+use Rattle.bx_journal_model.proofs.StandLemmas.{ending_fits, ending_stands}
 use Rattle.bx_journal_read.proofs.TailLemmas.{begins_at, torn_read}
 use Rattle.bx_journal_read.proofs.scan.journal.as_torn.Goals as goal
 

@@ -1,7 +1,7 @@
 use Rattle.std.proofs.Common.{subst}
 use Rattle.std.specs.Prelude.{IfSome}
 use Rattle.bx_journal_read.specs.scan.Recovery.{IsFoundIn, IsUnfinishedIn}
-use Rattle.bx_journal_read.proofs.TextReads.{read_unfinished}
+use Rattle.bx_journal_read.proofs.TextWalks.{read_unfinished}
 use Rattle.bx_journal_read.proofs.scan.journal.find_in.Goals as goal
 
 pub returns-in-Some-clause-found : goal.returns-in-Some-clause-found

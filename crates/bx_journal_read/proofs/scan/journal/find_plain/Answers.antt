@@ -3,7 +3,7 @@ use Rattle.std.specs.Prelude.{IfSome}
 use Rattle.std.proofs.lemmas.List.{take_all}
 use Rattle.bx_journal_read.specs.scan.Recovery.{IsUnfinishedIn}
 use Rattle.bx_journal_read.specs.scan.Windows.{IsWalkedTo}
-use Rattle.bx_journal_read.proofs.TextReads.{read_unfinished, read_walked}
+use Rattle.bx_journal_read.proofs.TextWalks.{read_unfinished, read_walked}
 use Rattle.bx_journal_read.proofs.scan.journal.find_plain.Goals as goal
 
 pub returns-in-Some-counted_by-clause-found : goal.returns-in-Some-counted_by-clause-found

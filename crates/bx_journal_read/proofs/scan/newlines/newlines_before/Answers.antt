@@ -1,7 +1,7 @@
 use Rattle.std.proofs.Common.{◌≡◌, ◌∙◌, ℕ, List, false, length, take, ap, arith}
 use Rattle.bx_journal_format.specs.Text.{split}
-use Rattle.bx_journal_read.specs.scan.Looking.{OnlyReadsText}
-use Rattle.bx_journal_read.proofs.TextReads.{failed_through, read_behind, read_through}
+use Rattle.bx_journal_model.specs.Looking.{OnlyReadsText}
+use Rattle.bx_journal_model.proofs.TextReads.{failed_through, read_behind, read_through}
 use Rattle.bx_journal_read.proofs.scan.newlines.newlines_before.Goals as goal
 
 pub returns-in-Err-clause-reads : goal.returns-in-Err-clause-reads

@@ -1,7 +1,7 @@
 use Rattle.std.proofs.Common.{◌≡◌, ◌+◌, ◌∙◌, ℕ, List, length, take, ap, refl, subst, arith}
 use Rattle.bx_journal_format.specs.Text.{split}
 use Rattle.bx_journal_read.proofs.NewlineLemmas.{newlines_on}
-use Rattle.bx_journal_read.proofs.TextReads.{read_bytes, read_none, read_then}
+use Rattle.bx_journal_model.proofs.TextReads.{read_bytes, read_none, read_then}
 use Rattle.bx_journal_read.proofs.scan.newlines.newlines_to.Goals as goal
 
 pub loop-at-init : goal.loop-at-init

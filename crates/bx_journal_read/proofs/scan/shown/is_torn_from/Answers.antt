@@ -1,6 +1,6 @@
 use Rattle.std.proofs.Common.{◌≡◌, ◌∙◌, ℕ, List, ◌++◌, Some, None, length, refl, sym, subst, arith}
 use Rattle.bx_journal_format.specs.read.Left.{IsTornAs, is_torn}
-use Rattle.bx_journal_read.proofs.TextReads.{read_bytes, read_none, read_then}
+use Rattle.bx_journal_model.proofs.TextReads.{read_bytes, read_none, read_then}
 use Rattle.bx_journal_read.proofs.ZeroLemmas.{torn_at_end, torn_behind}
 use Rattle.bx_journal_read.proofs.scan.shown.is_torn_from.Goals as goal
 

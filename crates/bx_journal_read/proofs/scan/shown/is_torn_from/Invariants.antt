@@ -1,7 +1,7 @@
 use Rattle.std.proofs.Common.{◌≡◌, ◌-◌, ◌≤◌, length, drop, false}
 use Rattle.bx_journal_format.specs.declared.read.shown.LastLine.TheVariants.{Other}
 use Rattle.bx_journal_format.specs.read.Left.{is_torn}
-use Rattle.bx_journal_read.specs.scan.Looking.{OnlyReadsText}
+use Rattle.bx_journal_model.specs.Looking.{OnlyReadsText}
 use Rattle.bx_journal_read.proofs.scan.shown.is_torn_from.Given as goal
 
 -- what may be left from the place on is said by the last line so far

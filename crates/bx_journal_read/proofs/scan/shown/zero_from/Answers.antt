@@ -1,5 +1,5 @@
 use Rattle.std.proofs.Common.{◌≡◌, ℕ, List, length, refl, arith}
-use Rattle.bx_journal_read.proofs.TextReads.{read_bytes, read_none, read_then}
+use Rattle.bx_journal_model.proofs.TextReads.{read_bytes, read_none, read_then}
 use Rattle.bx_journal_read.proofs.ZeroLemmas.{zero_at_end, zero_behind, zero_within}
 use Rattle.bx_journal_read.proofs.scan.shown.zero_from.Goals as goal
 

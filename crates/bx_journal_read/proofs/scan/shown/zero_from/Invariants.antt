@@ -1,6 +1,6 @@
 use Rattle.std.proofs.Common.{◌≡◌, ◌+◌, ◌-◌, ◌≤◌, length, drop, false}
 use Rattle.bx_journal_format.specs.Shown.{before_zero}
-use Rattle.bx_journal_read.specs.scan.Looking.{OnlyReadsText}
+use Rattle.bx_journal_model.specs.Looking.{OnlyReadsText}
 use Rattle.bx_journal_read.proofs.scan.shown.zero_from.Given as goal
 
 -- the first zero from the place on stands no sooner

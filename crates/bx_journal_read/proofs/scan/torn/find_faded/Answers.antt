@@ -2,7 +2,7 @@ use Rattle.std.proofs.Common.{◌∙◌, ℕ, List, false, length, ap, subst, ar
 use Rattle.std.specs.Prelude.{IfSome}
 use Rattle.bx_journal_read.specs.scan.Recovery.{IsTornFront, IsUnfinishedIn}
 use Rattle.bx_journal_read.specs.scan.Windows.{IsWalkedTo}
-use Rattle.bx_journal_read.proofs.TextReads.{read_walked}
+use Rattle.bx_journal_read.proofs.TextWalks.{read_walked}
 use Rattle.bx_journal_read.proofs.ZeroLemmas.{faded_found, found_all}
 use Rattle.bx_journal_read.proofs.scan.torn.find_faded.Goals as goal
 

@@ -2,7 +2,7 @@ use Rattle.std.proofs.Common.{false, ◌≤◌, drop, length, subst, arith}
 use Rattle.std.specs.Prelude.{IfSome}
 use Rattle.bx_journal_format.specs.count.Tally.{IsPassed}
 use Rattle.bx_journal_read.proofs.WalkLemmas.{len_of}
-use Rattle.bx_journal_read.proofs.WindowLemmas.{front_of}
+use Rattle.bx_journal_model.proofs.WindowBytes.{front_of}
 use Rattle.bx_journal_read.proofs.scan.torn.find_len.Goals as goal
 
 pub returns-in-Saving-clause-len : goal.returns-in-Saving-clause-len

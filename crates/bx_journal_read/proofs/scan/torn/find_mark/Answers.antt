@@ -1,6 +1,6 @@
 use Rattle.std.proofs.Common.{subst}
 use Rattle.std.specs.Prelude.{IfSome}
-use Rattle.bx_journal_read.specs.scan.Restoring.{StandsAt}
+use Rattle.bx_journal_model.specs.Restoring.{StandsAt}
 use Rattle.bx_journal_read.proofs.WalkLemmas.{mark_between, mark_saving, mark_ending}
 use Rattle.bx_journal_read.proofs.scan.torn.find_mark.Goals as goal
 

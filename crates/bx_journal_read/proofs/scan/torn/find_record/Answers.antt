@@ -2,8 +2,8 @@ use Rattle.std.proofs.Common.{◌≡◌, ◌+◌, sym, subst}
 use Rattle.std.specs.Prelude.{IfSome}
 use Rattle.bx_journal_format.specs.Line.{start_size}
 use Rattle.bx_journal_format.specs.count.Mark.{IsMark}
-use Rattle.bx_journal_read.specs.scan.Restoring.{StandsAt}
-use Rattle.bx_journal_read.proofs.StandLemmas.{stands_of}
+use Rattle.bx_journal_model.specs.Restoring.{StandsAt}
+use Rattle.bx_journal_model.proofs.StandLemmas.{stands_of}
 use Rattle.bx_journal_read.proofs.scan.torn.find_record.Goals as goal
 
 pub returns-clause-record_ : goal.returns-clause-record_

@@ -1,6 +1,7 @@
 use Rattle.std.proofs.Common.{◌∙◌, length, ap, refl, arith}
 use Rattle.bx_journal_read.proofs.ScanLemmas.{reached_of}
-use Rattle.bx_journal_read.proofs.TextReads.{read_behind, read_led, read_none, read_reached}
+use Rattle.bx_journal_model.proofs.TextReads.{read_behind, read_none}
+use Rattle.bx_journal_read.proofs.TextWalks.{read_led, read_reached}
 use Rattle.bx_journal_read.proofs.scan.windows.scan_windows.Goals as goal
 
 pub loop-ends-init : goal.loop-ends-init

@@ -1,5 +1,5 @@
 use Rattle.std.proofs.Common.{◌≡◌, ◌-◌, suc, length, false, if◌then◌else◌}
-use Rattle.bx_journal_read.specs.scan.Looking.{OnlyReadsText}
+use Rattle.bx_journal_model.specs.Looking.{OnlyReadsText}
 use Rattle.bx_journal_read.specs.scan.Windows.{IsReached}
 use Rattle.bx_journal_read.proofs.scan.windows.scan_windows.Given as goal
 

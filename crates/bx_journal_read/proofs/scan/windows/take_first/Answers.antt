@@ -1,7 +1,7 @@
 use Rattle.std.proofs.Common.{◌<◌, ◌++◌, ℕ, List, take, subst, sym, arith}
 use Rattle.std.specs.Prelude.{IfSome}
 use Rattle.bx_journal_format.specs.Text.{ended}
-use Rattle.bx_journal_read.specs.scan.Long.{IsLongLine}
+use Rattle.bx_journal_model.specs.Long.{IsLongLine}
 use Rattle.bx_journal_read.specs.scan.Windows.{TakesLong}
 use Rattle.bx_journal_read.proofs.ScanLemmas.{long_reached, long_stays}
 use Rattle.bx_journal_read.proofs.scan.windows.take_first.Goals as goal

@@ -2,7 +2,7 @@ use Rattle.std.proofs.Common.{◌≡◌, ◌≤◌, length, ap, subst, arith}
 use Rattle.bx_journal_read.specs.declared.scan.windows.Reached.{Reached}
 use Rattle.bx_journal_read.specs.scan.Windows.{IsLedTo, IsReached}
 use Rattle.bx_journal_read.proofs.ScanLemmas.{reached_of, reached_weaker}
-use Rattle.bx_journal_read.proofs.TextReads.{read_led, read_reached}
+use Rattle.bx_journal_read.proofs.TextWalks.{read_led, read_reached}
 use Rattle.bx_journal_read.proofs.scan.windows.take_step.Goals as goal
 
 pub take_first-requires-clause-within : goal.take_first-requires-clause-within

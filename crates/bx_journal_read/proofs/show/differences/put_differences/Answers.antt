@@ -8,7 +8,7 @@ use Rattle.bx_journal_read.specs.show.Showing.{lines_at}
 use Rattle.bx_journal_read.proofs.BesideLemmas.{counts_behind, stays_behind}
 use Rattle.bx_journal_read.proofs.RowTexts.{ok_weaker}
 use Rattle.bx_journal_read.proofs.StopLemmas.{refused_on}
-use Rattle.bx_journal_read.specs.declared.fault.SessionFault.TheVariants.{NoMemory, DeviceFailed}
+use Rattle.bx_journal_model.specs.declared.fault.SessionFault.TheVariants.{NoMemory, DeviceFailed}
 use Rattle.bx_journal_read.proofs.show.differences.put_differences.Goals as goal
 
 pub put_windows-requires-clause-cache : goal.put_windows-requires-clause-cache

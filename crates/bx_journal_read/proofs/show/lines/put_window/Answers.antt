@@ -3,9 +3,9 @@ use Rattle.std.specs.Io.KnownBytes.{Appends}
 use Rattle.bx_journal_read.specs.show.Differences.{made_line}
 use Rattle.bx_journal_read.specs.show.Stopping.{CountsBytes, StopsPrefix}
 use Rattle.bx_journal_read.proofs.CutLemmas.{cut_counted, cut_stopped, cut_written, made_alike}
-use Rattle.bx_journal_read.proofs.LongLines.{passed_on}
+use Rattle.bx_journal_model.proofs.LongLines.{passed_on}
 use Rattle.bx_journal_read.proofs.StopLemmas.{handed_on, stops_none}
-use Rattle.bx_journal_read.specs.declared.fault.SessionFault.TheVariants.{NoMemory}
+use Rattle.bx_journal_model.specs.declared.fault.SessionFault.TheVariants.{NoMemory}
 use Rattle.bx_journal_read.specs.show.Differences.{shown_between}
 use Rattle.bx_journal_read.proofs.show.lines.put_window.Goals as goal
 

@@ -5,7 +5,7 @@ use Rattle.bx_journal_format.specs.Ranges.{EndsRanges}
 use Rattle.bx_journal_read.proofs.BesideLemmas.{stayed_none, stayed_on}
 use Rattle.std.proofs.lemmas.Result.{IfErr-weaker, IfOk-weaker}
 use Rattle.bx_journal_read.specs.declared.show.fault.ShowFault.TheVariants.{Text}
-use Rattle.bx_journal_read.specs.declared.fault.SessionFault.TheVariants.{NoMemory}
+use Rattle.bx_journal_model.specs.declared.fault.SessionFault.TheVariants.{NoMemory}
 use Rattle.bx_journal_read.specs.show.Stopping.{CountsBytes, StopsPrefix}
 use Rattle.bx_journal_read.specs.show.Showing.{ranges_at}
 use Rattle.bx_journal_read.proofs.PutLemmas.{put_none, put_more, puts_from, put_all, put_all_counted, put_all_stopped, put_stopped, window_refused}

@@ -3,11 +3,11 @@ use Rattle.std.specs.Io.KnownBytes.{Appends}
 use Rattle.std.proofs.lemmas.List.{take_all}
 use Rattle.bx_journal_format.specs.Ranges.{RangesOn}
 use Rattle.bx_journal_format.specs.Text.{split}
-use Rattle.bx_journal_read.specs.scan.Long.{passed_of}
+use Rattle.bx_journal_model.specs.Long.{passed_of}
 use Rattle.bx_journal_read.specs.show.Stopping.{CountsBytes, StopsPrefix}
 use Rattle.bx_journal_read.proofs.CutLemmas.{all_ranged, stands_of}
-use Rattle.bx_journal_read.proofs.LongLines.{passed_on}
-use Rattle.bx_journal_read.specs.declared.fault.SessionFault.TheVariants.{NoMemory, DeviceFailed}
+use Rattle.bx_journal_model.proofs.LongLines.{passed_on}
+use Rattle.bx_journal_model.specs.declared.fault.SessionFault.TheVariants.{NoMemory, DeviceFailed}
 use Rattle.bx_journal_read.specs.declared.show.fault.ShowFault.TheVariants.{Text}
 use Rattle.bx_journal_read.proofs.PutLemmas.{ranges_stopped, window_refused}
 use Rattle.bx_journal_read.proofs.StopLemmas.{handed_on}

@@ -4,7 +4,7 @@ use Rattle.std.specs.Io.KnownBytes.{Appends}
 use Rattle.std.proofs.lemmas.List.Elements.{All-get_or}
 use Rattle.bx_journal_format.specs.declared.read.marks.Mark.{Mark}
 use Rattle.bx_journal_read.proofs.StopLemmas.{handed_on, refused_on}
-use Rattle.bx_journal_read.specs.declared.fault.SessionFault.TheVariants.{NoMemory}
+use Rattle.bx_journal_model.specs.declared.fault.SessionFault.TheVariants.{NoMemory}
 use Rattle.bx_journal_read.specs.show.Showing.{LiesWithin}
 use Rattle.bx_run.specs.report.Unfinished.{rows_at}
 use Rattle.bx_run.proofs.FrontRows.{row_stopped, rows_counted, rows_none, rows_written}

@@ -1,0 +1,12 @@
+pub mod Phases
+pub mod Cuts
+pub mod ReadingLemmas
+pub mod Tails
+pub mod UndoLoop
+pub mod Judged
+pub mod LongestLemmas
+pub mod WindowBytes
+pub mod TextReads
+pub mod LongLines
+pub mod RestoreLemmas
+pub mod StandLemmas

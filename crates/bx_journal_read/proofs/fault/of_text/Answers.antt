@@ -1,5 +1,0 @@
-use Rattle.std.proofs.Common.{rules}
-use Rattle.bx_journal_read.proofs.fault.of_text.Goals as goal
-
-pub returns-in-DeviceFailed : goal.returns-in-DeviceFailed
-returns-in-DeviceFailed c = search rules
