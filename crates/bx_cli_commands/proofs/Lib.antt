@@ -23,3 +23,4 @@ pub mod PatchTrips
 pub mod XxdRows
 pub mod XxdReverts
 pub mod PassedLemmas
+pub mod PutTexts

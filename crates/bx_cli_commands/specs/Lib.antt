@@ -4,6 +4,7 @@ pub mod Fault
 pub mod Standing
 pub mod Run
 pub mod Reading
+pub mod Inputs
 pub mod Replies
 pub mod Power
 pub mod Growth

@@ -1,4 +1,5 @@
 //! Laws of commands, over their definitions alone.
+ghost use Rattle.bx_cli_commands.specs.Inputs.{DumpIsPut};
 ghost use Rattle.bx_cli_commands.specs.Loss.{LossAtAnyCall, LossGoesOn};
 ghost use Rattle.bx_cli_commands.specs.ShowDump.{ShownIsADump, ShownIsUndone, ShownReverts, ShownUnheaded, UnfinishedUnheaded};
 ghost use Rattle.bx_cli_commands.specs.Laws.{KChangesAndUndo, KeptNeverGrows, RedoGivesBack, RedoGivesPart, RunsJoin, StackRunsJoin, StopsInPart, UndoGivesBack, UnfailedRuns};
@@ -78,4 +79,10 @@ pub fn shown_is_a_dump<A: Allocator>()
 /// stopped in the middle.
 pub fn kept_never_grows<A: Allocator>()
     ensures { KeptNeverGrows A }
+{}
+
+/// The bytes of a job's dump are what is written onto its image: the step by what `read_dump` answers is the one that puts the whole text
+/// onto it.
+pub fn dump_is_put<A: Allocator>()
+    ensures { DumpIsPut A }
 {}

@@ -7,6 +7,7 @@
 mod changes;
 mod command;
 mod fault;
+mod inputs;
 pub mod jobs;
 pub mod laws;
 mod listing;
@@ -17,6 +18,7 @@ mod run;
 pub use changes::{DdChange, change_of_plan};
 pub use command::{Command, Kept, Reply};
 pub use fault::Fault;
+pub use inputs::{read_dump, read_patch_of};
 pub use jobs::diff::DiffJob;
 pub use jobs::dump::{Done, run_dump};
 pub use jobs::dumps::{DdJob, DumpJob, HexdumpJob, OdJob, StringsJob, XxdJob, XxdLook};
