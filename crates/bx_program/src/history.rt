@@ -6,10 +6,10 @@ pub mod told;
 use crate::devices::left::{is_unfinished, stopped};
 use crate::files::look::is_missing;
 use crate::files::names::{guard_to_recover, names_of, world_of};
-use bx_cli::{Command, Fault, Target};
+use bx_cli::{Fault, Target};
 use bx_hints::Stopped;
 use bx_journal::{Steps, Way};
-use bx_run::{Report, Request, Task, run_request};
+use bx_run::{Report, Request, run_request};
 use bx_system::{Progress, is_untouched, lock, open_there};
 use std::fs::{self, File};
 use std::io::{self, Empty};
@@ -34,11 +34,9 @@ where
     let is_made = is_missing(rt, redo);
     let names = names_of(rt.alloc(), target)?;
     let mut world = world_of(rt, target, progress)?;
-    let none: Task<Empty> = Task::Run(Command::Undo { k: 0 });
-    let request = Request::Change {
+    let request: Request<'_, Empty> = Request::Recover {
         names: &names,
         guard: guard_to_recover(target, anyway),
-        task: none,
     };
     let answer = run_request(&mut world, rt.alloc(), request, &mut io::sink());
     if is_made {

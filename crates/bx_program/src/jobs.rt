@@ -15,7 +15,7 @@ use crate::history::changes::change_image;
 use crate::history::forget::forget;
 use crate::history::told::look_for_others;
 use crate::jobs::copies::{copy_onto, tell};
-use crate::jobs::kept::{Manner, proposal_of_read, put_change};
+use crate::jobs::kept::{Manner, put_change};
 use crate::jobs::looks::look;
 use crate::jobs::previews::{preview_copy, preview_read};
 use crate::jobs::ready::most_of_dd;
@@ -27,7 +27,7 @@ use crate::progress::{
 use crate::streams::closed::Held;
 use crate::streams::input::{MOST_INPUT, Placed, whole};
 use bx_cli::{
-    ChangeJob, DdImageJob, DumpJob, Fault, ForgetJob, Form, Job, RevertJob, change_from, plan_words,
+    ChangeJob, DdImageJob, DumpJob, Fault, ForgetJob, Job, RevertJob, plan_words, read_dump,
 };
 use bx_dd::Counts;
 use bx_hints::{
@@ -36,7 +36,7 @@ use bx_hints::{
 use bx_image::Change;
 use bx_journal::Way;
 use bx_read::ReadFault;
-use bx_run::{Cause, Done, Failure, Request, Task, run_request};
+use bx_run::{Cause, Done, Edit, Failure, Request, run_request};
 use bx_system::{Counted, Noted, Progress, SystemWorld, Tally};
 use bx_text::{IoFault, Source, Words, emit};
 use bx_world::Why;
@@ -268,7 +268,7 @@ where
     R: Files<File = File> + Input + Print + Eprint + Clock + AllocGlobal,
 {
     let mut seen = remarks.seen_of(rt.alloc(), job.plain);
-    let read = read_dump(rt, job, &mut seen, remarks)?;
+    let read = dump_of(rt, job, &mut seen, remarks)?;
     let has_returns = seen.has_returns;
     remarks.look_at_dump(seen);
     match put_dump(rt, job, read, out, remarks) {
@@ -286,7 +286,7 @@ fn dump_name(job: &RevertJob) -> &str {
 }
 
 /// The change of the dump that a job reads, or the dump's fault; `seen` sees it.
-fn read_dump<'a, R>(
+fn dump_of<'a, R>(
     rt: &R,
     job: &'a RevertJob,
     seen: &mut Seen,
@@ -326,8 +326,8 @@ where
     R: Files<File = File> + Print + Eprint + Clock + AllocGlobal,
 {
     if job.dry_run {
-        let proposal = proposal_of_read(read, job.no_grow);
-        return preview_read(rt, &job.target, proposal, remarks, out);
+        let edit = Edit::of_read(read, job.no_grow);
+        return preview_read(rt, &job.target, edit, remarks, out);
     }
     let progress = progress_of_input(rt, remarks, None);
     look_for_others(rt, &job.target, job.fresh, remarks);
@@ -341,8 +341,8 @@ where
             put_change(rt, &job.target, manner, change, &progress, remarks)?;
         }
         Err(fault) => {
-            let task: Task<Empty> = Task::Put(Err(fault));
-            change_image(rt, &job.target, task, &progress, remarks)?;
+            let edit: Edit<Empty> = Edit::Read(Err(fault));
+            change_image(rt, &job.target, edit, &progress, remarks)?;
         }
     }
     Ok(())
@@ -356,13 +356,12 @@ fn change_of<'a, R: Eprint + Clock, I: Read + Drop>(
     seen: &mut Seen,
     progress: &Progress<'_, R>,
 ) -> Result<Result<Change, ReadFault>, Stopped<'a>> {
-    let form = if job.plain { Form::Plain } else { Form::Dump };
     let expected = input.left.unwrap_or(0);
     let name = input.name;
     let mut reader = Noted::new(input.reader);
     let watched = Watched::new(Counted::new(&mut reader, progress), seen);
     let mut source = Source::new(watched, MOST_INPUT);
-    match change_from(&alloc, &mut source, form, job.at, expected) {
+    match read_dump(&alloc, job, &mut source, expected) {
         Ok(read) => Ok(read),
         Err(fault) => Err(Stopped::from(fault).on_input(name, reader.error)),
     }

@@ -1,5 +1,6 @@
 pub mod Scene
 pub mod session
+pub mod Edit
 pub mod dump
 pub mod report
 pub mod forget

@@ -4,6 +4,7 @@
 #![tactic(auto)]
 
 mod dump;
+mod edit;
 mod forget;
 pub mod laws;
 mod preview;
@@ -12,7 +13,6 @@ mod report;
 mod run;
 mod session;
 
-pub use preview::Proposal;
+pub use edit::Edit;
 pub use report::{Report, ReportError};
 pub use run::{Cause, Done, Failure, FileRole, Request, Step, Stop, run_request};
-pub use session::Task;

@@ -6,20 +6,22 @@ mod request;
 
 ghost use Rattle.std.specs.Prelude.{◌≡◌, ◌↔◌, ◌<◌, Option, None, IfSome};
 ghost use Rattle.bx_world.specs.declared.world.Outgrown.{Outgrown};
-ghost use Rattle.bx_run.specs.run.Commands.{Answers, Fulfills, IsNearRequest, LeavesOthers, MayOpen, HasRun, StandsAs, StopsUnopened, SurvivesLoss, WereJudged, Writes};
+ghost use Rattle.bx_run.specs.run.Commands.{Answers, Fulfills, LeavesOthers, MayOpen, HasRun, StandsAs, StopsUnopened, SurvivesLoss, WereJudged, Writes};
 ghost use Rattle.bx_run.specs.run.Outcome.{unopened_by};
 ghost use Rattle.bx_run.specs.Scene.{scene};
 ghost use Rattle.bx_run.specs.declared.run.outcome.Outcome.{Outcome};
 
 use crate::dump::{dump_file, dump_input};
+use crate::edit::task_of;
 use crate::forget::forget_files;
 use crate::preview::{write_diff, write_preview};
 use crate::renew::renew_files;
 use crate::report::write_report;
 use crate::run::answered::answer_of;
 use crate::run::outcome::Outcome;
-use crate::session::{change_files, move_changes};
+use crate::session::{Task, change_files, move_changes};
 pub use answer::{Cause, Done, Failure, FileRole, Step, Stop};
+use bx_cli_commands::Command;
 use bx_world::World;
 pub use request::Request;
 use std::alloc::Global;
@@ -32,7 +34,6 @@ fn run_command<W: World, R: Read + Drop, O: Write>(
     request: Request<'_, R>,
     out: &mut O,
 ) -> Outcome
-    requires near { IsNearRequest request }
     requires free { W.honest world.old → (W.sight world.old).lent ≡ None }
     ensures answers { Answers request.entry result }
     ensures does { W.honest world.old → Fulfills R.remaining request.entry result
@@ -57,16 +58,23 @@ fn run_command<W: World, R: Read + Drop, O: Write>(
             way,
             count,
         } => Outcome::Moved(move_changes(world, alloc, names, guard, way, count)),
-        Request::Change { names, guard, task } => Outcome::Changed(change_files(
-            world, alloc, names, guard, task,
-        )),
+        Request::Change { names, guard, edit } => {
+            let change = task_of(edit);
+            let answer = change_files(world, alloc, names, guard, change);
+            Outcome::Changed(answer)
+        }
+        Request::Recover { names, guard } => {
+            let nothing = Task::<R>::Run(Command::Undo { k: 0 });
+            let recovered = change_files(world, alloc, names, guard, nothing);
+            Outcome::Changed(recovered)
+        }
         Request::Dump { job, name } => Outcome::Dumped(dump_file(world, alloc, job, name, out)),
         Request::DumpInput { job, input } => Outcome::Dumped(dump_input(alloc, job, input, out)),
         Request::Diff { old, new, extent } => {
             Outcome::Compared(write_diff(world, alloc, old, new, extent, out))
         }
-        Request::Preview { name, proposal } => {
-            Outcome::Previewed(write_preview(world, alloc, name, proposal, out))
+        Request::Preview { name, edit } => {
+            Outcome::Previewed(write_preview(world, alloc, name, edit, out))
         }
         Request::Look { names, report } => {
             Outcome::Looked(write_report(world, alloc, names, report, out))
@@ -74,9 +82,10 @@ fn run_command<W: World, R: Read + Drop, O: Write>(
         Request::Forget { names, guard } => {
             Outcome::Forgotten(forget_files(world, alloc, names, guard))
         }
-        Request::Renew { names, guard, task } => Outcome::Renewed(renew_files(
-            world, alloc, names, guard, task,
-        )),
+        Request::Renew { names, guard, edit } => {
+            let anew = task_of(edit);
+            Outcome::Renewed(renew_files(world, alloc, names, guard, anew))
+        }
     }
 }
 
@@ -91,7 +100,6 @@ pub fn run_request<W: World, R: Read + Drop, O: Write>(
     request: Request<'_, R>,
     out: &mut O,
 ) -> Result<Done, Failure>
-    requires near { IsNearRequest request }
     requires free { W.honest world.old → (W.sight world.old).lent ≡ None }
 
     // The answer stands for how the command ended, fault for fault: it did what it is to, or it was refused or stopped, and says why; after

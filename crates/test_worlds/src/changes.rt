@@ -1,17 +1,13 @@
 //! A change, as a case asks for it.
-ghost use Rattle.std.specs.Prelude.{IfOk};
-ghost use Rattle.bx_cli_commands.specs.Command.{IsNear};
-ghost use Rattle.bx_run.specs.session.Task.{IsNearTask};
-
 use crate::report::Wrong;
 use crate::setting::CAREFUL;
-use bx_cli_commands::{Command, Fault, Form, Reply, change_from};
+use bx_cli_commands::{Fault, Form, Reply, change_from};
 use bx_dd::{Counts, parse};
 use bx_image::{Change, Fuse};
-use bx_patch::read_patch;
+use bx_patch::{Patch, read_patch};
 use bx_read::ReadFault;
-use bx_run::{Done, Failure, Request, Task, run_request};
-use bx_text::{Bytes, Pieces, Source, Words};
+use bx_run::{Done, Edit, Failure, Request, run_request};
+use bx_text::{Pieces, Source, Words};
 use bx_world::Names;
 use std::alloc::Global;
 use std::io::sink;
@@ -24,80 +20,17 @@ const MOST_PLACE: u64 = 1 << 62;
 /// The most that is read of a text.
 const MOST_TEXT: u64 = 1 << 40;
 
-/// How a change is asked for.
-#[derive(Clone, Copy, Debug, PartialEq, Eq)]
-pub enum Manner {
-    /// By its text or its operands, which are read on the session.
-    Whole,
-    /// By what was read of them before, as the program does it.
-    Read,
-}
-
-impl Manner {
-    pub const EACH: &'static [Manner] = &[Manner::Whole, Manner::Read];
-
-    /// What is said of it.
-    pub fn text(self) -> &'static str {
-        match self {
-            Manner::Whole => "",
-            Manner::Read => ", read before",
-        }
-    }
-}
-
-fn bytes_of(alloc: Global, bytes: &[u8]) -> Result<Bytes, Wrong> {
-    Ok(Bytes::from_vec(bytes.to_vec(alloc)?))
-}
-
-fn words_of(alloc: Global, words: &Words) -> Result<Words, Wrong> {
-    let mut copy = Words::new(alloc);
-    for i in 0..words.len() {
-        copy.push(words.get(i).unwrap_or(""))?;
-    }
-    Ok(copy)
-}
-
 /// What dd reads.
 fn input_of(alloc: Global, bytes: &[u8], reads: Fuse) -> Result<LentInput, Wrong> {
     Ok(LentInput::new(bytes.to_vec(alloc)?, 0, reads))
 }
 
-/// The command of a patch, whose text is read.
-fn patch_of(alloc: Global, text: &[u8], reversed: bool) -> Result<Command<LentInput>, Wrong>
-    ensures { IfOk result IsNear }
-{
+/// The patch of a text, in its direction.
+fn patch_of(alloc: Global, text: &[u8], reversed: bool) -> Result<Patch, Wrong> {
     match read_patch(alloc, text) {
-        Ok(patch) if reversed => match patch.reversed() {
-            Some(patch) => Ok(Command::Patch { patch }),
-            None => Err(Wrong::Unknown),
-        },
-        Ok(patch) => Ok(Command::Patch { patch }),
+        Ok(patch) if reversed => patch.reversed().ok_or(Wrong::Unknown),
+        Ok(patch) => Ok(patch),
         Err(_) => Err(Wrong::Unknown),
-    }
-}
-
-/// The command that a case tells.
-fn command_of(alloc: Global, ask: &Ask, reads: Fuse) -> Result<Command<LentInput>, Wrong>
-    ensures { IfOk result IsNear }
-{
-    match ask {
-        Ask::Revert { dump, shift } => {
-            let text = bytes_of(alloc, dump.as_slice())?;
-            let offset = (*shift).min(MOST_PLACE);
-            Ok(Command::Revert { text, offset })
-        }
-        Ask::Plain { digits, at } => {
-            let text = bytes_of(alloc, digits.as_slice())?;
-            let at = (*at).min(MOST_PLACE);
-            Ok(Command::RevertPlain { text, at })
-        }
-        Ask::Dd { operands, input } => {
-            let operands = words_of(alloc, operands)?;
-            let input = input_of(alloc, input.as_slice(), reads)?;
-            Ok(Command::Dd { operands, input })
-        }
-        Ask::Patch { text, reversed } => patch_of(alloc, text.as_slice(), *reversed),
-        Ask::Undo(_) | Ask::Redo(_) | Ask::Change { .. } | Ask::Open => Err(Wrong::Unknown),
     }
 }
 
@@ -120,17 +53,15 @@ fn read_as(
     }
 }
 
-/// The copy that operands ask for, which are read before.
+/// The copy that operands ask for, whose input fails as the fuse says.
 fn copy_of(
     alloc: Global,
     operands: &Words,
     input: &[u8],
     reads: Fuse,
-) -> Result<Command<LentInput>, Wrong>
-    ensures { IfOk result IsNear }
-{
+) -> Result<Edit<LentInput>, Wrong> {
     match parse(alloc, operands) {
-        Ok(plan) => Ok(Command::Copy {
+        Ok(plan) => Ok(Edit::Copy {
             plan,
             input: input_of(alloc, input, reads)?,
         }),
@@ -138,63 +69,35 @@ fn copy_of(
     }
 }
 
-/// What a case tells, read before.
-fn task_read(alloc: Global, ask: &Ask, reads: Fuse) -> Result<Task<LentInput>, Wrong>
-    ensures { IfOk result IsNearTask }
-{
+/// What a case asks of its image, read before as the program does it; of dd's reads those fail that the fuse says.
+pub fn edit_of(alloc: Global, ask: &Ask, reads: Fuse) -> Result<Edit<LentInput>, Wrong> {
     match ask {
-        Ask::Revert { dump, shift } => {
-            let read = read_as(alloc, dump.as_slice(), Form::Dump, *shift)?;
-            Ok(Task::Put(read))
+        Ask::Revert { dump, shift } => Ok(Edit::Read(read_as(
+            alloc,
+            dump.as_slice(),
+            Form::Dump,
+            *shift,
+        )?)),
+        Ask::Plain { digits, at } => Ok(Edit::Read(read_as(
+            alloc,
+            digits.as_slice(),
+            Form::Plain,
+            *at,
+        )?)),
+        Ask::Dd { operands, input } => copy_of(alloc, operands, input.as_slice(), reads),
+        Ask::Patch { text, reversed } => {
+            Ok(Edit::Patch(patch_of(alloc, text.as_slice(), *reversed)?))
         }
-        Ask::Plain { digits, at } => {
-            let read = read_as(alloc, digits.as_slice(), Form::Plain, *at)?;
-            Ok(Task::Put(read))
-        }
-        Ask::Dd { operands, input } => {
-            let copy = copy_of(alloc, operands, input.as_slice(), reads)?;
-            Ok(Task::Run(copy))
-        }
-        Ask::Patch { .. } | Ask::Undo(_) | Ask::Redo(_) | Ask::Change { .. } | Ask::Open => {
-            Err(Wrong::Unknown)
-        }
+        Ask::Undo(_) | Ask::Redo(_) | Ask::Change { .. } | Ask::Open => Err(Wrong::Unknown),
     }
 }
 
-/// What a case tells, whole.
-fn task_whole(alloc: Global, ask: &Ask, reads: Fuse) -> Result<Task<LentInput>, Wrong>
-    ensures { IfOk result IsNearTask }
-{
-    let command = command_of(alloc, ask, reads)?;
-    Ok(Task::Run(command))
-}
-
-/// What a case tells, in this manner; of dd's reads those fail that the fuse says.
-pub fn task_of(
-    alloc: Global,
-    ask: &Ask,
-    manner: Manner,
-    reads: Fuse,
-) -> Result<Task<LentInput>, Wrong>
-    ensures { IfOk result IsNearTask }
-{
-    match manner {
-        Manner::Whole => task_whole(alloc, ask, reads),
-        Manner::Read => task_read(alloc, ask, reads),
-    }
-}
-
-/// Whether a change may be asked for in this manner. Operands that are faulty are read on the session alone, as the program stops
-/// at them before it opens a file; and a patch is read before in either manner.
-pub fn has_manner(alloc: Global, ask: &Ask, manner: Manner) -> bool {
-    match (manner, ask) {
-        (Manner::Whole, _) => true,
-        (Manner::Read, Ask::Revert { .. } | Ask::Plain { .. }) => true,
-        (Manner::Read, Ask::Dd { operands, .. }) => parse(alloc, operands).is_ok(),
-        (
-            Manner::Read,
-            Ask::Patch { .. } | Ask::Undo(_) | Ask::Redo(_) | Ask::Change { .. } | Ask::Open,
-        ) => false,
+/// Whether a change is one that the program makes: it stops at operands that are faulty before it opens a file.
+pub fn is_asked(alloc: Global, ask: &Ask) -> bool {
+    match ask {
+        Ask::Dd { operands, .. } => parse(alloc, operands).is_ok(),
+        Ask::Revert { .. } | Ask::Plain { .. } | Ask::Patch { .. } => true,
+        Ask::Undo(_) | Ask::Redo(_) | Ask::Change { .. } | Ask::Open => false,
     }
 }
 
@@ -238,15 +141,13 @@ pub fn change(
     alloc: Global,
     names: &Names,
     plan: Plan,
-    task: Task<LentInput>,
-) -> Result<Done, Failure>
-    requires { IsNearTask task }
-{
+    edit: Edit<LentInput>,
+) -> Result<Done, Failure> {
     world.begin(plan);
     let request = Request::Change {
         names,
         guard: CAREFUL,
-        task,
+        edit,
     };
     run_request(world, alloc, request, &mut sink())
 }

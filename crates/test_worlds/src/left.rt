@@ -116,7 +116,7 @@ fn has_reply(play: &Play<'_>, world: &MemoryWorld, reply: Option<Reply>) -> Resu
 fn has_answer(play: &Play<'_>, world: &MemoryWorld, reply: Option<Reply>) -> Result<(), Wrong> {
     match play.asked {
         Asked::Moves { .. } => has_number(play, world, true),
-        Asked::Change(_) => has_reply(play, world, reply),
+        Asked::Change => has_reply(play, world, reply),
     }
 }
 

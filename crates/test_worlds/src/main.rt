@@ -41,7 +41,6 @@ mod seen;
 mod setting;
 mod sweeps;
 
-use crate::changes::Manner;
 use crate::odd::play_refused;
 use crate::oddities::{ODDS, ODDS_OF_MADE, Odd, Oddity, names_of_odd};
 use crate::plays::{Play, Setting};
@@ -87,26 +86,17 @@ fn play_ways(rt: &HostRuntime, play: &Play<'_>) -> bool {
     right
 }
 
-/// Plays a case, as it is asked for in a manner, in each setting. Tells whether all are right.
-fn play_settings(rt: &HostRuntime, case: &Case, manner: Manner) -> Result<bool, Wrong> {
+/// Plays a case in each setting. Tells whether all are right.
+fn play_case(rt: &HostRuntime, case: &Case) -> Result<bool, Wrong> {
     let Test::Commands(commands) = &case.test else {
         return Err(Wrong::Unknown);
     };
     let mut right = true;
     for setting in Setting::EACH {
-        if let Some(play) = Play::new(rt.alloc(), commands, manner, *setting)? {
-            let _ = print!(rt; "{}{}{}", case.name, manner.text(), setting.text());
+        if let Some(play) = Play::new(rt.alloc(), commands, *setting)? {
+            let _ = print!(rt; "{}{}", case.name, setting.text());
             right = play_ways(rt, &play) && right;
         }
-    }
-    Ok(right)
-}
-
-/// Plays a case in each manner. Tells whether all are right.
-fn play_case(rt: &HostRuntime, case: &Case) -> Result<bool, Wrong> {
-    let mut right = true;
-    for manner in Manner::EACH {
-        right = play_settings(rt, case, *manner)? && right;
     }
     Ok(right)
 }
@@ -127,13 +117,13 @@ fn play_odd(rt: &HostRuntime, play: &Play<'_>, odd: &Odd, what: &str) -> bool {
     }
 }
 
-/// The play of the first case that has one in this setting, as it is asked for whole.
+/// The play of the first case that has one in this setting.
 fn first_in<'a>(rt: &HostRuntime, cases: &'a [Case], setting: Setting) -> Result<Play<'a>, Wrong> {
     for case in cases {
         let Test::Commands(commands) = &case.test else {
             return Err(Wrong::Unknown);
         };
-        if let Some(play) = Play::new(rt.alloc(), commands, Manner::Whole, setting)? {
+        if let Some(play) = Play::new(rt.alloc(), commands, setting)? {
             return Ok(play);
         }
     }

@@ -1,6 +1,6 @@
 //! A case as it is played: one undo or redo of as many changes as its lines tell, one after another; or the change of its last line.
 use crate::answers::{Ended, ended};
-use crate::changes::{Manner, change, has_manner, task_of};
+use crate::changes::{change, edit_of, is_asked};
 use crate::moves::{count_of_all, image_behind, move_in, way_of};
 use crate::report::Wrong;
 use crate::setting::{Held, There, names, world_with};
@@ -15,8 +15,8 @@ use test_world::{MemoryWorld, Plan};
 pub enum Asked {
     /// As many changes are moved one way.
     Moves { way: Way, count: u32 },
-    /// A change is made, which is asked for in this manner.
-    Change(Manner),
+    /// A change is made.
+    Change,
 }
 
 /// Which files of a case are there: those that have bytes, and of the others some.
@@ -75,36 +75,27 @@ fn all_but_last(rows: &[Row]) -> &[Row] {
     }
 }
 
-/// What a case asks for in this manner; none where it can't be asked for so.
-fn asked_of(alloc: Global, case: &CommandsCase, manner: Manner) -> Result<Option<Asked>, Wrong> {
+/// What a case asks for; none where the program never asks for it.
+fn asked_of(alloc: Global, case: &CommandsCase) -> Result<Option<Asked>, Wrong> {
     let Some(last) = case.rows.last() else {
         return Err(Wrong::Unknown);
     };
     if let Some(way) = way_of(last) {
         let count = count_of_all(case.rows.as_slice(), way)?;
-        let is_first = manner == Manner::Whole;
-        return Ok(if is_first {
-            Some(Asked::Moves { way, count })
-        } else {
-            None
-        });
+        return Ok(Some(Asked::Moves { way, count }));
     }
     if count_of_all(all_but_last(case.rows.as_slice()), Way::Undo)? != 0 {
         return Err(Wrong::Unknown);
     }
-    let is_asked = has_manner(alloc, &last.ask, manner);
-    Ok(if is_asked {
-        Some(Asked::Change(manner))
-    } else {
-        None
-    })
+    let is_asked = is_asked(alloc, &last.ask);
+    Ok(if is_asked { Some(Asked::Change) } else { None })
 }
 
 /// Which files of a case are there before what it asks for, where those are missing that may be.
 fn there_bare(case: &CommandsCase, asked: Asked) -> There {
     let mut there = There::ALL;
     there.redo = !case.redo.is_empty();
-    if let Asked::Change(_) = asked {
+    if let Asked::Change = asked {
         there.journal = !case.journal.is_empty();
         there.image = there.journal || !case.image.is_empty();
     }
@@ -116,9 +107,9 @@ fn there_of(case: &CommandsCase, asked: Asked, setting: Setting) -> Option<There
     let mut there = there_bare(case, asked);
     let is_other = match (setting, asked) {
         (Setting::Bare, _) => false,
-        (_, Asked::Moves { .. } | Asked::Change(Manner::Read)) => true,
-        (Setting::Linked, Asked::Change(Manner::Whole)) => !case.image.is_empty(),
-        (Setting::Full, Asked::Change(Manner::Whole)) => there == There::ALL,
+        (_, Asked::Moves { .. }) => true,
+        (Setting::Linked, Asked::Change) => !case.image.is_empty(),
+        (Setting::Full, Asked::Change) => there == There::ALL,
     };
     match setting {
         Setting::Bare => {}
@@ -129,16 +120,14 @@ fn there_of(case: &CommandsCase, asked: Asked, setting: Setting) -> Option<There
 }
 
 impl<'a> Play<'a> {
-    /// A case as it is asked for in this manner and setting; none where that is no other play. What was read before is played with what
-    /// may be missing alone. All lines of a case are undos, or all
-    /// redos, of one change each, or there is one; or the last is a change, and those before move none.
+    /// A case as it is asked for in a setting; none where that is no other play, or where the program never asks for it. All lines of a case
+    /// are undos, or all redos, of one change each, or there is one; or the last is a change, and those before move none.
     pub fn new(
         alloc: Global,
         case: &'a CommandsCase,
-        manner: Manner,
         setting: Setting,
     ) -> Result<Option<Self>, Wrong> {
-        let Some(asked) = asked_of(alloc, case, manner)? else {
+        let Some(asked) = asked_of(alloc, case)? else {
             return Ok(None);
         };
         let Some(there) = there_of(case, asked, setting) else {
@@ -202,7 +191,7 @@ impl<'a> Play<'a> {
     pub fn count(&self) -> u32 {
         match self.asked {
             Asked::Moves { count, .. } => count,
-            Asked::Change(_) => 1,
+            Asked::Change => 1,
         }
     }
 
@@ -219,7 +208,7 @@ impl<'a> Play<'a> {
         let rows = self.case.rows.as_slice();
         match self.asked {
             Asked::Moves { .. } => rows,
-            Asked::Change(_) => all_but_last(rows),
+            Asked::Change => all_but_last(rows),
         }
     }
 
@@ -230,7 +219,7 @@ impl<'a> Play<'a> {
         }
         match self.asked {
             Asked::Moves { .. } => image_behind(self.rows_of_moves(), steps),
-            Asked::Change(_) => Some(self.last()?.left.image.as_slice()),
+            Asked::Change => Some(self.last()?.left.image.as_slice()),
         }
     }
 
@@ -238,7 +227,7 @@ impl<'a> Play<'a> {
     pub fn standing_behind(&self, steps: u32) -> u32 {
         match self.asked {
             Asked::Moves { way: Way::Undo, .. } => self.standing.saturating_sub(steps),
-            Asked::Moves { way: Way::Redo, .. } | Asked::Change(_) => {
+            Asked::Moves { way: Way::Redo, .. } | Asked::Change => {
                 self.standing.saturating_add(steps)
             }
         }
@@ -250,17 +239,12 @@ impl<'a> Play<'a> {
     }
 
     /// The change of the last line, in a world that does what its plan says.
-    fn change_in(
-        &self,
-        world: &mut MemoryWorld,
-        plan: Plan,
-        manner: Manner,
-    ) -> Result<Ended, Wrong> {
+    fn change_in(&self, world: &mut MemoryWorld, plan: Plan) -> Result<Ended, Wrong> {
         let Some(row) = self.last() else {
             return Err(Wrong::Unknown);
         };
-        let task = task_of(self.alloc, &row.ask, manner, plan.input)?;
-        Ok(ended(change(world, self.alloc, &self.names, plan, task)))
+        let edit = edit_of(self.alloc, &row.ask, plan.input)?;
+        Ok(ended(change(world, self.alloc, &self.names, plan, edit)))
     }
 
     /// Does what the case asks for in a world that does what its plan says.
@@ -274,7 +258,7 @@ impl<'a> Play<'a> {
                 way,
                 count,
             ))),
-            Asked::Change(manner) => self.change_in(world, plan, manner),
+            Asked::Change => self.change_in(world, plan),
         }
     }
 }

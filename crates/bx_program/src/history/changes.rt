@@ -1,6 +1,4 @@
 //! Changes of an image by the names of its files.
-ghost use Rattle.bx_run.specs.session.Task.{IsNearTask};
-
 use crate::devices::left::{is_unfinished, recovered, stopped};
 use crate::files::look::{is_missing, refuse_without_journal};
 use crate::files::names::{guard_of, names_of, world_of};
@@ -11,7 +9,7 @@ use crate::history::told::told;
 use bx_cli::{Fault, Target};
 use bx_hints::{Remarks, Stopped};
 use bx_journal::{How, SessionFault, Way};
-use bx_run::{Done, Failure, Request, Step, Task, run_request};
+use bx_run::{Done, Edit, Failure, Request, Step, run_request};
 use bx_system::{OpenFile, Progress, SystemWorld};
 use bx_world::{Names, Which, World};
 use std::fs::{self, File};
@@ -23,13 +21,12 @@ use std::time::Clock;
 pub fn change_image<'a, R, I: Read + Drop>(
     rt: &R,
     target: &'a Target,
-    task: Task<I>,
+    edit: Edit<I>,
     progress: &Progress<'_, R>,
     remarks: &mut Remarks,
 ) -> Result<Done, Stopped<'a>>
 where
     R: Files<File = File> + Print + Eprint + Clock + AllocGlobal,
-    requires near { IsNearTask task }
 {
     refuse_without_journal(rt, target)?;
     let was_noted = is_noted(rt, target);
@@ -38,7 +35,7 @@ where
     let request = Request::Change {
         names: &names,
         guard: guard_of(target),
-        task,
+        edit,
     };
     let answer = run_request(&mut world, rt.alloc(), request, &mut io::sink());
     drop(names);
@@ -103,20 +100,19 @@ where
 pub fn change_anew<'a, R>(
     rt: &R,
     target: &'a Target,
-    task: Task<Empty>,
+    edit: Edit<Empty>,
     progress: &Progress<'_, R>,
     remarks: &mut Remarks,
 ) -> Result<Done, Stopped<'a>>
 where
     R: Files<File = File> + Print + Eprint + Clock + AllocGlobal,
-    requires near { IsNearTask task }
 {
     // Without both texts there is no history to drop; a redo file without its journal is dropped as one.
     if is_missing(rt, target.texts.journal.as_str()) && is_missing(rt, target.texts.redo.as_str()) {
-        return change_image(rt, target, task, progress, remarks);
+        return change_image(rt, target, edit, progress, remarks);
     }
     let made = made_image(rt, target, progress)?;
-    let outcome = renew_image(rt, target, task, progress, remarks);
+    let outcome = renew_image(rt, target, edit, progress, remarks);
     if let (Some(file), Err(stopped)) = (made, &outcome) {
         if !is_interrupted(stopped.fault) {
             if let Ok(mut world) = world_of(rt, target, progress) {
@@ -134,11 +130,10 @@ fn renew<R>(
     world: &mut SystemWorld<'_, '_, R>,
     target: &Target,
     names: &Names,
-    task: Task<Empty>,
+    edit: Edit<Empty>,
 ) -> Result<Done, Failure>
 where
     R: Files<File = File> + Print + Eprint + Clock + AllocGlobal,
-    requires near { IsNearTask task }
 {
     let redo = target.texts.redo.as_str();
     let journal = target.texts.journal.as_str();
@@ -146,7 +141,7 @@ where
     let request = Request::Renew {
         names,
         guard: guard_of(target),
-        task,
+        edit,
     };
     // So that nobody comes between the drop of the history and the change.
     world.keep_locks();
@@ -173,18 +168,17 @@ fn take_made<R: Files<File = File>>(rt: &R, name: &str, was_missing: bool) {
 fn renew_image<'a, R>(
     rt: &R,
     target: &'a Target,
-    task: Task<Empty>,
+    edit: Edit<Empty>,
     progress: &Progress<'_, R>,
     remarks: &mut Remarks,
 ) -> Result<Done, Stopped<'a>>
 where
     R: Files<File = File> + Print + Eprint + Clock + AllocGlobal,
-    requires near { IsNearTask task }
 {
     refuse_without_journal(rt, target)?;
     let mut world = world_of(rt, target, progress)?;
     let names = names_of(rt.alloc(), target)?;
-    match renew(rt, &mut world, target, &names, task) {
+    match renew(rt, &mut world, target, &names, edit) {
         Err(failure) if failure.step == Step::Dropping => Err(told(
             rt,
             target,

@@ -8,10 +8,10 @@ use crate::jobs::ready::{Ready, most_of_dd, plan_behind};
 use crate::jobs::sights::tell_before_copy;
 use crate::progress::progress_of_copy;
 use crate::streams::input::{Placed, file, standard};
-use bx_cli::{Command, DdImageJob, Fault};
+use bx_cli::{DdImageJob, Fault};
 use bx_dd::{Counts, report};
 use bx_hints::{Remarks, Stopped};
-use bx_run::Task;
+use bx_run::Edit;
 use bx_system::Progress;
 use bx_text::IoFault;
 use std::fs::File;
@@ -78,11 +78,11 @@ where
     }
     let plan = plan_behind(rt, job, input.passed);
     let mut ready = Ready::new(rt, job, input, progress);
-    let asked = Command::Copy {
+    let edit = Edit::Copy {
         plan,
         input: &mut ready.reader,
     };
-    match change_image(rt, &job.target, Task::Run(asked), progress, remarks) {
+    match change_image(rt, &job.target, edit, progress, remarks) {
         Ok(done) => Ok(done.counts),
         Err(stopped) => Err(ready.stopped(stopped)),
     }

@@ -1,21 +1,17 @@
 //! Changes with which a history may begin anew, and which may have to keep within their image's length.
-ghost use Rattle.bx_run.specs.session.Task.{IsNearTask};
-
 use crate::devices::agreement::agree;
 use crate::devices::left::length_of;
 use crate::files::look::is_missing;
 use crate::files::read::open_alone;
 use crate::history::changes::{change_anew, change_image};
 use crate::history::settle_image;
-use bx_cli::{Command, Fault, Kept, Target, refuse_growth};
+use bx_cli::{Fault, Target, refuse_growth};
 use bx_hints::{Remarks, Stopped};
 use bx_image::{Change, MAX_LEN};
 use bx_patch::Patch;
-use bx_read::ReadFault;
-use bx_run::{Done, Proposal, Task};
+use bx_run::{Done, Edit};
 use bx_system::Progress;
 use std::fs::File;
-use std::io::Empty;
 use std::rt::Files;
 use std::time::Clock;
 
@@ -26,45 +22,6 @@ pub struct Manner {
     pub fresh: bool,
     /// Whether it is refused where it makes the image longer.
     pub no_grow: bool,
-}
-
-/// What a dump that was read asks for, of an image that may have to keep within its length.
-pub fn proposal_of_read(read: Result<Change, ReadFault>, no_grow: bool) -> Proposal<Empty> {
-    match read {
-        Ok(change) if no_grow => Proposal::Keep(Kept::Change(change)),
-        read => Proposal::Read(read),
-    }
-}
-
-/// The same of a patch.
-pub fn proposal_of_patch(patch: Patch, no_grow: bool) -> Proposal<Empty> {
-    if no_grow {
-        Proposal::Keep(Kept::Patch(patch))
-    } else {
-        Proposal::Patch(patch)
-    }
-}
-
-/// The task of a change.
-fn task_of_change(change: Change, no_grow: bool) -> Task<Empty>
-    ensures { IsNearTask result }
-{
-    if no_grow {
-        Task::Keep(Kept::Change(change))
-    } else {
-        Task::Put(Ok(change))
-    }
-}
-
-/// The task of a patch.
-fn task_of_patch(patch: Patch, no_grow: bool) -> Task<Empty>
-    ensures { IsNearTask result }
-{
-    if no_grow {
-        Task::Keep(Kept::Patch(patch))
-    } else {
-        Task::Run(Command::Patch { patch })
-    }
 }
 
 /// Makes a change on an image. Nothing is dropped for one that would make the image longer, once that is recovered.
@@ -84,11 +41,11 @@ where
         let image = target.image.as_str();
         refused(image, refuse_growth(&change, length_named(rt, image)?))?;
     }
-    let task = task_of_change(change, manner.no_grow);
+    let edit = Edit::of_read(Ok(change), manner.no_grow);
     if manner.fresh {
-        change_anew(rt, target, task, progress, remarks)
+        change_anew(rt, target, edit, progress, remarks)
     } else {
-        change_image(rt, target, task, progress, remarks)
+        change_image(rt, target, edit, progress, remarks)
     }
 }
 
@@ -106,8 +63,8 @@ where
     R: Files<File = File> + Print + Eprint + Clock + AllocGlobal,
 {
     if !manner.fresh {
-        let task = task_of_patch(patch, manner.no_grow);
-        return change_image(rt, target, task, progress, remarks);
+        let edit = Edit::of_patch(patch, manner.no_grow);
+        return change_image(rt, target, edit, progress, remarks);
     }
     let image = target.image.as_str();
     settle_image(rt, target, progress)?;
@@ -115,8 +72,8 @@ where
     if manner.no_grow {
         refused(image, refuse_longer(&patch, length_named(rt, image)?))?;
     }
-    let task = task_of_patch(patch, manner.no_grow);
-    change_anew(rt, target, task, progress, remarks)
+    let edit = Edit::of_patch(patch, manner.no_grow);
+    change_anew(rt, target, edit, progress, remarks)
 }
 
 /// What stopped a change that would make its image longer.

@@ -2,14 +2,15 @@
 use crate::devices::agreement::agree;
 use crate::files::look::is_device;
 use crate::history::told::look_for_others;
-use crate::jobs::kept::{Manner, proposal_of_patch, put_patch};
+use crate::jobs::kept::{Manner, put_patch};
 use crate::jobs::previews::preview_patch;
 use crate::jobs::sights::tell_before_patch;
 use crate::progress::{progress_of_input, progress_of_standard};
 use crate::streams::input::{MOST_INPUT, Placed, whole};
-use bx_cli::{Fault, PatchJob};
+use bx_cli::{Fault, PatchJob, read_patch_of};
 use bx_hints::{Remarks, STANDARD_INPUT, Stopped};
-use bx_patch::{Patch, read_patch};
+use bx_patch::Patch;
+use bx_run::Edit;
 use bx_system::{Counted, Noted, Progress};
 use bx_text::Source;
 use std::alloc::Global;
@@ -36,8 +37,8 @@ where
     }
     let progress = progress_of_input(rt, remarks, None);
     if job.dry_run {
-        let proposal = proposal_of_patch(patch, job.no_grow);
-        return preview_patch(rt, &job.target, proposal, &progress, out);
+        let edit = Edit::of_patch(patch, job.no_grow);
+        return preview_patch(rt, &job.target, edit, &progress, out);
     }
     if patch.changes_nothing() {
         remarks.look_at_no_change();
@@ -163,19 +164,12 @@ fn asked_of<'a>(
     name: &'a str,
     text: Vec<u8>,
 ) -> Result<Patch, Stopped<'a>> {
-    match read_patch(alloc, text.as_slice()) {
-        Ok(patch) if job.reverse => match patch.reversed() {
-            Some(turned) => Ok(turned),
-            None => Err(Stopped::from(Fault::NotReversible)),
-        },
+    match read_patch_of(alloc, job, text.as_slice()) {
         Ok(patch) => Ok(patch),
-        Err(fault) => {
-            let stopped = Stopped::from(Fault::Patch(fault));
-            if has_returns(text.as_slice()) {
-                return Err(stopped.on_returns(name));
-            }
-            Err(stopped)
+        Err(fault @ Fault::Patch(_)) if has_returns(text.as_slice()) => {
+            Err(Stopped::from(fault).on_returns(name))
         }
+        Err(fault) => Err(Stopped::from(fault)),
     }
 }
 

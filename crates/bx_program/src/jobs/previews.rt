@@ -9,10 +9,10 @@ use crate::files::unopened::not_opened_alone;
 use crate::jobs::ready::{Ready, plan_behind};
 use crate::progress::{progress_of_copy, progress_of_input};
 use crate::streams::input::{Placed, file, standard};
-use bx_cli::{DdImageJob, Fault, Kept, Target};
+use bx_cli::{DdImageJob, Fault, Target};
 use bx_dd::Counts;
 use bx_hints::{Remarks, Stopped};
-use bx_run::{Cause, Failure, Proposal, Request, Stop, run_request};
+use bx_run::{Cause, Edit, Failure, Request, Stop, run_request};
 use bx_system::{Progress, SystemWorld};
 use std::fs::File;
 use std::io::{Empty, Read, Write};
@@ -53,7 +53,7 @@ where
 fn preview<'a, R, I: Read + Drop, W: Write>(
     rt: &R,
     target: &'a Target,
-    proposal: Proposal<I>,
+    edit: Edit<I>,
     progress: &Progress<'_, R>,
     out: &mut W,
 ) -> Result<Option<Counts>, Stopped<'a>>
@@ -62,7 +62,7 @@ where
 {
     let name = target.image.as_str();
     let mut world = world_of(rt, target, progress)?;
-    let request = Request::Preview { name, proposal };
+    let request = Request::Preview { name, edit };
     match run_request(&mut world, rt.alloc(), request, out) {
         Ok(done) => Ok(done.counts),
         Err(failure) => Err(cut_off(rt, target, &world, failure)),
@@ -73,7 +73,7 @@ where
 pub fn preview_read<'a, R, W: Write>(
     rt: &R,
     target: &'a Target,
-    proposal: Proposal<Empty>,
+    edit: Edit<Empty>,
     remarks: &Remarks,
     out: &mut W,
 ) -> Result<(), Stopped<'a>>
@@ -81,7 +81,7 @@ where
     R: Files<File = File> + Print + Eprint + Clock + AllocGlobal,
 {
     let progress = progress_of_input(rt, remarks, None);
-    preview(rt, target, proposal, &progress, out)?;
+    preview(rt, target, edit, &progress, out)?;
     Ok(())
 }
 
@@ -89,14 +89,14 @@ where
 pub fn preview_patch<'a, R, W: Write>(
     rt: &R,
     target: &'a Target,
-    proposal: Proposal<Empty>,
+    edit: Edit<Empty>,
     progress: &Progress<'_, R>,
     out: &mut W,
 ) -> Result<(), Stopped<'a>>
 where
     R: Files<File = File> + Print + Eprint + Clock + AllocGlobal,
 {
-    preview(rt, target, proposal, progress, out)?;
+    preview(rt, target, edit, progress, out)?;
     Ok(())
 }
 
@@ -134,18 +134,18 @@ where
     let mut ready = Ready::new(rt, job, input, progress);
     if job.no_grow {
         let made = ready.made(rt.alloc(), &plan)?;
-        let proposal: Proposal<Empty> = Proposal::Keep(Kept::Change(made.change));
-        return match preview(rt, &job.target, proposal, progress, out) {
+        let edit: Edit<Empty> = Edit::of_read(Ok(made.change), true);
+        return match preview(rt, &job.target, edit, progress, out) {
             Ok(_) if job.plan.quiet => Ok(None),
             Ok(_) => Ok(Some(made.counts)),
             Err(stopped) => Err(ready.stopped(stopped)),
         };
     }
-    let proposal = Proposal::Copy {
+    let edit = Edit::Copy {
         plan,
         input: &mut ready.reader,
     };
-    match preview(rt, &job.target, proposal, progress, out) {
+    match preview(rt, &job.target, edit, progress, out) {
         Ok(_) if job.plan.quiet => Ok(None),
         Ok(counts) => Ok(counts),
         Err(stopped) => Err(ready.stopped(stopped)),

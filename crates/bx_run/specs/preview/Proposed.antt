@@ -26,10 +26,11 @@ use Rattle.bx_cli_commands.specs.Run.{answered, made_reply}
 use Rattle.bx_cli_commands.specs.Standing.{PerformUp, Standing}
 use Rattle.bx_cli_commands.specs.declared.fault.Fault.TheVariants.{Disagrees, Session}
 use Rattle.bx_run.specs.session.Task.{TaskStep}
-use Rattle.bx_run.specs.preview.Previews.{HasRoom, Refuses, asked}
-use Rattle.bx_run.specs.declared.preview.proposal.Proposal.{Proposal}
-use Rattle.bx_run.specs.declared.preview.proposal.PreviewError.{PreviewError}
-use Rattle.bx_run.specs.declared.preview.proposal.PreviewError.TheVariants.{Refused, Stopped, Unfitting, Unopened}
+use Rattle.bx_run.specs.preview.Previews.{HasRoom, Refuses}
+use Rattle.bx_run.specs.Edit.{asked}
+use Rattle.bx_run.specs.declared.edit.Edit.{Edit}
+use Rattle.bx_run.specs.declared.preview.error.PreviewError.{PreviewError}
+use Rattle.bx_run.specs.declared.preview.error.PreviewError.TheVariants.{Refused, Stopped, Unfitting, Unopened}
 
 -- whether the device of the image failed
 abbrev pub failed_image : {V : Type 0} → Result V PreviewError → Bool
@@ -37,9 +38,9 @@ failed_image (Err (Stopped OldFailed)) = true
 failed_image result = false
 
 -- the change is what is proposed: each step of the session for it, from an image alone, is one of the task
-abbrev pub IsProposedChange : {R A : Type 0} → (R → Option (List ℕ)) → Proposal R → List ℕ → Change A → Option Counts → Type 0
-IsProposedChange remaining proposal x change counts = (r : Result ℕ SessionFault) (after : Standing) → PerformUp change (only x) r after
-    → TaskStep remaining (Standing.Up (only x)) (asked proposal) (answered (made_reply counts) r) after
+abbrev pub IsProposedChange : {R A : Type 0} → (R → Option (List ℕ)) → Edit R → List ℕ → Change A → Option Counts → Type 0
+IsProposedChange remaining edit x change counts = (r : Result ℕ SessionFault) (after : Standing) → PerformUp change (only x) r after
+    → TaskStep remaining (Standing.Up (only x)) (asked edit) (answered (made_reply counts) r) after
 
 -- what an image has otherwise than a patch expects, or that its device failed
 abbrev pub IsUnagreed : Asked → List ℕ → PreviewError → Type 0
@@ -66,10 +67,10 @@ IsUnkept {A = A} (OfPatch patch) x why =
     IsUnagreed (asked_of patch) x why ⊎ (Agrees (asked_of patch) x × IsGrown (patch_change {A = A} (asked_of patch)) x why)
 
 -- why there is no change: the machine's step refuses what is proposed, or the device of the image failed
-abbrev pub HasNoChange : {R : Type 0} → (R → Option (List ℕ)) → Proposal R → List ℕ → PreviewError → Type 0
-HasNoChange remaining proposal x (Refused fault) = Refuses remaining proposal x fault
-HasNoChange remaining proposal x (Stopped fault) = fault ≡ OldFailed
-HasNoChange remaining proposal x unpreviewed = ⊥
+abbrev pub HasNoChange : {R : Type 0} → (R → Option (List ℕ)) → Edit R → List ℕ → PreviewError → Type 0
+HasNoChange remaining edit x (Refused fault) = Refuses remaining edit x fault
+HasNoChange remaining edit x (Stopped fault) = fault ≡ OldFailed
+HasNoChange remaining edit x unpreviewed = ⊥
 
 -- the change can be made of the image, and what it makes is no longer than an image can be
 abbrev pub IsMakeable : {A : Type 0} → Change A → List ℕ → Type 0

@@ -30,18 +30,19 @@ use Rattle.bx_run.specs.preview.Diffs.{StopsDiff, WritesDiff}
 use Rattle.bx_run.specs.run.Answer.{answer_by}
 use Rattle.bx_run.specs.run.Outcome.{ended_by, unopened_by, unopened_fault}
 use Rattle.bx_run.specs.preview.Previews.{StopsPreview, WritesPreview}
-use Rattle.bx_run.specs.renew.Renewal.{DoesRenew, KeepsNamed, SurvivesRenewal, TellsOpening}
+use Rattle.bx_run.specs.renew.Renewal.{DoesRenew, KeepsNamed, SurvivesRenewal, TellsOpening, no_change}
 use Rattle.bx_run.specs.report.Reports.{Reports}
+use Rattle.bx_run.specs.Edit.{asked}
 use Rattle.bx_run.specs.Scene.{Scene}
 use Rattle.bx_run.specs.declared.run.answer.Done.{Done}
 use Rattle.bx_run.specs.declared.run.answer.Failure.{Failure}
 use Rattle.bx_run.specs.declared.preview.diff.DiffError.{DiffError}
 use Rattle.bx_run.specs.declared.run.outcome.Outcome.{Outcome}
 use Rattle.bx_run.specs.declared.run.outcome.Outcome.TheVariants as of
-use Rattle.bx_run.specs.declared.preview.proposal.Proposal.{Proposal}
-use Rattle.bx_run.specs.declared.preview.proposal.PreviewError.{PreviewError}
+use Rattle.bx_run.specs.declared.edit.Edit.{Edit}
+use Rattle.bx_run.specs.declared.preview.error.PreviewError.{PreviewError}
 use Rattle.bx_run.specs.declared.run.request.Request.{Request}
-use Rattle.bx_run.specs.declared.run.request.Request.TheVariants.{Move, Change, Dump, DumpInput, Diff, Preview, Look, Forget, Renew}
+use Rattle.bx_run.specs.declared.run.request.Request.TheVariants.{Move, Change, Recover, Dump, DumpInput, Diff, Preview, Look, Forget, Renew}
 
 -- Of files that hold images an undo or a redo leaves those with `count` changes moved and writes how many stand, or it stops and says why; of
 -- files in which opening finds images, as after a crash, it does so on what is recovered. One that is refused leaves all files as they were, whatever
@@ -76,42 +77,38 @@ DoesDiff extent old_name new_name outcome old new =
 
 -- A preview writes the patch from what the image has, nothing where it is missing, to what the machine's step would make of it, or a front of it and
 -- says why; an image that isn't opened may not be read by the rule, or the system counted a call that it refused
-abbrev pub DoesPreview : {R : Type 0} → (R → Option (List ℕ)) → List ℕ → Proposal R → Result (Option Counts) PreviewError → Scene → Scene → Type 0
-DoesPreview remaining name proposal outcome old new =
-    MatchResult outcome (λ counts. WritesPreview remaining name proposal old.sight counts old.written new.written)
-    (StopsPreview remaining name proposal (old.refusals < new.refusals) old.sight old.written new.written)
+abbrev pub DoesPreview : {R : Type 0} → (R → Option (List ℕ)) → List ℕ → Edit R → Result (Option Counts) PreviewError → Scene → Scene → Type 0
+DoesPreview remaining name edit outcome old new =
+    MatchResult outcome (λ counts. WritesPreview remaining name edit old.sight counts old.written new.written)
+    (StopsPreview remaining name edit (old.refusals < new.refusals) old.sight old.written new.written)
 
 -- each command has an answer of its own; an input is open, and no seek places it
 abbrev pub Answers : {R : Type 0} → Request R → Outcome → Type 0
 Answers (Move names guard way count) (of.Moved moved) = Unit {0}
-Answers (Change names guard task) (of.Changed answer) = Unit {0}
+Answers (Change names guard edit) (of.Changed answer) = Unit {0}
+Answers (Recover names guard) (of.Changed answer) = Unit {0}
 Answers (Dump job name) (of.Dumped outcome) = Unit {0}
 Answers (DumpInput job input) (of.Dumped outcome) = IfErr outcome IsStopped
 Answers (Diff old_name new_name extent) (of.Compared outcome) = Unit {0}
-Answers (Preview name proposal) (of.Previewed outcome) = Unit {0}
+Answers (Preview name edit) (of.Previewed outcome) = Unit {0}
 Answers (Look names report) (of.Looked outcome) = Unit {0}
 Answers (Forget names guard) (of.Forgotten outcome) = Unit {0}
-Answers (Renew names guard task) (of.Renewed renewed) = Unit {0}
+Answers (Renew names guard edit) (of.Renewed renewed) = Unit {0}
 Answers request outcome = ⊥
 
 -- what each command does
 abbrev pub Fulfills : {R : Type 0} → (R → Option (List ℕ)) → Request R → Outcome → Scene → Scene → Type 0
 Fulfills remaining (Move names guard way count) (of.Moved moved) old new = DoesMove names.now way count moved old.sight new.sight
-Fulfills remaining (Change names guard task) (of.Changed answer) old new = DoesChange remaining names.now task answer old.sight new.sight
+Fulfills remaining (Change names guard edit) (of.Changed answer) old new = DoesChange remaining names.now (asked edit) answer old.sight new.sight
+Fulfills remaining (Recover names guard) (of.Changed answer) old new = DoesChange remaining names.now no_change answer old.sight new.sight
 Fulfills remaining (Dump job name) (of.Dumped outcome) old new = DoesDump job.now name.now outcome old new
 Fulfills remaining (DumpInput job input) (of.Dumped outcome) old new = DoesDumpInput job.now (remaining input) outcome old new
 Fulfills remaining (Diff old_name new_name extent) (of.Compared outcome) old new = DoesDiff extent old_name.now new_name.now outcome old new
-Fulfills remaining (Preview name proposal) (of.Previewed outcome) old new = DoesPreview remaining name.now proposal outcome old new
+Fulfills remaining (Preview name edit) (of.Previewed outcome) old new = DoesPreview remaining name.now edit outcome old new
 Fulfills remaining (Look names report) (of.Looked outcome) old new = Reports names.now report outcome old new
 Fulfills remaining (Forget names guard) (of.Forgotten outcome) old new = DoesForget guard names.now outcome old new
-Fulfills remaining (Renew names guard task) (of.Renewed renewed) old new = DoesRenew remaining names.now guard task renewed old new
+Fulfills remaining (Renew names guard edit) (of.Renewed renewed) old new = DoesRenew remaining names.now guard (asked edit) renewed old new
 Fulfills remaining request outcome old new = ⊥
-
--- a change's offset or place is at most 2 ^ 62
-abbrev pub IsNearRequest : {R : Type 0} → Request R → Type 0
-IsNearRequest (Change names guard task) = IsNearTask task
-IsNearRequest (Renew names guard task) = IsNearTask task
-IsNearRequest request = Unit {0}
 
 -- whatever is found of the files after a loss of power: behind an undo, a redo and a change opening finds the images behind some of its steps, or
 -- of an end of it, and behind a history that was dropped the image, with all changes or fewer; behind a dump, a comparison, a preview and a report nothing
@@ -120,53 +117,60 @@ abbrev pub SurvivesLoss : {R : Type 0} → (R → Option (List ℕ)) → Request
     → (ℕ → List ℕ → Type 0) → (ℕ → List ℕ → Type 0) → Type 0
 SurvivesLoss remaining (Move names guard way count) (of.Moved moved) old new found left =
     SurvivesMoving names.now count way moved old new found left
-SurvivesLoss remaining (Change names guard task) (of.Changed answer) old new found left =
-    SurvivesTask remaining names.now task answer old new found left
+SurvivesLoss remaining (Change names guard edit) (of.Changed answer) old new found left =
+    SurvivesTask remaining names.now (asked edit) answer old new found left
+SurvivesLoss remaining (Recover names guard) (of.Changed answer) old new found left =
+    SurvivesTask remaining names.now no_change answer old new found left
 SurvivesLoss remaining (Forget names guard) (of.Forgotten outcome) old new found left = SurvivesForgetting names.now outcome old found left
-SurvivesLoss remaining (Renew names guard task) (of.Renewed renewed) old new found left =
-    SurvivesRenewal remaining names.now task renewed old new found left
+SurvivesLoss remaining (Renew names guard edit) (of.Renewed renewed) old new found left =
+    SurvivesRenewal remaining names.now (asked edit) renewed old new found left
 SurvivesLoss remaining request outcome old new found left = NothingNewFound found left
 
 -- no file is changed but the three of an undo, a redo or a change, and the texts of a history that is dropped; each name leads where it led
 -- (behind a change with which the history begins anew this is said of files that a name led to)
 abbrev pub LeavesOthers : {R : Type 0} → Request R → Sight → Sight → Type 0
 LeavesOthers (Move names guard way count) old new = KeepsOthers names.now old new
-LeavesOthers (Change names guard task) old new = KeepsOthers names.now old new
+LeavesOthers (Change names guard edit) old new = KeepsOthers names.now old new
+LeavesOthers (Recover names guard) old new = KeepsOthers names.now old new
 LeavesOthers (Forget names guard) old new = Spares (IsNoTextNamed names.now old) old new
-LeavesOthers (Renew names guard task) old new = KeepsNamed names.now old new
+LeavesOthers (Renew names guard edit) old new = KeepsNamed names.now old new
 LeavesOthers request old new = new ≡ old
 
 -- what stands under the names may be opened, by the rule: to be changed, or to be read; a dump is of any file, and a comparison and a preview say themselves which
 -- they are of
 abbrev pub MayOpen : {R : Type 0} → Request R → Sight → Type 0
 MayOpen (Move names guard way count) w = AreFit names.now guard.mounted w
-MayOpen (Change names guard task) w = AreFit names.now guard.mounted w
+MayOpen (Change names guard edit) w = AreFit names.now guard.mounted w
+MayOpen (Recover names guard) w = AreFit names.now guard.mounted w
 MayOpen (Dump job name) w = Unit {0}
 MayOpen (DumpInput job input) w = Unit {0}
 MayOpen (Diff old_name new_name extent) w = Unit {0}
-MayOpen (Preview name proposal) w = Unit {0}
+MayOpen (Preview name edit) w = Unit {0}
 MayOpen (Look names report) w = AreReadable names.now w
 MayOpen (Forget names guard) w = AreReadable names.now w
-MayOpen (Renew names guard task) w = AreFit names.now guard.mounted w
+MayOpen (Renew names guard edit) w = AreFit names.now guard.mounted w
 
 -- why a file of an image may not be opened, or a task not begun on another image
 abbrev pub MayRefuseFile : {R : Type 0} → Request R → Type 0 → List ℕ → Sight → Unopened → Type 0
 MayRefuseFile (Move names guard way count) counted note w file = MayRefuseTask guard false note (task_of way count) names.now counted w file
-MayRefuseFile (Change names guard task) counted note w file = MayRefuseTask guard true note task names.now counted w file
+MayRefuseFile (Change names guard edit) counted note w file = MayRefuseTask guard true note (asked edit) names.now counted w file
+MayRefuseFile {R = R} (Recover names guard) counted note w file = MayRefuseTask {R = R} guard true note no_change names.now counted w file
 MayRefuseFile (Dump job name) counted note w file = ⊥
 MayRefuseFile (DumpInput job input) counted note w file = ⊥
 MayRefuseFile (Diff old_name new_name extent) counted note w file = ⊥
-MayRefuseFile (Preview name proposal) counted note w file = ⊥
+MayRefuseFile (Preview name edit) counted note w file = ⊥
 MayRefuseFile (Look names report) counted note w file = MayRefuseReading names.now counted w file
 MayRefuseFile (Forget names guard) counted note w file = MayRefuseForgetting names.now counted w file
-MayRefuseFile (Renew names guard task) counted note w file = MayRefuseOpening names.now guard.mounted true counted w file
+MayRefuseFile (Renew names guard edit) counted note w file = MayRefuseOpening names.now guard.mounted true counted w file
 
 -- what an undo, a redo and a change did they did behind a judgement of the image, by the line that the note had
 abbrev pub WereJudged : {R : Type 0} → Request R → Outcome → Scene → Type 0
 WereJudged (Move names guard way count) (of.Moved moved) old = WasJudged guard (is_missing names.now.image old.sight) old.note
     (contents_of names.now old.sight) (task_of way count) moved.unopened moved.how
-WereJudged (Change names guard task) (of.Changed answer) old = WasJudged guard (is_missing names.now.image old.sight) old.note
-    (contents_of names.now old.sight) task answer.unopened answer.how
+WereJudged (Change names guard edit) (of.Changed answer) old = WasJudged guard (is_missing names.now.image old.sight) old.note
+    (contents_of names.now old.sight) (asked edit) answer.unopened answer.how
+WereJudged {R = R} (Recover names guard) (of.Changed answer) old = WasJudged guard (is_missing names.now.image old.sight) old.note
+    (contents_of names.now old.sight) (no_change {R = R}) answer.unopened answer.how
 WereJudged request outcome old = Unit {0}
 
 -- A file of an image wasn't opened, or it isn't the image: the fault says so, all files are as they were, nothing is written, and there is a reason
@@ -180,8 +184,9 @@ pub record StopsUnopened {R : Type 0} (request : Request R) (outcome : Outcome) 
 abbrev pub Writes : {R : Type 0} → Request R → Outcome → Scene → Scene → Type 0
 Writes (Move names guard way count) (of.Moved moved) old new =
     TellsRecovered moved.how old.sight.errors new.sight.errors × (new.written ≡ old.written)
-Writes (Change names guard task) (of.Changed answer) old new = SaysRecovered answer.how old.sight new.sight × (new.written ≡ old.written)
-Writes (Renew names guard task) (of.Renewed renewed) old new = TellsOpening renewed old.sight new.sight × (new.written ≡ old.written)
+Writes (Change names guard edit) (of.Changed answer) old new = SaysRecovered answer.how old.sight new.sight × (new.written ≡ old.written)
+Writes (Recover names guard) (of.Changed answer) old new = SaysRecovered answer.how old.sight new.sight × (new.written ≡ old.written)
+Writes (Renew names guard edit) (of.Renewed renewed) old new = TellsOpening renewed old.sight new.sight × (new.written ≡ old.written)
 Writes request outcome old new = (new.sight.output ≡ old.sight.output) × (new.sight.errors ≡ old.sight.errors)
 
 -- What a command did that ended so, on the files as they were before it: it did what it is to do, on an image that was judged, in a way that a loss of

@@ -20,8 +20,8 @@ use Rattle.bx_run.specs.declared.preview.diff.DiffError.{DiffError}
 use Rattle.bx_run.specs.declared.preview.diff.DiffError.TheVariants as diff
 use Rattle.bx_run.specs.declared.run.outcome.Outcome.{Outcome}
 use Rattle.bx_run.specs.declared.run.outcome.Outcome.TheVariants.{Moved, Changed, Dumped, Compared, Previewed, Looked, Forgotten, Renewed}
-use Rattle.bx_run.specs.declared.preview.proposal.PreviewError.{PreviewError}
-use Rattle.bx_run.specs.declared.preview.proposal.PreviewError.TheVariants as preview
+use Rattle.bx_run.specs.declared.preview.error.PreviewError.{PreviewError}
+use Rattle.bx_run.specs.declared.preview.error.PreviewError.TheVariants as preview
 use Rattle.bx_run.specs.declared.renew.Renewed.{Renewed as Renewal}
 use Rattle.bx_run.specs.declared.renew.Renewed.TheVariants as renewal
 

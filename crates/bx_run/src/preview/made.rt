@@ -8,7 +8,8 @@ ghost use Rattle.bx_patch.specs.Read.{asked_of};
 ghost use Rattle.bx_run.specs.preview.Previews.{MakesFirst, StopsBefore};
 ghost use Rattle.bx_run.specs.preview.Proposed.{IsProposedChange, IsFitting, IsGrown, IsKeptChange, IsTooLong, IsUnagreed, IsUnkept, HasNoChange, failed_image};
 
-use crate::preview::proposal::{PreviewError, Proposal};
+use crate::edit::Edit;
+use crate::preview::error::PreviewError;
 use bx_cli_commands::{Fault, Kept, change_of_plan, refuse_growth};
 use bx_dd::{Counts, Plan};
 use bx_image::{Change, Device, check};
@@ -43,8 +44,8 @@ fn change_of_patch<D: Device>(image: &mut D, patch: Patch) -> Result<Change, Pre
 
 /// The change that dd's plan makes of an input, and its counts.
 fn make_of_copy<R: Read + Drop>(alloc: Global, plan: Plan, input: R) -> Result<Made, PreviewError>
-    ensures made { (x : List ℕ) → IfOk result (λ made. IsProposedChange R.remaining (Proposal.Copy plan input) x made.change made.counts) }
-    ensures stops { (x : List ℕ) → IfErr result (HasNoChange R.remaining (Proposal.Copy plan input) x) }
+    ensures made { (x : List ℕ) → IfOk result (λ made. IsProposedChange R.remaining (Edit.Copy plan input) x made.change made.counts) }
+    ensures stops { (x : List ℕ) → IfErr result (HasNoChange R.remaining (Edit.Copy plan input) x) }
     ensures calm { failed_image result ≡ false }
 {
     let mut input = input;
@@ -94,8 +95,8 @@ fn change_of_kept<D: Device>(image: &mut D, kept: Kept) -> Result<Change, Previe
 fn make_of_kept<D: Device, R: Read + Drop>(image: &mut D, kept: Kept) -> Result<Made, PreviewError>
     requires countable { D.failures image.old < u64.MAX }
     ensures made { D.honest image.old
-        → IfOk result (λ made. IsProposedChange R.remaining (Proposal.Keep kept) (D.image image.old) made.change made.counts) }
-    ensures stops { D.honest image.old → IfErr result (HasNoChange R.remaining (Proposal.Keep kept) (D.image image.old)) }
+        → IfOk result (λ made. IsProposedChange R.remaining (Edit.Keep kept) (D.image image.old) made.change made.counts) }
+    ensures stops { D.honest image.old → IfErr result (HasNoChange R.remaining (Edit.Keep kept) (D.image image.old)) }
     ensures reads { OnlyReads D.honest D.image D.room D.failures D.survives (failed_image result) image.old image.new }
 {
     match change_of_kept(image, kept) {
@@ -111,29 +112,29 @@ fn make_of_kept<D: Device, R: Read + Drop>(image: &mut D, kept: Kept) -> Result<
 fn make_change<D: Device, R: Read + Drop>(
     alloc: Global,
     image: &mut D,
-    proposal: Proposal<R>,
+    edit: Edit<R>,
 ) -> Result<Made, PreviewError>
     requires countable { D.failures image.old < u64.MAX }
     ensures made { D.honest image.old
-        → IfOk result (λ made. IsProposedChange R.remaining proposal (D.image image.old) made.change made.counts) }
-    ensures stops { D.honest image.old → IfErr result (HasNoChange R.remaining proposal (D.image image.old)) }
+        → IfOk result (λ made. IsProposedChange R.remaining edit (D.image image.old) made.change made.counts) }
+    ensures stops { D.honest image.old → IfErr result (HasNoChange R.remaining edit (D.image image.old)) }
     ensures reads { OnlyReads D.honest D.image D.room D.failures D.survives (failed_image result) image.old image.new }
 {
-    match proposal {
-        Proposal::Read(Ok(change)) => Ok(Made {
+    match edit {
+        Edit::Read(Ok(change)) => Ok(Made {
             change,
             counts: None,
         }),
-        Proposal::Read(Err(fault)) => Err(PreviewError::Refused(Fault::Read(fault))),
-        Proposal::Patch(patch) => match change_of_patch(image, patch) {
+        Edit::Read(Err(fault)) => Err(PreviewError::Refused(Fault::Read(fault))),
+        Edit::Patch(patch) => match change_of_patch(image, patch) {
             Ok(change) => Ok(Made {
                 change,
                 counts: None,
             }),
             Err(why) => Err(why),
         },
-        Proposal::Keep(kept) => make_of_kept::<D, R>(image, kept),
-        Proposal::Copy { plan, input } => make_of_copy(alloc, plan, input),
+        Edit::Keep(kept) => make_of_kept::<D, R>(image, kept),
+        Edit::Copy { plan, input } => make_of_copy(alloc, plan, input),
     }
 }
 
@@ -171,16 +172,16 @@ pub fn make_fitting<D: Device, R: Read + Drop>(
     alloc: Global,
     image: &mut D,
     keeps: bool,
-    proposal: Proposal<R>,
+    edit: Edit<R>,
 ) -> Result<Made, PreviewError>
     requires countable { D.failures image.old ≡ 0 }
     ensures made { D.honest image.old
-        → IfOk result (λ made. MakesFirst R.remaining proposal (D.image image.old) made.counts (effect made.change (D.image image.old))) }
+        → IfOk result (λ made. MakesFirst R.remaining edit (D.image image.old) made.counts (effect made.change (D.image image.old))) }
     ensures fits { D.honest image.old → IfOk result (λ made. IsFitting made.change keeps (D.image image.old)) }
-    ensures stops { D.honest image.old → IfErr result (StopsBefore R.remaining proposal keeps (D.image image.old)) }
+    ensures stops { D.honest image.old → IfErr result (StopsBefore R.remaining edit keeps (D.image image.old)) }
     ensures reads { OnlyReads D.honest D.image D.room D.failures D.survives (failed_image result) image.old image.new }
 {
-    let made = match make_change(alloc, image, proposal) {
+    let made = match make_change(alloc, image, edit) {
         Ok(made) => made,
         Err(why) => return Err(why),
     };

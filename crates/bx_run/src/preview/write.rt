@@ -7,9 +7,10 @@ ghost use Rattle.bx_world.specs.files.Reasons.{IsReason, NoneUnfit};
 ghost use Rattle.bx_run.specs.preview.Previews.{StopsChange, StopsPreview, WritesChange, WritesPreview, is_block};
 ghost use Rattle.bx_run.specs.preview.Proposed.{IsCompared, unchanged_for};
 
+use crate::edit::Edit;
+use crate::preview::error::PreviewError;
 use crate::preview::made::make_fitting;
 use crate::preview::named::{in_order, look_if_there};
-use crate::preview::proposal::{PreviewError, Proposal};
 use bx_dd::Counts;
 use bx_image::{Change, Device, ImageFault, MemImage};
 use bx_patch::{ChangedImage, DiffFault, Extent, write_patch};
@@ -94,17 +95,17 @@ fn preview_pair<D: Device + Drop, R: Read + Drop, O: Write>(
     alloc: Global,
     pair: Pair<D>,
     keeps: bool,
-    proposal: Proposal<R>,
+    edit: Edit<R>,
     out: &mut O,
 ) -> (Pair<D>, Result<Option<Counts>, PreviewError>)
     requires image { D.failures pair.image ≡ 0 }
     requires again { D.failures pair.again ≡ 0 }
     ensures previews { D.honest pair.image → D.honest pair.again → D.image pair.again ≡ D.image pair.image → MatchResult result.1
-        (λ counts. WritesChange R.remaining proposal keeps (D.image pair.image) counts (O.contents out.old) (O.contents out.new))
-        (StopsChange R.remaining proposal keeps (D.image pair.image) (O.contents out.old) (O.contents out.new)) }
+        (λ counts. WritesChange R.remaining edit keeps (D.image pair.image) counts (O.contents out.old) (O.contents out.new))
+        (StopsChange R.remaining edit keeps (D.image pair.image) (O.contents out.old) (O.contents out.new)) }
 {
     let Pair { mut image, again } = pair;
-    let made = match make_fitting(alloc, &mut image, keeps, proposal) {
+    let made = match make_fitting(alloc, &mut image, keeps, edit) {
         Ok(made) => made,
         Err(why) => return (Pair { image, again }, Err(why)),
     };
@@ -181,14 +182,14 @@ fn preview_there<W: World, R: Read + Drop, O: Write>(
     alloc: Global,
     name: &str,
     found: &Stat,
-    proposal: Proposal<R>,
+    edit: Edit<R>,
     out: &mut O,
 ) -> Result<Option<Counts>, PreviewError>
     requires may { W.honest world.old → MayBeRead (W.sight world.old) name.now }
     requires found { W.honest world.old → stat_named (W.sight world.old) name.now ≡ Some found.now }
     ensures previews { W.honest world.old → MatchResult result
-        (λ counts. WritesPreview R.remaining name.now proposal (W.sight world.old) counts (O.contents out.old) (O.contents out.new))
-        (StopsPreview R.remaining name.now proposal (W.refusals world.old < W.refusals world.new) (W.sight world.old)
+        (λ counts. WritesPreview R.remaining name.now edit (W.sight world.old) counts (O.contents out.old) (O.contents out.new))
+        (StopsPreview R.remaining name.now edit (W.refusals world.old < W.refusals world.new) (W.sight world.old)
         (O.contents out.old) (O.contents out.new)) }
     ensures seen { W.honest world.old → StaysSeen W.sight W.survives world.old world.new }
     ensures honesty { W.honest world.new ↔ W.honest world.old }
@@ -197,7 +198,7 @@ fn preview_there<W: World, R: Read + Drop, O: Write>(
         Ok(pair) => pair,
         Err(why) => return Err(PreviewError::Unopened(why)),
     };
-    let (pair, outcome) = preview_pair(alloc, pair, is_block(found), proposal, out);
+    let (pair, outcome) = preview_pair(alloc, pair, is_block(found), edit, out);
     close_pair(world, pair, &outcome);
     outcome
 }
@@ -205,18 +206,18 @@ fn preview_there<W: World, R: Read + Drop, O: Write>(
 /// Writes the patch that what is proposed of an image that is missing would be.
 fn preview_missing<R: Read + Drop, O: Write>(
     alloc: Global,
-    proposal: Proposal<R>,
+    edit: Edit<R>,
     out: &mut O,
 ) -> Result<Option<Counts>, PreviewError>
     ensures previews { MatchResult result
-        (λ counts. WritesChange R.remaining proposal false [] counts (O.contents out.old) (O.contents out.new))
-        (StopsChange R.remaining proposal false [] (O.contents out.old) (O.contents out.new)) }
+        (λ counts. WritesChange R.remaining edit false [] counts (O.contents out.old) (O.contents out.new))
+        (StopsChange R.remaining edit false [] (O.contents out.old) (O.contents out.new)) }
 {
     let pair = Pair {
         image: MemImage::new(alloc),
         again: MemImage::new(alloc),
     };
-    preview_pair(alloc, pair, false, proposal, out).1
+    preview_pair(alloc, pair, false, edit, out).1
 }
 
 /// Writes the patch that what is proposed of a named image would be: from what the image has to what the change would make of it. One that
@@ -225,19 +226,19 @@ pub fn write_preview<W: World, R: Read + Drop, O: Write>(
     world: &mut W,
     alloc: Global,
     name: &str,
-    proposal: Proposal<R>,
+    edit: Edit<R>,
     out: &mut O,
 ) -> Result<Option<Counts>, PreviewError>
     ensures previews { W.honest world.old → MatchResult result
-        (λ counts. WritesPreview R.remaining name.now proposal (W.sight world.old) counts (O.contents out.old) (O.contents out.new))
-        (StopsPreview R.remaining name.now proposal (W.refusals world.old < W.refusals world.new) (W.sight world.old)
+        (λ counts. WritesPreview R.remaining name.now edit (W.sight world.old) counts (O.contents out.old) (O.contents out.new))
+        (StopsPreview R.remaining name.now edit (W.refusals world.old < W.refusals world.new) (W.sight world.old)
         (O.contents out.old) (O.contents out.new)) }
     ensures seen { W.honest world.old → StaysSeen W.sight W.survives world.old world.new }
     ensures honesty { W.honest world.new ↔ W.honest world.old }
 {
     match look_if_there(world, name) {
-        Ok(Some(found)) => preview_there(world, alloc, name, &found, proposal, out),
-        Ok(None) => preview_missing(alloc, proposal, out),
+        Ok(Some(found)) => preview_there(world, alloc, name, &found, edit, out),
+        Ok(None) => preview_missing(alloc, edit, out),
         Err(why) => Err(PreviewError::Unopened(why)),
     }
 }

@@ -1,7 +1,6 @@
 //! What is asked for: a command on named files.
-use crate::preview::Proposal;
+use crate::edit::Edit;
 use crate::report::Report;
-use crate::session::Task;
 use bx_cli_commands::DumpJob;
 use bx_journal::Way;
 use bx_patch::Extent;
@@ -27,8 +26,15 @@ pub enum Request<'a, R = Empty> {
         names: &'a Names,
         /// What it may do.
         guard: Guard,
-        /// The change.
-        task: Task<R>,
+        /// What is asked of the image.
+        edit: Edit<R>,
+    },
+    /// Recovers what is unfinished of an image, which is an undo of no change that writes no number.
+    Recover {
+        /// The files of the image.
+        names: &'a Names,
+        /// What it may do.
+        guard: Guard,
     },
     /// Writes what a job makes of a file: `od`, `xxd`, `hexdump`, `strings`, `dd`.
     Dump {
@@ -57,8 +63,8 @@ pub enum Request<'a, R = Empty> {
     Preview {
         /// The image.
         name: &'a str,
-        /// The change.
-        proposal: Proposal<R>,
+        /// What is asked of the image.
+        edit: Edit<R>,
     },
     /// Writes a report of the changes of an image: `log`, `show`.
     Look {
@@ -81,7 +87,7 @@ pub enum Request<'a, R = Empty> {
         names: &'a Names,
         /// What it may do.
         guard: Guard,
-        /// The change.
-        task: Task<R>,
+        /// What is asked of the image.
+        edit: Edit<R>,
     },
 }

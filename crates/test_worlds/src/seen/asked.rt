@@ -12,8 +12,7 @@ use bx_image::Change;
 use bx_journal::{Steps, Way};
 use bx_patch::{Extent, read_patch};
 use bx_run::{
-    Cause as FileCause, Done as Answered, Failure, Proposal, Report, ReportError, Request,
-    run_request,
+    Cause as FileCause, Done as Answered, Edit, Failure, Report, ReportError, Request, run_request,
 };
 use bx_text::{Bytes, IoFault, Piece, Pieces, Words};
 use bx_world::{Names, Refusal, Unopened, Which, Why, World};
@@ -206,20 +205,20 @@ fn copying(alloc: Global) -> Result<DdPlan, Wrong> {
 }
 
 /// What is proposed, whose input fails as the plan says.
-fn proposal_of(
+fn edit_of(
     alloc: Global,
     proposed: Proposed,
     case: &PatchWritten,
     plan: Plan,
-) -> Result<Proposal<LentInput>, Wrong> {
+) -> Result<Edit<LentInput>, Wrong> {
     let new = case.new.as_slice();
     match proposed {
-        Proposed::Read => Ok(Proposal::Read(Ok(whole_change(alloc, new)?))),
+        Proposed::Read => Ok(Edit::Read(Ok(whole_change(alloc, new)?))),
         Proposed::Patch => match read_patch(alloc, case.output.as_slice()) {
-            Ok(patch) => Ok(Proposal::Patch(patch)),
+            Ok(patch) => Ok(Edit::Patch(patch)),
             Err(_) => Err(Wrong::Unknown),
         },
-        Proposed::Copy => Ok(Proposal::Copy {
+        Proposed::Copy => Ok(Edit::Copy {
             plan: copying(alloc)?,
             input: LentInput::new(new.to_vec(alloc)?, 0, plan.input),
         }),
@@ -231,14 +230,14 @@ fn preview<O: Write>(
     world: &mut MemoryWorld,
     alloc: Global,
     names: &Names,
-    proposal: Proposal<LentInput>,
+    edit: Edit<LentInput>,
     out: &mut O,
 ) -> Outcome
     requires { (⟦<MemoryWorld as World>⟧.sight world.old).lent ≡ None }
 {
     let request = Request::Preview {
         name: names.image.as_str(),
-        proposal,
+        edit,
     };
     seen_of(run_request(world, alloc, request, out))
 }
@@ -289,8 +288,8 @@ pub fn ask<O: Write>(
         }
         Asked::Diff(extent) => put_diff(world, alloc, names, extent, out),
         Asked::Forget => forget(world, alloc, names, out),
-        Asked::Preview(proposed, case) => match proposal_of(alloc, proposed, case, plan) {
-            Ok(proposal) => preview(world, alloc, names, proposal, out),
+        Asked::Preview(proposed, case) => match edit_of(alloc, proposed, case, plan) {
+            Ok(edit) => preview(world, alloc, names, edit, out),
             Err(_) => Err(ReportError::Stopped(Fault::Usage)),
         },
         Asked::Patch(way) => put_report(world, alloc, names, Report::Patch { way, count: 1 }, out),

@@ -1,4 +1,5 @@
 use Rattle.bx_run.specs.preview.Changing.{DoesChange}
+use Rattle.bx_run.specs.renew.Renewal.{no_change}
 use Rattle.bx_run.proofs.Ending.{leaves_same, stops_forgetting, stops_move, stops_renewal, stops_report, stops_task}
 use Rattle.bx_run.proofs.run.run_command.Goals as goal
 
@@ -7,9 +8,9 @@ returns-in-Move-clause-survives g c old = rw c.in-Move.is (c.move_changes.ensure
 
 pub returns-in-Change-clause-does : goal.returns-in-Change-clause-does
 returns-in-Change-clause-does g c old =
-    let did = c.change_files.ensures in
-    let does : DoesChange g.R.Read.remaining c.in-Change.names.now c.in-Change.task c.change_files.result (g.W.World.sight c.args.world.now)
-    (g.W.World.sight c.change_files.new.world) = record {
+    let did = c.change_files-answer.ensures in
+    let does : DoesChange g.R.Read.remaining c.in-Change.names.now c.task_of-change.result c.change_files-answer.result (g.W.World.sight c.args.world.now)
+    (g.W.World.sight c.change_files-answer.new.world) = record {
       done = did.done old;
       refused = did.refused old;
       interrupted = did.interrupted old;
@@ -17,22 +18,22 @@ returns-in-Change-clause-does g c old =
       how = did.how old;
       recovered = did.recovered old;
     } in
-    rw c.in-Change.is does
+    rw c.in-Change.is (rw c.task_of-change.ensures.is at does)
 
 pub returns-in-Change-clause-survives : goal.returns-in-Change-clause-survives
-returns-in-Change-clause-survives g c old = rw c.in-Change.is (c.change_files.ensures.survives old)
+returns-in-Change-clause-survives g c old = rw c.in-Change.is (rw c.task_of-change.ensures.is at (c.change_files-answer.ensures.survives old))
 
 pub returns-in-Renew-clause-does : goal.returns-in-Renew-clause-does
-returns-in-Renew-clause-does g c old = rw c.in-Renew.is (c.renew_files.ensures.does old (g.O.Write.contents c.args.out.now))
+returns-in-Renew-clause-does g c old = rw c.in-Renew.is (rw c.task_of-anew.ensures.is at (c.renew_files.ensures.does old (g.O.Write.contents c.args.out.now)))
 
 pub returns-in-Renew-clause-survives : goal.returns-in-Renew-clause-survives
-returns-in-Renew-clause-survives g c old = rw c.in-Renew.is (c.renew_files.ensures.survives old)
+returns-in-Renew-clause-survives g c old = rw c.in-Renew.is (rw c.task_of-anew.ensures.is at (c.renew_files.ensures.survives old))
 
 pub returns-in-Move-clause-judged : goal.returns-in-Move-clause-judged
 returns-in-Move-clause-judged g c old = rw c.in-Move.is (c.move_changes.ensures.judged old)
 
 pub returns-in-Change-clause-judged : goal.returns-in-Change-clause-judged
-returns-in-Change-clause-judged g c old = rw c.in-Change.is (c.change_files.ensures.judged old)
+returns-in-Change-clause-judged g c old = rw c.in-Change.is (rw c.task_of-change.ensures.is at (c.change_files-answer.ensures.judged old))
 
 pub returns-in-Move-clause-unopened : goal.returns-in-Move-clause-unopened
 returns-in-Move-clause-unopened g c old =
@@ -40,7 +41,8 @@ returns-in-Move-clause-unopened g c old =
 
 pub returns-in-Change-clause-unopened : goal.returns-in-Change-clause-unopened
 returns-in-Change-clause-unopened g c old =
-    rw c.in-Change.is (stops_task _ _ _ _ (c.change_files.ensures.unopened old) (c.change_files.ensures.why_unopened old))
+    rw c.in-Change.is (stops_task _ _ _ _ (c.change_files-answer.ensures.unopened old)
+    (rw c.task_of-change.ensures.is at (c.change_files-answer.ensures.why_unopened old)))
 
 pub returns-in-Look-clause-unopened : goal.returns-in-Look-clause-unopened
 returns-in-Look-clause-unopened g c old =
@@ -53,3 +55,27 @@ returns-in-Forget-clause-unopened g c old =
 pub returns-in-Renew-clause-unopened : goal.returns-in-Renew-clause-unopened
 returns-in-Renew-clause-unopened g c old =
     rw c.in-Renew.is (stops_renewal _ c.renew_files.result _ _ _ (c.renew_files.ensures.unopened old) (c.renew_files.ensures.why_unopened old))
+
+pub returns-in-Recover-clause-does : goal.returns-in-Recover-clause-does
+returns-in-Recover-clause-does g c old =
+    let did = c.change_files-recovered.ensures in
+    let does : DoesChange g.R.Read.remaining c.in-Recover.names.now no_change c.change_files-recovered.result (g.W.World.sight c.args.world.now)
+    (g.W.World.sight c.change_files-recovered.new.world) = record {
+      done = did.done old;
+      refused = did.refused old;
+      interrupted = did.interrupted old;
+      stands = did.stands old;
+      how = did.how old;
+      recovered = did.recovered old;
+    } in
+    rw c.in-Recover.is does
+
+pub returns-in-Recover-clause-survives : goal.returns-in-Recover-clause-survives
+returns-in-Recover-clause-survives g c old = rw c.in-Recover.is (c.change_files-recovered.ensures.survives old)
+
+pub returns-in-Recover-clause-judged : goal.returns-in-Recover-clause-judged
+returns-in-Recover-clause-judged g c old = rw c.in-Recover.is (c.change_files-recovered.ensures.judged old)
+
+pub returns-in-Recover-clause-unopened : goal.returns-in-Recover-clause-unopened
+returns-in-Recover-clause-unopened g c old =
+    rw c.in-Recover.is (stops_task _ _ _ _ (c.change_files-recovered.ensures.unopened old) (c.change_files-recovered.ensures.why_unopened old))

@@ -1,11 +1,9 @@
 //! What files hold once the change of a case is made, and once it is taken back.
-ghost use Rattle.bx_run.specs.run.Commands.{IsNearRequest};
-
 use crate::report::Wrong;
 use crate::seen::asked::whole_change;
 use crate::setting::{CAREFUL, Held, Kept, held_by, world_of};
 use bx_journal::Way;
-use bx_run::{Request, Task, run_request};
+use bx_run::{Edit, Request, run_request};
 use bx_world::Names;
 use std::alloc::Global;
 use std::io::{Empty, sink};
@@ -17,9 +15,7 @@ fn held_behind(
     alloc: Global,
     mut world: MemoryWorld,
     request: Request<'_, Empty>,
-) -> Result<Kept, Wrong>
-    requires near { IsNearRequest request }
-{
+) -> Result<Kept, Wrong> {
     world.begin(Plan::NOTHING);
     match run_request(&mut world, alloc, request, &mut sink()) {
         Ok(_) => Ok(Kept::of(alloc, held_by(&world))?),
@@ -41,7 +37,7 @@ pub fn changed(alloc: Global, names: &Names, case: &PatchWritten) -> Result<Kept
     let request = Request::Change {
         names,
         guard: CAREFUL,
-        task: Task::Put(Ok(change)),
+        edit: Edit::Read(Ok(change)),
     };
     held_behind(alloc, world, request)
 }

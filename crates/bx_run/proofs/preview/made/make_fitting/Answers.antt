@@ -5,11 +5,11 @@ pub returns-in-Ok-fit-clause-made : goal.returns-in-Ok-fit-clause-made
 returns-in-Ok-fit-clause-made g c honest =
     let reads = c.in-Ok.ensures.reads in
     let fits = rw (reads.stays honest) at (c.in-Ok-fit.ensures.fits (reads.goes_on.honesty.1 honest)) in
-    makes g.R.Read.remaining _ c.args.proposal c.in-Ok.made.change c.in-Ok.made.counts (c.in-Ok.ensures.made honest) fits.0.0
+    makes g.R.Read.remaining _ c.args.edit c.in-Ok.made.change c.in-Ok.made.counts (c.in-Ok.ensures.made honest) fits.0.0
 
 pub returns-in-Err-fit-clause-stops : goal.returns-in-Err-fit-clause-stops
 returns-in-Err-fit-clause-stops g c honest =
     let reads = c.in-Ok.ensures.reads in
     let stops = rw (reads.stays honest) at (c.in-Err-fit.ensures.stops (reads.goes_on.honesty.1 honest)) in
-    too_long g.R.Read.remaining _ c.args.proposal c.in-Ok.made.change c.in-Ok.made.counts (c.in-Ok.ensures.made honest) c.args.keeps
+    too_long g.R.Read.remaining _ c.args.edit c.in-Ok.made.change c.in-Ok.made.counts (c.in-Ok.ensures.made honest) c.args.keeps
     c.in-Err-fit.why stops

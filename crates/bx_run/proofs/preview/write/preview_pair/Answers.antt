@@ -7,7 +7,7 @@ returns-in-Err-outcome g c = record {
   previews = λ honest twin same.
       let reads = c.in-Ok.ensures.reads in
       let stays = reads.stays honest in
-      cut_behind g.R.Read.remaining c.args.proposal c.args.keeps (g.D.Device.image c.args.pair.image) _ c.in-Ok.made.change c.in-Ok.made.counts _ _ _ _
+      cut_behind g.R.Read.remaining c.args.edit c.args.keeps (g.D.Device.image c.args.pair.image) _ c.in-Ok.made.change c.in-Ok.made.counts _ _ _ _
       stays c.in-Err-outcome.is (c.in-Ok.ensures.made honest) (c.in-Ok.ensures.fits honest)
       (c.write_changed-again.ensures.compared (reads.goes_on.honesty.1 honest) twin (same ∙ sym stays));
 }
