@@ -24,6 +24,7 @@ where
     if stopped.is_silent() {
         return fault;
     }
+    // Standard error may be closed or full: the exit status tells of the fault all the same.
     let _ = eprintln!(rt; "bx: {fault}");
     if hints {
         let _ = show_hint(rt, words, job, stopped);

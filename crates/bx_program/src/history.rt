@@ -92,6 +92,7 @@ pub fn take_empty<R: Files<File = File>>(rt: &R, name: &str) {
     }
     if let Ok(file) = open_there(rt, name, true) {
         if lock(&file).is_ok() && is_untouched(rt, name, &file).is_ok_and(|is| is) {
+            // An empty text that stays is one of no changes, so this may fail.
             let _ = fs::remove_file(rt, name);
         }
     }

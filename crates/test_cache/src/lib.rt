@@ -3,6 +3,8 @@
 //! What may be found of it after a loss of power is defined by its changes since the last sync, as all that the clauses of
 //! `RandomAccess` allow: no honest file loses more (`laws`). An image in it (`FileImage`) is a device and a text in it
 //! (`FileText`) a store that lose as much.
+//!
+//! `docs/DECISIONS.md` says why it is there ("Devices and files").
 #![tactic(auto)]
 
 mod cached;

@@ -1,4 +1,6 @@
 //! Plays the case files of a folder, in each way that their kind allows.
+//!
+//! `docs/CASES.md` has the kinds ("Case files") and the ways ("Playing").
 #![tactic(auto)]
 
 mod commands;

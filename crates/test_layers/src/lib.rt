@@ -1,4 +1,6 @@
 //! Tests of the layers up to the journal: texts, readers of dumps, images, stores, the journal.
+//!
+//! `docs/CASES.md` says which of them shows what ("What is only tested").
 #![tactic(auto)]
 
 #[cfg(test)]

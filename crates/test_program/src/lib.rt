@@ -1,4 +1,6 @@
 //! Tests of the tools and of the program, and those that cross crates. No product code.
+//!
+//! `docs/CASES.md` says which of them shows what ("What is only tested").
 #![tactic(auto)]
 
 #[cfg(test)]

@@ -1,5 +1,7 @@
 //! A world in memory, which tests run commands in: files under names, whose calls are refused and whose devices fail where a plan
 //! says so.
+//!
+//! `docs/CASES.md` says what is played on it ("Playing").
 #![tactic(auto)]
 
 mod memory;

@@ -40,6 +40,7 @@ where
     let answer = run_request(&mut world, rt.alloc(), request, &mut io::sink());
     drop(names);
     if !was_noted && is_refused(&answer) {
+        // The line was put before the change could be refused, and a refused command leaves nothing that it made.
         let _ = world.put_note(&[], false);
     }
     answered(rt, target, &mut world, answer, remarks)

@@ -100,6 +100,7 @@ where
                 .metadata()
                 .is_ok_and(|found| found.len() == 0)
             {
+                // The history is gone by now, and a line that stays counts changes that are gone too: it says nothing.
                 let _ = world.put_note(&[], true);
             }
         }

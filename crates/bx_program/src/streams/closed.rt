@@ -33,6 +33,7 @@ fn hold<R: Files<File = File>>(rt: &R, number: i32) -> Result<Option<File>, Faul
 
 /// Whether all three are open, asked by another file.
 fn are_open<R: Files<File = File>>(rt: &R) -> bool {
+    // A file that is opened takes the least number that is free, so one call tells of all three; a folder is always there.
     File::open(rt, "/").is_ok_and(|file| file.as_raw_fd() > LAST)
 }
 

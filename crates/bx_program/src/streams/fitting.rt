@@ -30,6 +30,7 @@ pub struct Fitting<I> {
 /// What of an input makes an output of more than `room` bytes: each byte makes one, but under `unblock` each that is no space and
 /// the end of each record, and under `block` each line `cbs`.
 fn enough(plan: &Plan, room: u64) -> (u64, Unit) {
+    // A byte more than fits is read, to tell an input that is too long from one that just fits.
     let over = room.saturating_add(1);
     match plan.shape {
         Shape::Flat => (over, Unit::Bytes),

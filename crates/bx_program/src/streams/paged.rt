@@ -60,6 +60,7 @@ impl<'a, W: Write> Paged<'a, W> {
     /// `WriteFailed` with how many bytes `out` took since the first.
     pub fn put(&mut self) -> Result<(), Fault> {
         let len = self.page.len() as u64;
+        // No output has as many bytes: the limit tells the proof that the sum fits.
         let before = self.written.min(u64::MAX - len);
         match emit_after(self.out, before, self.page.as_slice()) {
             Ok(()) => {

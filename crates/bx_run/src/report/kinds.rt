@@ -57,6 +57,7 @@ fn write_log<W: World, O: Write>(
     ensures survives { W.honest world.old → NothingNewFound (W.survives world.old) (W.survives world.new) }
     ensures honesty { W.honest world.new ↔ W.honest world.old }
 {
+    // No `?` here: it would hide from the proof which error it is.
     let text = match log(world, alloc, names) {
         Ok(text) => text,
         Err(unseen) => return Err(unseen),

@@ -126,6 +126,7 @@ fn put_end<W: World>(
 {
     if let Some(line) = line_behind(alloc, devices, others) {
         let text = write_line(line);
+        // The task is done by now. Where this fails the line of before stays, which counts other changes and so says nothing.
         let _ = world.put_note(text.as_bytes(), false);
     }
 }

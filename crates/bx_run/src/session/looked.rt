@@ -508,6 +508,7 @@ pub fn look_at<D: Device, T: TextStore, R: Read>(
     ensures looks { LookAt D.Device T.TextStore devices.old devices.new }
     ensures counts { CountLooks D.Device T.TextStore result devices.old devices.new }
 {
+    // No `?` here: it would hide from the proof which fault it is.
     let verdict = match judge(alloc, devices, terms.line) {
         Ok(verdict) => verdict,
         Err(fault) => return Err(fault),

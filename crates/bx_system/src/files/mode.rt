@@ -68,6 +68,7 @@ impl Permits {
         let Some(image) = self.image else {
             return self.bits;
         };
+        // Refused to most users: what the file has behind it is asked next, and its bits go by that.
         let _ = give(file, image);
         match file.metadata() {
             Ok(found) if found.gid() == image.group => self.bits,
@@ -117,6 +118,7 @@ fn give(file: &File, image: Stat) -> io::Result<()> {
         return Ok(());
     }
     if fchown(file, Some(image.owner), Some(image.group)).is_err() && found.gid() != image.group {
+        // One call for both is refused for the owner alone; a member of the group may still give that.
         let _ = fchown(file, None, Some(image.group));
     }
     Ok(())
