@@ -130,11 +130,11 @@ Dumps and a patch:
   [1]
   $ bx dd bs=9999999999999999999
   bx: operand 1: number too large
-  hint: bs=9999999999999999999: a block has at most 16777216 bytes, which is 16M; Usage: bx dd [OPTIONS] [OPERAND]...
+  hint: bs=9999999999999999999: a number is at most 1099511627775; Usage: bx dd [OPTIONS] [OPERAND]...
   [1]
-  $ bx dd if=img bs=64M
+  $ bx dd if=img ibs=64M
   bx: operand 2: number too large
-  hint: bs=64M: a block has at most 16777216 bytes, which is 16M; Usage: bx dd [OPTIONS] [OPERAND]...
+  hint: ibs=64M: at most 16777216 bytes, which is 16M; bs= takes more; Usage: bx dd [OPTIONS] [OPERAND]...
   [1]
   $ bx dd bs=1MB
   bx: operand 1: bad number

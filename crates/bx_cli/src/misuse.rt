@@ -150,7 +150,7 @@ fn operand_reason(fault: DdFault, operand: &str) -> &'static str {
             "0x begins no hexadecimal number here, since x multiplies: give it in decimal"
         }
         DdFault::NumberTooLarge(_) if is_block_operand(operand) => {
-            "a block has at most 16777216 bytes, which is 16M"
+            "at most 16777216 bytes, which is 16M; bs= takes more"
         }
         DdFault::NumberTooLarge(_) if is_place_operand(operand) => {
             "a number is at most 1099511627775, and a place at most 281474976710656 bytes from the start"
@@ -233,7 +233,7 @@ fn is_place_operand(operand: &str) -> bool {
 
 /// Whether it is the size of a block or a record.
 fn is_block_operand(operand: &str) -> bool {
-    operand.starts_with("ibs=") || operand.starts_with("bs=") || operand.starts_with("cbs=")
+    operand.starts_with("ibs=") || operand.starts_with("cbs=")
 }
 
 /// What the values of an option are.

@@ -1,5 +1,5 @@
 -- What was read of an input, and what went out of it.
-use Rattle.std.proofs.Common.{◌≡◌, ℕ, ◌+◌, ◌-◌, ◌*◌, ◌/◌, ◌%◌, ◌^◌, ◌<◌, ◌≤◌, Bool, true, false, cond, List, [], ◌++◌, length, take, drop, Option, None, Some, refl, sym, ap, ◌∙◌, arith, append_assoc, append-nil, subst, ◌⊎◌, inl, inr, drop_of_length-le}
+use Rattle.std.proofs.Common.{◌≡◌, ℕ, ◌+◌, ◌-◌, ◌*◌, ◌/◌, ◌%◌, ◌^◌, ◌<◌, ◌≤◌, max, Bool, true, false, cond, List, [], ◌++◌, length, take, drop, Option, None, Some, refl, sym, ap, ◌∙◌, arith, append_assoc, append-nil, subst, ◌⊎◌, inl, inr, drop_of_length-le}
 use Rattle.std.specs.Prelude.{◌||◌, ◌==◌}
 use Rattle.std.proofs.Math.Nat.{div-add-mod, mod-eq_of_lt, mul-add-mod_self_left}
 use Rattle.std.proofs.lemmas.List.{length-append, length-drop, length-take, take-append-le, take_all, length-take-le, drop-append-le}
@@ -73,20 +73,20 @@ last_few Block size kept few = one_few (length kept == 0) (fitted size kept) (si
 last_few Unblock size kept few = one_few (length kept == 0) (line_of kept) (size + 1) (omega (arith, line_few kept))
 
 -- reading is no more than these bytes ahead of a failed write
-pub ahead_of : (output : List ℕ → List ℕ) (input front last : List ℕ) (k : ℕ) (e : IoFault) → input ≡ front ++ last → length last ≤ 2 ^ 24 → length (output front) ≤ k + 2 ^ 25 → k ≤ written_by e →
-    IsCopyAhead output input e
-ahead_of output input front last k (WriteFailed n) is few near grows = (front, last, is, few, omega arith)
-ahead_of output input front last k NoMemory is few near grows = tt
-ahead_of output input front last k ReadFailed is few near grows = tt
-ahead_of output input front last k InputTooLong is few near grows = tt
-ahead_of output input front last k SkipPastEnd is few near grows = tt
+pub ahead_of : (ibs : ℕ) (output : List ℕ → List ℕ) (input front last : List ℕ) (k : ℕ) (e : IoFault) → input ≡ front ++ last → length last ≤ max (2 ^ 24) ibs → length (output front) ≤ k + 2 ^ 25 → k ≤ written_by e →
+    IsCopyAhead ibs output input e
+ahead_of ibs output input front last k (WriteFailed n) is few near grows = (front, last, is, few, omega arith)
+ahead_of ibs output input front last k NoMemory is few near grows = tt
+ahead_of ibs output input front last k ReadFailed is few near grows = tt
+ahead_of ibs output input front last k InputTooLong is few near grows = tt
+ahead_of ibs output input front last k SkipPastEnd is few near grows = tt
 
-read_ahead : (output : List ℕ → List ℕ) (input : List ℕ) (e : IoFault) (wanted room n : ℕ) → IsReadCause e wanted room n → IsCopyAhead output input e
-read_ahead output input ReadFailed wanted room n p = tt
-read_ahead output input InputTooLong wanted room n p = tt
-read_ahead output input NoMemory wanted room n p = tt
-read_ahead output input (WriteFailed m) wanted room n p = absurd p
-read_ahead output input SkipPastEnd wanted room n p = tt
+read_ahead : (ibs : ℕ) (output : List ℕ → List ℕ) (input : List ℕ) (e : IoFault) (wanted room n : ℕ) → IsReadCause e wanted room n → IsCopyAhead ibs output input e
+read_ahead ibs output input ReadFailed wanted room n p = tt
+read_ahead ibs output input InputTooLong wanted room n p = tt
+read_ahead ibs output input NoMemory wanted room n p = tt
+read_ahead ibs output input (WriteFailed m) wanted room n p = absurd p
+read_ahead ibs output input SkipPastEnd wanted room n p = tt
 
 -- nothing was read
 pub stage_start : (form : Form) (out : Output) → HasSizes form → out.waits ≡ [] → out.kept ≡ [] → out.written ≡ 0 → Staged form out.now [] [] out (record { over = false; cut = 0 })
@@ -204,12 +204,12 @@ read_stops form r0 r1 r2 s input pending put tail most before wanted room e size
       within = omega (arith, long, few, read_within e wanted room (length stop.0) stop.2);
       appended = let part : take (length out) (converted form whole) ≡ out = ap (take (length out)) is ∙ take-append-le (length out) out (put.waits ++ front.0) (omega arith) ∙ take_all (length out) out (omega arith) in rw part goes.went;
       cause = rw total (read_cause e wanted room (before + length input) (length stop.0) (length out) (length (converted form whole)) all stop.2);
-      ahead = read_ahead (converted form) whole e wanted room (length stop.0) stop.2;
+      ahead = read_ahead form.ibs (converted form) whole e wanted room (length stop.0) stop.2;
     }
 
 -- a write failed
 pub write_stops : (form : Form) (r0 r1 s n : Option (List ℕ)) (input : List ℕ) (most before : ℕ) (e : IoFault) → Consumes r0 r1 input → length input ≤ most → before + length input ≤ 2 ^ 40 →
-    IsCopyAhead (converted form) input e → WritesFront 0 s n (converted form input) e → StopsPass form most before r0 r1 s n e
+    IsCopyAhead form.ibs (converted form) input e → WritesFront 0 s n (converted form input) e → StopsPass form most before r0 r1 s n e
 write_stops form r0 r1 s n input most before (WriteFailed m) reads within few ahead stop = record {
   input = input;
   written = stop.0;
@@ -247,14 +247,14 @@ goes_all s n waits text whole k none is g =
 module _ {A : Type 0} (plan : Plan A) (skipped input : List ℕ) (len : length skipped ≡ plan.skip * plan.ibs) (few : length input ≤ most_of plan.count plan.ibs) where
   chosen : (count : Option ℕ) → length input ≤ most_of count plan.ibs → selected plan.ibs plan.skip count (skipped ++ input) ≡ input
   chosen None fits = drop_read (plan.skip * plan.ibs) skipped input (inl len)
-  chosen (Some n) fits = ap (take (n * plan.ibs)) (drop_read (plan.skip * plan.ibs) skipped input (inl len)) ∙ take_all (n * plan.ibs) input fits
+  chosen (Some n) fits = ap (take (n * plan.ibs)) (drop_read (plan.skip * plan.ibs) skipped input (inl len)) ∙ take_all (n * plan.ibs) input (omega (arith, fits))
 
   chosen_by : selected_by plan (skipped ++ input) ≡ input
   chosen_by = chosen plan.count few
 
 -- behind what was skipped, reading is as far ahead
 rest_ahead : {A : Type 0} (plan : Plan A) (skipped input : List ℕ) → length skipped ≡ plan.skip * plan.ibs → length input ≤ most_of plan.count plan.ibs →
-    (e : IoFault) → IsCopyAhead (converted (plan_form plan)) input e → IsCopyAhead (output_of plan) (skipped ++ input) e
+    (e : IoFault) → IsCopyAhead plan.ibs (converted (plan_form plan)) input e → IsCopyAhead plan.ibs (output_of plan) (skipped ++ input) e
 rest_ahead plan skipped input len few (WriteFailed n) (front, last, is, small, near) =
     let fits : length front ≤ most_of plan.count plan.ibs = omega (arith, few, ap length is, length-append front last) in
     let same : converted (plan_form plan) front ≡ output_of plan (skipped ++ front) = ap (converted (plan_form plan)) (sym (chosen_by plan skipped front len fits)) in (
@@ -299,7 +299,7 @@ module _ {A : Type 0} (plan : Plan A) (skipped input : List ℕ) (len : length s
 
   pub stopped : (r0 r1 r2 w0 w1 : Option (List ℕ)) (e : IoFault) (before written : ℕ) → before ≡ plan.skip * plan.ibs → Consumes r0 r1 skipped → Consumes r1 r2 input →
       Appends w0 w1 (take written (converted (plan_form plan) input)) →
-      IsCopyFault e (before + length input) written (length (converted (plan_form plan) input)) → IsCopyAhead (converted (plan_form plan)) input e → StopsCopy plan r0 r2 w0 w1 e
+      IsCopyFault e (before + length input) written (length (converted (plan_form plan) input)) → IsCopyAhead plan.ibs (converted (plan_form plan)) input e → StopsCopy plan r0 r2 w0 w1 e
   stopped r0 r1 r2 w0 w1 e before written is skips reads put cause ahead =
       let total : before + length input ≡ length (skipped ++ input) = omega (arith, length-append skipped input, len, is) in record {
         read = (skipped ++ input, Consumes-trans r0 r1 r2 skipped input skips reads, asked plan.count few);
@@ -353,7 +353,7 @@ stopped_skip plan r0 r1 w e stop = record {
   written = 0;
   appended = Appends-nil w;
   cause = skip_fault e (plan.skip * plan.ibs) (length stop.0) (length (output_of plan stop.0)) stop.2;
-  ahead = read_ahead (output_of plan) stop.0 e (plan.skip * plan.ibs) (2 ^ 40) (length stop.0) stop.2;
+  ahead = read_ahead plan.ibs (output_of plan) stop.0 e (plan.skip * plan.ibs) (2 ^ 40) (length stop.0) stop.2;
 }
 
 -- the rest of an input, behind what was skipped
@@ -369,7 +369,7 @@ module _ {A : Type 0} (plan : Plan A) (form : Form) (most before : ℕ) (r0 r1 r
       stopped plan skipped stop.input len (subst (λ (m : ℕ). length stop.input ≤ m) is_most stop.within) r0 r1 r2 w0 w1 e before stop.written is_before skips stop.consumed
       (subst (λ (f : Form). Appends w0 w1 (take stop.written (converted f stop.input))) is_form stop.appended)
       (subst (λ (f : Form). IsCopyFault e (before + length stop.input) stop.written (length (converted f stop.input))) is_form stop.cause)
-      (subst (λ (f : Form). IsCopyAhead (converted f) stop.input e) is_form stop.ahead)
+      (subst (λ (f : Form). IsCopyAhead f.ibs (converted f) stop.input e) is_form stop.ahead)
 
 -- want of memory, before anything is read
 pub stopped_none : {A : Type 0} (plan : Plan A) (r w : Option (List ℕ)) → StopsCopy plan r r w w NoMemory

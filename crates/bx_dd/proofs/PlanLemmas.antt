@@ -186,7 +186,7 @@ number_or_few name words = few_of (number_given name words) (number_few name wor
 -- the bounds of a plan
 pub record KeepsBounds (words : List (List ℕ)) : Type 0 where
   pub some_ibs : 0 < ibs_of words
-  pub few_ibs : ibs_of words ≤ 16777216
+  pub few_ibs : ibs_of words ≤ 1099511627775
   pub some_obs : 0 < obs_of words
   pub few_obs : obs_of words ≤ 1099511627775
   pub some_cbs : shape_of words ≢ Flat → 0 < number_or 0 (codes "cbs") words
@@ -206,10 +206,10 @@ bounds words accepted =
     let skip = test_none (ltb (2 ^ 48) (number_or 0 (codes "skip") words * ibs_of words)) _ _ missing.1 in
     let seek = test_none (ltb (2 ^ 48) (number_or 0 (codes "seek") words * obs_of words)) _ None skip.1 in
     record {
-      some_ibs = size_or_some (codes "bs") 16777216 words none refl _ (size_or_some (codes "ibs") 16777216 words none refl 512 (omega arith));
-      few_ibs = size_or_few (codes "bs") 16777216 words none refl _ _ (size_or_few (codes "ibs") 16777216 words none refl 512 _ (omega arith) (omega arith)) (omega arith);
-      some_obs = size_or_some (codes "bs") 16777216 words none refl _ (size_or_some (codes "obs") 1099511627775 words none refl 512 (omega arith));
-      few_obs = size_or_few (codes "bs") 16777216 words none refl _ _ (size_or_few (codes "obs") 1099511627775 words none refl 512 _ (omega arith) (omega arith)) (omega arith);
+      some_ibs = size_or_some (codes "bs") 1099511627775 words none refl _ (size_or_some (codes "ibs") 16777216 words none refl 512 (omega arith));
+      few_ibs = size_or_few (codes "bs") 1099511627775 words none refl _ _ (size_or_few (codes "ibs") 16777216 words none refl 512 _ (omega arith) (omega arith)) (omega arith);
+      some_obs = size_or_some (codes "bs") 1099511627775 words none refl _ (size_or_some (codes "obs") 1099511627775 words none refl 512 (omega arith));
+      few_obs = size_or_few (codes "bs") 1099511627775 words none refl _ _ (size_or_few (codes "obs") 1099511627775 words none refl 512 _ (omega arith) (omega arith)) (omega arith);
       some_cbs = λ other. size_some (codes "cbs") 16777216 words none refl (cbs_test _ (is_given (codes "cbs") words) (shape_test (converts (codes "block") words) (converts (codes "unblock") words) other) missing.0);
       few_cbs = size_or_few (codes "cbs") 16777216 words none refl 0 _ (omega arith) (omega arith);
       few_skip = number_or_few (codes "skip") words;

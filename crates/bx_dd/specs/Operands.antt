@@ -30,8 +30,8 @@ operand_value word = after_first (λ b. b == 61) word
 -- what the value of an operand of this name is
 abbrev pub kind_of : List ℕ → Option Kind
 kind_of name = if bytes_eq name (codes "if") || bytes_eq name (codes "of") then Some File else
-    if bytes_eq name (codes "ibs") || bytes_eq name (codes "bs") || bytes_eq name (codes "cbs") then Some (Size 16777216) else
-    if bytes_eq name (codes "obs") then Some (Size 1099511627775) else
+    if bytes_eq name (codes "ibs") || bytes_eq name (codes "cbs") then Some (Size 16777216) else
+    if bytes_eq name (codes "obs") || bytes_eq name (codes "bs") then Some (Size 1099511627775) else
     if bytes_eq name (codes "skip") || bytes_eq name (codes "seek") || bytes_eq name (codes "count") then Some Number else
     if bytes_eq name (codes "conv") then Some Conversions else
     if bytes_eq name (codes "iflag") then Some Flags else if bytes_eq name (codes "status") then Some Reports else None

@@ -1,6 +1,6 @@
 -- What a copy to a writer reads and writes, and where it stands in between.
 -- ---- a whole copy
-use Rattle.std.specs.Prelude.{◌≡◌, ℕ, ◌+◌, ◌^◌, ◌<◌, ◌≤◌, ⊤, List, ◌++◌, length, take, Option}
+use Rattle.std.specs.Prelude.{◌≡◌, ℕ, ◌+◌, ◌^◌, ◌<◌, ◌≤◌, max, ⊤, List, ◌++◌, length, take, Option}
 use Rattle.std.specs.Io.KnownBytes.{Appends}
 use Rattle.bx_text.specs.declared.fault.IoFault.{IoFault}
 use Rattle.bx_text.specs.declared.fault.IoFault.TheVariants.{NoMemory, WriteFailed}
@@ -20,11 +20,11 @@ IsCopyFault NoMemory read written size = (read ≡ 0) × (written ≡ 0)
 IsCopyFault (WriteFailed n) read written size = (n ≡ written) × (written < size) × (read ≤ 2 ^ 40)
 IsCopyFault fault read written size = IsRestCause fault (2 ^ 40) read
 
--- How far reading is ahead where a write fails: no more than a buffer of 2^24 bytes. What was read before the last of them had its
--- output written, but for at most 2^25 bytes that wait or end a record.
-abbrev pub IsCopyAhead : (List ℕ → List ℕ) → List ℕ → IoFault → Type 0
-IsCopyAhead output input (WriteFailed n) = (front last : List ℕ) × (input ≡ front ++ last) × (length last ≤ 2 ^ 24) × (length (output front) ≤ n + 2 ^ 25)
-IsCopyAhead output input fault = ⊤
+-- How far reading is ahead where a write fails: no more than a buffer of 2^24 bytes, or a block where that is larger. What was read
+-- before the last of them had its output written, but for at most 2^25 bytes that wait or end a record.
+abbrev pub IsCopyAhead : ℕ → (List ℕ → List ℕ) → List ℕ → IoFault → Type 0
+IsCopyAhead ibs output input (WriteFailed n) = (front last : List ℕ) × (input ≡ front ++ last) × (length last ≤ max (2 ^ 24) ibs) × (length (output front) ≤ n + 2 ^ 25)
+IsCopyAhead ibs output input fault = ⊤
 
 -- Some input was read, no more of it than skip and count ask for, and a front of what the plan makes of it was written.
 pub record StopsCopy {A : Type 0} (plan : Plan A) (r0 r1 w0 w1 : Option (List ℕ)) (fault : IoFault) : Type 0 where
@@ -32,4 +32,4 @@ pub record StopsCopy {A : Type 0} (plan : Plan A) (r0 r1 w0 w1 : Option (List �
   pub written : ℕ
   pub appended : Appends w0 w1 (take written (output_of plan read.0))
   pub cause : IsCopyFault fault (length read.0) written (length (output_of plan read.0))
-  pub ahead : IsCopyAhead (output_of plan) read.0 fault
+  pub ahead : IsCopyAhead plan.ibs (output_of plan) read.0 fault

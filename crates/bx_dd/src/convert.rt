@@ -52,7 +52,7 @@ impl<A: Allocator> Model for Convert<A> {
         × (c.form.shape ≢ Flat → c.form.cbs ≤ vec_capacity c.held)
         × (c.form.shape ≡ Unblock → length c.held.items < c.form.cbs)
         × (c.taken ≤ 2 ^ 40)
-        × (c.cut ≤ c.taken + 16777216)
+        × (c.cut ≤ c.taken + 1099511627775)
         × (c.taken % c.form.ibs ≡ 0 → c.cut ≤ c.taken) };
 }
 
@@ -182,7 +182,7 @@ fn take_block<A: Allocator>(
     requires room { length held.old.items ≤ form.cbs }
     requires space { form.shape ≢ Flat → form.cbs ≤ vec_capacity held.old }
     requires part { form.shape ≡ Unblock → length held.old.items < form.cbs }
-    requires few { tail.cut + 16777216 < 2 ^ 64 }
+    requires few { tail.cut + 1099511627775 < 2 ^ 64 }
     ensures within { IfOk result (TakesWithin form held.new.items tail (length b.now)) }
     ensures part { IfOk result (λ t. form.shape ≡ Unblock → length held.new.items < form.cbs) }
     ensures space { vec_capacity held.old ≤ vec_capacity held.new }

@@ -37,8 +37,8 @@ fn kind_of(name: &str) -> Option<Kind>
 {
     match name {
         "if" | "of" => Some(Kind::File),
-        "ibs" | "bs" | "cbs" => Some(Kind::Size(16_777_216)),
-        "obs" => Some(Kind::Size(1_099_511_627_775)),
+        "ibs" | "cbs" => Some(Kind::Size(16_777_216)),
+        "obs" | "bs" => Some(Kind::Size(1_099_511_627_775)),
         "skip" | "seek" | "count" => Some(Kind::Number),
         "conv" => Some(Kind::Conversions),
         "iflag" => Some(Kind::Flags),

@@ -1,5 +1,5 @@
 -- The same by the page, the bytes kept, and where the records end.
-use Rattle.std.specs.Prelude.{◌≡◌, ◌≢◌, ℕ, ◌+◌, ◌^◌, ◌≤◌, ◌⊎◌, if◌then◌else◌, List, [], ◌++◌, length, take, Vec, vec_capacity, Option, IfOk, IfErr, OnOk}
+use Rattle.std.specs.Prelude.{◌≡◌, ◌≢◌, ℕ, ◌+◌, ◌^◌, ◌≤◌, max, ◌⊎◌, if◌then◌else◌, List, [], ◌++◌, length, take, Vec, vec_capacity, Option, IfOk, IfErr, OnOk}
 use Rattle.std.specs.Io.KnownBytes.{Appends, Consumes, IsAtEnd}
 use Rattle.std.specs.declared.result.Result.{Result}
 use Rattle.bx_text.specs.declared.fault.IoFault.{IoFault}
@@ -73,7 +73,7 @@ pub record IsFresh {A : Type 0} (form : Form) (limit : ℕ) (buf : List ℕ) (wa
   pub sizes : HasSizes form
   pub most : limit ≡ 2 ^ 40
   pub inside : unit_of form ≤ length buf
-  pub few : length buf ≤ 2 ^ 24
+  pub few : length buf ≤ max (2 ^ 24) form.ibs
   pub none : (waiting.held.items ≡ []) × (waiting.page.bytes.items ≡ []) × (waiting.page.written ≡ 0)
   pub room : form.shape ≢ Flat → form.cbs ≤ vec_capacity waiting.held
 

@@ -24,7 +24,7 @@ last_of Unblock size kept = if length kept == 0 then [] else line_of kept
 -- the sizes that a form may have
 pub record HasSizes (form : Form) : Type 0 where
   pub some_ibs : 0 < form.ibs
-  pub few_ibs : form.ibs ≤ 16777216
+  pub few_ibs : form.ibs ≤ 1099511627775
   pub some_obs : 0 < form.obs
   pub some_cbs : form.shape ≢ Flat → 0 < form.cbs
   pub few_cbs : form.cbs ≤ 16777216

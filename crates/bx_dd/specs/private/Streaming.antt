@@ -1,6 +1,6 @@
 -- What a copy to a writer reads and writes, and where it stands in between.
 -- ---- a whole copy
-use Rattle.std.specs.Prelude.{◌≡◌, ℕ, ◌+◌, ◌-◌, ◌*◌, ◌%◌, ◌^◌, ◌≤◌, ◌⊎◌, ◌||◌, if◌then◌else◌, List, ◌++◌, length, take, Option, None, Some, Result, Ok, Err}
+use Rattle.std.specs.Prelude.{◌≡◌, ℕ, ◌+◌, ◌-◌, ◌*◌, ◌%◌, ◌^◌, ◌≤◌, min, ◌⊎◌, ◌||◌, if◌then◌else◌, List, ◌++◌, length, take, Option, None, Some, Result, Ok, Err}
 use Rattle.std.specs.Io.KnownBytes.{Appends, Consumes, IsAtEnd}
 use Rattle.bx_text.specs.declared.fault.IoFault.{IoFault}
 use Rattle.bx_text.specs.declared.fault.IoFault.TheVariants.{WriteFailed}
@@ -76,10 +76,10 @@ pub record CopiesRest (form : Form) (most before : ℕ) (r0 r1 w0 w1 : Option (L
   pub appended : Appends w0 w1 (converted form input)
   pub counted : counts ≡ counts_of form input
 
--- how many bytes are copied at most: those of `count` blocks, or without a count as many as a number can say
+-- how many bytes are copied at most: those of `count` blocks, or without a count, or where they are more, as many as a number can say
 abbrev pub most_of : Option ℕ → ℕ → ℕ
 most_of None ibs = 2 ^ 64 - 1
-most_of (Some count) ibs = count * ibs
+most_of (Some count) ibs = min (count * ibs) (2 ^ 64 - 1)
 
 -- Some of the rest of an input was read, at most `most` bytes behind the `before` that were read, and a front of what is made of it
 -- was written.
@@ -90,4 +90,4 @@ pub record StopsPass (form : Form) (most before : ℕ) (r0 r1 w0 w1 : Option (Li
   pub within : length input ≤ most
   pub appended : Appends w0 w1 (take written (converted form input))
   pub cause : IsCopyFault fault (before + length input) written (length (converted form input))
-  pub ahead : IsCopyAhead (converted form) input fault
+  pub ahead : IsCopyAhead form.ibs (converted form) input fault

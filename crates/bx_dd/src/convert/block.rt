@@ -13,7 +13,7 @@ pub fn ready_block<A: Allocator>(
     block: &[u8],
     form: Form,
 ) -> Result<Vec<u8, A>, AllocError>
-    requires { form.ibs ≤ 16777216 }
+    requires { form.ibs ≤ 1099511627775 }
     ensures { IfOk result (λ v. v.items ≡ block_of form block.now) }
 {
     let mut ready = Vec::from_slice(alloc, block)?;

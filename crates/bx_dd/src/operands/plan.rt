@@ -16,7 +16,7 @@ pub struct Plan<A: Allocator = Global> {
     pub input: Option<Name<A>>,
     /// The file of `of=`.
     pub output: Option<Name<A>>,
-    /// The bytes of an input block, from 1 to 16,777,216.
+    /// The bytes of an input block, from 1 to 1,099,511,627,775: up to 16,777,216 by `ibs=`, more by `bs=` alone.
     pub ibs: u64,
     /// The bytes of an output block, at least 1.
     pub obs: u64,
@@ -41,7 +41,7 @@ pub struct Plan<A: Allocator = Global> {
     /// Whether lines become records of `cbs` bytes, or records lines.
     pub shape: Shape,
     ghost some_ibs: { 0 < ibs },
-    ghost few_ibs: { ibs ≤ 16777216 },
+    ghost few_ibs: { ibs ≤ 1099511627775 },
     ghost some_obs: { 0 < obs },
     ghost few_obs: { obs ≤ 1099511627775 },
     ghost some_cbs: { shape ≢ Flat → 0 < cbs },

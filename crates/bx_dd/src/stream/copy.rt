@@ -1,6 +1,5 @@
 //! A copy to a writer, written as it is read.
-ghost use Rattle.std.specs.Prelude.{◌≡◌, ◌≢◌, ℕ, ◌+◌, ◌-◌, ◌*◌, ◌^◌, ◌<◌, ◌≤◌, [], length, take, vec_capacity, true, false, Option, IfOk, IfErr, OnOk};
-ghost use Rattle.std.specs.Option.{ForSome};
+ghost use Rattle.std.specs.Prelude.{◌≡◌, ◌≢◌, ℕ, ◌+◌, ◌-◌, ◌*◌, ◌^◌, ◌<◌, ◌≤◌, max, [], length, take, vec_capacity, true, false, Option, IfOk, IfErr, OnOk};
 ghost use Rattle.bx_dd.specs.Plan.{plan_form};
 ghost use Rattle.bx_dd.specs.private.Standing.{HasSizes};
 ghost use Rattle.bx_dd.specs.Streaming.{IsCopy, StopsCopy};
@@ -74,7 +73,7 @@ pub fn copy_out<R: Read, W: Write, A: Allocator + Clone, P: Allocator>(
 fn take_memory<A: Allocator + Clone>(alloc: A, form: Form) -> Result<Buffers<A>, AllocError>
     requires { HasSizes form }
     ensures input { IfOk result (λ b. unit_of form ≤ length b.input.items) }
-    ensures few { IfOk result (λ b. length b.input.items ≤ 2 ^ 24) }
+    ensures few { IfOk result (λ b. length b.input.items ≤ max (2 ^ 24) form.ibs) }
     ensures held { IfOk result (λ b. b.waiting.held.items ≡ []) }
     ensures space { IfOk result (λ b. form.shape ≢ Flat → form.cbs ≤ vec_capacity b.waiting.held) }
     ensures page { IfOk result (λ b. (b.waiting.page.bytes.items ≡ []) × (b.waiting.page.written ≡ 0)) }
@@ -105,7 +104,7 @@ fn copy_with<R: Read, W: Write, A: Allocator, P: Allocator>(
     plan: &Plan<P>,
 ) -> Result<Counts, IoFault>
     requires input { unit_of (plan_form plan.now) ≤ length buffers.input.items }
-    requires few { length buffers.input.items ≤ 2 ^ 24 }
+    requires few { length buffers.input.items ≤ max (2 ^ 24) plan.now.ibs }
     requires held { buffers.waiting.held.items ≡ [] }
     requires space { plan.now.shape ≢ Flat → plan.now.cbs ≤ vec_capacity buffers.waiting.held }
     requires page { (buffers.waiting.page.bytes.items ≡ []) × (buffers.waiting.page.written ≡ 0) }
@@ -134,14 +133,12 @@ fn copy_with<R: Read, W: Write, A: Allocator, P: Allocator>(
     Ok(counts(form, 0, 0, none))
 }
 
-/// How many bytes are copied at most.
+/// How many bytes are copied at most, or `u64::MAX` where they are more.
 fn most_of(count: Option<u64>, ibs: u64) -> u64
-    requires few { ForSome count (λ n. n ≤ 1099511627775) }
-    requires fits { ibs ≤ 16777216 }
     ensures { result ≡ most_of count ibs }
 {
     match count {
-        Some(count) => count * ibs,
+        Some(count) => count.saturating_mul(ibs),
         None => u64::MAX,
     }
 }

@@ -1,4 +1,4 @@
-use Rattle.std.proofs.Common.{◌+◌, ◌≤◌, ◌^◌, length, take, arith}
+use Rattle.std.proofs.Common.{◌+◌, ◌≤◌, max, ◌^◌, length, take, arith}
 use Rattle.std.proofs.lemmas.List.{length-take}
 use Rattle.bx_dd.specs.Output.{converted}
 use Rattle.bx_dd.proofs.CopyLemmas.{ahead_of, stage_near, write_stops}
@@ -26,8 +26,8 @@ returns-in-Err-finish-clause-err g c =
     let pending = take have c.copy_units.new.buf in
     let page = c.copy_units.new.waiting.page in
     let within = c.in-Ok.ensures.within in
-    let last : length pending ≤ 2 ^ 24 = omega (arith, length-take have c.copy_units.new.buf, within.2, c.requires.fresh.inside, c.requires.fresh.few) in
-    let ahead = ahead_of (converted c.args.task.form) p.input p.stage.done pending page.written c.in-Err-finish.fault p.stage.parts last
+    let last : length pending ≤ max (2 ^ 24) c.args.task.form.ibs = omega (arith, length-take have c.copy_units.new.buf, within.2, c.requires.fresh.inside, c.requires.fresh.few) in
+    let ahead = ahead_of c.args.task.form.ibs (converted c.args.task.form) p.input p.stage.done pending page.written c.in-Err-finish.fault p.stage.parts last
     (stage_near p.stage c.requires.fresh.sizes page.near within.0) c.in-Err-finish.ensures.grows in
     write_stops c.args.task.form _ _ _ _ p.input c.args.task.most c.args.meter.now.taken c.in-Err-finish.fault p.consumed p.within few ahead
     (c.in-Err-finish.ensures.err p.input (g.W.Write.contents c.args.w.now) p.stage)

@@ -1,4 +1,4 @@
-use Rattle.std.proofs.Common.{◌≡◌, ◌+◌, ◌^◌, ◌-◌, ◌≤◌, ◌++◌, [], ℕ, Option, refl, append_assoc, length, take, drop, cond, sym, ap, ◌∙◌, arith, append-nil, subst}
+use Rattle.std.proofs.Common.{◌≡◌, ◌+◌, ◌^◌, ◌-◌, ◌≤◌, max, ◌++◌, [], ℕ, Option, refl, append_assoc, length, take, drop, cond, sym, ap, ◌∙◌, arith, append-nil, subst}
 use Rattle.std.proofs.lemmas.Bool.{ne_eqb}
 use Rattle.std.proofs.lemmas.List.{length-append, length-drop, length-take, length-take-le}
 use Rattle.std.specs.Prelude.{List}
@@ -60,7 +60,7 @@ sizes_of : (g : _) (c : In-Ok g) → (length c.read.new.buf ≡ c.min-want.resul
 sizes_of g c = read_sizes c.loop-turn.buf c.read.new.buf c.loop-turn.invariant.so_far.0 c.loop-turn.turn.have c.min-want.result c.in-Ok.n (fits_in g c) c.read.auto.buf c.in-Ok.ensures.bound.0
 
 -- before it, what was written was near what was converted
-near_by : (g : _) (c : In-Ok g) (e : IoFault) → c.loop-turn.waiting.page.written ≤ written_by e → IsCopyAhead (converted c.args.task.form) (more_of g c) e
+near_by : (g : _) (c : In-Ok g) (e : IoFault) → c.loop-turn.waiting.page.written ≤ written_by e → IsCopyAhead c.args.task.form.ibs (converted c.args.task.form) (more_of g c) e
 near_by g c e grows =
     let before = c.loop-turn.invariant in
     let stage = before.so_far.5 in
@@ -69,8 +69,8 @@ near_by g c e grows =
     let chunk = take c.in-Ok.n c.read.new.buf in
     let is : more_of g c ≡ stage.done ++ (pending ++ chunk) = ap (λ l. l ++ chunk) stage.parts ∙ append_assoc stage.done pending chunk in
     let sizes = sizes_of g c in
-    let few : length (pending ++ chunk) ≤ 2 ^ 24 = omega (arith, length-append pending chunk, length-take have c.loop-turn.buf, length-take c.in-Ok.n c.read.new.buf, sizes.0, fits_in g c, c.requires.fresh.few, c.loop-turn.auto.buf) in
-    ahead_of (converted c.args.task.form) (more_of g c) stage.done (pending ++ chunk) c.loop-turn.waiting.page.written e is few (stage_near stage c.requires.fresh.sizes c.loop-turn.waiting.page.near before.room) grows
+    let few : length (pending ++ chunk) ≤ max (2 ^ 24) c.args.task.form.ibs = omega (arith, length-append pending chunk, length-take have c.loop-turn.buf, length-take c.in-Ok.n c.read.new.buf, sizes.0, fits_in g c, c.requires.fresh.few, c.loop-turn.auto.buf) in
+    ahead_of c.args.task.form.ibs (converted c.args.task.form) (more_of g c) stage.done (pending ++ chunk) c.loop-turn.waiting.page.written e is few (stage_near stage c.requires.fresh.sizes c.loop-turn.waiting.page.near before.room) grows
 
 -- a write of it failed
 unwritten : (g : _) (c : In-Ok g) (w : Option (List ℕ)) (e : IoFault) → c.loop-turn.waiting.page.written ≤ written_by e → WritesFront 0 (g.W.Write.contents c.args.w.now) w (converted c.args.task.form (more_of g c)) e
