@@ -25,6 +25,39 @@ The report of dd is a part of what it does, but where it wrote a file:
   1
   $ bx dd if=bytes of=img 2> /dev/full; cmp img bytes
 
+# dd to a character device
+
+As to standard output: no journal, no history, and the counts. What wants an image, and a place to seek to, is refused.
+
+  $ head -c 100000 "$(command -v bx)" > bytes; ls -A > before
+  $ bx dd if=bytes of=/dev/null bs=64M
+  0+1 records in
+  0+1 records out
+  $ bx dd if=bytes of=/dev/null conv=notrunc,ucase count=3 status=none
+  $ head -c 1000 bytes | bx dd of=/dev/null
+  1+1 records in
+  1+1 records out
+  $ refused 'write failed after 0 bytes' <<< 'dd if=bytes of=/dev/full'
+  $ bx -v dd if=bytes of=/dev/full
+  bx: write failed after 0 bytes
+  hint: /dev/full: No space left on device
+  [1]
+  $ bx -v dd if=bytes of=/dev/null seek=1
+  bx: seek needs an output file
+  hint: /dev/null: a character device is written in order, and has no place to seek to; give of=IMAGE too
+  [1]
+  $ refused 'cannot open file' << .
+  > dd if=bytes of=/dev/null -J new.bxj
+  > dd if=bytes of=/dev/null --fresh
+  > dd if=bytes of=/dev/null --no-grow
+  > dd -n if=bytes of=/dev/null
+  > dd if=missing of=/dev/null
+  > .
+  $ ln -s /dev/null made; bx dd if=bytes of=made status=none; ls made*; rm made; ls -A | cmp - before; ls /dev/null*
+  made
+  /dev/null
+  $ bx dd if=bytes of=/dev/null 2> /dev/full
+
 # To a pipe that nobody reads any longer
 
   $ mega '\0' 1000000 > zeros; mega a 1000000 > letters

@@ -1,8 +1,11 @@
-//! dd onto an image, and its report.
+//! dd onto an image or a device, and its report.
 ghost use Rattle.bx_cli_commands.specs.jobs.Passing.{CanPass, plan_skip};
+
+mod device;
 
 use crate::history::changes::change_image;
 use crate::history::told::look_for_others;
+use crate::jobs::copies::device::{copy_to_device, goes_to_device};
 use crate::jobs::kept::{Manner, put_change};
 use crate::jobs::ready::{Ready, most_of_dd, plan_behind};
 use crate::jobs::sights::tell_before_copy;
@@ -20,7 +23,7 @@ use std::rt::Files;
 use std::time::Clock;
 
 /// Puts what the plan makes of the input onto the image, and tells the counts. The input is opened first, and read whole
-/// before the image is written: they may be one file.
+/// before the image is written: they may be one file. To a character device it goes as it is read.
 pub fn copy_onto<'a, R>(
     rt: &R,
     job: &'a DdImageJob,
@@ -30,8 +33,12 @@ where
     R: Files<File = File> + Input + Print + Eprint + Clock + AllocGlobal,
 {
     let progress = progress_of_copy(rt, remarks, &job.plan);
-    look_for_others(rt, &job.target, job.fresh, remarks);
-    let counts = copy_input(rt, job, &progress, remarks)?;
+    let counts = if goes_to_device(rt, job) {
+        Some(copy_to_device(rt, job, &progress)?)
+    } else {
+        look_for_others(rt, &job.target, job.fresh, remarks);
+        copy_input(rt, job, &progress, remarks)?
+    };
     if let Some(counts) = counts {
         remarks.look_at_counts(&counts);
         if job.plan.quiet {
