@@ -126,7 +126,7 @@ Dumps and a patch:
   [1]
   $ bx dd bs=4q
   bx: operand 1: bad number
-  hint: bs=4q; a number is decimal; behind it b (512), k or K (1024), M (1048576) or G (1073741824) may stand; Usage: bx dd [OPTIONS] [OPERAND]...
+  hint: bs=4q; a number is decimal; behind it b (512), k or K (1024), M, G or T may stand, and of BYTES kB (1000), KiB and so on; Usage: bx dd [OPTIONS] [OPERAND]...
   [1]
   $ bx dd bs=9999999999999999999
   bx: operand 1: number too large
@@ -136,13 +136,13 @@ Dumps and a patch:
   bx: operand 2: number too large
   hint: ibs=64M: at most 16777216 bytes, which is 16M; bs= takes more; Usage: bx dd [OPTIONS] [OPERAND]...
   [1]
-  $ bx dd bs=1MB
+  $ bx dd count=1MB
   bx: operand 1: bad number
-  hint: bs=1MB; a number is decimal; behind it b (512), k or K (1024), M (1048576) or G (1073741824) may stand; Usage: bx dd [OPTIONS] [OPERAND]...
+  hint: count=1MB; a number is decimal; behind it b (512), k or K (1024), M, G or T may stand, and of BYTES kB (1000), KiB and so on; Usage: bx dd [OPTIONS] [OPERAND]...
   [1]
   $ bx dd if=img skip=0xff
   bx: operand 2: bad number
-  hint: skip=0xff: 0x begins no hexadecimal number here, since x multiplies: give it in decimal; a number is decimal; behind it b (512), k or K (1024), M (1048576) or G (1073741824) may stand; Usage: bx dd [OPTIONS] [OPERAND]...
+  hint: skip=0xff: 0x begins no hexadecimal number here, since x multiplies: give it in decimal; a number is decimal; behind it b (512), k or K (1024), M, G or T may stand, and of BYTES kB (1000), KiB and so on; Usage: bx dd [OPTIONS] [OPERAND]...
   [1]
   $ bx dd if=img skip=1024G
   bx: operand 2: number too large
@@ -495,7 +495,7 @@ Dumps and a patch:
   [2]
   $ bx dd skip=-1
   bx: operand 1: bad number
-  hint: skip=-1: there are no negative places and counts; places count from the start; a number is decimal; behind it b (512), k or K (1024), M (1048576) or G (1073741824) may stand; Usage: bx dd [OPTIONS] [OPERAND]...
+  hint: skip=-1: there are no negative places and counts; places count from the start; a number is decimal; behind it b (512), k or K (1024), M, G or T may stand, and of BYTES kB (1000), KiB and so on; Usage: bx dd [OPTIONS] [OPERAND]...
   [1]
   $ bx dd if=-
   bx: cannot open file

@@ -192,6 +192,17 @@ def row_cases(tool, rng):
     yield from (Case(tool, line.split(), FOLDS, line) for line in ROW_LINES)
 
 
+# Numbers of dd as hands type them, in sizes and in numbers of blocks.
+DD_HANDS = ["bs=3c", "bs=5w count=2", "ibs=1kB obs=7c", "ibs=1KB skip=1", "ibs=1kiB count=1c", "bs=1KiB skip=1", "obs=1MB", "obs=1MiB ibs=2w",
+            "bs=2x1kB count=1", "bs=64M conv=ucase", "bs=33MB conv=lcase", "bs=17MiB", "bs=1c skip=2x3w count=1k", "ibs=2c cbs=1kB conv=block",
+            "cbs=1w conv=unblock", "obs=1GiB", "bs=1w count=1023G", "bs=1G", "status=noxfer bs=100MB"]
+
+
+def dd_hand_cases(tool, rng):
+    """All cases of such numbers."""
+    yield from (Case(tool, line.split(), (b"aBcd e" * 400)[:size], line) for line in DD_HANDS for size in (0, 7, 1025, 2203))
+
+
 def refused_cases(tool):
     for (name, *words), fault in ((words.split(" "), fault) for words, fault in rows(read("tools/record/refused.txt"))):
         if name == tool:
@@ -297,7 +308,8 @@ def differs(tools, bx, case):
 
 # Each file: its name, kind, tool, and what makes its cases.
 FILES = [*((tool, "words", tool, word_cases) for tool in ("xxd", "od", "hexdump", "strings", "dd")),
-         ("dd_images", "commands", "dd", image_cases), ("xxd_hands", "words", "xxd", hand_cases), ("od_rows", "words", "od", row_cases)]
+         ("dd_images", "commands", "dd", image_cases), ("xxd_hands", "words", "xxd", hand_cases),
+         ("dd_hands", "words", "dd", dd_hand_cases), ("od_rows", "words", "od", row_cases)]
 
 
 def run(options):

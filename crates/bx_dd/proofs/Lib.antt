@@ -10,5 +10,7 @@ pub mod OperandsLemmas
 pub mod PlanLemmas
 mod Rows
 pub mod LawLemmas
+pub mod NumberLemmas
+pub mod NumberLaws
 pub mod OperandLaws
 pub mod BehindLemmas

@@ -11,14 +11,13 @@ use Rattle.std.proofs.lemmas.Slice.Eq.{bytes_eq-Decides}
 use Rattle.std.proofs.Math.Seq.{drop-append-add}
 use Rattle.bx_text.specs.declared.number.size.SizeFault.{SizeFault}
 use Rattle.bx_text.specs.declared.number.size.SizeFault.TheVariants.{Bad, TooLarge}
-use Rattle.bx_text.specs.declared.number.size.SizeStyle.TheVariants.{Product}
-use Rattle.bx_text.specs.SizeGrammar.{IsProduct}
-use Rattle.bx_text.proofs.SizeLaws.{size_has_form}
+use Rattle.bx_dd.specs.NumberGrammar.{IsNumberOf}
+use Rattle.bx_dd.proofs.NumberLaws.{number_has_form}
 use Rattle.bx_dd.specs.declared.fault.DdFault.{DdFault}
 use Rattle.bx_dd.specs.declared.fault.DdFault.TheVariants.{UnknownOperand, BadNumber, NumberTooLarge, ZeroSize, Repeated}
 use Rattle.bx_dd.specs.declared.operands.Kind.{Kind}
 use Rattle.bx_dd.specs.declared.operands.Kind.TheVariants.{File, Size, Number, Conversions, Flags, Reports}
-use Rattle.bx_dd.specs.private.Number.{product_number}
+use Rattle.bx_dd.specs.Number.{has_bytes, product_number}
 use Rattle.bx_dd.specs.Operands.{is_operand, operand_name, operand_value, kind_of, is_conversion, is_flag, is_report, value_fault, is_given, operand_fault, first_fault, given, number_given, converts}
 use Rattle.bx_dd.specs.private.Operands.{parts_of, is_equals, is_named, kind_fault, number_fault, size_fault}
 use Rattle.bx_dd.specs.OperandGrammar.{IsOperand, IsAmong, AreConversions, AreFlags, IsSoundValue, IsValueFault, IsSoundBehind, IsOperandFault, OperandHasForm, AreSoundBehind, OperandsHaveForm, Says, WordsAreAskedFor}
@@ -177,21 +176,21 @@ given_false name words never = ⊎_elim (λ yes_it. absurd (never yes_it.1)) (λ
 
 -- ---- numbers
 
-number_ok : (value : List ℕ) (n : ℕ) → IsProduct value n → n ≤ 2 ^ 40 - 1 → product_number value ≡ Ok n
-number_ok value n is few = ((size_has_form Product value).0 n).1 (is, few)
+number_ok : (value : List ℕ) (n : ℕ) → IsNumberOf value n → n ≤ 2 ^ 40 - 1 → product_number value ≡ Ok n
+number_ok value n is few = ((number_has_form value).0 n).1 (is, few)
 
-number_large : (value : List ℕ) (n : ℕ) → IsProduct value n → 2 ^ 40 - 1 < n → product_number value ≡ Err TooLarge
-number_large value n is many = (size_has_form Product value).1.1 (n, is, many)
+number_large : (value : List ℕ) (n : ℕ) → IsNumberOf value n → 2 ^ 40 - 1 < n → product_number value ≡ Err TooLarge
+number_large value n is many = (number_has_form value).1.1 (n, is, many)
 
-number_bad : (value : List ℕ) → ((n : ℕ) → IsProduct value n → ⊥) → product_number value ≡ Err Bad
-number_bad value never = (size_has_form Product value).2.1 never
+number_bad : (value : List ℕ) → ((n : ℕ) → IsNumberOf value n → ⊥) → product_number value ≡ Err Bad
+number_bad value never = (number_has_form value).2.1 never
 
 number_is : (value : List ℕ) (r : Result ℕ SizeFault) → product_number value ≡ r →
-    ((n : ℕ) × (r ≡ Ok n) × IsProduct value n × (n ≤ 2 ^ 40 - 1))
-    ⊎ (((n : ℕ) × (r ≡ Err TooLarge) × IsProduct value n × (2 ^ 40 - 1 < n)) ⊎ ((r ≡ Err Bad) × ((n : ℕ) → IsProduct value n → ⊥)))
-number_is value (Ok n) e = let is = ((size_has_form Product value).0 n).0 e in inl (n, refl, is.0, is.1)
-number_is value (Err TooLarge) e = let is = (size_has_form Product value).1.0 e in inr (inl (is.0, refl, is.1, is.2))
-number_is value (Err Bad) e = inr (inr (refl, (size_has_form Product value).2.0 e))
+    ((n : ℕ) × (r ≡ Ok n) × IsNumberOf value n × (n ≤ 2 ^ 40 - 1))
+    ⊎ (((n : ℕ) × (r ≡ Err TooLarge) × IsNumberOf value n × (2 ^ 40 - 1 < n)) ⊎ ((r ≡ Err Bad) × ((n : ℕ) → IsNumberOf value n → ⊥)))
+number_is value (Ok n) e = let is = ((number_has_form value).0 n).0 e in inl (n, refl, is.0, is.1)
+number_is value (Err TooLarge) e = let is = (number_has_form value).1.0 e in inr (inl (is.0, refl, is.1, is.2))
+number_is value (Err Bad) e = inr (inr (refl, (number_has_form value).2.0 e))
 
 -- ---- faults by form
 
@@ -251,35 +250,42 @@ value_is at File value = go (eqb (length value) 0) refl
 value_is at Conversions value = known_is at (list_all is_conversion (parts_of value)) (AreConversions value) (all_known is_conversion (parts_of value)) (known_all is_conversion (parts_of value))
 value_is at Flags value = known_is at (list_all is_flag (parts_of value)) (AreFlags value) (all_known is_flag (parts_of value)) (known_all is_flag (parts_of value))
 value_is at Reports value = known_is at (is_report value) (IsTrue (is_report value)) (λ is. is) (λ is. is)
-value_is at Number value = ⊎_elim fine (λ other. ⊎_elim large bad other) (number_is value (product_number value) refl)
+value_is at Number value = by_bytes (has_bytes value) refl
   where
-    fine : ((n : ℕ) × (product_number value ≡ Ok n) × IsProduct value n × (n ≤ 2 ^ 40 - 1)) → Settled (number_fault at (product_number value)) (IsSoundValue Number value) (IsValueFault at Number value)
-    fine is = inl (ap (number_fault at) is.1, (is.0, is.2, is.3))
+    Answer : Option DdFault → Type 0
+    Answer o = Settled o (IsSoundValue Number value) (IsValueFault at Number value)
 
-    large : ((n : ℕ) × (product_number value ≡ Err TooLarge) × IsProduct value n × (2 ^ 40 - 1 < n)) → Settled (number_fault at (product_number value)) (IsSoundValue Number value) (IsValueFault at Number value)
-    large is = inr (NumberTooLarge at, ap (number_fault at) is.1, inr (refl, (is.0, is.2, is.3)))
+    fine : has_bytes value ≡ false → ((n : ℕ) × (product_number value ≡ Ok n) × IsNumberOf value n × (n ≤ 2 ^ 40 - 1)) → Answer (number_fault at false (product_number value))
+    fine e is = inl (ap (number_fault at false) is.1, (e, (is.0, is.2, is.3)))
 
-    bad : ((product_number value ≡ Err Bad) × ((n : ℕ) → IsProduct value n → ⊥)) → Settled (number_fault at (product_number value)) (IsSoundValue Number value) (IsValueFault at Number value)
-    bad is = inr (BadNumber at, ap (number_fault at) is.0, inl (refl, is.1))
+    large : has_bytes value ≡ false → ((n : ℕ) × (product_number value ≡ Err TooLarge) × IsNumberOf value n × (2 ^ 40 - 1 < n)) → Answer (number_fault at false (product_number value))
+    large e is = inr (NumberTooLarge at, ap (number_fault at false) is.1, inr (refl, e, (is.0, is.2, is.3)))
+
+    bad : ((product_number value ≡ Err Bad) × ((n : ℕ) → IsNumberOf value n → ⊥)) → Answer (number_fault at false (product_number value))
+    bad is = inr (BadNumber at, ap (number_fault at false) is.0, inl (refl, inr is.1))
+
+    by_bytes : (b : Bool) → has_bytes value ≡ b → Answer (number_fault at b (product_number value))
+    by_bytes true e = inr (BadNumber at, refl, inl (refl, inl e))
+    by_bytes false e = ⊎_elim (fine e) (λ other. ⊎_elim (large e) bad other) (number_is value (product_number value) refl)
 value_is at (Size most) value = ⊎_elim fine (λ other. ⊎_elim large bad other) (number_is value (product_number value) refl)
   where
-    zero_or : (n : ℕ) → product_number value ≡ Ok n → IsProduct value n → n ≤ most → n ≤ 2 ^ 40 - 1 → (b : Bool) → eqb n 0 ≡ b → Settled (cond b (Some (ZeroSize at)) None) (IsSoundValue (Size most) value) (IsValueFault at (Size most) value)
-    zero_or n e is few small true z = inr (ZeroSize at, refl, inr (inr (refl, subst (IsProduct value) (eqb-true n 0 z) is)))
+    zero_or : (n : ℕ) → product_number value ≡ Ok n → IsNumberOf value n → n ≤ most → n ≤ 2 ^ 40 - 1 → (b : Bool) → eqb n 0 ≡ b → Settled (cond b (Some (ZeroSize at)) None) (IsSoundValue (Size most) value) (IsValueFault at (Size most) value)
+    zero_or n e is few small true z = inr (ZeroSize at, refl, inr (inr (refl, subst (IsNumberOf value) (eqb-true n 0 z) is)))
     zero_or n e is few small false z = inl (refl, (n, is, omega (arith, eqb-false n 0 z), few, small))
 
-    by_most : (n : ℕ) → product_number value ≡ Ok n → IsProduct value n → n ≤ 2 ^ 40 - 1 → (b : Bool) → ltb most n ≡ b →
+    by_most : (n : ℕ) → product_number value ≡ Ok n → IsNumberOf value n → n ≤ 2 ^ 40 - 1 → (b : Bool) → ltb most n ≡ b →
         Settled (cond b (Some (NumberTooLarge at)) (cond (eqb n 0) (Some (ZeroSize at)) None)) (IsSoundValue (Size most) value) (IsValueFault at (Size most) value)
     by_most n e is small true many = inr (NumberTooLarge at, refl, inr (inl (refl, (n, is, inl (ltb-true most n many)))))
     by_most n e is small false few = zero_or n e is (ltb-false most n few) small (eqb n 0) refl
 
-    fine : ((n : ℕ) × (product_number value ≡ Ok n) × IsProduct value n × (n ≤ 2 ^ 40 - 1)) → Settled (size_fault at most (product_number value)) (IsSoundValue (Size most) value) (IsValueFault at (Size most) value)
+    fine : ((n : ℕ) × (product_number value ≡ Ok n) × IsNumberOf value n × (n ≤ 2 ^ 40 - 1)) → Settled (size_fault at most (product_number value)) (IsSoundValue (Size most) value) (IsValueFault at (Size most) value)
     fine is = subst (λ r. Settled (size_fault at most r) (IsSoundValue (Size most) value) (IsValueFault at (Size most) value)) (sym is.1) (by_most is.0 is.1 is.2 is.3 (ltb most is.0) refl)
 
-    large : ((n : ℕ) × (product_number value ≡ Err TooLarge) × IsProduct value n × (2 ^ 40 - 1 < n)) →
+    large : ((n : ℕ) × (product_number value ≡ Err TooLarge) × IsNumberOf value n × (2 ^ 40 - 1 < n)) →
         Settled (size_fault at most (product_number value)) (IsSoundValue (Size most) value) (IsValueFault at (Size most) value)
     large is = inr (NumberTooLarge at, ap (size_fault at most) is.1, inr (inl (refl, (is.0, is.2, inr is.3))))
 
-    bad : ((product_number value ≡ Err Bad) × ((n : ℕ) → IsProduct value n → ⊥)) → Settled (size_fault at most (product_number value)) (IsSoundValue (Size most) value) (IsValueFault at (Size most) value)
+    bad : ((product_number value ≡ Err Bad) × ((n : ℕ) → IsNumberOf value n → ⊥)) → Settled (size_fault at most (product_number value)) (IsSoundValue (Size most) value) (IsValueFault at (Size most) value)
     bad is = inr (BadNumber at, ap (size_fault at most) is.0, inl (refl, is.1))
 
 value_sound : (at : ℕ) (kind : Kind) (value : List ℕ) → IsSoundValue kind value → value_fault at kind value ≡ None
@@ -287,7 +293,7 @@ value_sound at File value is = let e : eqb (length value) 0 ≡ false = ne_eqb (
 value_sound at Conversions value is = rw (known_all is_conversion (parts_of value) is) refl
 value_sound at Flags value is = rw (known_all is_flag (parts_of value) is) refl
 value_sound at Reports value is = rw is refl
-value_sound at Number value is = ap (number_fault at) (number_ok value is.0 is.1 is.2)
+value_sound at Number value (none, (n, is, few)) = ap (λ b. number_fault at b (product_number value)) none ∙ ap (number_fault at false) (number_ok value n is few)
 value_sound at (Size most) value is =
     let few : ltb most is.0 ≡ false = le-ltb most is.0 is.3 in
     let some : eqb is.0 0 ≡ false = ne_eqb is.0 0 (λ z. absurd (omega (arith, z, is.2))) in
@@ -298,8 +304,15 @@ value_faulty at File value fault is = rw (is.1, is.0) refl
 value_faulty at Conversions value fault is = ⊎_elim (λ fine. absurd (is.1 fine.1)) (λ bad. bad.1 ∙ ap Some (bad.2.0 ∙ sym is.0)) (value_is at Conversions value)
 value_faulty at Flags value fault is = ⊎_elim (λ fine. absurd (is.1 fine.1)) (λ bad. bad.1 ∙ ap Some (bad.2.0 ∙ sym is.0)) (value_is at Flags value)
 value_faulty at Reports value fault is = ⊎_elim (λ fine. absurd (is.1 fine.1)) (λ bad. bad.1 ∙ ap Some (bad.2.0 ∙ sym is.0)) (value_is at Reports value)
-value_faulty at Number value fault (inl bad) = ap (number_fault at) (number_bad value bad.1) ∙ ap Some (sym bad.0)
-value_faulty at Number value fault (inr large) = ap (number_fault at) (number_large value large.1.0 large.1.1 large.1.2) ∙ ap Some (sym large.0)
+value_faulty at Number value fault (inl (is, inl some)) = ap (λ b. number_fault at b (product_number value)) some ∙ ap Some (sym is)
+value_faulty at Number value fault (inl (is, inr never)) =
+    ⊎_elim (λ fine. absurd (never fine.1.1.0 fine.1.1.1)) (λ bad. bad.1 ∙ ap Some (only bad.0 bad.2 ∙ sym is)) (value_is at Number value)
+  where
+    only : (found : DdFault) → IsValueFault at Number value found → found ≡ BadNumber at
+    only found (inl bad) = bad.0
+    only found (inr (large, none, (n, product, many))) = absurd (never n product)
+value_faulty at Number value fault (inr (is, none, (n, product, many))) =
+    ap (λ b. number_fault at b (product_number value)) none ∙ ap (number_fault at false) (number_large value n product many) ∙ ap Some (sym is)
 value_faulty at (Size most) value fault (inl bad) = ap (size_fault at most) (number_bad value bad.1) ∙ ap Some (sym bad.0)
 value_faulty at (Size most) value fault (inr (inr none)) =
     ap (size_fault at most) (number_ok value 0 none.1 (omega arith)) ∙ rw (le-ltb most 0 (omega arith), none.0) refl
@@ -460,7 +473,7 @@ given_says words name value e =
     (λ never. absurd (none_text value (sym (given_none words name never) ∙ e))) (says_or words name)
 
 number_said : (words : List (List ℕ)) (name : List ℕ) (n : ℕ) → number_given name words ≡ Some n →
-    (value : List ℕ) × Says words name value × IsProduct value n × (n ≤ 2 ^ 40 - 1)
+    (value : List ℕ) × Says words name value × IsNumberOf value n × (n ≤ 2 ^ 40 - 1)
 number_said words name n e = ⊎_elim found (λ never. absurd (no_number (sym (ap (option_and_then (λ v. result_ok (product_number v))) (given_none words name never)) ∙ e))) (says_or words name)
   where
     no_number : ◌≡◌ {A = Option ℕ} None (Some n) → ⊥
@@ -469,18 +482,18 @@ number_said words name n e = ⊎_elim found (λ never. absurd (no_number (sym (a
     number_same : (m : ℕ) → ◌≡◌ {A = Option ℕ} (Some m) (Some n) → m ≡ n
     number_same m h = cc h
 
-    found : ((value : List ℕ) × Says words name value) → (value : List ℕ) × Says words name value × IsProduct value n × (n ≤ 2 ^ 40 - 1)
+    found : ((value : List ℕ) × Says words name value) → (value : List ℕ) × Says words name value × IsNumberOf value n × (n ≤ 2 ^ 40 - 1)
     found (value, says) =
         let now : result_ok (product_number value) ≡ Some n = sym (ap (option_and_then (λ v. result_ok (product_number v))) (given_at words name value says)) ∙ e in
         ⊎_elim (λ is. fine is now)
         (λ other. ⊎_elim (λ large. absurd (no_number (sym (ap result_ok large.1) ∙ now))) (λ bad. absurd (no_number (sym (ap result_ok bad.0) ∙ now))) other)
         (number_is value (product_number value) refl)
       where
-        fine : ((m : ℕ) × (product_number value ≡ Ok m) × IsProduct value m × (m ≤ 2 ^ 40 - 1)) → result_ok (product_number value) ≡ Some n →
-            (value : List ℕ) × Says words name value × IsProduct value n × (n ≤ 2 ^ 40 - 1)
-        fine (m, e, is, few) now = let same = number_same m (sym (ap result_ok e) ∙ now) in (value, says, subst (IsProduct value) same is, omega (arith, few, same))
+        fine : ((m : ℕ) × (product_number value ≡ Ok m) × IsNumberOf value m × (m ≤ 2 ^ 40 - 1)) → result_ok (product_number value) ≡ Some n →
+            (value : List ℕ) × Says words name value × IsNumberOf value n × (n ≤ 2 ^ 40 - 1)
+        fine (m, e, is, few) now = let same = number_same m (sym (ap result_ok e) ∙ now) in (value, says, subst (IsNumberOf value) same is, omega (arith, few, same))
 
-number_read : (words : List (List ℕ)) (name : List ℕ) (n : ℕ) → (value : List ℕ) × Says words name value × IsProduct value n × (n ≤ 2 ^ 40 - 1) → number_given name words ≡ Some n
+number_read : (words : List (List ℕ)) (name : List ℕ) (n : ℕ) → (value : List ℕ) × Says words name value × IsNumberOf value n × (n ≤ 2 ^ 40 - 1) → number_given name words ≡ Some n
 number_read words name n (value, says, is, few) =
     ap (option_and_then (λ v. result_ok (product_number v))) (given_at words name value says) ∙ ap result_ok (number_ok value n is few)
 

@@ -14,10 +14,8 @@ use Rattle.bx_text.specs.declared.number.size.SizeFault.{SizeFault}
 use Rattle.bx_text.specs.declared.number.size.SizeFault.TheVariants.{Bad, TooLarge}
 use Rattle.bx_dd.specs.declared.operands.Kind.{Kind}
 use Rattle.bx_dd.specs.declared.operands.Kind.TheVariants.{Size}
-use Rattle.bx_text.specs.declared.number.size.SizeStyle.TheVariants.{Product}
-use Rattle.bx_text.specs.Number.{size_value}
-use Rattle.bx_text.specs.private.Number.{within}
-use Rattle.bx_dd.specs.private.Number.{product_number}
+use Rattle.bx_text.specs.private.Number.{factors_of, within}
+use Rattle.bx_dd.specs.Number.{product_number, product_value}
 use Rattle.bx_dd.specs.Operands.{is_operand, operand_name, operand_value, kind_of, is_given, value_fault, operand_fault, first_fault, given, number_given, number_or, converts, operands_fault}
 use Rattle.bx_dd.specs.private.Operands.{ibs_of, obs_of, shape_of, is_named, kind_fault, is_conflict, is_cbs_missing, later_fault, size_fault}
 
@@ -108,7 +106,7 @@ within_limit n None is = absurd (cc)
 within_limit n (Some m) is = low_limit m n (leb m 1099511627775) refl is
 
 number_limit : (value : List ℕ) (n : ℕ) → product_number value ≡ Ok n → n ≤ 1099511627775
-number_limit value n is = within_limit n (size_value Product value) is
+number_limit value n is = within_limit n (product_value (factors_of value)) is
 
 pub number_few : (name : List ℕ) (words : List (List ℕ)) (n : ℕ) → number_given name words ≡ Some n → n ≤ 1099511627775
 number_few name words n is = number_in (given name words) is where

@@ -4,6 +4,8 @@ pub mod Standing
 pub mod Plan
 pub mod Transfer
 pub mod Streaming
+pub mod Number
+pub mod NumberGrammar
 pub mod Operands
 pub mod Parsing
 pub mod Behind

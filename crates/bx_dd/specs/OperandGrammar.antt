@@ -1,7 +1,8 @@
 -- What operands of dd look like, which fault one has, and what they ask for.
-use Rattle.std.specs.Prelude.{◌≡◌, ◌≢◌, ◌↔◌, ◌⊎◌, ℕ, ◌+◌, ◌-◌, ◌^◌, ◌<◌, ◌≤◌, ◌==◌, true, List, [], ◌∷◌, ◌++◌, length, codes, All, IsTrue, None, Some}
+use Rattle.std.specs.Prelude.{◌≡◌, ◌≢◌, ◌↔◌, ◌⊎◌, ℕ, ◌+◌, ◌-◌, ◌^◌, ◌<◌, ◌≤◌, ◌==◌, true, false, List, [], ◌∷◌, ◌++◌, length, codes, All, IsTrue, None, Some}
 use Rattle.std.specs.List.{slice_split}
-use Rattle.bx_text.specs.SizeGrammar.{IsProduct}
+use Rattle.bx_dd.specs.Number.{has_bytes}
+use Rattle.bx_dd.specs.NumberGrammar.{IsNumberOf}
 use Rattle.bx_dd.specs.declared.fault.DdFault.{DdFault}
 use Rattle.bx_dd.specs.declared.fault.DdFault.TheVariants.{UnknownOperand, BadNumber, NumberTooLarge, ZeroSize, Repeated}
 use Rattle.bx_dd.specs.declared.operands.Kind.{Kind}
@@ -24,28 +25,29 @@ AreConversions value = All (λ part. IsTrue (is_conversion part)) (slice_split (
 abbrev pub AreFlags : List ℕ → Type 0
 AreFlags value = All (λ part. IsTrue (is_flag part)) (slice_split (λ b. b == 44) value)
 
--- The value is one of its kind: a name, a size, a number, conversions, flags, or a report.
+-- The value is one of its kind: a name, a size, a number of blocks, which has no B, conversions, flags, or a report.
 abbrev pub IsSoundValue : Kind → List ℕ → Type 0
 IsSoundValue File value = value ≢ []
-IsSoundValue (Size most) value = (n : ℕ) × IsProduct value n × (0 < n) × (n ≤ most) × (n ≤ 2 ^ 40 - 1)
-IsSoundValue Number value = (n : ℕ) × IsProduct value n × (n ≤ 2 ^ 40 - 1)
+IsSoundValue (Size most) value = (n : ℕ) × IsNumberOf value n × (0 < n) × (n ≤ most) × (n ≤ 2 ^ 40 - 1)
+IsSoundValue Number value = (has_bytes value ≡ false) × ((n : ℕ) × IsNumberOf value n × (n ≤ 2 ^ 40 - 1))
 IsSoundValue Conversions value = AreConversions value
 IsSoundValue Flags value = AreFlags value
 IsSoundValue Reports value = IsTrue (is_report value)
 
 -- The value is no product of factors.
 abbrev pub IsNoProduct : List ℕ → Type 0
-IsNoProduct value = (n : ℕ) → IsProduct value n → ⊥
+IsNoProduct value = (n : ℕ) → IsNumberOf value n → ⊥
 
 -- The fault of a value that isn't, at this place.
 abbrev pub IsValueFault : ℕ → Kind → List ℕ → DdFault → Type 0
 IsValueFault at File value fault = (fault ≡ UnknownOperand at) × (value ≡ [])
 IsValueFault at (Size most) value fault =
     ((fault ≡ BadNumber at) × IsNoProduct value)
-    ⊎ (((fault ≡ NumberTooLarge at) × ((n : ℕ) × IsProduct value n × ((most < n) ⊎ (2 ^ 40 - 1 < n))))
-    ⊎ ((fault ≡ ZeroSize at) × IsProduct value 0))
+    ⊎ (((fault ≡ NumberTooLarge at) × ((n : ℕ) × IsNumberOf value n × ((most < n) ⊎ (2 ^ 40 - 1 < n))))
+    ⊎ ((fault ≡ ZeroSize at) × IsNumberOf value 0))
 IsValueFault at Number value fault =
-    ((fault ≡ BadNumber at) × IsNoProduct value) ⊎ ((fault ≡ NumberTooLarge at) × ((n : ℕ) × IsProduct value n × (2 ^ 40 - 1 < n)))
+    ((fault ≡ BadNumber at) × ((has_bytes value ≡ true) ⊎ IsNoProduct value))
+    ⊎ ((fault ≡ NumberTooLarge at) × (has_bytes value ≡ false) × ((n : ℕ) × IsNumberOf value n × (2 ^ 40 - 1 < n)))
 IsValueFault at Conversions value fault = (fault ≡ UnknownOperand at) × (AreConversions value → ⊥)
 IsValueFault at Flags value fault = (fault ≡ UnknownOperand at) × (AreFlags value → ⊥)
 IsValueFault at Reports value fault = (fault ≡ UnknownOperand at) × (IsTrue (is_report value) → ⊥)
@@ -92,7 +94,7 @@ abbrev pub WordsAreAskedFor : Type 0
 WordsAreAskedFor = (words : List (List ℕ)) (name : List ℕ) →
     ((value : List ℕ) → given name words ≡ Some value ↔ Says words name value)
     × (given name words ≡ None ↔ (IsAmong name words → ⊥))
-    × ((n : ℕ) → number_given name words ≡ Some n ↔ ((value : List ℕ) × Says words name value × IsProduct value n × (n ≤ 2 ^ 40 - 1)))
+    × ((n : ℕ) → number_given name words ≡ Some n ↔ ((value : List ℕ) × Says words name value × IsNumberOf value n × (n ≤ 2 ^ 40 - 1)))
     × ((part : List ℕ) → part ≢ [] → converts part words ≡ true
     ↔ ((value : List ℕ) × (front rest : List (List ℕ)) × Says words (codes "conv") value
     × (slice_split (λ b. b == 44) value ≡ front ++ part ∷ rest)))

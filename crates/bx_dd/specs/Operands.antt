@@ -8,8 +8,7 @@ use Rattle.bx_dd.specs.declared.fault.DdFault.{DdFault}
 use Rattle.bx_dd.specs.declared.fault.DdFault.TheVariants.{UnknownOperand, BadNumber, NumberTooLarge, ZeroSize, Repeated, Conflict, MissingCbs}
 use Rattle.bx_text.specs.declared.number.size.SizeFault.{SizeFault}
 use Rattle.bx_text.specs.declared.number.size.SizeFault.TheVariants.{Bad, TooLarge}
-use Rattle.bx_text.specs.declared.number.size.SizeStyle.TheVariants.{Product}
-use Rattle.bx_text.specs.Number.{read_size}
+use Rattle.bx_dd.specs.Number.{has_bytes, product_number}
 use Rattle.bx_dd.specs.declared.operands.Kind.{Kind}
 use Rattle.bx_dd.specs.declared.operands.Kind.TheVariants.{File, Size, Number, Conversions, Flags, Reports}
 
@@ -58,12 +57,12 @@ checked at check (Ok n) = check n
 checked at check (Err Bad) = Some (BadNumber at)
 checked at check (Err TooLarge) = Some (NumberTooLarge at)
 
--- the fault of a value; a number is a product of factors, and a size is 1 to `most`
+-- the fault of a value; a number is a product of factors, without a B where it counts blocks, and a size is 1 to `most`
 abbrev pub value_fault : ℕ → Kind → List ℕ → Option DdFault
 value_fault at File value = if length value == 0 then Some (UnknownOperand at) else None
 value_fault at (Size most) value =
-    checked at (λ n. if nat_lt most n then Some (NumberTooLarge at) else if n == 0 then Some (ZeroSize at) else None) (read_size Product value)
-value_fault at Number value = checked at (λ n. None) (read_size Product value)
+    checked at (λ n. if nat_lt most n then Some (NumberTooLarge at) else if n == 0 then Some (ZeroSize at) else None) (product_number value)
+value_fault at Number value = if has_bytes value then Some (BadNumber at) else checked at (λ n. None) (product_number value)
 value_fault at Conversions value = if list_all is_conversion (slice_split (λ b. b == 44) value) then None else Some (UnknownOperand at)
 value_fault at Flags value = if list_all is_flag (slice_split (λ b. b == 44) value) then None else Some (UnknownOperand at)
 value_fault at Reports value = if is_report value then None else Some (UnknownOperand at)
@@ -95,7 +94,7 @@ given name words = option_map operand_value (slice_get words (operand_place name
 
 -- the number of an operand that is given and has one
 abbrev pub number_given : List ℕ → List (List ℕ) → Option ℕ
-number_given name words = option_and_then (λ value. result_ok (read_size Product value)) (given name words)
+number_given name words = option_and_then (λ value. result_ok (product_number value)) (given name words)
 
 -- the same, or another number
 abbrev pub number_or : ℕ → List ℕ → List (List ℕ) → ℕ

@@ -23,7 +23,8 @@ IsCopyFault fault read written size = IsRestCause fault (2 ^ 40) read
 -- How far reading is ahead where a write fails: no more than a buffer of 2^24 bytes, or a block where that is larger. What was read
 -- before the last of them had its output written, but for at most 2^25 bytes that wait or end a record.
 abbrev pub IsCopyAhead : ℕ → (List ℕ → List ℕ) → List ℕ → IoFault → Type 0
-IsCopyAhead ibs output input (WriteFailed n) = (front last : List ℕ) × (input ≡ front ++ last) × (length last ≤ max (2 ^ 24) ibs) × (length (output front) ≤ n + 2 ^ 25)
+IsCopyAhead ibs output input (WriteFailed n) =
+    (front last : List ℕ) × (input ≡ front ++ last) × (length last ≤ max (2 ^ 24) ibs) × (length (output front) ≤ n + 2 ^ 25)
 IsCopyAhead ibs output input fault = ⊤
 
 -- Some input was read, no more of it than skip and count ask for, and a front of what the plan makes of it was written.

@@ -1,6 +1,5 @@
 -- What the functions of this crate need among themselves.
 pub mod Counting
-pub mod Number
 pub mod Operands
 pub mod Output
 pub mod Paged

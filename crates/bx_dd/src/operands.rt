@@ -3,7 +3,7 @@ ghost use Rattle.std.specs.Prelude.{◌≡◌, ℕ, ◌+◌, ◌-◌, ◌*◌, �
 ghost use Rattle.std.specs.Option.{option_copied};
 ghost use Rattle.std.specs.List.{list_all, list_any, position_or_len};
 ghost use Rattle.std.specs.Str.{bytes_eq};
-ghost use Rattle.bx_dd.specs.private.Number.{product_number};
+ghost use Rattle.bx_dd.specs.Number.{has_bytes, product_number};
 ghost use Rattle.bx_dd.specs.Operands.{is_operand, operand_name, operand_value, kind_of, is_conversion, is_flag, is_quiet, is_report, value_fault, operand_fault, first_fault, given, number_given, converts, block_size, number_or, is_given, operand_place, operands_fault};
 ghost use Rattle.bx_dd.specs.private.Operands.{parts_of, is_named, is_conflict, is_cbs_missing, later_fault, letters_of, shape_of, number_fault, size_fault};
 
@@ -13,7 +13,7 @@ pub(crate) mod plan;
 
 use crate::fault::DdFault;
 use crate::form::{Letters, Shape};
-use crate::operands::number::read_number;
+use crate::operands::number::{has_bytes, read_number};
 use bx_text::{SizeFault, Words};
 use std::alloc::Allocator;
 
@@ -128,10 +128,13 @@ fn is_named(word: &str, name: &str) -> bool
     }
 }
 
-/// The fault of a number.
+/// The fault of a number of blocks.
 fn number_fault(at: u64, value: &str) -> Option<DdFault>
-    ensures { result ≡ number_fault at (product_number value.now) }
+    ensures { result ≡ number_fault at (has_bytes value.now) (product_number value.now) }
 {
+    if has_bytes(value.as_bytes()) {
+        return Some(DdFault::BadNumber(at));
+    }
     match read_number(value.as_bytes()) {
         Ok(_) => None,
         Err(SizeFault::Bad) => Some(DdFault::BadNumber(at)),

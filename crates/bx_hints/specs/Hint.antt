@@ -29,7 +29,7 @@ advice_of (Read (read.AddressTooLarge _)) = codes "addresses are below 461168601
 advice_of (Read (read.OddDigits _)) = codes "each byte is two digits"
 advice_of (Dd dd.InputTooLong) = codes "at most 1099511627776 bytes are read"
 advice_of (Dd (dd.UnknownOperand _)) = codes "bx dd --help lists the operands and the conversions"
-advice_of (Dd (dd.BadNumber _)) = codes "a number is decimal; behind it b (512), k or K (1024), M (1048576) or G (1073741824) may stand"
+advice_of (Dd (dd.BadNumber _)) = codes "a number is decimal; behind it b (512), k or K (1024), M, G or T may stand, and of BYTES kB (1000), KiB and so on"
 advice_of (Dd (dd.ZeroSize _)) = codes "a size is at least 1, and a product such as 0x4 is 0: give numbers in decimal"
 advice_of (Dd dd.Conflict) = codes "give one of block and unblock, and one of lcase and ucase"
 advice_of (Dd dd.MissingCbs) = codes "block and unblock want cbs=BYTES"

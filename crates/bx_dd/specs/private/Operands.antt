@@ -10,7 +10,7 @@ use Rattle.bx_dd.specs.declared.form.Shape.TheVariants.{Flat, Block, Unblock}
 use Rattle.bx_dd.specs.Operands.{block_size, checked, converts, is_given, is_operand, operand_name, number_or, operand_place, value_fault}
 use Rattle.bx_dd.specs.declared.operands.Kind.{Kind}
 use Rattle.bx_dd.specs.declared.fault.DdFault.{DdFault}
-use Rattle.bx_dd.specs.declared.fault.DdFault.TheVariants.{UnknownOperand, NumberTooLarge, ZeroSize, Repeated, Conflict, MissingCbs}
+use Rattle.bx_dd.specs.declared.fault.DdFault.TheVariants.{UnknownOperand, BadNumber, NumberTooLarge, ZeroSize, Repeated, Conflict, MissingCbs}
 use Rattle.bx_text.specs.declared.number.size.SizeFault.{SizeFault}
 
 -- the words of `conv`
@@ -61,9 +61,9 @@ later_fault words =
     if nat_lt (2 ^ 48) (number_or 0 (codes "skip") words * ibs_of words) then Some (NumberTooLarge (operand_place (codes "skip") words + 1)) else
     if nat_lt (2 ^ 48) (number_or 0 (codes "seek") words * obs_of words) then Some (NumberTooLarge (operand_place (codes "seek") words + 1)) else None
 
--- the fault of a number
-abbrev pub number_fault : ℕ → Result ℕ SizeFault → Option DdFault
-number_fault at r = checked at (λ n. None) r
+-- the fault of a number of blocks, which may have a B
+abbrev pub number_fault : ℕ → Bool → Result ℕ SizeFault → Option DdFault
+number_fault at bytes r = if bytes then Some (BadNumber at) else checked at (λ n. None) r
 
 -- the fault of a size, which is 1 to `most`
 abbrev pub size_fault : ℕ → ℕ → Result ℕ SizeFault → Option DdFault

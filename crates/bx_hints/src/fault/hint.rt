@@ -83,7 +83,7 @@ fn dd_advice(fault: DdFault) -> &'static str
         DdFault::InputTooLong => "at most 1099511627776 bytes are read",
         DdFault::UnknownOperand(_) => "bx dd --help lists the operands and the conversions",
         DdFault::BadNumber(_) =>
-            "a number is decimal; behind it b (512), k or K (1024), M (1048576) or G (1073741824) may stand",
+            "a number is decimal; behind it b (512), k or K (1024), M, G or T may stand, and of BYTES kB (1000), KiB and so on",
         DdFault::ZeroSize(_) =>
             "a size is at least 1, and a product such as 0x4 is 0: give numbers in decimal",
         DdFault::Conflict => "give one of block and unblock, and one of lcase and ucase",
