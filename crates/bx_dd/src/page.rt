@@ -129,8 +129,5 @@ pub fn keep<A: Allocator>(kept: &mut Vec<u8, A>, bytes: &[u8])
     ensures items { kept.new.items ≡ kept.old.items ++ bytes.now }
     ensures space { vec_capacity kept.old ≤ vec_capacity kept.new }
 {
-    match kept.extend_from_slice(bytes) {
-        Ok(()) => {}
-        Err(_) => unreachable!(),
-    }
+    kept.extend_from_slice(bytes).unwrap();
 }
