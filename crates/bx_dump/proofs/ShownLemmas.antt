@@ -3,7 +3,7 @@ use Rattle.std.proofs.Common.{◌≡◌, ℕ, zero, suc, ◌+◌, ◌<◌, Bool,
 use Rattle.bx_text.specs.declared.fault.IoFault.{IoFault}
 use Rattle.bx_dump.specs.FoldBy.{folded_by}
 use Rattle.bx_dump.specs.Od.{columns_below, od_line, od_rows, plain_or_rows}
-use Rattle.bx_dump.specs.private.OdDump.{od_lines, lines_with_rows, shown_lines}
+use Rattle.bx_dump.specs.private.OdDump.{DumpsLines, od_lines, lines_with_rows, shown_lines}
 use Rattle.bx_dump.specs.private.Pages.{StopsNext, WritesNext, limited_to, streams}
 use Rattle.bx_dump.specs.declared.driver.pages.Part.{Part}
 use Rattle.bx_dump.specs.declared.od.options.OdOptions.{OdOptions}
@@ -44,3 +44,13 @@ pub stops_along : (text other : List ℕ → List ℕ) (taken : ℕ) (limit : Op
 stops_along text other taken limit r0 r1 w0 w1 (Ok part) same is = is
 stops_along text other taken limit r0 r1 w0 w1 (Err fault) same is =
     front_along 0 0 (λ xs. text (limited_to limit xs)) (λ xs. other (limited_to limit xs)) 0 limit taken 0 r0 r1 w0 w1 fault (λ xs. same (limited_to limit xs)) (omega arith) is
+
+-- lines of one text that were written are those of its equal
+pub lines_along : (text other : List ℕ → List ℕ) (taken : ℕ) (limit : Option ℕ) (r0 r1 w0 w1 : Option (List ℕ)) (result : Result Part IoFault) → ((xs : List ℕ) → text xs ≡ other xs) →
+    DumpsLines text taken limit (streams r0 r1 w0 w1) result → DumpsLines other taken limit (streams r0 r1 w0 w1) result
+lines_along text other taken limit r0 r1 w0 w1 result same is = record {
+  ok = next_along text other taken limit r0 r1 w0 w1 result same is.ok;
+  err = stops_along text other taken limit r0 r1 w0 w1 result same is.err;
+  few = is.few;
+  count = is.count;
+}

@@ -1,9 +1,9 @@
 //! od's dump.
-ghost use Rattle.std.specs.Prelude.{◌≡◌, ◌⊎◌, ℕ, ◌+◌, ◌^◌, ◌<◌, ◌≤◌, true, length, Err, IfOk, IfErr, OnOk, OnErr};
+ghost use Rattle.std.specs.Prelude.{◌≡◌, ◌⊎◌, ℕ, ◌+◌, ◌^◌, ◌<◌, true, Err, IfOk, IfErr, OnOk, OnErr};
 ghost use Rattle.bx_text.specs.Stream.{Skips};
 ghost use Rattle.bx_dump.specs.OdDump.{Reaches, StopsOd, od_of};
 ghost use Rattle.bx_dump.specs.private.Pages.{streams_of};
-ghost use Rattle.bx_dump.specs.private.OdDump.{StopsOdLines, StopsPlainLines, StopsRowLines, StopsShort, StopsShownLines, WritesOdLines, WritesPlainLines, WritesRowLines, WritesShownLines};
+ghost use Rattle.bx_dump.specs.private.OdDump.{DumpsLines, StopsShort, lines_with_rows, od_lines, plain_lines, shown_lines};
 ghost use Rattle.bx_dump.specs.Pages.{WritesAll};
 
 use crate::driver::folded::FoldedPages;
@@ -43,10 +43,7 @@ fn dump_shown<R: Read, W: Write>(
 ) -> Result<Part, IoFault>
     requires open { meter.old.state ≡ State.Open }
     requires limit { meter.old.limit ≡ 2 ^ 40 }
-    ensures ok { IfOk result (WritesShownLines o.now meter.old.taken (streams_of R.remaining r.old r.new W.contents w.old w.new)) }
-    ensures err { IfErr result (StopsShownLines o.now meter.old.taken (streams_of R.remaining r.old r.new W.contents w.old w.new)) }
-    ensures few { IfOk result (λ part. part.written ≤ 2 ^ 60) }
-    ensures count { IfOk result (λ part. part.read ≤ 2 ^ 40) }
+    ensures lines { DumpsLines (shown_lines o.now) meter.old.taken o.now.limit (streams_of R.remaining r.old r.new W.contents w.old w.new) result }
 {
     if o.text {
         return dump_rows(meter, r, w, o);
@@ -66,10 +63,7 @@ fn dump_rows<R: Read, W: Write>(
 ) -> Result<Part, IoFault>
     requires open { meter.old.state ≡ State.Open }
     requires limit { meter.old.limit ≡ 2 ^ 40 }
-    ensures ok { IfOk result (WritesRowLines o.now meter.old.taken (streams_of R.remaining r.old r.new W.contents w.old w.new)) }
-    ensures err { IfErr result (StopsRowLines o.now meter.old.taken (streams_of R.remaining r.old r.new W.contents w.old w.new)) }
-    ensures few { IfOk result (λ part. part.written ≤ 2 ^ 60) }
-    ensures count { IfOk result (λ part. part.read ≤ 2 ^ 40) }
+    ensures lines { DumpsLines (lines_with_rows o.now) meter.old.taken o.now.limit (streams_of R.remaining r.old r.new W.contents w.old w.new) result }
 {
     let lines = OdRows {
         address: o.address,
@@ -94,10 +88,7 @@ fn dump_lines<R: Read, W: Write>(
 ) -> Result<Part, IoFault>
     requires open { meter.old.state ≡ State.Open }
     requires limit { meter.old.limit ≡ 2 ^ 40 }
-    ensures ok { IfOk result (WritesOdLines o.now meter.old.taken (streams_of R.remaining r.old r.new W.contents w.old w.new)) }
-    ensures err { IfErr result (StopsOdLines o.now meter.old.taken (streams_of R.remaining r.old r.new W.contents w.old w.new)) }
-    ensures few { IfOk result (λ part. part.written ≤ 2 ^ 60) }
-    ensures count { IfOk result (λ part. part.read ≤ 2 ^ 40) }
+    ensures lines { DumpsLines (od_lines o.now) meter.old.taken o.now.limit (streams_of R.remaining r.old r.new W.contents w.old w.new) result }
 {
     match o.endian {
         Endian::Little if o.width == 16 => dump_sixteen(meter, r, w, o),
@@ -116,10 +107,7 @@ fn dump_sixteen<R: Read, W: Write>(
     requires limit { meter.old.limit ≡ 2 ^ 40 }
     requires endian { o.now.endian ≡ Endian.Little }
     requires width { o.now.width ≡ 16 }
-    ensures ok { IfOk result (WritesOdLines o.now meter.old.taken (streams_of R.remaining r.old r.new W.contents w.old w.new)) }
-    ensures err { IfErr result (StopsOdLines o.now meter.old.taken (streams_of R.remaining r.old r.new W.contents w.old w.new)) }
-    ensures few { IfOk result (λ part. part.written ≤ 2 ^ 60) }
-    ensures count { IfOk result (λ part. part.read ≤ 2 ^ 40) }
+    ensures lines { DumpsLines (od_lines o.now) meter.old.taken o.now.limit (streams_of R.remaining r.old r.new W.contents w.old w.new) result }
 {
     dump_plain(meter, r, w, o)
 }
@@ -133,10 +121,7 @@ fn dump_plain<R: Read, W: Write>(
 ) -> Result<Part, IoFault>
     requires open { meter.old.state ≡ State.Open }
     requires limit { meter.old.limit ≡ 2 ^ 40 }
-    ensures ok { IfOk result (WritesPlainLines o.now meter.old.taken (streams_of R.remaining r.old r.new W.contents w.old w.new)) }
-    ensures err { IfErr result (StopsPlainLines o.now meter.old.taken (streams_of R.remaining r.old r.new W.contents w.old w.new)) }
-    ensures few { IfOk result (λ part. part.written ≤ 2 ^ 60) }
-    ensures count { IfOk result (λ part. part.read ≤ 2 ^ 40) }
+    ensures lines { DumpsLines (plain_lines o.now) meter.old.taken o.now.limit (streams_of R.remaining r.old r.new W.contents w.old w.new) result }
 {
     let lines = OdLines {
         address: o.address,
@@ -155,10 +140,7 @@ fn dump_wide<R: Read, W: Write>(
 ) -> Result<Part, IoFault>
     requires open { meter.old.state ≡ State.Open }
     requires limit { meter.old.limit ≡ 2 ^ 40 }
-    ensures ok { IfOk result (WritesOdLines o.now meter.old.taken (streams_of R.remaining r.old r.new W.contents w.old w.new)) }
-    ensures err { IfErr result (StopsOdLines o.now meter.old.taken (streams_of R.remaining r.old r.new W.contents w.old w.new)) }
-    ensures few { IfOk result (λ part. part.written ≤ 2 ^ 60) }
-    ensures count { IfOk result (λ part. part.read ≤ 2 ^ 40) }
+    ensures lines { DumpsLines (od_lines o.now) meter.old.taken o.now.limit (streams_of R.remaining r.old r.new W.contents w.old w.new) result }
 {
     let lines = OdWide {
         address: o.address,

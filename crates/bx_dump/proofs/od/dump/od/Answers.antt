@@ -46,7 +46,7 @@ returns-in-Err-dump_shown-clause-err g c =
     let lines = folded_by o.width (shown_line o) o.all (o.first + o.skip) in
     let text = λ (xs : List ℕ). lines (bytes_dumped o.skip o.limit xs) in
     let other = λ (xs : List ℕ). od_text o.address (shown_line o) o.width o.all (o.first + o.skip) (bytes_dumped o.skip o.limit xs) in
-    let rest = rw c.in_default.ensures.open.1 at c.in-Err-dump_shown.ensures.err in
+    let rest = rw c.in_default.ensures.open.1 at c.in-Err-dump_shown.ensures.lines.err in
     inr (front_of (od_of o) _ _ _ _ c.in-Err-dump_shown.fault (front_then 0 (2 ^ 7) text other o.skip o.limit 0 0 _ _ _ _ c.in-Err-dump_shown.fault (λ xs. (od_end o.address (o.first + o.skip + length (bytes_dumped o.skip o.limit xs)), refl))
     (λ xs. omega (
       arith,
@@ -63,7 +63,7 @@ returns-in-Err-emit_after-clause-err g c =
     let text = λ (xs : List ℕ). lines (bytes_dumped o.skip o.limit xs) in
     let other = λ (xs : List ℕ). od_text o.address (shown_line o) o.width o.all (o.first + o.skip) (bytes_dumped o.skip o.limit xs) in
     let done = c.in-Ok.lines in
-    let whole = part_whole lines o.skip o.limit _ _ _ _ _ done.read done.written c.in_default.ensures.ok (rw c.in_default.ensures.open.1 at c.in-Ok.ensures.ok) in
+    let whole = part_whole lines o.skip o.limit _ _ _ _ _ done.read done.written c.in_default.ensures.ok (rw c.in_default.ensures.open.1 at c.in-Ok.ensures.lines.ok) in
     let line = rw (c.as_bytes.ensures.value, c.end_line-end.ensures) at c.in-Err-emit_after.ensures.err in
     let none : 0 + done.written ≡ done.written = omega arith in
     inr (front_of (od_of o) _ _ _ _ c.in-Err-emit_after.fault (stop_then text other o.skip o.limit _ _ _ _ _ done.read done.written (od_end o.address (o.first + o.skip + done.read))
@@ -76,7 +76,7 @@ returns-clause-ok g c =
     let text = λ (xs : List ℕ). lines (bytes_dumped o.skip o.limit xs) in
     let other = λ (xs : List ℕ). od_text o.address (shown_line o) o.width o.all (o.first + o.skip) (bytes_dumped o.skip o.limit xs) in
     let done = c.in-Ok.lines in
-    let whole = part_whole lines o.skip o.limit _ _ _ _ _ done.read done.written c.in_default.ensures.ok (rw c.in_default.ensures.open.1 at c.in-Ok.ensures.ok) in
+    let whole = part_whole lines o.skip o.limit _ _ _ _ _ done.read done.written c.in_default.ensures.ok (rw c.in_default.ensures.open.1 at c.in-Ok.ensures.lines.ok) in
     let line = rw (c.as_bytes.ensures.value, c.end_line-end.ensures) at c.in_default-emit_after.ensures.ok in
     all_of (od_of o) _ _ _ _ done.read (done.written + length (od_end o.address (o.first + o.skip + done.read)))
     (part_then text other o.skip o.limit _ _ _ _ _ done.read done.written (od_end o.address (o.first + o.skip + done.read))
@@ -84,7 +84,7 @@ returns-clause-ok g c =
 
 pub returns-clause-reached : goal.returns-clause-reached
 returns-clause-reached g c =
-    let rest = c.in-Ok.ensures.ok in
+    let rest = c.in-Ok.ensures.lines.ok in
     reaches_behind _ _ _ _ rest.input c.in_default.ensures.ok rest.consumed
 
 pub returns-in-Err-clause-behind : goal.returns-in-Err-clause-behind
@@ -92,12 +92,12 @@ returns-in-Err-clause-behind g c = inl refl
 
 pub returns-in-Err-dump_shown-clause-behind : goal.returns-in-Err-dump_shown-clause-behind
 returns-in-Err-dump_shown-clause-behind g c =
-    let rest = c.in-Err-dump_shown.ensures.err in
+    let rest = c.in-Err-dump_shown.ensures.lines.err in
     inr (reaches_behind _ _ _ _ rest.input c.in_default.ensures.ok rest.consumed)
 
 pub returns-in-Err-emit_after-clause-behind : goal.returns-in-Err-emit_after-clause-behind
 returns-in-Err-emit_after-clause-behind g c =
-    let rest = c.in-Ok.ensures.ok in
+    let rest = c.in-Ok.ensures.lines.ok in
     inr (reaches_behind _ _ _ _ rest.input c.in_default.ensures.ok rest.consumed)
 
 pub returns-in-Err-clause-write : goal.returns-in-Err-clause-write
@@ -105,10 +105,10 @@ returns-in-Err-clause-write g c = λ n e. absurd (short_reads _ n _ _ c.in-Err.f
 
 pub returns-in-Err-dump_shown-clause-write : goal.returns-in-Err-dump_shown-clause-write
 returns-in-Err-dump_shown-clause-write g c = λ n e.
-    let rest = c.in-Err-dump_shown.ensures.err in
+    let rest = c.in-Err-dump_shown.ensures.lines.err in
     reaches_behind _ _ _ _ rest.input c.in_default.ensures.ok rest.consumed
 
 pub returns-in-Err-emit_after-clause-write : goal.returns-in-Err-emit_after-clause-write
 returns-in-Err-emit_after-clause-write g c = λ n e.
-    let rest = c.in-Ok.ensures.ok in
+    let rest = c.in-Ok.ensures.lines.ok in
     reaches_behind _ _ _ _ rest.input c.in_default.ensures.ok rest.consumed
