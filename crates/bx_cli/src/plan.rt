@@ -140,6 +140,17 @@ fn input(alloc: Global, m: &Given<'_, '_>) -> Result<Option<Name>, Fault> {
     }
 }
 
+/// The names of the files behind the first.
+fn more(alloc: Global, m: &Given<'_, '_>) -> Result<Words, Fault> {
+    let mut more = Words::new(alloc);
+    if let Some(names) = m.get_strs("file") {
+        for name in names.iter().skip(1) {
+            more.push(name)?;
+        }
+    }
+    Ok(more)
+}
+
 // The image that is named, the texts beside it, and how they are used.
 fn target(alloc: Global, m: &Given<'_, '_>, access: Access) -> Result<Target, Fault> {
     let Some(image) = m.get_str("image") else {
@@ -200,6 +211,7 @@ fn od(alloc: Global, m: &Given<'_, '_>) -> Result<OdJob, Fault> {
             all: m.get_flag("all"),
         },
         file: input(alloc, m)?,
+        more: more(alloc, m)?,
     })
 }
 
@@ -284,6 +296,7 @@ fn hexdump(alloc: Global, m: &Given<'_, '_>) -> Result<HexdumpJob, Fault> {
             all: m.get_flag("all"),
         },
         file: input(alloc, m)?,
+        more: more(alloc, m)?,
     })
 }
 
@@ -298,6 +311,7 @@ fn strings(alloc: Global, m: &Given<'_, '_>) -> Result<StringsJob, Fault> {
             offsets: radix(m.get_str("offsets"), Address::Without, false)?,
         },
         file: input(alloc, m)?,
+        more: more(alloc, m)?,
     })
 }
 

@@ -32,6 +32,18 @@ where
     fault
 }
 
+/// Writes the text of a fault that stops no job, and behind it where hints are written the hint.
+pub fn show_passed<R>(rt: &R, hints: bool, stopped: Stopped<'_>)
+where
+    R: Files<File = File> + Eprint + AllocGlobal,
+{
+    let fault = stopped.fault;
+    let _ = eprintln!(rt; "bx: {fault}");
+    if hints {
+        let _ = show_cause(rt, None, stopped, None);
+    }
+}
+
 /// The hint on a line of its own.
 fn show_hint<R>(rt: &R, words: &Words, job: Option<&Job>, stopped: Stopped<'_>) -> Result<(), Fault>
 where

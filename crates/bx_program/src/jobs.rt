@@ -6,6 +6,7 @@ mod looks;
 mod patch;
 mod previews;
 mod ready;
+mod several;
 mod sights;
 mod steps;
 
@@ -19,6 +20,7 @@ use crate::jobs::kept::{Manner, put_change};
 use crate::jobs::looks::look;
 use crate::jobs::previews::{preview_copy, preview_read};
 use crate::jobs::ready::most_of_dd;
+use crate::jobs::several::{More, dump_as_one, dump_each, more_of};
 use crate::jobs::sights::{look_at_change, look_before, tell_behind};
 use crate::jobs::steps::take_steps;
 use crate::progress::{
@@ -367,8 +369,31 @@ fn change_of<'a, R: Eprint + Clock, I: Read + Drop>(
     }
 }
 
-/// Dumps or copies FILE, or standard input where there is none, and answers what dd counted.
+/// Dumps or copies each FILE, or standard input where there is none, and answers what dd counted.
 fn dump<'a, R, W: Write>(
+    rt: &R,
+    job: &'a DumpJob,
+    out: &mut W,
+    remarks: &Remarks,
+) -> Result<Option<Counts>, Stopped<'a>>
+where
+    R: Files<File = File> + Input + Print + Eprint + Clock + AllocGlobal,
+{
+    match more_of(job) {
+        More::Alone => dump_alone(rt, job, out, remarks),
+        More::AsOne(more) => {
+            dump_as_one(rt, job, more, out, remarks)?;
+            Ok(None)
+        }
+        More::Each(more) => {
+            dump_each(rt, job, more, out, remarks)?;
+            Ok(None)
+        }
+    }
+}
+
+/// Dumps or copies the only file of a job, or standard input, and answers what dd counted.
+fn dump_alone<'a, R, W: Write>(
     rt: &R,
     job: &'a DumpJob,
     out: &mut W,

@@ -1,4 +1,5 @@
 //! The standard streams, and what is read of them.
+pub mod chained;
 pub mod closed;
 pub mod fitting;
 pub mod input;

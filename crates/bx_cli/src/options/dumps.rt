@@ -228,6 +228,25 @@ fn reader<'a>(
     command.arg(file)
 }
 
+/// A command that reads each FILE, or standard input; `help` says how.
+fn reader_of_all<'a>(
+    alloc: Global,
+    command: Command<'a>,
+    rows: &[Row],
+    help: &'static str,
+) -> Result<Command<'a>, AllocError> {
+    let command = with_rows(alloc, command, rows)?;
+    let files = Arg::new(alloc, "file")
+        .value_name("FILE")
+        .num_args(0..)
+        .action(ArgAction::Append)
+        .help(help);
+    command.arg(files)
+}
+
+/// What the files of od and hexdump are.
+const AS_ONE: &str = "Files to read, as one input [default: standard input]";
+
 pub fn od<'a>(alloc: Global) -> Result<Command<'a>, AllocError> {
     let command = Command::new(alloc, "od")
         .about("Dump bytes as numbers or characters")
@@ -235,7 +254,11 @@ pub fn od<'a>(alloc: Global) -> Result<Command<'a>, AllocError> {
             "COUNT: decimal, 0x and hexadecimal, or 0 and octal; then b (512), k (1024) or\nm (1048576). As GNU od has them also K, M, G, T and P, and kB (1000), MB and so\non; a TYPE may be a letter alone (4 bytes), have C, S, I or L for its size, and\nz behind it for the bytes as text. Each further type is a row below, for the\nsame bytes: -t x1z -t c is -t x1zc, and -xc is -t x2c. They are at most 16.\n\nEXAMPLES:\n  bx od -A x -t x1 disk.img     bytes in hexadecimal, with hexadecimal addresses\n  bx od -c -N 64 notes.txt      the first 64 bytes as characters\n  bx od -t u4 -j 1k disk.img    numbers of 4 bytes, from byte 1024 on",
         );
     let typed = with_rows(alloc, command, &OD)?.arg(types(alloc))?;
-    let more = with_more(alloc, reader(alloc, typed, &OD_FLAGS)?, &OD_MORE)?;
+    let more = with_more(
+        alloc,
+        reader_of_all(alloc, typed, &OD_FLAGS, AS_ONE)?,
+        &OD_MORE,
+    )?;
     more.arg(endian(alloc))?.arg(width(alloc))
 }
 
@@ -298,7 +321,7 @@ pub fn hexdump<'a>(alloc: Global) -> Result<Command<'a>, AllocError> {
         .after_help(
             "COUNT: decimal, 0x and hexadecimal, or 0 and octal;\nthen b (512), k (1024) or m (1048576).\n\nEXAMPLES:\n  bx hexdump -C disk.img\n  bx hexdump -C -s 1m -n 256 disk.img    256 bytes, from byte 1048576 on",
         );
-    reader(alloc, command, &HEXDUMP)
+    reader_of_all(alloc, command, &HEXDUMP, AS_ONE)
 }
 
 pub fn strings<'a>(alloc: Global) -> Result<Command<'a>, AllocError> {
@@ -307,5 +330,10 @@ pub fn strings<'a>(alloc: Global) -> Result<Command<'a>, AllocError> {
         .after_help(
             "COUNT: decimal.\n\nEXAMPLES:\n  bx strings program\n  bx strings -n 8 -t x program    runs of 8 bytes and more, with their places",
         );
-    reader(alloc, command, &STRINGS)
+    reader_of_all(
+        alloc,
+        command,
+        &STRINGS,
+        "Files to read, one by one [default: standard input]",
+    )
 }

@@ -42,6 +42,8 @@ pub struct OdJob {
     pub options: OdOptions,
     /// The input's name; none is standard input.
     pub file: Option<Name>,
+    /// The names of the files that are read behind it, as one input with it; `-` is standard input.
+    pub more: Words,
 }
 
 /// `xxd`: how and what it dumps.
@@ -65,6 +67,8 @@ pub struct HexdumpJob {
     pub options: HexdumpOptions,
     /// The input's name; none is standard input.
     pub file: Option<Name>,
+    /// The names of the files that are read behind it, as one input with it; `-` is standard input.
+    pub more: Words,
 }
 
 /// `strings`: which runs it shows, and how.
@@ -74,6 +78,8 @@ pub struct StringsJob {
     pub options: StringsOptions,
     /// The input's name; none is standard input.
     pub file: Option<Name>,
+    /// The names of the files that are read behind it, each for itself; `-` is standard input.
+    pub more: Words,
 }
 
 /// `dd` without `of=`: what its operands ask for, and the operands themselves. The output is a stream.

@@ -119,6 +119,7 @@ fn od_field<'a>(job: &'a OdJob, name: &str) -> Field<'a> {
         "limit" => limit(job.options.limit),
         "all" => flag(job.options.all),
         "file" => file(&job.file),
+        "more" => Field::Joined(&job.more),
         _ => Field::Missing,
     }
 }
@@ -159,6 +160,7 @@ fn hexdump_field<'a>(job: &'a HexdumpJob, name: &str) -> Field<'a> {
         "limit" => limit(job.options.limit),
         "all" => flag(job.options.all),
         "file" => file(&job.file),
+        "more" => Field::Joined(&job.more),
         _ => Field::Missing,
     }
 }
@@ -168,6 +170,7 @@ fn strings_field<'a>(job: &'a StringsJob, name: &str) -> Field<'a> {
         "least" => Field::Number(job.options.least as u64),
         "offsets" => address(job.options.offsets),
         "file" => file(&job.file),
+        "more" => Field::Joined(&job.more),
         _ => Field::Missing,
     }
 }

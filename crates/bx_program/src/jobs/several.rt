@@ -1,0 +1,170 @@
+//! Dumps of several files: of od and hexdump as one input, of strings one by one.
+use crate::faults::show_passed;
+use crate::jobs::{cut_off, dump_named, dump_standard, most_of};
+use crate::progress::progress_of_dumped;
+use crate::streams::chained::Chained;
+use bx_cli::{DumpJob, Fault};
+use bx_hints::{Reason, Remarks, STANDARD_INPUT, Stopped};
+use bx_program_commands::{Done, Failure, Request, run_request};
+use bx_program_system::{Counted, SystemWorld};
+use bx_text::{IoFault, Words};
+use std::fs::File;
+use std::io::{Read, Write};
+use std::rt::Files;
+use std::time::Clock;
+
+/// The files of a job behind its first, and how they are read.
+#[derive(Clone, Copy)]
+pub enum More<'a> {
+    /// There is none.
+    Alone,
+    /// As one input with the first.
+    AsOne(&'a Words),
+    /// Each for itself.
+    Each(&'a Words),
+}
+
+/// The files of a job behind its first.
+pub fn more_of(job: &DumpJob) -> More<'_> {
+    match job {
+        DumpJob::Od(job) if job.more.len() > 0 => More::AsOne(&job.more),
+        DumpJob::Hexdump(job) if job.more.len() > 0 => More::AsOne(&job.more),
+        DumpJob::Strings(job) if job.more.len() > 0 => More::Each(&job.more),
+        DumpJob::Od(_)
+        | DumpJob::Xxd(_)
+        | DumpJob::Hexdump(_)
+        | DumpJob::Strings(_)
+        | DumpJob::Dd(_) => More::Alone,
+    }
+}
+
+/// What stopped a job where some of its files were left out, which is said by then.
+fn missed<'a>() -> Stopped<'a> {
+    Stopped {
+        fault: Fault::OpenFailed,
+        file: None,
+        reason: Reason::Silent,
+    }
+}
+
+/// The names of all files of a job, `-` for standard input.
+fn names_of<R: AllocGlobal>(rt: &R, job: &DumpJob, more: &Words) -> Result<Words, Fault> {
+    let mut names = Words::new(rt.alloc());
+    match job.input() {
+        Some(name) => names.push(name.as_str())?,
+        None => names.push("-")?,
+    }
+    for i in 0..more.len() {
+        names.push(more.get(i).unwrap_or(""))?;
+    }
+    Ok(names)
+}
+
+/// Dumps the files of a job as one input: what is skipped and how much is dumped counts over all. One that can't be opened or
+/// read is said and left out.
+///
+/// # Errors
+/// The dump's fault; where only files were left out `OpenFailed`, of which nothing more is to be said. Where none is opened
+/// nothing is written.
+pub fn dump_as_one<'a, R, W: Write>(
+    rt: &R,
+    job: &'a DumpJob,
+    more: &Words,
+    out: &mut W,
+    remarks: &Remarks,
+) -> Result<(), Stopped<'a>>
+where
+    R: Files<File = File> + Input + Print + Eprint + Clock + AllocGlobal,
+{
+    let names = names_of(rt, job, more)?;
+    let mut chain = Chained::new(rt, &names, remarks.audience.hints);
+    if !chain.advance() {
+        return Err(missed());
+    }
+    let answer = dump_chain(rt, job, &mut chain, out, remarks);
+    match answer {
+        Ok(_) if chain.missed => Err(missed()),
+        Ok(_) => Ok(()),
+        Err(failure) => Err(cut_off(STANDARD_INPUT, None, failure)),
+    }
+}
+
+/// Dumps what the files give.
+fn dump_chain<R, I: Read, W: Write>(
+    rt: &R,
+    job: &DumpJob,
+    input: I,
+    out: &mut W,
+    remarks: &Remarks,
+) -> Result<Done, Failure>
+where
+    I: Drop,
+    R: Files<File = File> + Input + Print + Eprint + Clock + AllocGlobal,
+{
+    let progress = progress_of_dumped(rt, remarks, most_of(job));
+    let counted = Counted::new(input, &progress);
+    let mut world = SystemWorld::new(rt, &progress, false);
+    let request = Request::DumpInput {
+        job,
+        input: counted,
+    };
+    let answer = run_request(&mut world, rt.alloc(), request, out);
+    progress.end();
+    answer
+}
+
+/// Dumps the files of a job one by one. One that can't be opened or read is said, and the others are dumped.
+///
+/// # Errors
+/// The first fault but those, which ends the dumps; where only files were left out `OpenFailed`, of which nothing more is to be
+/// said.
+pub fn dump_each<'a, R, W: Write>(
+    rt: &R,
+    job: &'a DumpJob,
+    more: &'a Words,
+    out: &mut W,
+    remarks: &Remarks,
+) -> Result<(), Stopped<'a>>
+where
+    R: Files<File = File> + Input + Print + Eprint + Clock + AllocGlobal,
+{
+    let first = match job.input() {
+        Some(name) => name.as_str(),
+        None => "-",
+    };
+    let mut whole = dump_next(rt, job, first, out, remarks)?;
+    for i in 0..more.len() {
+        if let Some(name) = more.get(i) {
+            let next = dump_next(rt, job, name, out, remarks)?;
+            whole = whole && next;
+        }
+    }
+    if whole { Ok(()) } else { Err(missed()) }
+}
+
+/// Dumps one of several files, and answers whether it was opened and read, which is said where it wasn't.
+fn dump_next<'a, R, W: Write>(
+    rt: &R,
+    job: &DumpJob,
+    name: &'a str,
+    out: &mut W,
+    remarks: &Remarks,
+) -> Result<bool, Stopped<'a>>
+where
+    R: Files<File = File> + Input + Print + Eprint + Clock + AllocGlobal,
+{
+    let outcome = match name {
+        "-" => dump_standard(rt, job, out, remarks),
+        _ => dump_named(rt, job, name, out, remarks),
+    };
+    match outcome {
+        Ok(_) => Ok(true),
+        Err(stopped) => match stopped.fault {
+            Fault::OpenFailed | Fault::Io(IoFault::ReadFailed) => {
+                show_passed(rt, remarks.audience.hints, stopped);
+                Ok(false)
+            }
+            _ => Err(stopped),
+        },
+    }
+}
