@@ -73,6 +73,41 @@ Dumps and a patch:
   bx: skip is past the end of the input
   hint: give a smaller -j
   [1]
+  $ printf abc > first; printf defg > last; bx od -An -c first none dir last
+  bx: cannot open file
+  hint: none: No such file or directory
+  bx: read failed
+  hint: dir: Is a directory
+     a   b   c   d   e   f   g
+  [1]
+  $ bx od -An -c -j 2 -N 3 first - < last; bx hexdump -C -s 2 first last; bx strings -n 3 first none last
+     c   d   e
+  00000002  63 64 65 66 67                                    |cdefg|
+  00000007
+  abc
+  bx: cannot open file
+  hint: none: No such file or directory
+  defg
+  [1]
+  $ bx od none dir
+  bx: cannot open file
+  hint: none: No such file or directory
+  bx: read failed
+  hint: dir: Is a directory
+  0000000
+  [1]
+  $ bx xxd -s -2 last; bx xxd -s -3 -l 2 -p last; bx xxd -s -0x3 -o 16 last
+  00000002: 6667                                     fg
+  6566
+  00000011: 6566 67                                  efg
+  $ bx xxd -s -5 last
+  bx: read failed
+  hint: last: it has fewer bytes than a negative -s counts from its end
+  [1]
+  $ cat last | bx xxd -s -2
+  bx: read failed
+  hint: standard input: a negative -s counts from the end, which only a file or a block device has that is given by its name
+  [1]
   $ bx revert -f address img
   bx: line 1: bad address
   hint: a line is like '00000002: 7879'; for digits alone give -p
@@ -242,47 +277,47 @@ Dumps and a patch:
   [2]
   $ bx xxd -s 1k img
   bx: bad arguments
-  hint: 1k: a number as 512, 0x200 or 01000, with nothing behind it; Usage: bx xxd [OPTIONS] [FILE]
+  hint: 1k: a number as 512, 0x200 or 01000, with nothing behind it, and - before it where it counts from the end; Usage: bx xxd [OPTIONS] [FILE]
   [2]
   $ bx od -N 4q img
   bx: bad arguments
-  hint: 4q: a number as 512, 0x200 or 01000, with b, k or m behind it, or K, M, G, T, P, kB or KiB; Usage: bx od [OPTIONS] [FILE]
+  hint: 4q: a number as 512, 0x200 or 01000, with b, k or m behind it, or K, M, G, T, P, kB or KiB; Usage: bx od [OPTIONS] [FILE]...
   [2]
   $ bx od -A q img
   bx: bad arguments
-  hint: q: one of d, o, x and n; Usage: bx od [OPTIONS] [FILE]
+  hint: q: one of d, o, x and n; Usage: bx od [OPTIONS] [FILE]...
   [2]
   $ bx od -t x3 img
   bx: bad arguments
-  hint: x3: c, or one of d, o, u and x with one of 1, 2, 4 and 8, or C, S, I and L, and perhaps z; at most 16 in all; Usage: bx od [OPTIONS] [FILE]
+  hint: x3: c, or one of d, o, u and x with one of 1, 2, 4 and 8, or C, S, I and L, and perhaps z; at most 16 in all; Usage: bx od [OPTIONS] [FILE]...
   [2]
   $ bx od -t x1 -t x1q img
   bx: bad arguments
-  hint: x1q: c, or one of d, o, u and x with one of 1, 2, 4 and 8, or C, S, I and L, and perhaps z; at most 16 in all; Usage: bx od [OPTIONS] [FILE]
+  hint: x1q: c, or one of d, o, u and x with one of 1, 2, 4 and 8, or C, S, I and L, and perhaps z; at most 16 in all; Usage: bx od [OPTIONS] [FILE]...
   [2]
   $ bx od -w12 -t x1 -t x8 img
   bx: bad arguments
-  hint: 12: a decimal number from 1 to 256, and a multiple of the bytes of each value; Usage: bx od [OPTIONS] [FILE]
+  hint: 12: a decimal number from 1 to 256, and a multiple of the bytes of each value; Usage: bx od [OPTIONS] [FILE]...
   [2]
   $ bx od -w3 img
   bx: bad arguments
-  hint: 3: a decimal number from 1 to 256, and a multiple of the bytes of each value; Usage: bx od [OPTIONS] [FILE]
+  hint: 3: a decimal number from 1 to 256, and a multiple of the bytes of each value; Usage: bx od [OPTIONS] [FILE]...
   [2]
   $ bx od --endian=middle img
   bx: bad arguments
-  hint: middle: big or little; Usage: bx od [OPTIONS] [FILE]
+  hint: middle: big or little; Usage: bx od [OPTIONS] [FILE]...
   [2]
   $ bx strings -n 0 img
   bx: bad arguments
-  hint: 0: a decimal number from 1 to 4096; Usage: bx strings [OPTIONS] [FILE]
+  hint: 0: a decimal number from 1 to 4096; Usage: bx strings [OPTIONS] [FILE]...
   [2]
   $ bx strings -t n img
   bx: bad arguments
-  hint: n: one of d, o and x; Usage: bx strings [OPTIONS] [FILE]
+  hint: n: one of d, o and x; Usage: bx strings [OPTIONS] [FILE]...
   [2]
   $ bx hexdump img
   bx: bad arguments
-  hint: -C: it has to be given, since there is no other form; Usage: bx hexdump [OPTIONS] [FILE]
+  hint: -C: it has to be given, since there is no other form; Usage: bx hexdump [OPTIONS] [FILE]...
   [2]
   $ bx undo -k 99999 img
   bx: bad arguments
@@ -403,7 +438,7 @@ Dumps and a patch:
   [2]
   $ bx od --format=x1 img
   bx: bad arguments
-  hint: unexpected argument '--format' found: give -t TYPE; Usage: bx od [OPTIONS] [FILE]
+  hint: unexpected argument '--format' found: give -t TYPE; Usage: bx od [OPTIONS] [FILE]...
   [2]
   $ bx revert words img
   bx: bad arguments
@@ -419,7 +454,7 @@ Dumps and a patch:
   [2]
   $ bx strings -8 img
   bx: bad arguments
-  hint: -8: give -n COUNT for the minimum run length; Usage: bx strings [OPTIONS] [FILE]
+  hint: -8: give -n COUNT for the minimum run length; Usage: bx strings [OPTIONS] [FILE]...
   [2]
   $ bx xxd -l 99999999999999999999 img
   bx: bad arguments
@@ -427,11 +462,11 @@ Dumps and a patch:
   [2]
   $ bx od -j 0xfffffffffffffffffffff img
   bx: bad arguments
-  hint: 0xfffffffffffffffffffff: a number is at most 4611686018427387904; Usage: bx od [OPTIONS] [FILE]
+  hint: 0xfffffffffffffffffffff: a number is at most 4611686018427387904; Usage: bx od [OPTIONS] [FILE]...
   [2]
   $ bx xxd -s $'\e[2J\r' img
   bx: bad arguments
-  hint: \033[2J\r: a number as 512, 0x200 or 01000, with nothing behind it; Usage: bx xxd [OPTIONS] [FILE]
+  hint: \033[2J\r: a number as 512, 0x200 or 01000, with nothing behind it, and - before it where it counts from the end; Usage: bx xxd [OPTIONS] [FILE]
   [2]
   $ bx $'\e[2J'
   bx: bad arguments
@@ -471,19 +506,11 @@ Dumps and a patch:
   [2]
   $ bx od -r words
   bx: bad arguments
-  hint: unexpected argument '-r' found; Usage: bx od [OPTIONS] [FILE]
+  hint: unexpected argument '-r' found; Usage: bx od [OPTIONS] [FILE]...
   [2]
-  $ bx xxd -s -4 img
+  $ bx xxd -s -4k img
   bx: bad arguments
-  hint: -4: there are no negative places and counts; places count from the start; Usage: bx xxd [OPTIONS] [FILE]
-  [2]
-  $ bx xxd -l 2 -s -10 img
-  bx: bad arguments
-  hint: -10: there are no negative places and counts; places count from the start; Usage: bx xxd [OPTIONS] [FILE]
-  [2]
-  $ bx xxd -s-10 img
-  bx: bad arguments
-  hint: -10: there are no negative places and counts; places count from the start; Usage: bx xxd [OPTIONS] [FILE]
+  hint: -4k: a number as 512, 0x200 or 01000, with nothing behind it, and - before it where it counts from the end; Usage: bx xxd [OPTIONS] [FILE]
   [2]
   $ bx xxd -l-10 img
   bx: bad arguments

@@ -202,7 +202,7 @@ fn wrong_value<'a>(name: &str, m: &ArgMatches<'a>) -> Option<(&'a str, &'static 
             let form = form_of(name, id, style);
             return Some((
                 value,
-                if is_negative(value) {
+                if is_negative(value) && *id != "seek" {
                     no_negative(is_place(id))
                 } else if is_large(id, value, style) {
                     "a number is at most 4611686018427387904"
@@ -249,6 +249,8 @@ fn form_of(name: &str, id: &str, style: SizeStyle) -> &'static str {
         "least" => "a decimal number from 1 to 4096",
         "count" => "a decimal number from 0 to 65535",
         "cols" => "a number from 1 to 256",
+        "seek" =>
+            "a number as 512, 0x200 or 01000, with nothing behind it, and - before it where it counts from the end",
         _ if name == "od" => {
             "a number as 512, 0x200 or 01000, with b, k or m behind it, or K, M, G, T, P, kB or KiB"
         }
@@ -271,6 +273,10 @@ fn is_value(name: &str, m: &ArgMatches<'_>, id: &str, style: SizeStyle) -> bool 
         "least" => count_or(text, 1, MOST_LEAST).is_ok_and(|n| n > 0),
         "count" => count_or(text, 1, MOST_STEPS).is_ok(),
         "cols" => look(&Given::Read(m)).is_ok(),
+        "seek" => {
+            let back = text.and_then(|text| text.strip_prefix('-'));
+            number(back.or(text), style).is_ok()
+        }
         _ if name == "od" => bytes(text).is_ok(),
         _ => number(text, style).is_ok(),
     }

@@ -1,5 +1,5 @@
 //! From words to a job.
-ghost use Rattle.std.specs.Prelude.{◌≡◌, ◌≤◌, IfOk};
+ghost use Rattle.std.specs.Prelude.{◌≡◌, ◌≤◌, ◌^◌, IfOk};
 
 use crate::dashed::by_letter;
 use crate::given::Given;
@@ -265,19 +265,32 @@ fn group(m: &Given<'_, '_>, look: XxdLook, cols: u16) -> Result<u16, Fault>
     }
 }
 
+/// The place to begin at, from the start, or where a number is negative from the end.
+fn place(m: &Given<'_, '_>) -> Result<(u64, Option<u64>), Fault>
+    ensures { IfOk result (λ found. found.0 ≤ 2 ^ 62) }
+{
+    let text = m.get_str("seek");
+    match text.and_then(|text| text.strip_prefix('-')) {
+        Some(back) => Ok((0, number(Some(back), SizeStyle::Bare)?)),
+        None => Ok((number_or(text, SizeStyle::Bare, 0)?, None)),
+    }
+}
+
 fn xxd(alloc: Global, m: &Given<'_, '_>) -> Result<XxdJob, Fault> {
     let (look, cols) = look(m)?;
     let group = group(m, look, cols)?;
+    let (seek, from_end) = place(m)?;
     Ok(XxdJob {
         look,
         options: XxdOptions {
             cols,
             group,
             limit: number(m.get_str("limit"), SizeStyle::Bare)?,
-            seek: number_or(m.get_str("seek"), SizeStyle::Bare, 0)?,
+            seek,
             shift: number_or(m.get_str("shift"), SizeStyle::Bare, 0)?,
             upper: m.get_flag("upper"),
         },
+        from_end,
         array: name(alloc, m, "array")?,
         file: input(alloc, m)?,
     })

@@ -1,6 +1,7 @@
 -- Jobs, and the dumps and copies that they make.
 pub mod CopyOut
 pub mod Dump
+pub mod FromEnd
 pub mod Job
 pub mod JobDump
 pub mod Passing

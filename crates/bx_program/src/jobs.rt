@@ -1,6 +1,7 @@
 //! The jobs, and one run of the program.
 mod copies;
 mod diff;
+mod ends;
 mod kept;
 mod looks;
 mod patch;
@@ -8,24 +9,23 @@ mod previews;
 mod ready;
 mod several;
 mod sights;
+mod single;
 mod steps;
 
 use crate::faults::show_fault;
-use crate::files::unopened::number_of;
 use crate::history::changes::change_image;
 use crate::history::forget::forget;
 use crate::history::told::look_for_others;
 use crate::jobs::copies::{copy_onto, tell};
+use crate::jobs::ends::{back_of, dump_end};
 use crate::jobs::kept::{Manner, put_change};
 use crate::jobs::looks::look;
 use crate::jobs::previews::{preview_copy, preview_read};
-use crate::jobs::ready::most_of_dd;
 use crate::jobs::several::{More, dump_as_one, dump_each, more_of};
 use crate::jobs::sights::{look_at_change, look_before, tell_behind};
+use crate::jobs::single::{dump_named, dump_standard};
 use crate::jobs::steps::take_steps;
-use crate::progress::{
-    progress_of_dump, progress_of_dumped, progress_of_input, progress_of_standard,
-};
+use crate::progress::{progress_of_input, progress_of_standard};
 use crate::streams::closed::Held;
 use crate::streams::input::{MOST_INPUT, Placed, whole};
 use bx_cli::{
@@ -38,10 +38,9 @@ use bx_hints::{
 use bx_image::Change;
 use bx_journal::Way;
 use bx_read::ReadFault;
-use bx_run::{Cause, Done, Edit, Failure, Request, run_request};
-use bx_system::{Counted, Noted, Progress, SystemWorld, Tally};
+use bx_run::Edit;
+use bx_system::{Counted, Noted, Progress, Tally};
 use bx_text::{IoFault, Source, Words, emit};
-use bx_world::Why;
 use std::alloc::Global;
 use std::env;
 use std::fs::File;
@@ -402,71 +401,14 @@ fn dump_alone<'a, R, W: Write>(
 where
     R: Files<File = File> + Input + Print + Eprint + Clock + AllocGlobal,
 {
-    let done = match job.input() {
-        Some(name) => dump_named(rt, job, name.as_str(), out, remarks)?,
-        None => dump_standard(rt, job, out, remarks)?,
+    let done = match (job.input(), back_of(job)) {
+        (name, Some((xxd, back))) => dump_end(rt, xxd, back, name, out, remarks)?,
+        (Some(name), None) => dump_named(rt, job, name.as_str(), out, remarks)?,
+        (None, None) => dump_standard(rt, job, out, remarks)?,
     };
     match done.counts {
         Some(counts) if !is_quiet(job) => Ok(Some(counts)),
         Some(_) | None => Ok(None),
-    }
-}
-
-/// Dumps or copies a file by its name.
-fn dump_named<'a, R, W: Write>(
-    rt: &R,
-    job: &DumpJob,
-    name: &'a str,
-    out: &mut W,
-    remarks: &Remarks,
-) -> Result<Done, Stopped<'a>>
-where
-    R: Files<File = File> + Print + Eprint + Clock + AllocGlobal,
-{
-    let progress = progress_of_dump(rt, remarks, None);
-    let mut world = SystemWorld::reading(rt, &progress, most_of(job));
-    let request: Request<'_, Empty> = Request::Dump { job, name };
-    match run_request(&mut world, rt.alloc(), request, out) {
-        Ok(done) => Ok(done),
-        Err(failure) => Err(cut_off(name, world.unread, failure)),
-    }
-}
-
-/// What stopped a dump of this file, whose reading was refused with the system's number.
-fn cut_off(name: &str, unread: Option<i32>, failure: Failure) -> Stopped<'_> {
-    let fault = failure.fault;
-    let by = match failure.stop.map(|stop| stop.cause) {
-        Some(Cause::Unopened(Why::System(refusal)) | Cause::Unplaced(refusal)) => {
-            Stopped::by(fault, name, number_of(refusal))
-        }
-        Some(_) | None => Stopped::from(fault).on_input(name, unread),
-    };
-    Stopped { fault, ..by }
-}
-
-/// Dumps or copies standard input, which has no seek: what is skipped is read.
-fn dump_standard<R, W: Write>(
-    rt: &R,
-    job: &DumpJob,
-    out: &mut W,
-    remarks: &Remarks,
-) -> Result<Done, Stopped<'static>>
-where
-    R: Files<File = File> + Input + Print + Eprint + Clock + AllocGlobal,
-{
-    let progress = progress_of_dumped(rt, remarks, most_of(job));
-    let mut reader = Noted::new(rt.reader());
-    let counted = Counted::new(&mut reader, &progress);
-    let mut world = SystemWorld::new(rt, &progress, false);
-    let request = Request::DumpInput {
-        job,
-        input: counted,
-    };
-    let answer = run_request(&mut world, rt.alloc(), request, out);
-    progress.end();
-    match answer {
-        Ok(done) => Ok(done),
-        Err(failure) => Err(cut_off(STANDARD_INPUT, reader.error, failure)),
     }
 }
 
@@ -475,16 +417,5 @@ fn is_quiet(job: &DumpJob) -> bool {
     match job {
         DumpJob::Dd(job) => job.plan.quiet,
         DumpJob::Od(_) | DumpJob::Xxd(_) | DumpJob::Hexdump(_) | DumpJob::Strings(_) => false,
-    }
-}
-
-/// How many bytes a job reads at most behind those that it skips; none where its options don't tell.
-fn most_of(job: &DumpJob) -> Option<u64> {
-    match job {
-        DumpJob::Od(job) => job.options.limit,
-        DumpJob::Xxd(job) => job.options.limit,
-        DumpJob::Hexdump(job) => job.options.limit,
-        DumpJob::Strings(_) => None,
-        DumpJob::Dd(job) => most_of_dd(&job.plan),
     }
 }

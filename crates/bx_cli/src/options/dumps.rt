@@ -85,7 +85,7 @@ static OD_MORE: [Row; 2] = [
     },
 ];
 
-static XXD: [Row; 9] = [
+static XXD: [Row; 7] = [
     Row {
         id: "bits",
         short: 'b',
@@ -128,19 +128,14 @@ static XXD: [Row; 9] = [
         value: None,
         help: "Digits alone",
     },
-    Row {
-        id: "seek",
-        short: 's',
-        value: Some("OFFSET"),
-        help: "Bytes to skip first [default: 0]",
-    },
-    Row {
-        id: "upper",
-        short: 'u',
-        value: None,
-        help: "Digits in upper case",
-    },
 ];
+
+static XXD_LAST: [Row; 1] = [Row {
+    id: "upper",
+    short: 'u',
+    value: None,
+    help: "Digits in upper case",
+}];
 
 static XXD_MORE: [Row; 3] = [
     Row {
@@ -300,7 +295,18 @@ pub fn xxd<'a>(alloc: Global) -> Result<Command<'a>, AllocError> {
         );
     let styled = one_style(alloc, command)?;
     let grouped = one_case(alloc, styled)?;
-    with_more(alloc, reader(alloc, grouped, &XXD)?, &XXD_MORE)
+    let placed = with_rows(alloc, grouped, &XXD)?.arg(seek(alloc))?;
+    with_more(alloc, reader(alloc, placed, &XXD_LAST)?, &XXD_MORE)
+}
+
+/// A negative place counts from the end.
+fn seek<'a>(alloc: Global) -> Arg<'a> {
+    Arg::new(alloc, "seek")
+        .short('s')
+        .action(ArgAction::Set)
+        .value_name("OFFSET")
+        .allow_hyphen_values(true)
+        .help("Bytes to skip first, -N all but the last N of FILE [default: 0]")
 }
 
 // Each of the two groups has a function of its own: a proof that sees one text in both statics takes twenty times as long.

@@ -53,6 +53,8 @@ pub struct XxdJob {
     pub look: XxdLook,
     /// The columns, and the bytes that are dumped. At most 2^62 is added to an address.
     pub options: XxdOptions,
+    /// How many bytes there are behind the place to begin at, where that counts from the end; the options then skip none.
+    pub from_end: Option<u64>,
     /// The name of an array of C; none is that of the input.
     pub array: Option<Name>,
     /// The input's name; none is standard input.

@@ -1,12 +1,12 @@
 //! Dumps of several files: of od and hexdump as one input, of strings one by one.
 use crate::faults::show_passed;
-use crate::jobs::{cut_off, dump_named, dump_standard, most_of};
+use crate::jobs::single::{cut_off, dump_named, dump_standard, most_of};
 use crate::progress::progress_of_dumped;
 use crate::streams::chained::Chained;
 use bx_cli::{DumpJob, Fault};
 use bx_hints::{Reason, Remarks, STANDARD_INPUT, Stopped};
-use bx_program_commands::{Done, Failure, Request, run_request};
-use bx_program_system::{Counted, SystemWorld};
+use bx_run::{Done, Failure, Request, run_request};
+use bx_system::{Counted, SystemWorld};
 use bx_text::{IoFault, Words};
 use std::fs::File;
 use std::io::{Read, Write};
@@ -64,8 +64,8 @@ fn names_of<R: AllocGlobal>(rt: &R, job: &DumpJob, more: &Words) -> Result<Words
 /// read is said and left out.
 ///
 /// # Errors
-/// The dump's fault; where only files were left out `OpenFailed`, of which nothing more is to be said. Where none is opened
-/// nothing is written.
+/// The dump's fault; where only files were left out `OpenFailed`, and no more is to be said of it. Where none is opened nothing is
+/// written.
 pub fn dump_as_one<'a, R, W: Write>(
     rt: &R,
     job: &'a DumpJob,
@@ -116,8 +116,7 @@ where
 /// Dumps the files of a job one by one. One that can't be opened or read is said, and the others are dumped.
 ///
 /// # Errors
-/// The first fault but those, which ends the dumps; where only files were left out `OpenFailed`, of which nothing more is to be
-/// said.
+/// The first fault but those, which ends the dumps; where only files were left out `OpenFailed`, and no more is to be said of it.
 pub fn dump_each<'a, R, W: Write>(
     rt: &R,
     job: &'a DumpJob,

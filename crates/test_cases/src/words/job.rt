@@ -145,6 +145,7 @@ fn xxd_field<'a>(job: &'a XxdJob, name: &str) -> Field<'a> {
         "group" => Field::Number(job.options.group as u64),
         "limit" => limit(job.options.limit),
         "seek" => Field::Number(job.options.seek),
+        "from_end" => limit(job.from_end),
         "shift" => Field::Number(job.options.shift),
         "upper" => flag(job.options.upper),
         "array" => file(&job.array),

@@ -7,7 +7,7 @@ use crate::streams::part::Part;
 use bx_cli::{DdImageJob, Fault, plan_rest};
 use bx_dd::{Counts, copy_out};
 use bx_hints::Stopped;
-use bx_program_system::{Noted, Progress, Tally};
+use bx_system::{Noted, Progress, Tally};
 use bx_text::IoFault;
 use std::fs::{self, File};
 use std::io::Read;
