@@ -80,7 +80,7 @@ _bx() {
     xxd) options='-b -c -d -e -g -i -l -n -o -p -s -u' ;;
     od) options='-A -N -b -c -d -i -j -l -o -s -t -v -w -x --endian --width' ;;
     hexdump) options='-C -n -s -v' ;;
-    strings) options='-a -n -t' ;;
+    strings) options='-a -f -n -t' ;;
     dd) options='-J -U -n --anyway --dry-run --fresh --mounted --no-grow' ;;
     revert) options='-J -U -f -n -p -s --anyway --dry-run --fresh --mounted --no-grow' ;;
     undo | redo) options='-J -U -k --anyway --mounted' ;;

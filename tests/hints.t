@@ -89,6 +89,13 @@ Dumps and a patch:
   hint: none: No such file or directory
   defg
   [1]
+  $ bx strings -f -n 3 first last; bx strings -f -n 3 -t d < first; bx strings -f none
+  first: abc
+  last: defg
+  {standard input}: 0 abc
+  bx: cannot open file
+  hint: none: No such file or directory
+  [1]
   $ bx od none dir
   bx: cannot open file
   hint: none: No such file or directory

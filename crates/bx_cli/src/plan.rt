@@ -323,6 +323,7 @@ fn strings(alloc: Global, m: &Given<'_, '_>) -> Result<StringsJob, Fault> {
             least,
             offsets: radix(m.get_str("offsets"), Address::Without, false)?,
         },
+        named: m.get_flag("named"),
         file: input(alloc, m)?,
         more: more(alloc, m)?,
     })

@@ -4,6 +4,7 @@ pub mod Dump
 pub mod FromEnd
 pub mod Job
 pub mod JobDump
+pub mod Labels
 pub mod Passing
 pub mod Values
 pub mod XxdLaws

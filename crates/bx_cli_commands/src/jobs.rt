@@ -4,6 +4,7 @@ pub(crate) mod dump;
 pub(crate) mod dumps;
 pub(crate) mod images;
 pub(crate) mod job;
+pub(crate) mod labels;
 pub mod laws;
 pub(crate) mod rest;
 pub(crate) mod skip;

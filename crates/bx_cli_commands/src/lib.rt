@@ -26,6 +26,7 @@ pub use jobs::images::{
     ChangeJob, DdImageJob, ForgetJob, LogJob, LookJob, PatchJob, RevertJob, ShowJob, StepsJob,
 };
 pub use jobs::job::Job;
+pub use jobs::labels::push_labelled;
 pub use jobs::rest::{plan_rest, xxd_from_end};
 pub use jobs::skip::Skip;
 pub use jobs::target::{Access, Durability, Target, Texts};

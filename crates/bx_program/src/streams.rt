@@ -3,5 +3,6 @@ pub mod chained;
 pub mod closed;
 pub mod fitting;
 pub mod input;
+pub mod labelled;
 pub mod paged;
 pub mod part;

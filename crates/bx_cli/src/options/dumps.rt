@@ -210,6 +210,14 @@ static STRINGS: [Row; 3] = [
     },
 ];
 
+/// What GNU's strings has beside POSIX' options.
+static STRINGS_MORE: [Row; 1] = [Row {
+    id: "named",
+    short: 'f',
+    value: None,
+    help: "The name of its file, and a colon, in front of each line",
+}];
+
 /// A command that reads FILE, or standard input.
 fn reader<'a>(
     alloc: Global,
@@ -336,10 +344,11 @@ pub fn strings<'a>(alloc: Global) -> Result<Command<'a>, AllocError> {
         .after_help(
             "COUNT: decimal.\n\nEXAMPLES:\n  bx strings program\n  bx strings -n 8 -t x program    runs of 8 bytes and more, with their places",
         );
-    reader_of_all(
+    let each = reader_of_all(
         alloc,
         command,
         &STRINGS,
         "Files to read, one by one [default: standard input]",
-    )
+    )?;
+    with_more(alloc, each, &STRINGS_MORE)
 }

@@ -78,6 +78,8 @@ pub struct HexdumpJob {
 pub struct StringsJob {
     /// The fewest bytes of a run, and how its place is written.
     pub options: StringsOptions,
+    /// Whether each line begins with the name of its file, a colon and a space.
+    pub named: bool,
     /// The input's name; none is standard input.
     pub file: Option<Name>,
     /// The names of the files that are read behind it, each for itself; `-` is standard input.

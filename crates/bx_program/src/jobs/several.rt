@@ -3,6 +3,7 @@ use crate::faults::show_passed;
 use crate::jobs::single::{cut_off, dump_named, dump_standard, most_of};
 use crate::progress::progress_of_dumped;
 use crate::streams::chained::Chained;
+use crate::streams::labelled::Labelled;
 use bx_cli::{DumpJob, Fault};
 use bx_hints::{Reason, Remarks, STANDARD_INPUT, Stopped};
 use bx_run::{Done, Failure, Request, run_request};
@@ -29,7 +30,7 @@ pub fn more_of(job: &DumpJob) -> More<'_> {
     match job {
         DumpJob::Od(job) if job.more.len() > 0 => More::AsOne(&job.more),
         DumpJob::Hexdump(job) if job.more.len() > 0 => More::AsOne(&job.more),
-        DumpJob::Strings(job) if job.more.len() > 0 => More::Each(&job.more),
+        DumpJob::Strings(job) if job.named || job.more.len() > 0 => More::Each(&job.more),
         DumpJob::Od(_)
         | DumpJob::Xxd(_)
         | DumpJob::Hexdump(_)
@@ -141,6 +142,40 @@ where
     if whole { Ok(()) } else { Err(missed()) }
 }
 
+/// Whether the name of its file stands in front of each line.
+fn is_labelled(job: &DumpJob) -> bool {
+    match job {
+        DumpJob::Strings(job) => job.named,
+        DumpJob::Od(_) | DumpJob::Xxd(_) | DumpJob::Hexdump(_) | DumpJob::Dd(_) => false,
+    }
+}
+
+/// What stands in front of each line of a file, as GNU strings has it.
+fn label_of<R: AllocGlobal>(rt: &R, name: &str) -> Result<String, Fault> {
+    let name = match name {
+        "-" => "{standard input}",
+        _ => name,
+    };
+    Ok(format!(in rt.alloc(); "{name}: ")?)
+}
+
+/// Dumps one of several files.
+fn dump_one<'a, R, W: Write>(
+    rt: &R,
+    job: &DumpJob,
+    name: &'a str,
+    out: &mut W,
+    remarks: &Remarks,
+) -> Result<Done, Stopped<'a>>
+where
+    R: Files<File = File> + Input + Print + Eprint + Clock + AllocGlobal,
+{
+    match name {
+        "-" => dump_standard(rt, job, out, remarks),
+        _ => dump_named(rt, job, name, out, remarks),
+    }
+}
+
 /// Dumps one of several files, and answers whether it was opened and read, which is said where it wasn't.
 fn dump_next<'a, R, W: Write>(
     rt: &R,
@@ -152,9 +187,11 @@ fn dump_next<'a, R, W: Write>(
 where
     R: Files<File = File> + Input + Print + Eprint + Clock + AllocGlobal,
 {
-    let outcome = match name {
-        "-" => dump_standard(rt, job, out, remarks),
-        _ => dump_named(rt, job, name, out, remarks),
+    let outcome = if is_labelled(job) {
+        let mut labelled = Labelled::new(rt.alloc(), out, label_of(rt, name)?);
+        dump_one(rt, job, name, &mut labelled, remarks)
+    } else {
+        dump_one(rt, job, name, out, remarks)
     };
     match outcome {
         Ok(_) => Ok(true),

@@ -170,6 +170,7 @@ fn strings_field<'a>(job: &'a StringsJob, name: &str) -> Field<'a> {
     match name {
         "least" => Field::Number(job.options.least as u64),
         "offsets" => address(job.options.offsets),
+        "named" => flag(job.named),
         "file" => file(&job.file),
         "more" => Field::Joined(&job.more),
         _ => Field::Missing,
