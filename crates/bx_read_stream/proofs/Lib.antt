@@ -1,0 +1,4 @@
+pub mod BlocksLemmas
+pub mod ImageLemmas
+pub mod LayingLemmas
+pub mod DumpLemmas
