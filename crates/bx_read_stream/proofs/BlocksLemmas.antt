@@ -7,7 +7,8 @@ use Rattle.bx_text.proofs.KnownLemmas.{Appends-trans, Appends-nil}
 use Rattle.bx_text.specs.Writing.{WritesFront}
 use Rattle.bx_text.specs.declared.fault.IoFault.{IoFault}
 use Rattle.bx_text.specs.declared.fault.IoFault.TheVariants.{NoMemory, ReadFailed, WriteFailed, InputTooLong, SkipPastEnd}
-use Rattle.bx_read_stream.specs.private.Blocks.{IsPending, FailsIn}
+use Rattle.bx_read_stream.specs.Writing.{FailsIn}
+use Rattle.bx_read_stream.specs.private.Blocks.{IsPending}
 
 -- a write that failed
 pub flush_fails : (w0 w w1 : Option (List ℕ)) (sent : ℕ) (pending x : List ℕ) (e : IoFault) → IsPending w0 w sent pending x → WritesFront sent w w1 pending e → FailsIn w0 w1 x e

@@ -13,7 +13,8 @@ use Rattle.bx_read.proofs.PieceLemmas.{some_bytes}
 use Rattle.bx_read_stream.specs.declared.fault.StreamFault.{StreamFault}
 use Rattle.bx_read_stream.specs.declared.fault.StreamFault.TheVariants.{Read, Behind, Io}
 use Rattle.bx_read_stream.specs.Laid.{image_made, reads_then, IsStop, StopsLaying}
-use Rattle.bx_read_stream.specs.private.Blocks.{IsPending, FailsIn}
+use Rattle.bx_read_stream.specs.Writing.{FailsIn}
+use Rattle.bx_read_stream.specs.private.Blocks.{IsPending}
 use Rattle.bx_read_stream.specs.private.Laying.{ReadsAs, IsEnded}
 use Rattle.bx_read_stream.proofs.ImageLemmas.{image_grows}
 

@@ -1,2 +1,4 @@
 pub mod Laid
+pub mod Plain
+pub mod Writing
 pub mod private

@@ -1,6 +1,7 @@
 //! Bytes that go out in blocks.
 ghost use Rattle.std.specs.Prelude.{◌≡◌, ◌+◌, ◌^◌, ◌<◌, ◌≤◌, ◌++◌, [], ℕ, List, length, replicate, Option, IfOk, IfErr, OnOk};
-ghost use Rattle.bx_read_stream.specs.private.Blocks.{IsPending, FailsIn};
+ghost use Rattle.bx_read_stream.specs.Writing.{FailsIn};
+ghost use Rattle.bx_read_stream.specs.private.Blocks.{IsPending};
 
 use bx_text::{IoFault, emit_after};
 use std::alloc::{AllocError, Allocator};

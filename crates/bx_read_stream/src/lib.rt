@@ -1,4 +1,5 @@
-//! Dumps that are read line by line, and the bytes that they make of nothing, written as they come:
+//! What a dump, or plain hexadecimal, makes of nothing, written: a dump line by line as it comes.
+//!
 //! `lay_dump(alloc, reader, writer, 0)` answers how many bytes were written.
 #![tactic(auto)]
 
@@ -7,6 +8,8 @@ mod dump;
 mod fault;
 mod laying;
 mod line;
+mod plain;
 
 pub use dump::lay_dump;
 pub use fault::StreamFault;
+pub use plain::lay_plain;

@@ -4,7 +4,7 @@ use Rattle.bx_read.specs.Digits.{pairs_of}
 use Rattle.bx_read.specs.Line.{read_line}
 use Rattle.std.specs.Io.KnownBytes.{Appends}
 use Rattle.bx_text.specs.declared.fault.IoFault.{IoFault}
-use Rattle.bx_read_stream.specs.private.Blocks.{FailsIn}
+use Rattle.bx_read_stream.specs.Writing.{FailsIn}
 use Rattle.bx_read_stream.specs.declared.fault.StreamFault.{StreamFault}
 use Rattle.bx_read_stream.specs.declared.fault.StreamFault.TheVariants.{Io}
 
