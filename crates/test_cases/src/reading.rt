@@ -1,5 +1,6 @@
 //! Cases of reading.
 use crate::reading::joined::same_runs;
+use crate::reading::laid::{Laid, once_laid};
 use crate::reading::source::{Streamed, once_from};
 use crate::reading::wanted::{refused, same_plain};
 use bumpalo::Bump;
@@ -13,15 +14,18 @@ use test_case_sessions::session::ask::{Limit, eased, limit_to};
 use test_case_sessions::sweep::hunt::{Call, each_growth};
 
 mod joined;
+mod laid;
 mod source;
 mod wanted;
 
 /// The ways in which a case of reading is played.
-pub static SWEEPS: [&str; 4] = [
+pub static SWEEPS: [&str; 6] = [
     "read",
     "growths refused",
     "from a source",
     "from a source, growths refused",
+    "written",
+    "written, growths refused",
 ];
 
 /// The longest text whose every piece is refused its memory.
@@ -37,8 +41,11 @@ pub fn play_reading(alloc: Global, case: &ReadingCase, sweep: usize) -> Result<u
         1 if case.text.len() > MOST_IN_PIECES => Ok(0),
         1 => each_growth(alloc, &Whole { case }),
         2 => once_from(alloc, case),
+        3 if case.text.len() > MOST_FROM_SOURCE => Ok(0),
+        3 => each_growth(alloc, &Streamed { case }),
+        4 => once_laid(alloc, case),
         _ if case.text.len() > MOST_FROM_SOURCE => Ok(0),
-        _ => each_growth(alloc, &Streamed { case }),
+        _ => each_growth(alloc, &Laid { case }),
     }
 }
 
