@@ -129,7 +129,7 @@ fn verbose<'a>(alloc: Global) -> Arg<'a> {
 /// The program with these subcommands.
 fn program_of<'a>(alloc: Global, verbs: &[Verb]) -> Result<Command<'a>, AllocError> {
     let mut program = Command::new(alloc, "bx")
-        .version("1.2.0")
+        .version("1.3.0")
         .about("A byte toolkit with undo: dumps files, patches them, and takes changes back")
         .after_help(
             "EXAMPLES:\n  bx xxd -l 64 disk.img\n  echo '00000002: 7879' | bx revert disk.img\n  bx undo disk.img\n  bx redo disk.img\n  bx -v undo disk.img    as on a terminal, with hints, in a script too\n\nThe exit status is 0, 1 for a fault, and 2 for wrong words.\nSee 'bx COMMAND --help' for its options, and 'man bx' for formats and faults.",
