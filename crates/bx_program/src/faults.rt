@@ -1,4 +1,6 @@
 //! What the program writes of the fault that stopped it.
+ghost use Rattle.std.specs.Prelude.{◌≡◌};
+
 use crate::files::tail::tail_of;
 use bx_cli::{ChangeJob, Fault, Job, misuse_of};
 use bx_hints::{Stopped, Tail, is_of_words, show_cause, show_misuse};
@@ -19,6 +21,7 @@ pub fn show_fault<R>(
 ) -> Fault
 where
     R: Files<File = File> + Eprint + AllocGlobal,
+    ensures { result ≡ stopped.entry.fault }
 {
     let fault = stopped.fault;
     if stopped.is_silent() {

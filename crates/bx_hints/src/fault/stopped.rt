@@ -1,4 +1,6 @@
-//! What stopped a job.
+//! What stopped a job. What is added to a fault hands the fault on.
+ghost use Rattle.std.specs.Prelude.{◌≡◌};
+
 use bx_cli_commands::Fault;
 use bx_dd::DdFault;
 use bx_image::FailedCall;
@@ -163,7 +165,9 @@ impl From<Fault> for Stopped<'_> {
 
 impl<'a> Stopped<'a> {
     /// By a call of a file that failed with this number.
-    pub fn by(fault: Fault, file: &'a str, error: Option<i32>) -> Stopped<'a> {
+    pub fn by(fault: Fault, file: &'a str, error: Option<i32>) -> Stopped<'a>
+        ensures { result.fault ≡ fault }
+    {
         Stopped {
             fault,
             file: Some(file),
@@ -172,7 +176,9 @@ impl<'a> Stopped<'a> {
     }
 
     /// By a device, whose last failed call was this.
-    pub fn failed(fault: Fault, file: &'a str, call: Option<FailedCall>) -> Stopped<'a> {
+    pub fn failed(fault: Fault, file: &'a str, call: Option<FailedCall>) -> Stopped<'a>
+        ensures { result.fault ≡ fault }
+    {
         Stopped {
             fault,
             file: Some(file),
@@ -207,7 +213,9 @@ impl<'a> Stopped<'a> {
     }
 
     /// By an image that is missing, where changes are kept.
-    pub fn gone(fault: Fault, image: &'a str) -> Stopped<'a> {
+    pub fn gone(fault: Fault, image: &'a str) -> Stopped<'a>
+        ensures { result.fault ≡ fault }
+    {
         Stopped {
             fault,
             file: Some(image),
@@ -225,7 +233,9 @@ impl<'a> Stopped<'a> {
     }
 
     /// The same, or, where the system doesn't let a file be written, that recovery has to.
-    pub fn unrecovered(self) -> Stopped<'a> {
+    pub fn unrecovered(self) -> Stopped<'a>
+        ensures { result.fault ≡ self.entry.fault }
+    {
         match self.reason {
             Reason::System(code) if is_unwritable(code) => Stopped {
                 reason: Reason::Unfinished,
@@ -236,7 +246,9 @@ impl<'a> Stopped<'a> {
     }
 
     /// The same, or, where too few changes stand, that one is unfinished beside the image.
-    pub fn on_begun(self, image: &'a str) -> Stopped<'a> {
+    pub fn on_begun(self, image: &'a str) -> Stopped<'a>
+        ensures { result.fault ≡ self.entry.fault }
+    {
         match self.fault {
             Fault::Session(SessionFault::TooFew { .. } | SessionFault::NothingToRedo { .. }) => {
                 Stopped {
@@ -250,7 +262,9 @@ impl<'a> Stopped<'a> {
     }
 
     /// The same, or that the lines of a dump or a patch end as in a text of another system, where that is what isn't read.
-    pub fn on_returns(self, file: &'a str) -> Stopped<'a> {
+    pub fn on_returns(self, file: &'a str) -> Stopped<'a>
+        ensures { result.fault ≡ self.entry.fault }
+    {
         match self.fault {
             Fault::Patch(
                 PatchFault::BadLength { .. }
@@ -312,7 +326,9 @@ impl<'a> Stopped<'a> {
     }
 
     /// The same, or that the input was not read, where it is that.
-    pub fn on_input(self, file: &'a str, error: Option<i32>) -> Stopped<'a> {
+    pub fn on_input(self, file: &'a str, error: Option<i32>) -> Stopped<'a>
+        ensures { result.fault ≡ self.entry.fault }
+    {
         match self.fault {
             Fault::Io(IoFault::ReadFailed) | Fault::Dd(DdFault::ReadFailed) => {
                 Stopped::by(self.fault, file, error)
@@ -322,7 +338,9 @@ impl<'a> Stopped<'a> {
     }
 
     /// The same, or, where the image isn't what a patch expects, that it has what the patch writes already.
-    pub fn on_applied(self, image: &'a str, reverse: bool) -> Stopped<'a> {
+    pub fn on_applied(self, image: &'a str, reverse: bool) -> Stopped<'a>
+        ensures { result.fault ≡ self.entry.fault }
+    {
         match self.fault {
             Fault::Disagrees(_) => Stopped {
                 file: Some(image),
@@ -334,7 +352,9 @@ impl<'a> Stopped<'a> {
     }
 
     /// The same, or by which image, where that isn't to get longer and would.
-    pub fn on_growth(self, image: &'a str) -> Stopped<'a> {
+    pub fn on_growth(self, image: &'a str) -> Stopped<'a>
+        ensures { result.fault ≡ self.entry.fault }
+    {
         match self.fault {
             Fault::Grows { has, wanted } => Stopped {
                 file: Some(image),
@@ -346,7 +366,9 @@ impl<'a> Stopped<'a> {
     }
 
     /// By two files that aren't equal, where no more was asked of them.
-    pub fn differing(fault: Fault) -> Stopped<'a> {
+    pub fn differing(fault: Fault) -> Stopped<'a>
+        ensures { result.fault ≡ fault }
+    {
         Stopped {
             fault,
             file: None,
@@ -355,7 +377,9 @@ impl<'a> Stopped<'a> {
     }
 
     /// The same, where the input was read no further than shows that it doesn't fit: how long it is isn't known.
-    pub fn on_more_input(self) -> Stopped<'a> {
+    pub fn on_more_input(self) -> Stopped<'a>
+        ensures { result.fault ≡ self.entry.fault }
+    {
         match self.reason {
             Reason::Fixed { has, .. } => Stopped {
                 reason: Reason::Full { has },
@@ -366,7 +390,9 @@ impl<'a> Stopped<'a> {
     }
 
     /// The same, or that standard output was not written, where it is that and isn't said yet.
-    pub fn on_output(self, error: Option<i32>) -> Stopped<'a> {
+    pub fn on_output(self, error: Option<i32>) -> Stopped<'a>
+        ensures { result.fault ≡ self.entry.fault }
+    {
         match (self.fault, self.reason) {
             (_, Reason::Silent) => self,
             (Fault::Io(IoFault::WriteFailed { .. }), _) if self.file.is_none() => {

@@ -1,4 +1,6 @@
 //! What stopped a command on the files of an image: the file that wasn't opened, or the device, by what the three said of their calls.
+ghost use Rattle.std.specs.Prelude.{◌≡◌};
+
 use crate::files::unopened::{Blame, another, not_opened, number_of};
 use bx_cli::{Fault, Target};
 use bx_hints::{Reason, Row, STANDARD_OUTPUT, Stopped};
@@ -24,6 +26,7 @@ pub fn stopped<'a, R>(
 ) -> Stopped<'a>
 where
     R: Files<File = File> + Print + Eprint + Clock + AllocGlobal,
+    ensures { result.fault ≡ failure.fault }
 {
     let fault = failure.fault;
     let by = match failure.stop {

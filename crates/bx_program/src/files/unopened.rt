@@ -1,4 +1,6 @@
 //! What is said of files that weren't opened, by what opening them answered. The fault is the failure's own.
+ghost use Rattle.std.specs.Prelude.{◌≡◌};
+
 use crate::files::unfit::{bits_left, unfit_image, unfit_text};
 use bx_cli::{Fault, Target};
 use bx_hints::{Reason, Stopped};
@@ -69,7 +71,9 @@ impl<'a> Blame<'a> {
     }
 
     /// What stopped the command, which ended in this fault.
-    pub fn with(self, fault: Fault) -> Stopped<'a> {
+    pub fn with(self, fault: Fault) -> Stopped<'a>
+        ensures { result.fault ≡ fault }
+    {
         Stopped {
             fault,
             file: Some(self.file),

@@ -1,4 +1,6 @@
 //! What is said of an image that isn't the one that was left, or on which what is unfinished was begun.
+ghost use Rattle.std.specs.Prelude.{◌≡◌};
+
 use crate::advice::Advice;
 use crate::files::look::is_missing;
 use bx_cli::{Fault, Target};
@@ -12,6 +14,7 @@ use std::time::Clock;
 pub fn told<'a, R>(rt: &R, target: &'a Target, way: Way, stopped: Stopped<'a>) -> Stopped<'a>
 where
     R: Files<File = File> + Print + Eprint + Clock + AllocGlobal,
+    ensures { result.fault ≡ stopped.entry.fault }
 {
     let fault = stopped.fault;
     if fault != Fault::ChangedSince {

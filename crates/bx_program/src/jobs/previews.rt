@@ -1,4 +1,5 @@
 //! What a change would be: the image is only read, and the patch of the change is written.
+ghost use Rattle.std.specs.Prelude.{◌≡◌};
 ghost use Rattle.bx_cli_commands.specs.jobs.Passing.{CanPass, plan_skip};
 
 use crate::devices::agreement::missing;
@@ -28,6 +29,7 @@ fn cut_off<'a, R>(
 ) -> Stopped<'a>
 where
     R: Files<File = File> + Print + Eprint + Clock + AllocGlobal,
+    ensures { result.fault ≡ failure.fault }
 {
     let name = target.image.as_str();
     let by = match (failure.stop, failure.fault) {

@@ -1,4 +1,6 @@
 //! A dump of one file, or of standard input.
+ghost use Rattle.std.specs.Prelude.{◌≡◌};
+
 use crate::files::unopened::number_of;
 use crate::jobs::ready::most_of_dd;
 use crate::progress::{progress_of_dump, progress_of_dumped};
@@ -33,7 +35,9 @@ where
 }
 
 /// What stopped a dump of this file, whose reading was refused with the system's number.
-pub fn cut_off(name: &str, unread: Option<i32>, failure: Failure) -> Stopped<'_> {
+pub fn cut_off(name: &str, unread: Option<i32>, failure: Failure) -> Stopped<'_>
+    ensures { result.fault ≡ failure.fault }
+{
     let fault = failure.fault;
     let by = match failure.stop.map(|stop| stop.cause) {
         Some(Cause::Unopened(Why::System(refusal)) | Cause::Unplaced(refusal)) => {
