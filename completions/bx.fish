@@ -72,6 +72,7 @@ complete -c bx -n '__fish_seen_subcommand_from xxd' -s l -x -d 'Maximum number o
 complete -c bx -n '__fish_seen_subcommand_from xxd' -s n -x -d 'Name of the C array'
 complete -c bx -n '__fish_seen_subcommand_from xxd' -s o -x -d 'Bytes to add to the addresses shown'
 complete -c bx -n '__fish_seen_subcommand_from xxd' -s p -d 'Digits alone'
+complete -c bx -n '__fish_seen_subcommand_from xxd' -s r -d 'Write the bytes of a dump'
 complete -c bx -n '__fish_seen_subcommand_from xxd' -s s -x -d 'Bytes to skip first'
 complete -c bx -n '__fish_seen_subcommand_from xxd' -s u -d 'Digits in upper case'
 

@@ -272,19 +272,19 @@ Dumps and a patch:
   [1]
   $ bx xxd -z img
   bx: bad arguments
-  hint: unexpected argument '-z' found; Usage: bx xxd [OPTIONS] [FILE]
+  hint: unexpected argument '-z' found; Usage: bx xxd [OPTIONS] [FILE] [OUT]
   [2]
   $ bx xxd -c 999 img
   bx: bad arguments
-  hint: 999: a number from 1 to 256; Usage: bx xxd [OPTIONS] [FILE]
+  hint: 999: a number from 1 to 256; Usage: bx xxd [OPTIONS] [FILE] [OUT]
   [2]
   $ bx xxd -e -c 6 img
   bx: bad arguments
-  hint: -e: -g has to be a power of 2, which is 4 without it, and -c a multiple of that; Usage: bx xxd [OPTIONS] [FILE]
+  hint: -e: -g has to be a power of 2, which is 4 without it, and -c a multiple of that; Usage: bx xxd [OPTIONS] [FILE] [OUT]
   [2]
   $ bx xxd -s 1k img
   bx: bad arguments
-  hint: 1k: a number as 512, 0x200 or 01000, with nothing behind it, and - before it where it counts from the end; Usage: bx xxd [OPTIONS] [FILE]
+  hint: 1k: a number as 512, 0x200 or 01000, with nothing behind it, and - before it where it counts from the end; Usage: bx xxd [OPTIONS] [FILE] [OUT]
   [2]
   $ bx od -N 4q img
   bx: bad arguments
@@ -441,7 +441,7 @@ Dumps and a patch:
   [2]
   $ bx xxd --len 4 img
   bx: bad arguments
-  hint: unexpected argument '--len' found: give -l COUNT; Usage: bx xxd [OPTIONS] [FILE]
+  hint: unexpected argument '--len' found: give -l COUNT; Usage: bx xxd [OPTIONS] [FILE] [OUT]
   [2]
   $ bx od --format=x1 img
   bx: bad arguments
@@ -457,7 +457,7 @@ Dumps and a patch:
   [2]
   $ bx xxd img out
   bx: bad arguments
-  hint: unexpected argument 'out' found: one word is the file that is read; the dump goes to standard output; Usage: bx xxd [OPTIONS] [FILE]
+  hint: out: one word is the file that is read, and with -r another the file that is written; Usage: bx xxd [OPTIONS] [FILE] [OUT]
   [2]
   $ bx strings -8 img
   bx: bad arguments
@@ -465,7 +465,7 @@ Dumps and a patch:
   [2]
   $ bx xxd -l 99999999999999999999 img
   bx: bad arguments
-  hint: 99999999999999999999: a number is at most 4611686018427387904; Usage: bx xxd [OPTIONS] [FILE]
+  hint: 99999999999999999999: a number is at most 4611686018427387904; Usage: bx xxd [OPTIONS] [FILE] [OUT]
   [2]
   $ bx od -j 0xfffffffffffffffffffff img
   bx: bad arguments
@@ -473,7 +473,7 @@ Dumps and a patch:
   [2]
   $ bx xxd -s $'\e[2J\r' img
   bx: bad arguments
-  hint: \033[2J\r: a number as 512, 0x200 or 01000, with nothing behind it, and - before it where it counts from the end; Usage: bx xxd [OPTIONS] [FILE]
+  hint: \033[2J\r: a number as 512, 0x200 or 01000, with nothing behind it, and - before it where it counts from the end; Usage: bx xxd [OPTIONS] [FILE] [OUT]
   [2]
   $ bx $'\e[2J'
   bx: bad arguments
@@ -499,29 +499,37 @@ Dumps and a patch:
   bx: bad arguments
   hint: unrecognized subcommand 'undoo': did you mean 'undo'; Usage: bx [OPTIONS] <COMMAND>
   [2]
-  $ bx xxd -r words
+  $ bx xxd -r -c 8 words
   bx: bad arguments
-  hint: unexpected argument '-r' found: bx revert -f DUMP IMAGE writes the bytes of a dump onto an image; Usage: bx xxd [OPTIONS] [FILE]
+  hint: -c: beside -r there are -p and -s alone; Usage: bx xxd [OPTIONS] [FILE] [OUT]
   [2]
-  $ bx xxd -p -r words
+  $ bx xxd -r -s -1 words
   bx: bad arguments
-  hint: unexpected argument '-r' found: bx revert -f DUMP IMAGE writes the bytes of a dump onto an image; Usage: bx xxd [OPTIONS] [FILE]
+  hint: -1: under -r a place counts from the start; Usage: bx xxd [OPTIONS] [FILE] [OUT]
+  [2]
+  $ bx xxd -r words words
+  bx: bad arguments
+  hint: words: it is the dump itself: give another file to write; Usage: bx xxd [OPTIONS] [FILE] [OUT]
   [2]
   $ bx xxd --revert words
   bx: bad arguments
-  hint: unexpected argument '--revert' found: bx revert -f DUMP IMAGE writes the bytes of a dump onto an image; Usage: bx xxd [OPTIONS] [FILE]
+  hint: unexpected argument '--revert' found: give -r; Usage: bx xxd [OPTIONS] [FILE] [OUT]
   [2]
+  $ printf '0: 4142\n1: 43\n' | bx xxd -r > out
+  bx: line 2: goes back in a stream
+  hint: a stream is written from front to end; onto a file lines may go back: bx xxd -r DUMP OUT
+  [1]
   $ bx od -r words
   bx: bad arguments
   hint: unexpected argument '-r' found; Usage: bx od [OPTIONS] [FILE]...
   [2]
   $ bx xxd -s -4k img
   bx: bad arguments
-  hint: -4k: a number as 512, 0x200 or 01000, with nothing behind it, and - before it where it counts from the end; Usage: bx xxd [OPTIONS] [FILE]
+  hint: -4k: a number as 512, 0x200 or 01000, with nothing behind it, and - before it where it counts from the end; Usage: bx xxd [OPTIONS] [FILE] [OUT]
   [2]
   $ bx xxd -l-10 img
   bx: bad arguments
-  hint: -10: there are no negative places and counts; Usage: bx xxd [OPTIONS] [FILE]
+  hint: -10: there are no negative places and counts; Usage: bx xxd [OPTIONS] [FILE] [OUT]
   [2]
   $ bx undo -k-1 img
   bx: bad arguments

@@ -82,6 +82,6 @@ By the texts of each kind of fault, and the numbers of all.
   >   texts Fault bx_cli_commands/src/fault.rt; } | sort > "$OLDPWD/texts"
   $ grep -oP '\b(\w*Fault|Other)::\w+( \{ \.\. \}|\(_\))? => \d+(?=,)' bx_cli_commands/src/fault.rt | sed -E 's/^(\w+::\w+).* /\1 /' | sort > "$OLDPWD/numbers"
   $ cd "$OLDPWD"; join numbers texts | cut -d ' ' -f 2- | sort -u > bx; wc -l < bx
-  42
+  43
   $ sed -nE 's/^\| ([0-9]+) \| `(.*)` \|$/\1 \2/p' "$FOLDER/../../docs/FORMATS.md" | sort | diff bx -
   $ sed -nE 's/^\.It ([0-9]+)  (.*)$/\1 \2/p' "$FOLDER/../../man/bx.1" | sort | diff bx -

@@ -60,6 +60,53 @@ Plain digits:
   bx: line 1: odd number of digits
   [1]
 
+# The way back of a dump
+
+To standard output, from a file and from a pipe, with gaps, at a place and of digits alone:
+
+  $ printf '0: 4142\n8: 43\n' > dump; bx xxd -r dump | od -An -c; bx xxd -r -s 2 < dump | od -An -c
+     A   B  \0  \0  \0  \0  \0  \0   C
+    \0  \0   A   B  \0  \0  \0  \0  \0  \0   C
+  $ echo 4142 | bx xxd -rp | od -An -c; echo 4142 | bx xxd -revert -ps -seek 0x2 - - | od -An -c; bx xxd -r < /dev/null
+     A   B
+    \0  \0   A   B
+  $ head -c 300000 "$(command -v bx)" > bytes; bx xxd bytes | bx xxd -r | cmp - bytes; bx xxd -p bytes | bx xxd -r -p | cmp - bytes
+  $ bx xxd -c 7 -g 3 -u bytes | bx xxd -r | cmp - bytes; yes 0: 41 | head -1 | bx xxd -r; echo
+  A
+
+A line that goes back, a faulty one, and a full device; what stands before was written.
+
+  $ printf '0: 4142\n1: 43\n' > dump; kept bx xxd -r dump; kept bx xxd -r - < dump
+  ABbx: line 2: goes back in a stream
+  ABbx: line 2: goes back in a stream
+  [1]
+  $ printf '0: 4142\nzz\n' | bx xxd -r
+  ABbx: line 2: bad address
+  [1]
+  $ printf '4142zz' | bx xxd -r -p
+  bx: line 1: bad pair
+  [1]
+  $ bx xxd bytes | bx xxd -r > /dev/full
+  bx: write failed after 0 bytes
+  [1]
+  $ bx xxd bytes | bx xxd -r >&-
+  bx: write failed after 0 bytes
+  [1]
+  $ kept bx xxd -r none
+  bx: cannot open file
+  [1]
+
+Onto a file it is revert, where lines may go back:
+
+  $ fresh ABCDEFGH; echo '2: 7879' | bx xxd -r - img; holds ABxyEFGH "$patched"
+  $ bx undo img; holds ABCDEFGH '' "$unpatched"
+  0
+  $ fresh ABCDEFGH; echo 7879 | bx xxd -r -p -s 2 - img; holds ABxyEFGH "$patched"; bx xxd -r dump img; cat img; echo
+  ACxyEFGH
+  $ kept bx xxd -r dump dump
+  bx: bad arguments
+  [2]
+
 # Journals
 
   $ fresh ABxyEFGH '\1'; (mega '\0' 1000; printf '\1') > img.bxj; kept bx undo img

@@ -19,6 +19,7 @@ fn status(outcome: Result<(), Fault>) -> u8
         Err(
             Fault::Io(_)
             | Fault::Read(_)
+            | Fault::Behind { .. }
             | Fault::Dd(_)
             | Fault::Patch(_)
             | Fault::Disagrees(_)

@@ -12,6 +12,7 @@ pub(crate) fn by_letter(word: &str) -> &str {
         "-name" => "-n",
         "-offset" => "-o",
         "-plain" | "-postscript" | "-ps" => "-p",
+        "-revert" => "-r",
         "-seek" | "-skip" => "-s",
         "-uppercase" => "-u",
         _ => word,

@@ -16,8 +16,6 @@ pub(crate) fn instead(name: &str, said: &str) -> &'static str {
     let word = quoted(said);
     if !is_unexpected(said) {
         ""
-    } else if name == "xxd" && matches!(word, "-r" | "--revert") {
-        "bx revert -f DUMP IMAGE writes the bytes of a dump onto an image"
     } else if word.starts_with("--") {
         short(name, word)
     } else if word.starts_with('-') {
@@ -39,7 +37,8 @@ fn alone(name: &str) -> &'static str {
         "patch" => "one word is the image; a patch is named by -f: bx patch -f PATCH IMAGE",
         "undo" | "redo" | "log" | "show" | "forget" =>
             "one word is the image, and there is no other",
-        "od" | "xxd" | "hexdump" | "strings" => {
+        "xxd" => "one word is the file that is read, and with -r another the file that is written",
+        "od" | "hexdump" | "strings" => {
             "one word is the file that is read; the dump goes to standard output"
         }
         _ => "",
@@ -77,6 +76,7 @@ fn short_of_xxd(long: &str) -> &'static str {
         "--cols" => "give -c COLS",
         "--group" | "--groupsize" => "give -g BYTES",
         "--plain" | "--postscript" => "give -p",
+        "--revert" => "give -r",
         "--bits" => "give -b",
         "--include" => "give -i",
         "--upper" | "--uppercase" => "give -u",

@@ -23,10 +23,10 @@ mod types;
 
 pub use bx_cli_commands::{
     Access, ChangeJob, Command, DdChange, DdImageJob, DdJob, DiffJob, Done, DumpJob, Durability,
-    Fault, ForgetJob, Form, HexdumpJob, Job, Kept, LogJob, LookJob, OdJob, PatchJob, Reply,
+    Fault, ForgetJob, Form, HexdumpJob, Job, Kept, LayJob, LogJob, LookJob, OdJob, PatchJob, Reply,
     RevertJob, ShowJob, Skip, StepsJob, StringsJob, Target, Texts, XxdJob, XxdLook, change_from,
     change_if_read, change_of_plan, list_ranges, list_steps, log_text, plan_rest, read_dump,
-    read_patch_of, refuse_growth, run_all, run_dd, run_dump, run_kept, run_one,
+    read_patch_of, refuse_growth, run_all, run_dd, run_dump, run_kept, run_lay, run_one,
 };
 pub use misuse::{Misuse, misuse_of};
 pub use plan::plan_words;

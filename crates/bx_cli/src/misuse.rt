@@ -4,7 +4,7 @@ use crate::instead::{
     has_negative, instead, is_negative, is_unexpected, negative, no_negative, similar,
 };
 use crate::options::program;
-use crate::plan::{look, words_of};
+use crate::plan::{beside_back, is_onto_itself, look, words_of};
 use crate::types::{Types, wrong_type};
 use bx_cli_commands::{Fault, MOST_LEAST, MOST_STEPS, bytes, count_or, endian, number, radix};
 use bx_dd::DdFault;
@@ -134,11 +134,37 @@ fn wrong_word<'a>(fault: Fault, name: &str, m: &ArgMatches<'a>) -> (&'a str, &'s
             let word = operand(m, place).unwrap_or("");
             (word, operand_reason(fault, word))
         }
-        Fault::Usage => match wrong_value(name, m) {
+        Fault::Usage => match wrong_value(name, m).or(wrong_back(name, m)) {
             Some(found) => found,
             None => missing(name),
         },
         _ => ("", ""),
+    }
+}
+
+/// What is wrong with the way back of a dump, or with a second file without it.
+fn wrong_back<'a>(name: &str, m: &ArgMatches<'a>) -> Option<(&'a str, &'static str)> {
+    if name != "xxd" {
+        return None;
+    }
+    let given = Given::Read(m);
+    if !m.get_flag("revert") {
+        let out = m.get_str("out")?;
+        return Some((
+            out,
+            "one word is the file that is read, and with -r another the file that is written",
+        ));
+    }
+    if let Some(option) = beside_back(&given) {
+        return Some((option, "beside -r there are -p and -s alone"));
+    }
+    if is_onto_itself(&given) {
+        let out = m.get_str("out")?;
+        return Some((out, "it is the dump itself: give another file to write"));
+    }
+    match m.get_str("seek") {
+        Some(seek) if is_negative(seek) => Some((seek, "under -r a place counts from the start")),
+        Some(_) | None => None,
     }
 }
 

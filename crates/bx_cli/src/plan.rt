@@ -7,9 +7,9 @@ use crate::options::{Verb, program_behind};
 use crate::types::Types;
 use bx_cli_commands::{
     Access, ChangeJob, DdImageJob, DdJob, DiffJob, DumpJob, Durability, Fault, ForgetJob,
-    HexdumpJob, Job, LogJob, LookJob, MOST_COLUMNS, MOST_LEAST, MOST_STEPS, OdJob, PatchJob,
-    RevertJob, ShowJob, StepsJob, StringsJob, Target, XxdJob, XxdLook, bytes, columns, count_or,
-    endian, name_of, number, number_or, radix, texts_of, word_len,
+    HexdumpJob, Job, LayJob, LogJob, LookJob, MOST_COLUMNS, MOST_LEAST, MOST_STEPS, OdJob,
+    PatchJob, RevertJob, ShowJob, StepsJob, StringsJob, Target, XxdJob, XxdLook, bytes, columns,
+    count_or, endian, name_of, number, number_or, radix, texts_of, word_len,
 };
 use bx_dd::parse;
 use bx_dump::hexdump::HexdumpOptions;
@@ -110,7 +110,7 @@ fn refused(alloc: Global, error: Error) -> Result<Job, Fault> {
 fn job_of(alloc: Global, verb: Verb, inner: &Given<'_, '_>) -> Result<Job, Fault> {
     match verb {
         Verb::Od => Ok(Job::Dump(DumpJob::Od(od(alloc, inner)?))),
-        Verb::Xxd => Ok(Job::Dump(DumpJob::Xxd(xxd(alloc, inner)?))),
+        Verb::Xxd => xxd_or_back(alloc, inner),
         Verb::Hexdump => Ok(Job::Dump(DumpJob::Hexdump(hexdump(alloc, inner)?))),
         Verb::Strings => Ok(Job::Dump(DumpJob::Strings(strings(alloc, inner)?))),
         Verb::Dd => dd(alloc, inner),
@@ -294,6 +294,85 @@ fn xxd(alloc: Global, m: &Given<'_, '_>) -> Result<XxdJob, Fault> {
         array: name(alloc, m, "array")?,
         file: input(alloc, m)?,
     })
+}
+
+/// A dump, or with `-r` its way back.
+fn xxd_or_back(alloc: Global, m: &Given<'_, '_>) -> Result<Job, Fault> {
+    if m.get_flag("revert") {
+        return back(alloc, m);
+    }
+    match m.get_str("out") {
+        Some(_) => Err(Fault::Usage),
+        None => Ok(Job::Dump(DumpJob::Xxd(xxd(alloc, m)?))),
+    }
+}
+
+/// The way back of a dump: to standard output, or onto a file as `revert` writes it.
+fn back(alloc: Global, m: &Given<'_, '_>) -> Result<Job, Fault> {
+    if beside_back(m).is_some() || is_onto_itself(m) {
+        return Err(Fault::Usage);
+    }
+    let at = number_or(m.get_str("seek"), SizeStyle::Bare, 0)?;
+    let dump = input(alloc, m)?;
+    let plain = m.get_flag("plain");
+    match m.get_str("out") {
+        None | Some("-") => Ok(Job::Lay(LayJob { dump, plain, at })),
+        Some(image) => Ok(Job::Change(ChangeJob::Revert(RevertJob {
+            dump,
+            plain,
+            at,
+            target: target_of(alloc, m, image, access(m))?,
+            fresh: false,
+            dry_run: false,
+            no_grow: false,
+        }))),
+    }
+}
+
+/// The first option that means nothing beside `-r`.
+pub(crate) fn beside_back(m: &Given<'_, '_>) -> Option<&'static str> {
+    for (id, option) in &FLAGS {
+        if m.get_flag(id) {
+            return Some(*option);
+        }
+    }
+    value_beside_back(m)
+}
+
+/// The first option with a value that means nothing beside `-r`.
+fn value_beside_back(m: &Given<'_, '_>) -> Option<&'static str> {
+    for (id, option) in &VALUES {
+        if m.get_str(id).is_some() {
+            return Some(*option);
+        }
+    }
+    None
+}
+
+/// The flags of xxd that a dump's way back doesn't have.
+static FLAGS: [(&str, &str); 5] = [
+    ("bits", "-b"),
+    ("include", "-i"),
+    ("words", "-e"),
+    ("decimal", "-d"),
+    ("upper", "-u"),
+];
+
+/// Its options with a value that a dump's way back doesn't have.
+static VALUES: [(&str, &str); 5] = [
+    ("cols", "-c"),
+    ("group", "-g"),
+    ("limit", "-l"),
+    ("array", "-n"),
+    ("shift", "-o"),
+];
+
+/// Whether the dump is the file that is to be written.
+pub(crate) fn is_onto_itself(m: &Given<'_, '_>) -> bool {
+    match (m.get_str("file"), m.get_str("out")) {
+        (Some(dump), Some(out)) => dump == out && dump != "-",
+        (Some(_), None) | (None, _) => false,
+    }
 }
 
 // The canonical form has to be asked for: there is no other.

@@ -16,7 +16,7 @@ use Rattle.bx_patch.specs.Other.{FindsOther}
 use Rattle.bx_patch.specs.Patch.{Asked, patch_change}
 use Rattle.bx_cli_commands.specs.declared.command.Reply.{Reply}
 use Rattle.bx_cli_commands.specs.declared.command.Reply.TheVariants.{Changed, Copied, Undone, Redone, Refused}
-use Rattle.bx_cli_commands.specs.declared.fault.Fault.TheVariants.{Io, Read, Dd, Patch, Disagrees, NotReversible, NothingToWrite, Session, Grows, ChangedSince, Usage, OpenFailed}
+use Rattle.bx_cli_commands.specs.declared.fault.Fault.TheVariants.{Io, Read, Behind, Dd, Patch, Disagrees, NotReversible, NothingToWrite, Session, Grows, ChangedSince, Usage, OpenFailed}
 use Rattle.bx_cli_commands.specs.Obeys.{Obeys}
 use Rattle.bx_cli_commands.specs.Refusal.{IsOwnRefusal, IsWholeRefusal}
 use Rattle.bx_cli_commands.specs.Run.{AgreedStep, ChangeStep, PatchStep, is_failure}
@@ -223,6 +223,7 @@ module _ {D T : Type 0} (d : DeviceViews D) (t : StoreViews T) where
   )
   tells_behind old now new (Refused (Io e)) looks stay = (stay.0 ∙ looks.count, stay.1 ∙ looks.undone)
   tells_behind old now new (Refused (Read e)) looks stay = (stay.0 ∙ looks.count, stay.1 ∙ looks.undone)
+  tells_behind old now new (Refused (Behind line)) looks stay = (stay.0 ∙ looks.count, stay.1 ∙ looks.undone)
   tells_behind old now new (Refused (Dd e)) looks stay = (stay.0 ∙ looks.count, stay.1 ∙ looks.undone)
   tells_behind old now new (Refused (Patch e)) looks stay = (stay.0 ∙ looks.count, stay.1 ∙ looks.undone)
   tells_behind old now new (Refused (Disagrees other)) looks stay = (stay.0 ∙ looks.count, stay.1 ∙ looks.undone)

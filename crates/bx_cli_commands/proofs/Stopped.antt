@@ -18,7 +18,7 @@ use Rattle.bx_cli_commands.specs.declared.command.Reply.{Reply}
 use Rattle.bx_cli_commands.specs.declared.command.Reply.TheVariants.{Changed, Copied, Undone, Redone, Refused}
 use Rattle.bx_cli_commands.specs.declared.changes.DdChange.{DdChange}
 use Rattle.bx_cli_commands.specs.declared.fault.Fault.{Fault}
-use Rattle.bx_cli_commands.specs.declared.fault.Fault.TheVariants.{Io, Read, Dd, Patch, Disagrees, NotReversible, NothingToWrite, Session, Grows, ChangedSince, Usage, OpenFailed}
+use Rattle.bx_cli_commands.specs.declared.fault.Fault.TheVariants.{Io, Read, Behind, Dd, Patch, Disagrees, NotReversible, NothingToWrite, Session, Grows, ChangedSince, Usage, OpenFailed}
 use Rattle.bx_cli_commands.specs.Command.{dump_change, plain_change}
 use Rattle.bx_cli_commands.specs.Copy.{MakesCopy, MakesBy}
 use Rattle.bx_cli_commands.specs.Power.{FindsPart, IsChanged, IsPart, images_of}
@@ -38,6 +38,7 @@ whole_or (Undone left) = inr (λ h. h)
 whole_or (Redone n) = inr (λ h. h)
 whole_or (Refused (Io e)) = inl (λ is. cc)
 whole_or (Refused (Read e)) = inl (λ is. cc)
+whole_or (Refused (Behind line)) = inl (λ is. cc)
 whole_or (Refused (Dd e)) = inl (λ is. cc)
 whole_or (Refused (Patch e)) = inl (λ is. cc)
 whole_or (Refused (Disagrees other)) = inl (λ is. cc)

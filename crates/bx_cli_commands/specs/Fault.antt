@@ -7,8 +7,10 @@ use Rattle.bx_dd.specs.declared.fault.DdFault.TheVariants as dd
 use Rattle.bx_patch.specs.declared.other.Other.TheVariants as other
 use Rattle.bx_patch.specs.declared.read.fault.PatchFault.TheVariants as patch
 use Rattle.bx_journal.specs.SessionFault.TheVariants as session
+use Rattle.bx_read_stream.specs.declared.fault.StreamFault.{StreamFault}
+use Rattle.bx_read_stream.specs.declared.fault.StreamFault.TheVariants as stream
 use Rattle.bx_cli_commands.specs.declared.fault.Fault.{Fault}
-use Rattle.bx_cli_commands.specs.declared.fault.Fault.TheVariants.{Io, Read, Dd, Patch, Disagrees, NotReversible, NothingToWrite, Session, Grows, ChangedSince, Usage, OpenFailed}
+use Rattle.bx_cli_commands.specs.declared.fault.Fault.TheVariants.{Io, Read, Behind, Dd, Patch, Disagrees, NotReversible, NothingToWrite, Session, Grows, ChangedSince, Usage, OpenFailed}
 
 -- the number of a fault of a dump's text
 abbrev pub read_number_of : ReadFault → ℕ
@@ -28,6 +30,7 @@ fault_number (Io (io.WriteFailed _)) = 3
 fault_number (Io io.InputTooLong) = 4
 fault_number (Io io.SkipPastEnd) = 5
 fault_number (Read fault) = read_number_of fault
+fault_number (Behind line) = 36
 fault_number (Dd dd.ReadFailed) = 2
 fault_number (Dd dd.InputTooLong) = 4
 fault_number (Dd (dd.UnknownOperand _)) = 20
@@ -66,3 +69,9 @@ fault_number (Io io.NoMemory) = 1
 fault_number (Dd dd.NoMemory) = 1
 fault_number (Patch patch.NoMemory) = 1
 fault_number (Session session.NoMemory) = 1
+
+-- what stops the writing of what a dump makes of nothing, as a fault of the program
+abbrev pub stream_fault : StreamFault → Fault
+stream_fault (stream.Read fault) = Read fault
+stream_fault (stream.Behind line) = Behind line
+stream_fault (stream.Io fault) = Io fault

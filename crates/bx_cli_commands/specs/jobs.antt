@@ -5,6 +5,7 @@ pub mod FromEnd
 pub mod Job
 pub mod JobDump
 pub mod Labels
+pub mod Lay
 pub mod Passing
 pub mod Values
 pub mod XxdLaws

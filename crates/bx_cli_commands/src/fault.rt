@@ -1,6 +1,6 @@
 //! The faults of all crates, with their numbers.
 ghost use Rattle.std.specs.Prelude.{◌≡◌};
-ghost use Rattle.bx_cli_commands.specs.Fault.{fault_number};
+ghost use Rattle.bx_cli_commands.specs.Fault.{fault_number, stream_fault};
 ghost use Rattle.bx_cli_commands.specs.declared.fault.Fault.TheVariants as of;
 ghost use Rattle.bx_text.specs.declared.fault.IoFault.TheVariants as io;
 
@@ -8,6 +8,7 @@ use bx_dd::DdFault;
 use bx_journal::SessionFault;
 use bx_patch::{Other, PatchFault};
 use bx_read::ReadFault;
+use bx_read_stream::StreamFault;
 use bx_text::{IoFault, NoMemory};
 use std::alloc::AllocError;
 use thiserror::Error;
@@ -22,6 +23,12 @@ pub enum Fault {
     /// What is wrong with a dump's text, or with plain hexadecimal; or a growth was refused where it is read.
     #[error(transparent)]
     Read(ReadFault),
+    /// A line of a dump begins before the end of what was written to a stream.
+    #[error("line {line}: goes back in a stream")]
+    Behind {
+        /// The line, from 1.
+        line: u64,
+    },
     /// What is wrong with dd's operands, or stopped the reading of its input onto an image.
     #[error(transparent)]
     Dd(DdFault),
@@ -67,6 +74,7 @@ impl Fault {
         match *self {
             Fault::Io(fault) => io_number(fault),
             Fault::Read(fault) => read_number(fault),
+            Fault::Behind { .. } => 36,
             Fault::Dd(fault) => dd_number(fault),
             Fault::Patch(fault) => patch_number(fault),
             Fault::Disagrees(other) => other_number(other),
@@ -196,6 +204,18 @@ impl From<ReadFault> for Fault {
 
     fn from(fault: ReadFault) -> Self {
         Fault::Read(fault)
+    }
+}
+
+impl From<StreamFault> for Fault {
+    ghost from_gives = { λ e f. f ≡ stream_fault e };
+
+    fn from(fault: StreamFault) -> Self {
+        match fault {
+            StreamFault::Read(fault) => Fault::Read(fault),
+            StreamFault::Behind { line } => Fault::Behind { line },
+            StreamFault::Io(fault) => Fault::Io(fault),
+        }
     }
 }
 

@@ -6,6 +6,7 @@ pub(crate) mod images;
 pub(crate) mod job;
 pub(crate) mod labels;
 pub mod laws;
+pub(crate) mod lay;
 pub(crate) mod rest;
 pub(crate) mod skip;
 pub(crate) mod target;

@@ -27,6 +27,7 @@ pub use jobs::images::{
 };
 pub use jobs::job::Job;
 pub use jobs::labels::push_labelled;
+pub use jobs::lay::{LayJob, run_lay};
 pub use jobs::rest::{plan_rest, xxd_from_end};
 pub use jobs::skip::Skip;
 pub use jobs::target::{Access, Durability, Target, Texts};

@@ -6,7 +6,7 @@ use Rattle.bx_dd.specs.declared.fault.DdFault.TheVariants as dd
 use Rattle.bx_patch.specs.declared.read.fault.PatchFault.TheVariants as patch
 use Rattle.bx_journal.specs.SessionFault.TheVariants as session
 use Rattle.bx_cli_commands.specs.declared.fault.Fault.{Fault}
-use Rattle.bx_cli_commands.specs.declared.fault.Fault.TheVariants.{Io, Read, Dd, Patch, Disagrees, NotReversible, NothingToWrite, Session, Grows, ChangedSince}
+use Rattle.bx_cli_commands.specs.declared.fault.Fault.TheVariants.{Io, Read, Behind, Dd, Patch, Disagrees, NotReversible, NothingToWrite, Session, Grows, ChangedSince}
 use Rattle.bx_hints.specs.declared.fault.hint.Known.{Known}
 
 -- two parts with a text between them, where neither is empty
@@ -27,6 +27,7 @@ advice_of (Read (read.BadPair _)) = codes "bytes are pairs of digits, with at mo
 advice_of (Read (read.NoData _)) = codes "digits follow the colon, behind at most one space"
 advice_of (Read (read.AddressTooLarge _)) = codes "addresses are below 4611686018427387904"
 advice_of (Read (read.OddDigits _)) = codes "each byte is two digits"
+advice_of (Behind line) = codes "a stream is written from front to end; onto a file lines may go back: bx xxd -r DUMP OUT"
 advice_of (Dd dd.InputTooLong) = codes "at most 1099511627776 bytes are read"
 advice_of (Dd (dd.UnknownOperand _)) = codes "bx dd --help lists the operands and the conversions"
 advice_of (Dd (dd.BadNumber _)) = codes "a number is decimal; behind it b (512), k or K (1024), M, G or T may stand, and of BYTES kB (1000), KiB and so on"

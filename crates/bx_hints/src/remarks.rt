@@ -206,7 +206,7 @@ impl Remarks {
         self.tell_of_image(rt, target);
         match job {
             Job::Change(job) => self.tell_of_change(rt, job),
-            Job::Dump(_) | Job::Look(_) | Job::Diff(_) | Job::Help { .. } => {}
+            Job::Dump(_) | Job::Lay(_) | Job::Look(_) | Job::Diff(_) | Job::Help { .. } => {}
         }
     }
 
@@ -379,6 +379,7 @@ fn is_dry_run(job: &Job) -> bool {
         Job::Change(ChangeJob::Patch(job)) => job.dry_run,
         Job::Change(ChangeJob::Forget(_) | ChangeJob::Undo(_) | ChangeJob::Redo(_))
         | Job::Dump(_)
+        | Job::Lay(_)
         | Job::Look(_)
         | Job::Diff(_)
         | Job::Help { .. } => false,

@@ -3,6 +3,7 @@ mod copies;
 mod diff;
 mod ends;
 mod kept;
+mod lay;
 mod looks;
 mod patch;
 mod previews;
@@ -19,6 +20,7 @@ use crate::history::told::look_for_others;
 use crate::jobs::copies::{copy_onto, tell};
 use crate::jobs::ends::{back_of, dump_end};
 use crate::jobs::kept::{Manner, put_change};
+use crate::jobs::lay::lay;
 use crate::jobs::looks::look;
 use crate::jobs::previews::{preview_copy, preview_read};
 use crate::jobs::several::{More, dump_as_one, dump_each, more_of};
@@ -185,6 +187,7 @@ where
 {
     match job {
         Job::Dump(job) => dump(rt, job, out, remarks),
+        Job::Lay(job) => uncounted(lay(rt, job, out, remarks)),
         Job::Change(job) => change(rt, job, out, remarks),
         Job::Look(job) => {
             look(rt, job, out, remarks)?;

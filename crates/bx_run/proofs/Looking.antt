@@ -27,7 +27,7 @@ use Rattle.bx_journal.specs.ShownSteps.{HasEntries}
 use Rattle.bx_journal.specs.Text.{Between, Entry, IsDamagedAt, Reading, Reads}
 use Rattle.bx_journal.specs.Undoing.{AgainFault, HasCount}
 use Rattle.bx_cli_commands.specs.Listing.{log_line}
-use Rattle.bx_cli_commands.specs.declared.fault.Fault.TheVariants.{Io, Read, Dd, Patch, Disagrees, NotReversible, NothingToWrite, Session, Grows, ChangedSince, Usage, OpenFailed}
+use Rattle.bx_cli_commands.specs.declared.fault.Fault.TheVariants.{Io, Read, Behind, Dd, Patch, Disagrees, NotReversible, NothingToWrite, Session, Grows, ChangedSince, Usage, OpenFailed}
 use Rattle.bx_world.specs.World.{ReadFiles, Sight, held}
 use Rattle.bx_world.specs.files.Reading.{LeadToRead}
 use Rattle.bx_world.specs.declared.files.names.Names.{Names}
@@ -113,6 +113,7 @@ stop_hides image journal redo (Stopped (Io (WriteFailed written))) is = is
 stop_hides image journal redo (Stopped (Io InputTooLong)) is = is
 stop_hides image journal redo (Stopped (Io SkipPastEnd)) is = is
 stop_hides image journal redo (Stopped (Read fault)) is = is
+stop_hides image journal redo (Stopped (Behind line)) is = is
 stop_hides image journal redo (Stopped (Dd fault)) is = is
 stop_hides image journal redo (Stopped (Patch fault)) is = is
 stop_hides image journal redo (Stopped (Disagrees other)) is = is

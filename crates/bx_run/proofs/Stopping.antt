@@ -8,7 +8,7 @@ use Rattle.bx_journal.specs.ShownSteps.{StopsSteps}
 use Rattle.bx_journal.specs.Steps.{Steps}
 use Rattle.bx_cli_commands.specs.Listing.{StopsListing, StopsShowing}
 use Rattle.bx_cli_commands.specs.declared.fault.Fault.{Fault}
-use Rattle.bx_cli_commands.specs.declared.fault.Fault.TheVariants.{Io, Read, Dd, Patch, Disagrees, NotReversible, NothingToWrite, Session, Grows, ChangedSince, Usage, OpenFailed}
+use Rattle.bx_cli_commands.specs.declared.fault.Fault.TheVariants.{Io, Read, Behind, Dd, Patch, Disagrees, NotReversible, NothingToWrite, Session, Grows, ChangedSince, Usage, OpenFailed}
 
 log_of_bytes : (honest : Type 0) → honest → (text : List ℕ) (e : SessionFault) → StopsLog honest text (look.Text e) → StopsLog (Unit {0}) text (look.Text e)
 log_of_bytes honest h text NoMemory is = is
@@ -27,6 +27,7 @@ log_of_bytes honest h text (RedoDamaged line) is = is
 pub listing_of_bytes : (honest : Type 0) → honest → (text : List ℕ) (fault : Fault) → StopsListing honest text fault → StopsListing (Unit {0}) text fault
 listing_of_bytes honest h text (Io fault) is = is
 listing_of_bytes honest h text (Read fault) is = is
+listing_of_bytes honest h text (Behind line) is = is
 listing_of_bytes honest h text (Dd fault) is = is
 listing_of_bytes honest h text (Patch fault) is = is
 listing_of_bytes honest h text (Disagrees other) is = is
@@ -57,6 +58,7 @@ pub showing_of_bytes : (honest : Type 0) → honest → (text : List ℕ) (s : S
     → StopsShowing (Unit {0}) text s fault
 showing_of_bytes honest h text s (Io fault) is = is
 showing_of_bytes honest h text s (Read fault) is = is
+showing_of_bytes honest h text s (Behind line) is = is
 showing_of_bytes honest h text s (Dd fault) is = is
 showing_of_bytes honest h text s (Patch fault) is = is
 showing_of_bytes honest h text s (Disagrees other) is = is

@@ -61,7 +61,7 @@ fn play_job(alloc: Global, case: &WordsCase, job: &Job, sweep: usize) -> Result<
     }
     match job {
         Job::Dump(job) => play_dump(alloc, case, job, sweep),
-        Job::Change(_) | Job::Look(_) | Job::Diff(_) | Job::Help { .. } => Err(at(
+        Job::Lay(_) | Job::Change(_) | Job::Look(_) | Job::Diff(_) | Job::Help { .. } => Err(at(
             0,
             Wrong::Unknown,
         )),

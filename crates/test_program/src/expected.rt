@@ -22,6 +22,8 @@ pub fn run_line<R: Read, W: Write>(
 ) -> Result<Done, Fault> {
     match plan_words(alloc, &words(alloc, line)?)? {
         Job::Dump(job) => run_dump(alloc, &job, job.skip().passable(0), from, to),
-        Job::Change(_) | Job::Look(_) | Job::Diff(_) | Job::Help { .. } => Err(Fault::Usage),
+        Job::Lay(_) | Job::Change(_) | Job::Look(_) | Job::Diff(_) | Job::Help { .. } => {
+            Err(Fault::Usage)
+        }
     }
 }

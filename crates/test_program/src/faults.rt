@@ -113,6 +113,11 @@ static FAULTS: [(Fault, u8, &str); 50] = [
         "line 7: odd number of digits",
     ),
     (
+        Fault::Behind { line: 4 },
+        36,
+        "line 4: goes back in a stream",
+    ),
+    (
         Fault::Dd(DdFault::UnknownOperand(1)),
         20,
         "operand 1: unknown",

@@ -137,7 +137,7 @@ static XXD_LAST: [Row; 1] = [Row {
     help: "Digits in upper case",
 }];
 
-static XXD_MORE: [Row; 3] = [
+static XXD_MORE: [Row; 4] = [
     Row {
         id: "decimal",
         short: 'd',
@@ -155,6 +155,12 @@ static XXD_MORE: [Row; 3] = [
         short: 'n',
         value: Some("NAME"),
         help: "Name of the C array, with its length [default: that of FILE]",
+    },
+    Row {
+        id: "revert",
+        short: 'r',
+        value: None,
+        help: "Write the bytes of a dump, FILE, with -p and -s alone beside it",
     },
 ];
 
@@ -299,12 +305,20 @@ pub fn xxd<'a>(alloc: Global) -> Result<Command<'a>, AllocError> {
     let command = Command::new(alloc, "xxd")
         .about("Dump bytes in hexadecimal")
         .after_help(
-            "Numbers: decimal, 0x and hexadecimal, or 0 and octal.\n\nEXAMPLES:\n  bx xxd -l 512 disk.img                   the first 512 bytes\n  bx xxd -s 0x1000 -c 8 -g 1 disk.img      from byte 4096 on, 8 bytes on a line\n  bx xxd -p key.bin | bx revert -p image   the bytes of one file onto another",
+            "Numbers: decimal, 0x and hexadecimal, or 0 and octal.\n\nEXAMPLES:\n  bx xxd -l 512 disk.img                   the first 512 bytes\n  bx xxd -s 0x1000 -c 8 -g 1 disk.img      from byte 4096 on, 8 bytes on a line\n  bx xxd -p key.bin | bx revert -p image   the bytes of one file onto another\n  bx xxd -r edited.txt > disk.img          the bytes of a dump\n  bx xxd -r edited.txt disk.img            onto an image, as bx revert -f",
         );
     let styled = one_style(alloc, command)?;
     let grouped = one_case(alloc, styled)?;
     let placed = with_rows(alloc, grouped, &XXD)?.arg(seek(alloc))?;
-    with_more(alloc, reader(alloc, placed, &XXD_LAST)?, &XXD_MORE)
+    let read = reader(alloc, placed, &XXD_LAST)?.arg(out(alloc))?;
+    with_more(alloc, read, &XXD_MORE)
+}
+
+/// Under -r alone.
+fn out<'a>(alloc: Global) -> Arg<'a> {
+    Arg::new(alloc, "out").value_name("OUT").help(
+        "File to change under -r, as bx revert does [default: standard output]",
+    )
 }
 
 /// A negative place counts from the end.

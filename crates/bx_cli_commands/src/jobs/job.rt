@@ -2,14 +2,16 @@
 ghost use Rattle.std.specs.Prelude.{◌≡◌};
 ghost use Rattle.std.specs.Option.{option_copied};
 
-use crate::{ChangeJob, DiffJob, DumpJob, LookJob, Target};
+use crate::{ChangeJob, DiffJob, DumpJob, LayJob, LookJob, Target};
 use bx_text::Name;
 
-/// What a command line asks for: one of the subcommands, which are of four kinds, or help.
+/// What a command line asks for: one of the subcommands, which are of five kinds, or help.
 #[derive(Drop)]
 pub enum Job {
     /// Reads one input, and writes one output.
     Dump(DumpJob),
+    /// Writes what a dump makes of nothing.
+    Lay(LayJob),
     /// Changes an image.
     Change(ChangeJob),
     /// Shows the changes of an image.
@@ -32,7 +34,7 @@ impl Job {
     {
         match self {
             Job::Dump(_) => true,
-            Job::Change(_) | Job::Look(_) | Job::Diff(_) | Job::Help { .. } => false,
+            Job::Lay(_) | Job::Change(_) | Job::Look(_) | Job::Diff(_) | Job::Help { .. } => false,
         }
     }
 
@@ -43,7 +45,7 @@ impl Job {
         match self {
             Job::Change(job) => Some(job.target()),
             Job::Look(job) => Some(job.target()),
-            Job::Dump(_) | Job::Diff(_) | Job::Help { .. } => None,
+            Job::Dump(_) | Job::Lay(_) | Job::Diff(_) | Job::Help { .. } => None,
         }
     }
 }

@@ -280,6 +280,7 @@ fn drops_history(job: &Job) -> bool {
         Job::Change(ChangeJob::Dd(job)) => job.fresh,
         Job::Change(ChangeJob::Undo(_) | ChangeJob::Redo(_))
         | Job::Dump(_)
+        | Job::Lay(_)
         | Job::Look(_)
         | Job::Diff(_)
         | Job::Help { .. } => false,

@@ -33,6 +33,9 @@ fn advice(fault: Fault) -> &'static str
     match fault {
         Fault::Io(fault) => io_advice(fault),
         Fault::Read(fault) => read_advice(fault),
+        Fault::Behind { .. } => {
+            "a stream is written from front to end; onto a file lines may go back: bx xxd -r DUMP OUT"
+        }
         Fault::Dd(fault) => dd_advice(fault),
         Fault::Patch(fault) => patch_advice(fault),
         Fault::Disagrees(_) => "the patch is of another image, or was applied before",

@@ -22,7 +22,12 @@ fn operands_of_dd(job: &Job) -> Option<&Words> {
     match job {
         Job::Dump(DumpJob::Dd(dd)) => Some(&dd.operands),
         Job::Change(ChangeJob::Dd(dd)) => Some(&dd.operands),
-        Job::Dump(_) | Job::Change(_) | Job::Look(_) | Job::Diff(_) | Job::Help { .. } => None,
+        Job::Dump(_)
+        | Job::Lay(_)
+        | Job::Change(_)
+        | Job::Look(_)
+        | Job::Diff(_)
+        | Job::Help { .. } => None,
     }
 }
 

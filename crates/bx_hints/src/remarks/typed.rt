@@ -1,7 +1,7 @@
 //! Standard input that a person types.
 use bx_cli_commands::{ChangeJob, Job};
 
-/// Says that a job that changes an image reads what is typed, before it does.
+/// Says that a job reads a change or a dump that is typed, before it does.
 pub fn tell_of_typing<R: Eprint>(rt: &R, job: &Job) {
     let Some((what, other)) = typed(job) else {
         return;
@@ -11,7 +11,7 @@ pub fn tell_of_typing<R: Eprint>(rt: &R, job: &Job) {
     );
 }
 
-/// What a job reads from standard input before it changes an image, and how a file is named in its place.
+/// What a job reads from standard input that is a change or a dump, and how a file is named in its place.
 fn typed(job: &Job) -> Option<(&'static str, &'static str)> {
     match job {
         Job::Change(ChangeJob::Revert(job)) if job.dump.is_none() => Some(("a dump", "-f DUMP")),
@@ -19,6 +19,12 @@ fn typed(job: &Job) -> Option<(&'static str, &'static str)> {
         Job::Change(ChangeJob::Dd(job)) if job.plan.input.is_none() => {
             Some(("the input", "if=FILE"))
         }
-        Job::Change(_) | Job::Dump(_) | Job::Look(_) | Job::Diff(_) | Job::Help { .. } => None,
+        Job::Lay(job) if job.dump.is_none() => Some(("a dump", "DUMP")),
+        Job::Change(_)
+        | Job::Dump(_)
+        | Job::Lay(_)
+        | Job::Look(_)
+        | Job::Diff(_)
+        | Job::Help { .. } => None,
     }
 }

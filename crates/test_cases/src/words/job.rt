@@ -1,8 +1,8 @@
 //! The fields of jobs, as a case file names them.
 use bx_cli::{
     Access, ChangeJob, DdImageJob, DdJob, DiffJob, DumpJob, Durability, ForgetJob, HexdumpJob, Job,
-    LogJob, LookJob, OdJob, PatchJob, RevertJob, ShowJob, StepsJob, StringsJob, Target, XxdJob,
-    XxdLook,
+    LayJob, LogJob, LookJob, OdJob, PatchJob, RevertJob, ShowJob, StepsJob, StringsJob, Target,
+    XxdJob, XxdLook,
 };
 use bx_dd::{Letters, Plan, Shape};
 use bx_dump::od::{Address, Endian, Kind, NumForm, Size};
@@ -32,6 +32,7 @@ fn name_of(job: &Job) -> &'static str {
         Job::Dump(DumpJob::Hexdump(_)) => "hexdump",
         Job::Dump(DumpJob::Strings(_)) => "strings",
         Job::Dump(DumpJob::Dd(_)) | Job::Change(ChangeJob::Dd(_)) => "dd",
+        Job::Lay(_) => "lay",
         Job::Change(ChangeJob::Revert(_)) => "revert",
         Job::Change(ChangeJob::Patch(_)) => "patch",
         Job::Change(ChangeJob::Forget(_)) => "forget",
@@ -297,6 +298,15 @@ fn show_field<'a>(job: &'a ShowJob, name: &str) -> Field<'a> {
     }
 }
 
+fn lay_field<'a>(job: &'a LayJob, name: &str) -> Field<'a> {
+    match name {
+        "dump" => file(&job.dump),
+        "plain" => flag(job.plain),
+        "at" => Field::Number(job.at),
+        _ => Field::Missing,
+    }
+}
+
 fn diff_field<'a>(job: &'a DiffJob, name: &str) -> Field<'a> {
     match name {
         "rows" => flag(job.rows),
@@ -311,6 +321,7 @@ fn diff_field<'a>(job: &'a DiffJob, name: &str) -> Field<'a> {
 fn field_of<'a>(job: &'a Job, name: &str) -> Field<'a> {
     match job {
         Job::Dump(job) => dump_field(job, name),
+        Job::Lay(job) => lay_field(job, name),
         Job::Change(ChangeJob::Dd(job)) => dd_image_field(job, name),
         Job::Change(ChangeJob::Revert(job)) => revert_field(job, name),
         Job::Change(ChangeJob::Patch(job)) => patch_field(job, name),
