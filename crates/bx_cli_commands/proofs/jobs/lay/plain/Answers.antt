@@ -8,5 +8,5 @@ returns-clause-err g c = (
   g.R.Read.remaining c.lay_plain.new.source.reader,
   subst (λ r. StopsPlain c.args.at (g.R.Read.remaining r) (g.R.Read.remaining c.lay_plain.new.source.reader)
       (g.W.Write.contents c.args.w.now) (g.W.Write.contents c.lay_plain.new.w) c.in-Err.fault)
-    c.new-source.ensures.reader c.in-Err.ensures.err,
+      c.new-source.ensures.reader c.in-Err.ensures.err,
 )
