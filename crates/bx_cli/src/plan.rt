@@ -14,7 +14,7 @@ use bx_cli_commands::{
 use bx_dd::parse;
 use bx_dump::hexdump::HexdumpOptions;
 use bx_dump::od::{Address, OdOptions};
-use bx_dump::strings::StringsOptions;
+use bx_dump::strings::{Encoding, StringsOptions};
 use bx_dump::xxd::XxdOptions;
 use bx_journal::Way;
 use bx_text::{IoFault, Name, SizeStyle, Words};
@@ -399,6 +399,7 @@ fn strings(alloc: Global, m: &Given<'_, '_>) -> Result<StringsJob, Fault> {
     }
     Ok(StringsJob {
         options: StringsOptions {
+            encoding: Encoding::SevenBits,
             least,
             offsets: radix(m.get_str("offsets"), Address::Without, false)?,
         },

@@ -164,7 +164,7 @@ scans least o (c ∷ cs) some =
 pub strings_is : (least : ℕ) (o : Address) (x : List ℕ) → 0 < least → strings_text least o x ≡ scan_text least o 0 [] x ++ end_of_run least (scan_run [] x)
 strings_is least o x some = sym ((scans least o x some).0 0)
 
-end_few : (least : ℕ) (run : List ℕ) → length (end_of_run least run) ≤ 1
+pub end_few : (least : ℕ) (run : List ℕ) → length (end_of_run least run) ≤ 1
 end_few least run = go (nat_le least (length run)) refl
   where
     go : (b : Bool) → nat_le least (length run) ≡ b → length (end_of_run least run) ≤ 1

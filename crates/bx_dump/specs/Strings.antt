@@ -3,7 +3,10 @@ use Rattle.std.specs.Prelude.{ℕ, zero, suc, ◌+◌, Bool, false, ◌&&◌, no
 use Rattle.std.specs.List.{flat_map, range_with_len, prefix_len}
 use Rattle.bx_text.specs.Ascii.{is_printable}
 use Rattle.bx_dump_columns.specs.Places.{place_text}
+use Rattle.bx_dump.specs.Encodings.{runs_text}
 use Rattle.bx_dump.specs.Pages.{Dump}
+use Rattle.bx_dump.specs.declared.strings.options.Encoding.{Encoding}
+use Rattle.bx_dump.specs.declared.strings.options.Encoding.TheVariants.{SevenBits}
 use Rattle.bx_dump.specs.declared.strings.options.StringsOptions.{StringsOptions}
 use Rattle.bx_dump_columns.specs.declared.od.options.Address.{Address}
 
@@ -22,6 +25,11 @@ line_at least offsets before first x a = let run = take (prefix_len is_printable
 abbrev pub strings_text : ℕ → Address → List ℕ → List ℕ
 strings_text least offsets x = flat_map (line_at least offsets false 0 x) (range_with_len 0 (length x))
 
+-- the runs of an encoding's characters
+abbrev pub encoded_text : Encoding → ℕ → Address → List ℕ → List ℕ
+encoded_text SevenBits least offsets x = strings_text least offsets x
+encoded_text e least offsets x = runs_text e least offsets 0 0 x
+
 -- the dump that the options ask for
 abbrev pub strings_of : StringsOptions → Dump
-strings_of o = record { text = strings_text o.least o.offsets; skip = 0; limit = None }
+strings_of o = record { text = encoded_text o.encoding o.least o.offsets; skip = 0; limit = None }

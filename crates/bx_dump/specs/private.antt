@@ -1,4 +1,5 @@
 -- What the functions of this crate need among themselves.
+pub mod Chars
 pub mod Dumped
 pub mod FoldBy
 pub mod Folded

@@ -3,4 +3,4 @@ mod dump;
 mod options;
 
 pub use dump::strings;
-pub use options::StringsOptions;
+pub use options::{Encoding, StringsOptions};
