@@ -80,7 +80,7 @@ _bx() {
     xxd) options='-b -c -d -e -g -i -l -n -o -p -r -s -u' ;;
     od) options='-A -N -b -c -d -i -j -l -o -s -t -v -w -x --endian --width' ;;
     hexdump) options='-C -n -s -v' ;;
-    strings) options='-a -f -n -t' ;;
+    strings) options='-a -e -f -n -t' ;;
     dd) options='-J -U -n --anyway --dry-run --fresh --mounted --no-grow' ;;
     revert) options='-J -U -f -n -p -s --anyway --dry-run --fresh --mounted --no-grow' ;;
     undo | redo) options='-J -U -k --anyway --mounted' ;;
@@ -95,6 +95,7 @@ _bx() {
     od:-A) _bx_words 'd o x n' ;;
     od:--endian) _bx_words 'big little' ;;
     od:-t) _bx_words 'c d1 d2 d4 d8 o1 o2 o4 o8 u1 u2 u4 u8 x1 x2 x4 x8' ;;
+    strings:-e) _bx_words 's S b l B L' ;;
     strings:-t) _bx_words 'd o x' ;;
     xxd:-[cglnos] | od:-[jN] | hexdump:-[ns] | strings:-n | revert:-s | undo:-k | redo:-k | show:-k) ;;
     *:-J | revert:-f | patch:-f) _bx_files ;;

@@ -98,6 +98,7 @@ complete -c bx -n '__fish_seen_subcommand_from hexdump' -s s -x -d 'Bytes to ski
 complete -c bx -n '__fish_seen_subcommand_from hexdump' -s v -d 'Show every line'
 
 complete -c bx -n '__fish_seen_subcommand_from strings' -s a -d 'Read the whole file, as is always done'
+complete -c bx -n '__fish_seen_subcommand_from strings' -s e -x -a 's S b l B L' -d 'Characters of a run'
 complete -c bx -n '__fish_seen_subcommand_from strings' -s f -d 'The name of its file in front of each line'
 complete -c bx -n '__fish_seen_subcommand_from strings' -s n -x -d 'Minimum run length, 1 to 4096'
 complete -c bx -n '__fish_seen_subcommand_from strings' -s t -x -a 'd o x' -d 'Show where each run begins'

@@ -322,6 +322,10 @@ Dumps and a patch:
   bx: bad arguments
   hint: n: one of d, o and x; Usage: bx strings [OPTIONS] [FILE]...
   [2]
+  $ bx strings -e w img
+  bx: bad arguments
+  hint: w: one of s, S, b, l, B and L; Usage: bx strings [OPTIONS] [FILE]...
+  [2]
   $ bx hexdump img
   bx: bad arguments
   hint: -C: it has to be given, since there is no other form; Usage: bx hexdump [OPTIONS] [FILE]...

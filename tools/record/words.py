@@ -178,6 +178,28 @@ def some_row(rng, size):
     return bytes(rng.randrange(256) if rng.randrange(2) else rng.randrange(32, 127) for _ in range(size))
 
 
+# Characters of strings: of each encoding beside text in all, whole and cut, with tabs, and at places that they don't divide.
+CHARS_OF = {"S": "latin-1", "b": "utf-16-be", "l": "utf-16-le", "B": "utf-32-be", "L": "utf-32-le"}
+CHAR_LINES = ["", "-n 1", "-n 2", "-t x", "-t d -n 3", "-a -n 5 -to", "-n 9 in.bin", "-n 4096"]
+
+
+def char_cases(tool, rng):
+    """All cases of characters."""
+    yield from (Case(tool, f"-e {letter} {line}".split(), some_chars(rng, parts), f"-e {letter} {line}".strip())
+                for letter in CHARS_OF for line in CHAR_LINES for parts in (0, 1, 2, 3, 5, 8, 13))
+    yield from (Case(tool, [f"-e{letter}", "-t", "d"], bytes(cut) + "end\tof it".encode(coding), f"-e{letter}, over a block's end")
+                for letter, coding in CHARS_OF.items() for cut in (16379, 16382, 16383))
+
+
+def some_chars(rng, parts):
+    """So many parts: texts in an encoding, perhaps cut, and bytes of which many are 0."""
+    texts = ["a", "ab c", "tab\there", "~ }|{", "\x7f\x1fdel", "\u00e9t\u00e9 dix", "sixteen letters."]
+    found = [rng.choice([bytes(rng.choice([0, 0, 9, 65, 127, 128, 255]) for _ in range(rng.randrange(9))),
+                         rng.choice(texts).encode(rng.choice(list(CHARS_OF.values())))[rng.randrange(3):][:rng.choice([99, 99, 7])]])
+             for _ in range(parts)]
+    return b"".join(found)
+
+
 # Several types of od, and the bytes as text: on some lengths, and with lines that repeat.
 ROW_LENGTHS = [0, 1, 3, 8, 15, 16, 17, 32, 63, 257]
 ROW_LINES = ["-t x1 -t c", "-t x1c", "-xc", "-t x1z", "-A x -t x8zd4z", "-w4 -t x1z -t c", "-bcx -A n", "-t c -t x1 -t d2 -t u8", "-vw24 -ct x4z",
@@ -309,7 +331,8 @@ def differs(tools, bx, case):
 # Each file: its name, kind, tool, and what makes its cases.
 FILES = [*((tool, "words", tool, word_cases) for tool in ("xxd", "od", "hexdump", "strings", "dd")),
          ("dd_images", "commands", "dd", image_cases), ("xxd_hands", "words", "xxd", hand_cases),
-         ("dd_hands", "words", "dd", dd_hand_cases), ("od_rows", "words", "od", row_cases)]
+         ("dd_hands", "words", "dd", dd_hand_cases), ("od_rows", "words", "od", row_cases),
+         ("strings_chars", "words", "strings", char_cases)]
 
 
 def run(options):

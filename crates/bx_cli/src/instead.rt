@@ -99,6 +99,7 @@ fn short_of_strings(long: &str) -> &'static str {
         "--all" => "give -a",
         "--bytes" => "give -n COUNT",
         "--radix" => "give -t RADIX",
+        "--encoding" => "give -e ENCODING",
         _ => "",
     }
 }

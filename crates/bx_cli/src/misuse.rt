@@ -6,7 +6,9 @@ use crate::instead::{
 use crate::options::program;
 use crate::plan::{beside_back, is_onto_itself, look, words_of};
 use crate::types::{Types, wrong_type};
-use bx_cli_commands::{Fault, MOST_LEAST, MOST_STEPS, bytes, count_or, endian, number, radix};
+use bx_cli_commands::{
+    Fault, MOST_LEAST, MOST_STEPS, bytes, count_or, encoding, endian, number, radix,
+};
 use bx_dd::DdFault;
 use bx_dump::od::Address;
 use bx_text::{SizeFault, SizeStyle, Words, read_size};
@@ -208,9 +210,9 @@ fn missing(name: &str) -> (&'static str, &'static str) {
     }
 }
 
-static VALUES: [&str; 14] = [
-    "radix", "kind", "endian", "width", "offsets", "least", "count", "cols", "group", "seek",
-    "shift", "offset", "skip", "limit",
+static VALUES: [&str; 15] = [
+    "radix", "kind", "endian", "width", "offsets", "least", "encoding", "count", "cols", "group",
+    "seek", "shift", "offset", "skip", "limit",
 ];
 
 /// The first value that isn't one of its option, and what those are.
@@ -267,6 +269,7 @@ fn form_of(name: &str, id: &str, style: SizeStyle) -> &'static str {
     match id {
         "radix" => "one of d, o, x and n",
         "offsets" => "one of d, o and x",
+        "encoding" => "one of s, S, b, l, B and L",
         "kind" => {
             "c, or one of d, o, u and x with one of 1, 2, 4 and 8, or C, S, I and L, and perhaps z; at most 16 in all"
         }
@@ -293,6 +296,7 @@ fn is_value(name: &str, m: &ArgMatches<'_>, id: &str, style: SizeStyle) -> bool 
     match id {
         "radix" => radix(text, Address::Octal, true).is_ok(),
         "offsets" => radix(text, Address::Without, false).is_ok(),
+        "encoding" => encoding(text).is_ok(),
         "kind" => Types::of(&Given::Read(m)).is_ok(),
         "endian" => endian(text).is_ok(),
         "width" => Types::of(&Given::Read(m)).is_ok_and(|types| types.width(text).is_ok()),

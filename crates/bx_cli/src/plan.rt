@@ -9,12 +9,12 @@ use bx_cli_commands::{
     Access, ChangeJob, DdImageJob, DdJob, DiffJob, DumpJob, Durability, Fault, ForgetJob,
     HexdumpJob, Job, LayJob, LogJob, LookJob, MOST_COLUMNS, MOST_LEAST, MOST_STEPS, OdJob,
     PatchJob, RevertJob, ShowJob, StepsJob, StringsJob, Target, XxdJob, XxdLook, bytes, columns,
-    count_or, endian, name_of, number, number_or, radix, texts_of, word_len,
+    count_or, encoding, endian, name_of, number, number_or, radix, texts_of, word_len,
 };
 use bx_dd::parse;
 use bx_dump::hexdump::HexdumpOptions;
 use bx_dump::od::{Address, OdOptions};
-use bx_dump::strings::{Encoding, StringsOptions};
+use bx_dump::strings::StringsOptions;
 use bx_dump::xxd::XxdOptions;
 use bx_journal::Way;
 use bx_text::{IoFault, Name, SizeStyle, Words};
@@ -399,7 +399,7 @@ fn strings(alloc: Global, m: &Given<'_, '_>) -> Result<StringsJob, Fault> {
     }
     Ok(StringsJob {
         options: StringsOptions {
-            encoding: Encoding::SevenBits,
+            encoding: encoding(m.get_str("encoding"))?,
             least,
             offsets: radix(m.get_str("offsets"), Address::Without, false)?,
         },

@@ -32,8 +32,8 @@ pub use jobs::rest::{plan_rest, xxd_from_end};
 pub use jobs::skip::Skip;
 pub use jobs::target::{Access, Durability, Target, Texts};
 pub use jobs::values::{
-    MOST_COLUMNS, MOST_LEAST, MOST_STEPS, bytes, columns, count_or, endian, kind_word, line_width,
-    name_of, number, number_or, radix, texts_of, word_len,
+    MOST_COLUMNS, MOST_LEAST, MOST_STEPS, bytes, columns, count_or, encoding, endian, kind_word,
+    line_width, name_of, number, number_or, radix, texts_of, word_len,
 };
 pub use listing::{list_ranges, list_steps, log_text};
 pub use reading::{Form, change_from};

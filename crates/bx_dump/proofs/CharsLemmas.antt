@@ -16,8 +16,8 @@ use Rattle.bx_dump_columns.specs.declared.od.options.Address.{Address}
 use Rattle.bx_dump_columns.specs.Places.{place_text}
 use Rattle.bx_dump.specs.declared.strings.options.Encoding.{Encoding}
 use Rattle.bx_dump.specs.declared.strings.options.Encoding.TheVariants.{SevenBits, EightBits, SixteenBits, ThirtyTwoBits}
-use Rattle.bx_dump.specs.Encodings.{char_byte, char_len, char_prints, front_chars, front_run, run_text, runs_text}
-use Rattle.bx_dump.specs.private.Chars.{Between, behind_byte, byte_text, chars_left, chars_text, grown_run, nothing, with_byte}
+use Rattle.bx_dump.specs.Encodings.{char_byte, char_len, char_prints, front_chars, front_run, char_line, char_lines}
+use Rattle.bx_dump.specs.private.Chars.{Between, behind_byte, byte_text, chars_left, chars_text, grown_run, nothing, held_with}
 use Rattle.bx_dump.specs.private.Scan.{end_of_run, IsKept}
 
 pub char_some : (e : Encoding) → 0 < char_len e
@@ -74,17 +74,17 @@ rest_with least o start run f =
     else []
 
 -- bytes that are passed
-pub passed : (e : Encoding) (least : ℕ) (o : Address) (k at : ℕ) (u x : List ℕ) → runs_text e least o (length u + k) at (u ++ x) ≡ runs_text e least o k (at + length u) x
+pub passed : (e : Encoding) (least : ℕ) (o : Address) (k at : ℕ) (u x : List ℕ) → char_lines e least o (length u + k) at (u ++ x) ≡ char_lines e least o k (at + length u) x
 passed e least o k at [] x =
     let none : 0 + k ≡ k = omega arith in
     rw (none, add-zero at) refl
 passed e least o k at (b ∷ u) x =
     let place : at + 1 + length u ≡ at + suc (length u) = omega arith in
     let more : suc (length u) + k ≡ suc (length u + k) = omega arith in
-    rw more (passed e least o k (at + 1) u x ∙ ap (λ n. runs_text e least o k n x) place)
+    rw more (passed e least o k (at + 1) u x ∙ ap (λ n. char_lines e least o k n x) place)
 
 -- fewer bytes than a character has show nothing
-pub none_short : (e : Encoding) (least : ℕ) (o : Address) (k at : ℕ) (x : List ℕ) → 0 < least → length x < char_len e → runs_text e least o k at x ≡ []
+pub none_short : (e : Encoding) (least : ℕ) (o : Address) (k at : ℕ) (x : List ℕ) → 0 < least → length x < char_len e → char_lines e least o k at x ≡ []
 none_short e least o k at [] some short = refl
 none_short e least o (suc k) at (b ∷ x) some short = none_short e least o k (at + 1) x some (omega arith)
 none_short e least o zero at (b ∷ x) some short =
@@ -153,7 +153,7 @@ ends_run least o start run =
     ]
 
 -- behind no run, what is left is the line of the run in front
-rest_fresh : (least : ℕ) (o : Address) (start : ℕ) (f : List ℕ) → 0 < least → rest_with least o start [] f ≡ run_text least o start f
+rest_fresh : (least : ℕ) (o : Address) (start : ℕ) (f : List ℕ) → 0 < least → rest_with least o start [] f ≡ char_line least o start f
 rest_fresh least o start f some =
     let short : nat_le least 0 ≡ false = grind (arith, nat_tests) in
     let none : 0 + length f ≡ length f = omega arith in
@@ -175,31 +175,31 @@ some_more : (a b c : ℕ) → a ≡ b + c → 0 < b → a ≡ suc (a - 1)
 some_more a b c is some = omega arith
 
 goes : (e : Encoding) (least : ℕ) (o : Address) (at b : ℕ) (bs f : List ℕ) → 0 < least →
-    runs_text e least o 0 at (b ∷ bs) ≡ run_text least o at f ++ runs_text e least o (char_len e * length f - 1) (at + 1) bs →
-    run_text least o at f ++ runs_text e least o (char_len e * length f) at (b ∷ bs) ≡ runs_text e least o 0 at (b ∷ bs)
+    char_lines e least o 0 at (b ∷ bs) ≡ char_line least o at f ++ char_lines e least o (char_len e * length f - 1) (at + 1) bs →
+    char_line least o at f ++ char_lines e least o (char_len e * length f) at (b ∷ bs) ≡ char_lines e least o 0 at (b ∷ bs)
 goes e least o at b bs [] some is =
-    let short : run_text least o at [] ≡ [] = (let fails : nat_le least 0 ≡ false = grind (arith, nat_tests) in rw fails refl) in
-    ap (λ t. t ++ runs_text e least o (char_len e * 0) at (b ∷ bs)) short ∙ ap (λ n. runs_text e least o n at (b ∷ bs)) (len_none e)
+    let short : char_line least o at [] ≡ [] = (let fails : nat_le least 0 ≡ false = grind (arith, nat_tests) in rw fails refl) in
+    ap (λ t. t ++ char_lines e least o (char_len e * 0) at (b ∷ bs)) short ∙ ap (λ n. char_lines e least o n at (b ∷ bs)) (len_none e)
 goes e least o at b bs (c ∷ f) some is =
     let more = some_more (char_len e * suc (length f)) (char_len e) (char_len e * length f) (len_more e (length f)) (char_some e) in
-    ap (λ n. run_text least o at (c ∷ f) ++ runs_text e least o n at (b ∷ bs)) more ∙ sym is
+    ap (λ n. char_line least o at (c ∷ f) ++ char_lines e least o n at (b ∷ bs)) more ∙ sym is
 
 -- behind no run, the line of the run in front and those behind it are all
 fresh : (e : Encoding) (least : ℕ) (o : Address) (at : ℕ) (x : List ℕ) → 0 < least →
-    rest_with least o at [] (front_run e x) ++ runs_text e least o (char_len e * length (front_run e x)) at x ≡ runs_text e least o 0 at x
+    rest_with least o at [] (front_run e x) ++ char_lines e least o (char_len e * length (front_run e x)) at x ≡ char_lines e least o 0 at x
 fresh e least o at [] some = let fails : nat_le least 0 ≡ false = grind (arith, nat_tests) in rw fails refl
 fresh e least o at (b ∷ bs) some =
-    ap (λ t. t ++ runs_text e least o (char_len e * length (front_run e (b ∷ bs))) at (b ∷ bs)) (rest_fresh least o at (front_run e (b ∷ bs)) some)
+    ap (λ t. t ++ char_lines e least o (char_len e * length (front_run e (b ∷ bs))) at (b ∷ bs)) (rest_fresh least o at (front_run e (b ∷ bs)) some)
     ∙ goes e least o at b bs (front_run e (b ∷ bs)) some refl
 
--- a byte in front of which no run begins
+-- where no run begins, a byte is passed
 skip_one : (e : Encoding) (least : ℕ) (o : Address) (at : ℕ) (w x : List ℕ) → 0 < least → 0 < length w → front_run e (w ++ x) ≡ [] →
-    runs_text e least o 0 at (w ++ x) ≡ runs_text e least o 0 (at + 1) (drop 1 w ++ x)
+    char_lines e least o 0 at (w ++ x) ≡ char_lines e least o 0 (at + 1) (drop 1 w ++ x)
 skip_one e least o at [] x some long none = absurd (omega arith)
 skip_one e least o at (h ∷ w) x some long none =
     let fails : nat_le least 0 ≡ false = grind (arith, nat_tests) in
     let zero_left : char_len e * 0 - 1 ≡ 0 = omega (arith, len_none e) in
-    ap (λ f. run_text least o at f ++ runs_text e least o (char_len e * length f - 1) (at + 1) (w ++ x)) none
+    ap (λ f. char_line least o at f ++ char_lines e least o (char_len e * length f - 1) (at + 1) (w ++ x)) none
     ∙ rw (fails, zero_left) refl
 
 -- what is held and the run before it
@@ -213,7 +213,7 @@ text_behind e least o at now x = chars_text e least o at now x ++ end_of_run lea
 abbrev runs_behind : Encoding → ℕ → Address → ℕ → List ℕ → List ℕ → List ℕ → List ℕ
 runs_behind e least o at u run x =
     rest_with least o (at - (length u + char_len e * length run)) run (front_run e (u ++ x))
-    ++ runs_text e least o (char_len e * length (front_run e (u ++ x))) (at - length u) (u ++ x)
+    ++ char_lines e least o (char_len e * length (front_run e (u ++ x))) (at - length u) (u ++ x)
 
 shift : (at n m : ℕ) → at + 1 - (n + 1 + m) ≡ at - (n + m)
 shift at n m = omega arith
@@ -247,22 +247,22 @@ module _ (e : Encoding) (least : ℕ) (o : Address) (at : ℕ) (u run : List ℕ
       ap (λ n. at + 1 - (0 + l * n)) size ∙ none_held (at + 1) (l * (length run + 1)) ∙ behind_char at (length u) l (l * length run) (l * (length run + 1)) last_of long in
       let grows : at + 1 - l * (length run + 1) ≡ start = behind_char at (length u) l (l * length run) (l * (length run + 1)) last_of long in
       let place : at + 1 - 0 ≡ at + 1 = omega arith in
-      let after = runs_text e least o (l * length f) (at + 1) bs in
+      let after = char_lines e least o (l * length f) (at + 1) bs in
       let known : later ≡ rest_with least o start (run ++ c ∷ []) f ++ after =
-      is ∙ ap (λ n. rest_with least o n (run ++ c ∷ []) f ++ runs_text e least o (l * length f) (at + 1 - 0) bs) begins
-      ∙ ap (λ n. rest_with least o start (run ++ c ∷ []) f ++ runs_text e least o (l * length f) n bs) place in
+      is ∙ ap (λ n. rest_with least o n (run ++ c ∷ []) f ++ char_lines e least o (l * length f) (at + 1 - 0) bs) begins
+      ∙ ap (λ n. rest_with least o start (run ++ c ∷ []) f ++ char_lines e least o (l * length f) n bs) place in
       let behind : at - length u + length w ≡ at + 1 = omega (arith, whole, last_of, before) in
       let more : l * suc (length f) ≡ length w + l * length f = len_more e (length f) ∙ ap (λ n. n + l * length f) (sym whole) in
-      let pass : runs_text e least o (l * suc (length f)) (at - length u) (u ++ b ∷ bs) ≡ after =
-      ap (λ n. runs_text e least o n (at - length u) (u ++ b ∷ bs)) more
-      ∙ ap (λ t. runs_text e least o (length w + l * length f) (at - length u) t) (sym join)
+      let pass : char_lines e least o (l * suc (length f)) (at - length u) (u ++ b ∷ bs) ≡ after =
+      ap (λ n. char_lines e least o n (at - length u) (u ++ b ∷ bs)) more
+      ∙ ap (λ t. char_lines e least o (length w + l * length f) (at - length u) t) (sym join)
       ∙ passed e least o (l * length f) (at - length u) w bs
-      ∙ ap (λ n. runs_text e least o (l * length f) n bs) behind in
+      ∙ ap (λ n. char_lines e least o (l * length f) n bs) behind in
       ap (λ n. grown_run least o n run c ++ later) grows
       ∙ ap (λ t. grown_run least o start run c ++ t) known
       ∙ sym (append_assoc (grown_run least o start run c) (rest_with least o start (run ++ c ∷ []) f) after)
       ∙ ap (λ t. t ++ after) (one_more least o start run c f)
-      ∙ sym (ap (λ f. rest_with least o start run f ++ runs_text e least o (l * length f) (at - length u) (u ++ b ∷ bs)) front
+      ∙ sym (ap (λ f. rest_with least o start run f ++ char_lines e least o (l * length f) (at - length u) (u ++ b ∷ bs)) front
       ∙ ap (λ t. rest_with least o start run (c ∷ f) ++ t) pass)
 
   -- the last byte of one that doesn't
@@ -278,18 +278,18 @@ module _ (e : Encoding) (least : ℕ) (o : Address) (at : ℕ) (u run : List ℕ
       let front : front_run e (u ++ b ∷ bs) ≡ [] = ap (front_run e) (sym join) ∙ none in
       let size : length v ≡ length w - 1 = length-drop 1 w in
       let begins : at + 1 - (length v + l * 0) ≡ at + 1 - length v = omega (arith, len_none e) in
-      let known : later ≡ runs_text e least o 0 (at + 1 - length v) (v ++ bs) =
-      is ∙ ap (λ n. rest_with least o n [] (front_run e (v ++ bs)) ++ runs_text e least o (l * length (front_run e (v ++ bs))) (at + 1 - length v) (v ++ bs)) begins
+      let known : later ≡ char_lines e least o 0 (at + 1 - length v) (v ++ bs) =
+      is ∙ ap (λ n. rest_with least o n [] (front_run e (v ++ bs)) ++ char_lines e least o (l * length (front_run e (v ++ bs))) (at + 1 - length v) (v ++ bs)) begins
       ∙ fresh e least o (at + 1 - length v) (v ++ bs) some in
       let place : at - length u + 1 ≡ at + 1 - length v = omega (arith, size, whole, last_of, before) in
-      let skip : runs_text e least o 0 (at - length u) (w ++ bs) ≡ runs_text e least o 0 (at + 1 - length v) (v ++ bs) =
-      skip_one e least o (at - length u) w bs some (omega (arith, whole, char_some e)) none ∙ ap (λ n. runs_text e least o 0 n (v ++ bs)) place in
+      let skip : char_lines e least o 0 (at - length u) (w ++ bs) ≡ char_lines e least o 0 (at + 1 - length v) (v ++ bs) =
+      skip_one e least o (at - length u) w bs some (omega (arith, whole, char_some e)) none ∙ ap (λ n. char_lines e least o 0 n (v ++ bs)) place in
       let start = at - (length u + l * length run) in
       ap (λ t. end_of_run least run ++ t) known
-      ∙ sym (ap (λ f. rest_with least o start run f ++ runs_text e least o (l * length f) (at - length u) (u ++ b ∷ bs)) front
-      ∙ ap (λ t. t ++ runs_text e least o (l * 0) (at - length u) (u ++ b ∷ bs)) (ends_run least o start run)
-      ∙ ap (λ n. end_of_run least run ++ runs_text e least o n (at - length u) (u ++ b ∷ bs)) (len_none e)
-      ∙ ap (λ t. end_of_run least run ++ runs_text e least o 0 (at - length u) t) (sym join)
+      ∙ sym (ap (λ f. rest_with least o start run f ++ char_lines e least o (l * length f) (at - length u) (u ++ b ∷ bs)) front
+      ∙ ap (λ t. t ++ char_lines e least o (l * 0) (at - length u) (u ++ b ∷ bs)) (ends_run least o start run)
+      ∙ ap (λ n. end_of_run least run ++ char_lines e least o n (at - length u) (u ++ b ∷ bs)) (len_none e)
+      ∙ ap (λ t. end_of_run least run ++ char_lines e least o 0 (at - length u) t) (sym join)
       ∙ ap (λ t. end_of_run least run ++ t) skip)
 
 -- what one more byte makes known, and what comes behind it
@@ -305,20 +305,20 @@ along e least o at old now b bs text all next known is =
 
 -- a byte that leaves a character open, one that ends one that prints, and one that ends one that doesn't
 module _ (e : Encoding) (least : ℕ) (o : Address) (at : ℕ) (now : Between) (b : ℕ) where
-  pub open_byte : length now.held + 1 < char_len e → (behind_byte e now b ≡ record { held = with_byte now b; run = now.run }) × (byte_text e least o at now b ≡ [])
+  pub open_byte : length now.held + 1 < char_len e → (behind_byte e now b ≡ record { held = held_with now b; run = now.run }) × (byte_text e least o at now b ≡ [])
   open_byte short =
       let first : nat_lt (length now.held + 1) (char_len e) ≡ true = grind (arith, nat_tests) in
       (rw first refl, rw first refl)
 
-  pub shown_byte : char_len e ≤ length now.held + 1 → char_prints e (with_byte now b) ≡ true →
-      (behind_byte e now b ≡ record { held = []; run = now.run ++ char_byte e (with_byte now b) ∷ [] })
-      × (byte_text e least o at now b ≡ grown_run least o (at + 1 - char_len e * (length now.run + 1)) now.run (char_byte e (with_byte now b)))
+  pub shown_byte : char_len e ≤ length now.held + 1 → char_prints e (held_with now b) ≡ true →
+      (behind_byte e now b ≡ record { held = []; run = now.run ++ char_byte e (held_with now b) ∷ [] })
+      × (byte_text e least o at now b ≡ grown_run least o (at + 1 - char_len e * (length now.run + 1)) now.run (char_byte e (held_with now b)))
   shown_byte long holds =
       let fails : nat_lt (length now.held + 1) (char_len e) ≡ false = grind (arith, nat_tests) in
       (rw (fails, holds) refl, rw (fails, holds) refl)
 
-  pub other_byte : char_len e ≤ length now.held + 1 → char_prints e (with_byte now b) ≡ false →
-      (behind_byte e now b ≡ record { held = drop 1 (with_byte now b); run = [] }) × (byte_text e least o at now b ≡ end_of_run least now.run)
+  pub other_byte : char_len e ≤ length now.held + 1 → char_prints e (held_with now b) ≡ false →
+      (behind_byte e now b ≡ record { held = drop 1 (held_with now b); run = [] }) × (byte_text e least o at now b ≡ end_of_run least now.run)
   other_byte long wrong =
       let fails : nat_lt (length now.held + 1) (char_len e) ≡ false = grind (arith, nat_tests) in
       (rw (fails, wrong) refl, rw (fails, wrong) refl)
@@ -329,8 +329,8 @@ unfolding chars_text chars_left
 chars e least o [] some at u run short before =
     let start = at - (length u + char_len e * length run) in
     let front : front_run e u ≡ [] = front_short e (length u) u short in
-    sym (ap (λ t. rest_with least o start run (front_run e t) ++ runs_text e least o (char_len e * length (front_run e t)) (at - length u) t) (append-nil u)
-    ∙ ap (λ f. rest_with least o start run f ++ runs_text e least o (char_len e * length f) (at - length u) u) front
+    sym (ap (λ t. rest_with least o start run (front_run e t) ++ char_lines e least o (char_len e * length (front_run e t)) (at - length u) t) (append-nil u)
+    ∙ ap (λ f. rest_with least o start run f ++ char_lines e least o (char_len e * length f) (at - length u) u) front
     ∙ ap (λ t. rest_with least o start run [] ++ t) (none_short e least o (char_len e * 0) (at - length u) u some short)
     ∙ append-nil (rest_with least o start run [])
     ∙ ends_run least o start run)
@@ -366,11 +366,11 @@ chars e least o (b ∷ bs) some at u run short before =
 
 -- The runs are what the bytes give one by one.
 pub runs_is : (e : Encoding) (least : ℕ) (o : Address) (x : List ℕ) → 0 < least →
-    runs_text e least o 0 0 x ≡ chars_text e least o 0 nothing x ++ end_of_run least (chars_left e nothing x).run
+    char_lines e least o 0 0 x ≡ chars_text e least o 0 nothing x ++ end_of_run least (chars_left e nothing x).run
 runs_is e least o x some =
     let start : 0 - (0 + char_len e * 0) ≡ 0 = omega (arith, len_none e) in
     sym (chars e least o x some 0 [] [] (char_some e) (omega arith)
-    ∙ ap (λ n. rest_with least o n [] (front_run e x) ++ runs_text e least o (char_len e * length (front_run e x)) 0 x) start
+    ∙ ap (λ n. rest_with least o n [] (front_run e x) ++ char_lines e least o (char_len e * length (front_run e x)) 0 x) start
     ∙ fresh e least o 0 x some)
 
 -- what a test of a character says
@@ -458,26 +458,26 @@ end_short least count kept run is short =
     let fails : nat_le least (length run) ≡ false = grind (arith, nat_tests, same, few) in
     rw fails refl
 
-pub runs_same : {e f : Encoding} {least more : ℕ} {o p : Address} → e ≡ f → least ≡ more → o ≡ p → (x : List ℕ) → runs_text f more p 0 0 x ≡ runs_text e least o 0 0 x
+pub runs_same : {e f : Encoding} {least more : ℕ} {o p : Address} → e ≡ f → least ≡ more → o ≡ p → (x : List ℕ) → char_lines f more p 0 0 x ≡ char_lines e least o 0 0 x
 runs_same a b d x = rw (a, b, d) refl
 
 -- a front of what is known is a front of the whole
 pub chars_known : (e : Encoding) (least : ℕ) (o : Address) (r0 r1 w0 w1 : Option (List ℕ)) (fault : IoFault) → 0 < least →
-    DumpsFrontBut 0 (chars_text e least o 0 nothing) r0 r1 w0 w1 fault → WritesFrontBut (2 ^ 7) (runs_text e least o 0 0) 0 None 0 0 (streams r0 r1 w0 w1) fault
+    DumpsFrontBut 0 (chars_text e least o 0 nothing) r0 r1 w0 w1 fault → WritesFrontBut (2 ^ 7) (char_lines e least o 0 0) 0 None 0 0 (streams r0 r1 w0 w1) fault
 chars_known e least o r0 r1 w0 w1 fault some d =
     let text = chars_text e least o 0 nothing d.0 in
     let tail = end_of_run least (chars_left e nothing d.0).run in
     let is = runs_is e least o d.0 some in
-    let same : take d.1 (runs_text e least o 0 0 d.0) ≡ take d.1 text = ap (take d.1) is ∙ take-append-le d.1 text tail d.3 in
-    let more : length text ≤ length (runs_text e least o 0 0 d.0) = omega (arith, ap length is, length-append text tail) in
-    front_whole (2 ^ 7) (runs_text e least o 0 0) r0 r1 w0 w1 fault (
+    let same : take d.1 (char_lines e least o 0 0 d.0) ≡ take d.1 text = ap (take d.1) is ∙ take-append-le d.1 text tail d.3 in
+    let more : length text ≤ length (char_lines e least o 0 0 d.0) = omega (arith, ap length is, length-append text tail) in
+    front_whole (2 ^ 7) (char_lines e least o 0 0) r0 r1 w0 w1 fault (
       d.0,
       d.1,
       d.2,
       omega (arith, d.3, more),
       rw same d.4,
       cause_longer fault (length d.0) d.1 _ _ more d.5,
-      keeps_along fault 0 (2 ^ 7) d.1 d.1 (chars_text e least o 0 nothing) (runs_text e least o 0 0) d.0
+      keeps_along fault 0 (2 ^ 7) d.1 d.1 (chars_text e least o 0 nothing) (char_lines e least o 0 0) d.0
           (λ xs few. omega (
             arith,
             few,

@@ -34,7 +34,7 @@ char_byte (ThirtyTwoBits big) (a ∷ b ∷ c ∷ d ∷ []) = if big then d else 
 char_byte e (a ∷ bytes) = a
 char_byte e [] = 0
 
--- the characters that print at the front, one behind another, at most so many
+-- the characters that print at the front, one behind another, at most n
 abbrev pub front_chars : Encoding → ℕ → List ℕ → List ℕ
 front_chars e zero x = []
 front_chars e (suc n) x =
@@ -47,14 +47,14 @@ abbrev pub front_run : Encoding → List ℕ → List ℕ
 front_run e x = front_chars e (length x) x
 
 -- the line of a run that begins at a place, where it has at least `least` characters
-abbrev pub run_text : ℕ → Address → ℕ → List ℕ → List ℕ
-run_text least offsets place run = if nat_le least (length run) then place_text offsets place ++ (run ++ codes "\n") else []
+abbrev pub char_line : ℕ → Address → ℕ → List ℕ → List ℕ
+char_line least offsets place run = if nat_le least (length run) then place_text offsets place ++ (run ++ codes "\n") else []
 
 -- From each place on that isn't passed, the longest run there; its bytes are passed. `pass` bytes in front are passed already, and the
 -- first byte stands at `place`.
-abbrev pub runs_text : Encoding → ℕ → Address → ℕ → ℕ → List ℕ → List ℕ
-runs_text e least offsets pass place [] = []
-runs_text e least offsets (suc pass) place (b ∷ bs) = runs_text e least offsets pass (place + 1) bs
-runs_text e least offsets zero place (b ∷ bs) =
-    run_text least offsets place (front_run e (b ∷ bs))
-    ++ runs_text e least offsets (char_len e * length (front_run e (b ∷ bs)) - 1) (place + 1) bs
+abbrev pub char_lines : Encoding → ℕ → Address → ℕ → ℕ → List ℕ → List ℕ
+char_lines e least offsets pass place [] = []
+char_lines e least offsets (suc pass) place (b ∷ bs) = char_lines e least offsets pass (place + 1) bs
+char_lines e least offsets zero place (b ∷ bs) =
+    char_line least offsets place (front_run e (b ∷ bs))
+    ++ char_lines e least offsets (char_len e * length (front_run e (b ∷ bs)) - 1) (place + 1) bs

@@ -3,7 +3,7 @@ use Rattle.std.specs.Prelude.{ℕ, zero, suc, ◌+◌, Bool, false, ◌&&◌, no
 use Rattle.std.specs.List.{flat_map, range_with_len, prefix_len}
 use Rattle.bx_text.specs.Ascii.{is_printable}
 use Rattle.bx_dump_columns.specs.Places.{place_text}
-use Rattle.bx_dump.specs.Encodings.{runs_text}
+use Rattle.bx_dump.specs.Encodings.{char_lines}
 use Rattle.bx_dump.specs.Pages.{Dump}
 use Rattle.bx_dump.specs.declared.strings.options.Encoding.{Encoding}
 use Rattle.bx_dump.specs.declared.strings.options.Encoding.TheVariants.{SevenBits}
@@ -28,7 +28,7 @@ strings_text least offsets x = flat_map (line_at least offsets false 0 x) (range
 -- the runs of an encoding's characters
 abbrev pub encoded_text : Encoding → ℕ → Address → List ℕ → List ℕ
 encoded_text SevenBits least offsets x = strings_text least offsets x
-encoded_text e least offsets x = runs_text e least offsets 0 0 x
+encoded_text e least offsets x = char_lines e least offsets 0 0 x
 
 -- the dump that the options ask for
 abbrev pub strings_of : StringsOptions → Dump

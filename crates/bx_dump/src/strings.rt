@@ -1,6 +1,7 @@
 //! strings: the printable runs of an input.
 mod dump;
+mod encodings;
 mod options;
 
-pub use dump::strings;
+pub use encodings::strings;
 pub use options::{Encoding, StringsOptions};

@@ -217,12 +217,20 @@ static STRINGS: [Row; 3] = [
 ];
 
 /// What GNU's strings has beside POSIX' options.
-static STRINGS_MORE: [Row; 1] = [Row {
-    id: "named",
-    short: 'f',
-    value: None,
-    help: "The name of its file, and a colon, in front of each line",
-}];
+static STRINGS_MORE: [Row; 2] = [
+    Row {
+        id: "named",
+        short: 'f',
+        value: None,
+        help: "The name of its file, and a colon, in front of each line",
+    },
+    Row {
+        id: "encoding",
+        short: 'e',
+        value: Some("ENCODING"),
+        help: "Characters: s, S, b, l, B or L [default: s, 7-bit bytes]",
+    },
+];
 
 /// A command that reads FILE, or standard input.
 fn reader<'a>(

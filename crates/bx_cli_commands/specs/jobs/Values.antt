@@ -16,6 +16,8 @@ use Rattle.bx_dump.specs.NumForm.{NumForm}
 use Rattle.bx_dump.specs.NumForm.TheVariants as form
 use Rattle.bx_dump.specs.Size.{Size}
 use Rattle.bx_dump.specs.Size.TheVariants as size
+use Rattle.bx_dump.specs.declared.strings.options.Encoding.{Encoding}
+use Rattle.bx_dump.specs.declared.strings.options.Encoding.TheVariants.{SevenBits, EightBits, SixteenBits, ThirtyTwoBits}
 use Rattle.bx_cli_commands.specs.declared.fault.Fault.{Fault}
 use Rattle.bx_cli_commands.specs.declared.fault.Fault.TheVariants.{Usage}
 
@@ -129,6 +131,18 @@ base_in none with_n (Some text) = Err Usage
 abbrev pub endian_in : Option (List ℕ) → Result Endian Fault
 endian_in None = Ok Little
 endian_in (Some text) = if bytes_eq text (codes "little") then Ok Little else if bytes_eq text (codes "big") then Ok Big else Err Usage
+
+-- the characters that a letter names, as GNU strings has them: s, S, b, l, B or L
+abbrev pub encoding_named : ℕ → Result Encoding Fault
+encoding_named c = if c == 115 then Ok SevenBits else if c == 83 then Ok EightBits else
+    if c == 98 then Ok (SixteenBits true) else if c == 108 then Ok (SixteenBits false) else
+    if c == 66 then Ok (ThirtyTwoBits true) else if c == 76 then Ok (ThirtyTwoBits false) else Err Usage
+
+-- those that a word names; seven bits where there is no word
+abbrev pub encoding_in : Option (List ℕ) → Result Encoding Fault
+encoding_in None = Ok SevenBits
+encoding_in (Some (c ∷ [])) = encoding_named c
+encoding_in (Some text) = Err Usage
 
 -- how numbers are written: d, o, u or x
 abbrev pub form_named : ℕ → Option NumForm

@@ -1,13 +1,14 @@
 //! The values of options, read from their words.
 ghost use Rattle.std.specs.Prelude.{◌≡◌, ◌⊎◌, ◌<◌, ◌≤◌, ◌^◌, ◌%◌, IfOk, IfErr, IfSome, IsErrOf, length, string_bytes};
 ghost use Rattle.std.specs.Option.{option_copied};
-ghost use Rattle.bx_cli_commands.specs.jobs.Values.{IsApart, IsCountOf, IsLineWidthOf, base_in, bytes_in, bytes_value, columns_of, digits_len, endian_in, journal_of, kind_in, option_value, option_value_or, power_of, unit_in, units, word_len};
+ghost use Rattle.bx_cli_commands.specs.jobs.Values.{IsApart, IsCountOf, IsLineWidthOf, base_in, encoding_in, bytes_in, bytes_value, columns_of, digits_len, endian_in, journal_of, kind_in, option_value, option_value_or, power_of, unit_in, units, word_len};
 ghost use Rattle.bx_dump.specs.Values.{width_of};
 ghost use Rattle.bx_text.specs.Number.{read_size};
 ghost use Rattle.bx_text.specs.declared.fault.IoFault.{IoFault};
 
 use crate::{Fault, Texts};
 use bx_dump::od::{Address, Endian, Kind, NumForm, Size};
+use bx_dump::strings::Encoding;
 use bx_text::{Name, SizeStyle, read_size};
 use std::alloc::{AllocError, Global};
 
@@ -228,6 +229,24 @@ pub fn radix(text: Option<&str>, none: Address, with_n: bool) -> Result<Address,
         [b'o'] => Ok(Address::Octal),
         [b'x'] => Ok(Address::Hexadecimal),
         [b'n'] if with_n => Ok(Address::Without),
+        _ => Err(Fault::Usage),
+    }
+}
+
+/// The characters of a letter, s, S, b, l, B or L; seven bits where there is no text.
+pub fn encoding(text: Option<&str>) -> Result<Encoding, Fault>
+    ensures { result ≡ encoding_in (option_copied text.entry) }
+{
+    let Some(text) = text else {
+        return Ok(Encoding::SevenBits);
+    };
+    match text.as_bytes() {
+        [b's'] => Ok(Encoding::SevenBits),
+        [b'S'] => Ok(Encoding::EightBits),
+        [b'b'] => Ok(Encoding::SixteenBits { big: true }),
+        [b'l'] => Ok(Encoding::SixteenBits { big: false }),
+        [b'B'] => Ok(Encoding::ThirtyTwoBits { big: true }),
+        [b'L'] => Ok(Encoding::ThirtyTwoBits { big: false }),
         _ => Err(Fault::Usage),
     }
 }

@@ -2,7 +2,7 @@
 use Rattle.std.specs.Prelude.{◌≡◌, ◌≤◌, ◌^◌, Option, None, ℕ, ◌+◌, ◌-◌, ◌*◌, ◌==◌, nat_lt, if◌then◌else◌, List, [], ◌∷◌, ◌++◌, length, take, drop}
 use Rattle.bx_dump_columns.specs.declared.od.options.Address.{Address}
 use Rattle.bx_dump_columns.specs.Places.{place_text}
-use Rattle.bx_dump.specs.Encodings.{char_byte, char_len, char_prints, runs_text}
+use Rattle.bx_dump.specs.Encodings.{char_byte, char_len, char_prints, char_lines}
 use Rattle.bx_dump.specs.Pages.{Dump}
 use Rattle.bx_dump.specs.Strings.{strings_text}
 use Rattle.bx_dump.specs.declared.strings.options.StringsOptions.{StringsOptions}
@@ -24,15 +24,15 @@ abbrev pub nothing : Between
 nothing = record { held = []; run = [] }
 
 -- the bytes held with one more
-abbrev pub with_byte : Between → ℕ → List ℕ
-with_byte now b = now.held ++ b ∷ []
+abbrev pub held_with : Between → ℕ → List ℕ
+held_with now b = now.held ++ b ∷ []
 
 -- what is left behind one more byte: where a character doesn't print the next one may begin at its second byte
 abbrev pub behind_byte : Encoding → Between → ℕ → Between
 behind_byte e now b =
-    if nat_lt (length now.held + 1) (char_len e) then record { held = with_byte now b; run = now.run }
-    else if char_prints e (with_byte now b) then record { held = []; run = now.run ++ char_byte e (with_byte now b) ∷ [] }
-    else record { held = drop 1 (with_byte now b); run = [] }
+    if nat_lt (length now.held + 1) (char_len e) then record { held = held_with now b; run = now.run }
+    else if char_prints e (held_with now b) then record { held = []; run = now.run ++ char_byte e (held_with now b) ∷ [] }
+    else record { held = drop 1 (held_with now b); run = [] }
 
 -- what is known with one more character of a run that begins at a place
 abbrev pub grown_run : ℕ → Address → ℕ → List ℕ → ℕ → List ℕ
@@ -43,8 +43,8 @@ grown_run least offsets start run c =
 abbrev pub byte_text : Encoding → ℕ → Address → ℕ → Between → ℕ → List ℕ
 byte_text e least offsets at now b =
     if nat_lt (length now.held + 1) (char_len e) then []
-    else if char_prints e (with_byte now b)
-    then grown_run least offsets (at + 1 - char_len e * (length now.run + 1)) now.run (char_byte e (with_byte now b))
+    else if char_prints e (held_with now b)
+    then grown_run least offsets (at + 1 - char_len e * (length now.run + 1)) now.run (char_byte e (held_with now b))
     else end_of_run least now.run
 
 unfoldable pub chars_text : Encoding → ℕ → Address → ℕ → Between → List ℕ → List ℕ
@@ -59,7 +59,7 @@ chars_left e now (b ∷ bs) = chars_left e (behind_byte e now b) bs
 abbrev pub HoldsBytes : Chars → Between → Type 0
 HoldsBytes chars now = (length now.held ≡ chars.count) × (take chars.count chars.held ≡ now.held) × Keeps chars.runs now.run
 
--- the text that is known with bytes in front of which none was seen
+-- the text that is known with the first bytes of an input
 abbrev pub front_text : Chars → List ℕ → List ℕ
 front_text chars bytes = chars_text chars.encoding chars.runs.least chars.runs.offsets 0 nothing bytes
 
@@ -83,4 +83,4 @@ abbrev pub bytes_dump : StringsOptions → Dump
 bytes_dump o = record { text = strings_text o.least o.offsets; skip = 0; limit = None }
 
 abbrev pub chars_dump : StringsOptions → Dump
-chars_dump o = record { text = runs_text o.encoding o.least o.offsets 0 0; skip = 0; limit = None }
+chars_dump o = record { text = char_lines o.encoding o.least o.offsets 0 0; skip = 0; limit = None }

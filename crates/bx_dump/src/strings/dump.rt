@@ -1,5 +1,5 @@
 //! The printable runs of an input.
-mod chars;
+pub(crate) mod chars;
 
 ghost use Rattle.std.specs.Prelude.{◌≡◌, ℕ, ◌+◌, ◌-◌, ◌*◌, ◌^◌, ◌<◌, ◌≤◌, [], List, ◌++◌, length, take, codes, not, IfOk, IfErr};
 ghost use Rattle.std.specs.List.{prefix_len};
@@ -8,12 +8,10 @@ ghost use Rattle.bx_dump.specs.private.Scan.{scan_run, scan_text, end_of_run, Al
 ghost use Rattle.bx_dump_columns.specs.Places.{cost_of, place_text};
 ghost use Rattle.bx_text.specs.Ascii.{is_printable};
 ghost use Rattle.bx_dump.specs.Pages.{WritesAll, WritesFrontOf};
-ghost use Rattle.bx_dump.specs.Strings.{strings_of};
 ghost use Rattle.bx_dump.specs.private.Chars.{bytes_dump};
 
 use crate::driver::pages::BLOCK;
-use crate::strings::dump::chars::scan::strings_of_chars;
-use crate::strings::options::{Encoding, StringsOptions};
+use crate::strings::options::StringsOptions;
 use bx_dump_columns::od::options::Address;
 use bx_dump_columns::strings::lanes::{four_in, printing_in};
 use bx_dump_columns::strings::places::{put_at, put_place};
@@ -418,7 +416,8 @@ fn scan_pages<R: Read, W: Write>(
 }
 
 /// Writes the runs of bytes that print.
-fn strings_of_bytes<R: Read, W: Write>(
+#[inline(never)]
+pub fn strings_of_bytes<R: Read, W: Write>(
     r: &mut R,
     w: &mut W,
     o: &StringsOptions,
@@ -437,26 +436,5 @@ fn strings_of_bytes<R: Read, W: Write>(
     match emit_after(w, done.written, b"\n") {
         Ok(()) => Ok(done.read),
         Err(fault) => Err(fault),
-    }
-}
-
-/// Writes all maximal runs of at least `least` characters, by rising place, each on a line and where asked behind its place,
-/// and answers how many bytes were read. Of a character the lowest byte is shown.
-///
-/// With seven bits a character is a byte that prints (0x20 to 0x7e). Else a tab prints, too (GNU strings), and where the bytes at
-/// a place are no character the next one may begin at the second of them.
-///
-/// The input may have 2^40 bytes. Nothing is allocated or flushed. After a fault a front of the text of the bytes that
-/// were read was written; `WriteFailed` counts it, and at most 2^14 bytes were read ahead of it.
-#[inline(never)]
-pub fn strings<R: Read, W: Write>(r: &mut R, w: &mut W, o: &StringsOptions) -> Result<u64, IoFault>
-    ensures ok { IfOk result (WritesAll (strings_of o.now) (R.remaining r.old) (R.remaining r.new) (W.contents w.old) (W.contents w.new)) }
-    ensures err { IfErr result (WritesFrontOf (strings_of o.now) (R.remaining r.old) (R.remaining r.new) (W.contents w.old) (W.contents w.new)) }
-{
-    match o.encoding {
-        Encoding::SevenBits => strings_of_bytes(r, w, o),
-        Encoding::EightBits | Encoding::SixteenBits { .. } | Encoding::ThirtyTwoBits { .. } => {
-            strings_of_chars(r, w, o)
-        }
     }
 }

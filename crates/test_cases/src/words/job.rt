@@ -6,6 +6,7 @@ use bx_cli::{
 };
 use bx_dd::{Letters, Plan, Shape};
 use bx_dump::od::{Address, Endian, Kind, NumForm, Size};
+use bx_dump::strings::Encoding;
 use bx_journal::Way;
 use bx_text::{Name, Words};
 use std::alloc::{AllocError, Global};
@@ -100,6 +101,17 @@ fn kind<'a>(kind: Kind) -> Field<'a> {
     Field::Form(letter, bytes)
 }
 
+fn encoding<'a>(encoding: Encoding) -> Field<'a> {
+    Field::Text(match encoding {
+        Encoding::SevenBits => "s",
+        Encoding::EightBits => "S",
+        Encoding::SixteenBits { big: true } => "b",
+        Encoding::SixteenBits { big: false } => "l",
+        Encoding::ThirtyTwoBits { big: true } => "B",
+        Encoding::ThirtyTwoBits { big: false } => "L",
+    })
+}
+
 fn endian<'a>(endian: Endian) -> Field<'a> {
     Field::Text(match endian {
         Endian::Little => "little",
@@ -171,6 +183,7 @@ fn strings_field<'a>(job: &'a StringsJob, name: &str) -> Field<'a> {
     match name {
         "least" => Field::Number(job.options.least as u64),
         "offsets" => address(job.options.offsets),
+        "encoding" => encoding(job.options.encoding),
         "named" => flag(job.named),
         "file" => file(&job.file),
         "more" => Field::Joined(&job.more),

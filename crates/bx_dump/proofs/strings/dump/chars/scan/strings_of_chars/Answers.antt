@@ -1,7 +1,7 @@
 use Rattle.std.proofs.Common.{◌≡◌, [], ◌∷◌, ◌<◌, ◌≤◌, ◌^◌, ℕ, List, ◌++◌, length, arith, ap, sym, ◌∙◌, refl, append-nil}
 use Rattle.std.proofs.lemmas.List.{length-append}
 use Rattle.bx_text.proofs.KnownLemmas.{Appends-trans}
-use Rattle.bx_dump.specs.Encodings.{runs_text}
+use Rattle.bx_dump.specs.Encodings.{char_lines}
 use Rattle.bx_dump.specs.private.Chars.{chars_dump, chars_left, front_text, nothing}
 use Rattle.bx_dump.specs.private.Scan.{end_of_run}
 use Rattle.bx_dump.proofs.DumpLemmas.{front_whole, write_stop}
@@ -28,7 +28,7 @@ returns-then-is_short-clause-ok g c =
     let run = (chars_left first.encoding nothing d.input).run in
     let end : end_of_run first.runs.least run ≡ [] =
     ap (λ n. end_of_run n run) (sym c.in-Ok.ensures.least) ∙ end_short last.least last.count last.kept run d.held.2 (sym c.is_short.ensures ∙ c.if-is_short.true) in
-    let e : runs_text o.encoding o.least o.offsets 0 0 d.input ≡ front_text first d.input =
+    let e : char_lines o.encoding o.least o.offsets 0 0 d.input ≡ front_text first d.input =
     runs_same c.new-chars.ensures.encoding c.new-chars.ensures.least c.new-chars.ensures.offsets d.input
     ∙ runs_is first.encoding first.runs.least first.runs.offsets d.input first.some ∙ ap (λ t. front_text first d.input ++ t) end ∙ append-nil (front_text first d.input) in
     record {
@@ -49,7 +49,7 @@ returns-in-Ok-emit_after-clause-ok g c =
     let run = (chars_left first.encoding nothing d.input).run in
     let end : end_of_run first.runs.least run ≡ 10 ∷ [] =
     ap (λ n. end_of_run n run) (sym c.in-Ok.ensures.least) ∙ end_long last.least last.count last.kept run d.held.2 (sym c.is_short.ensures ∙ c.if-is_short.false) in
-    let e : runs_text o.encoding o.least o.offsets 0 0 d.input ≡ front_text first d.input ++ 10 ∷ [] =
+    let e : char_lines o.encoding o.least o.offsets 0 0 d.input ≡ front_text first d.input ++ 10 ∷ [] =
     runs_same c.new-chars.ensures.encoding c.new-chars.ensures.least c.new-chars.ensures.offsets d.input
     ∙ runs_is first.encoding first.runs.least first.runs.offsets d.input first.some ∙ ap (λ t. front_text first d.input ++ t) end in
     record {
@@ -70,7 +70,7 @@ returns-in-Err-emit_after-clause-err g c =
     let run = (chars_left first.encoding nothing d.input).run in
     let end : end_of_run first.runs.least run ≡ 10 ∷ [] =
     ap (λ n. end_of_run n run) (sym c.in-Ok.ensures.least) ∙ end_long last.least last.count last.kept run d.held.2 (sym c.is_short.ensures ∙ c.if-is_short.false) in
-    let whole = runs_text o.encoding o.least o.offsets 0 0 in
+    let whole = char_lines o.encoding o.least o.offsets 0 0 in
     let e : whole d.input ≡ front_text first d.input ++ 10 ∷ [] =
     runs_same c.new-chars.ensures.encoding c.new-chars.ensures.least c.new-chars.ensures.offsets d.input
     ∙ runs_is first.encoding first.runs.least first.runs.offsets d.input first.some ∙ ap (λ t. front_text first d.input ++ t) end in
