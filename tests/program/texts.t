@@ -60,6 +60,35 @@ Plain digits:
   bx: line 1: odd number of digits
   [1]
 
+# Several files, and the end of one
+
+Each tool reads them one behind the other; one that is missing is left out, and the status is 1.
+
+  $ printf abc > first; printf defg > last
+  $ bx od -An -c first none last 2> said; cat said
+     a   b   c   d   e   f   g
+  bx: cannot open file
+  $ bx od -An -c -j 2 -N 3 first - < last
+     c   d   e
+  $ bx hexdump -C -s 2 first last
+  00000002  63 64 65 66 67                                    |cdefg|
+  00000007
+  $ bx strings -n 3 first none last 2> said
+  abc
+  defg
+  [1]
+  $ bx strings -f -n 3 first last; bx strings -f -n 3 -t d < first
+  first: abc
+  last: defg
+  {standard input}: 0 abc
+  $ bx od none / 2> said
+  0000000
+  [1]
+  $ bx xxd -s -2 last; bx xxd -s -3 -l 2 -p last; bx xxd -s -0x3 -o 16 last
+  00000002: 6667                                     fg
+  6566
+  00000011: 6566 67                                  efg
+
 # The way back of a dump
 
 To standard output, from a file and from a pipe, with gaps, at a place and of digits alone:
