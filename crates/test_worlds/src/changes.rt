@@ -1,7 +1,7 @@
 //! A change, as a case asks for it.
 use crate::report::Wrong;
 use crate::setting::CAREFUL;
-use bx_cli_commands::{Fault, Form, Reply, change_from};
+use bx_cli_commands::{Fault, Form, Kept, Reply, change_from};
 use bx_dd::{Counts, parse};
 use bx_image::{Change, Fuse};
 use bx_patch::{Patch, read_patch};
@@ -69,24 +69,44 @@ fn copy_of(
     }
 }
 
-/// What a case asks of its image, read before as the program does it; of dd's reads those fail that the fuse says.
-pub fn edit_of(alloc: Global, ask: &Ask, reads: Fuse) -> Result<Edit<LentInput>, Wrong> {
+/// What was read of a text, whose image with `keeps` isn't to get longer.
+fn edit_of_read(read: Result<Change, ReadFault>, keeps: bool) -> Edit<LentInput> {
+    match read {
+        Ok(change) if keeps => Edit::Keep(Kept::Change(change)),
+        read => Edit::Read(read),
+    }
+}
+
+/// A patch, whose image with `keeps` isn't to get longer.
+fn edit_of_patch(patch: Patch, keeps: bool) -> Edit<LentInput> {
+    if keeps {
+        Edit::Keep(Kept::Patch(patch))
+    } else {
+        Edit::Patch(patch)
+    }
+}
+
+/// What a case asks of its image, which with `keeps` isn't to get longer, read before as the program does it; of dd's reads those fail that
+/// the fuse says.
+pub fn edit_of(
+    alloc: Global,
+    ask: &Ask,
+    keeps: bool,
+    reads: Fuse,
+) -> Result<Edit<LentInput>, Wrong> {
     match ask {
-        Ask::Revert { dump, shift } => Ok(Edit::Read(read_as(
-            alloc,
-            dump.as_slice(),
-            Form::Dump,
-            *shift,
-        )?)),
-        Ask::Plain { digits, at } => Ok(Edit::Read(read_as(
-            alloc,
-            digits.as_slice(),
-            Form::Plain,
-            *at,
-        )?)),
+        Ask::Revert { dump, shift } => {
+            let read = read_as(alloc, dump.as_slice(), Form::Dump, *shift)?;
+            Ok(edit_of_read(read, keeps))
+        }
+        Ask::Plain { digits, at } => {
+            let read = read_as(alloc, digits.as_slice(), Form::Plain, *at)?;
+            Ok(edit_of_read(read, keeps))
+        }
         Ask::Dd { operands, input } => copy_of(alloc, operands, input.as_slice(), reads),
         Ask::Patch { text, reversed } => {
-            Ok(Edit::Patch(patch_of(alloc, text.as_slice(), *reversed)?))
+            let patch = patch_of(alloc, text.as_slice(), *reversed)?;
+            Ok(edit_of_patch(patch, keeps))
         }
         Ask::Undo(_) | Ask::Redo(_) | Ask::Change { .. } | Ask::Open => Err(Wrong::Unknown),
     }

@@ -10,6 +10,9 @@ use std::alloc::Global;
 use test_case_files::{Answer, Ask, CommandsCase, Opening, Row};
 use test_world::{MemoryWorld, Plan};
 
+/// The text of the fault of a change that would make an image longer.
+const LONGER: &str = "the image would get longer";
+
 /// What a case asks for.
 #[derive(Clone, Copy, Debug, PartialEq, Eq)]
 pub enum Asked {
@@ -19,7 +22,7 @@ pub enum Asked {
     Change,
 }
 
-/// Which files of a case are there: those that have bytes, and of the others some.
+/// Which files of a case are there, those that have bytes, and of the others some; and whether the image may get longer.
 #[derive(Clone, Copy, Debug, PartialEq, Eq)]
 pub enum Setting {
     /// A text without bytes is missing, and an image whose journal has none either. Of an undo and a redo it is the redo text alone.
@@ -28,10 +31,17 @@ pub enum Setting {
     Linked,
     /// All three are there before a change that makes some of them else.
     Full,
+    /// As in the first, and the image isn't to get longer: a change that was read before.
+    Kept,
 }
 
 impl Setting {
-    pub const EACH: &'static [Setting] = &[Setting::Bare, Setting::Linked, Setting::Full];
+    pub const EACH: &'static [Setting] = &[
+        Setting::Bare,
+        Setting::Linked,
+        Setting::Full,
+        Setting::Kept,
+    ];
 
     /// What is said of it.
     pub fn text(self) -> &'static str {
@@ -39,6 +49,7 @@ impl Setting {
             Setting::Bare => "",
             Setting::Linked => ", by a link to nothing",
             Setting::Full => ", all three there",
+            Setting::Kept => ", not to grow",
         }
     }
 }
@@ -54,6 +65,8 @@ pub struct Play<'a> {
     pub there: There,
     /// Whether the image's name is a link.
     pub is_linked: bool,
+    /// Whether the image isn't to get longer.
+    keeps: bool,
     /// How many changes stand before.
     standing: u32,
 }
@@ -102,6 +115,14 @@ fn there_bare(case: &CommandsCase, asked: Asked) -> There {
     there
 }
 
+/// Whether the change of a case is read before the files are opened.
+fn is_read_before(case: &CommandsCase) -> bool {
+    match case.rows.last() {
+        Some(row) => !matches!(&row.ask, Ask::Dd { .. }),
+        None => false,
+    }
+}
+
 /// Which files of a case are there in a setting; none where that is another one's.
 fn there_of(case: &CommandsCase, asked: Asked, setting: Setting) -> Option<There> {
     let mut there = there_bare(case, asked);
@@ -110,9 +131,10 @@ fn there_of(case: &CommandsCase, asked: Asked, setting: Setting) -> Option<There
         (_, Asked::Moves { .. }) => true,
         (Setting::Linked, Asked::Change) => !case.image.is_empty(),
         (Setting::Full, Asked::Change) => there == There::ALL,
+        (Setting::Kept, Asked::Change) => !is_read_before(case),
     };
     match setting {
-        Setting::Bare => {}
+        Setting::Bare | Setting::Kept => {}
         Setting::Linked => there.image = false,
         Setting::Full => there = There::ALL,
     }
@@ -140,6 +162,7 @@ impl<'a> Play<'a> {
             asked,
             there,
             is_linked: there.image || setting == Setting::Linked,
+            keeps: setting == Setting::Kept,
             standing: standing_of(case.opening),
         }))
     }
@@ -153,8 +176,24 @@ impl<'a> Play<'a> {
         }
     }
 
-    /// The fault that the case tells, by its text.
+    /// The fault that has to come, by its text: the one that the case tells, or that the image would get longer.
     pub fn fault(&self) -> Option<&str> {
+        match self.told() {
+            None if self.outgrows() => Some(LONGER),
+            told => told,
+        }
+    }
+
+    /// Whether the change makes an image longer that isn't to get longer.
+    fn outgrows(&self) -> bool {
+        match self.last() {
+            Some(row) => self.keeps && row.left.image.len() > self.image_before().len(),
+            None => false,
+        }
+    }
+
+    /// The fault that the case tells, by its text.
+    fn told(&self) -> Option<&str> {
         match &self.case.rows.last()?.answer {
             Answer::Refused(text) => Some(text.as_str()),
             Answer::Changed(_)
@@ -243,7 +282,7 @@ impl<'a> Play<'a> {
         let Some(row) = self.last() else {
             return Err(Wrong::Unknown);
         };
-        let edit = edit_of(self.alloc, &row.ask, plan.input)?;
+        let edit = edit_of(self.alloc, &row.ask, self.keeps, plan.input)?;
         Ok(ended(change(world, self.alloc, &self.names, plan, edit)))
     }
 
