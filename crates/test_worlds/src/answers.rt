@@ -50,7 +50,7 @@ fn reply_to(done: Done) -> Option<Reply> {
 }
 
 /// How a command ended that was answered so.
-pub fn ended(answer: Result<Done, Failure>) -> Ended {
+pub fn end_of(answer: Result<Done, Failure>) -> Ended {
     match answer {
         Ok(done) => Ended {
             outcome: Ok(reply_to(done)),

@@ -1,5 +1,5 @@
 //! A case as it is played: one undo or redo of as many changes as its lines tell, one after another; or the change of its last line.
-use crate::answers::{Ended, ended};
+use crate::answers::{Ended, end_of};
 use crate::changes::{change, edit_of, is_asked};
 use crate::moves::{count_of_all, image_behind, move_in, way_of};
 use crate::report::Wrong;
@@ -283,13 +283,13 @@ impl<'a> Play<'a> {
             return Err(Wrong::Unknown);
         };
         let edit = edit_of(self.alloc, &row.ask, self.keeps, plan.input)?;
-        Ok(ended(change(world, self.alloc, &self.names, plan, edit)))
+        Ok(end_of(change(world, self.alloc, &self.names, plan, edit)))
     }
 
     /// Does what the case asks for in a world that does what its plan says.
     pub fn run(&self, world: &mut MemoryWorld, plan: Plan) -> Result<Ended, Wrong> {
         match self.asked {
-            Asked::Moves { way, count } => Ok(ended(move_in(
+            Asked::Moves { way, count } => Ok(end_of(move_in(
                 world,
                 self.alloc,
                 &self.names,
