@@ -15,7 +15,7 @@ fn shows(alloc: Global, fault: Fault, text: &str) -> bool {
 }
 
 // What several crates have has one number and one text.
-static FAULTS: [(Fault, u8, &str); 50] = [
+static FAULTS: [(Fault, u8, &str); 51] = [
     (Fault::Io(IoFault::NoMemory), 1, "out of memory"),
     (Fault::Io(IoFault::ReadFailed), 2, "read failed"),
     (
