@@ -46,7 +46,8 @@ IsMade (Redone n) = ⊥
 IsMade (Refused e) = ⊥
 
 -- a run on honest devices, none of whose calls fails
-abbrev pub RunsOn : {D T R A : Type 0} → DeviceViews D → StoreViews T → (R → Option (List ℕ)) → SessionView D T → List (Command R A) → List Reply → SessionView D T → Type 0
+abbrev pub RunsOn : {D T R A : Type 0} → DeviceViews D → StoreViews T → (R → Option (List ℕ)) → SessionView D T → List (Command R A) → List Reply
+    → SessionView D T → Type 0
 RunsOn d t remaining old list replies new = d.honest old.image × t.honest old.journal × t.honest old.redo × IsUnfailed d.failures t.failures old new
     × Runs d t (Shows d.image t.text) remaining old list replies new
 

@@ -32,7 +32,8 @@ shown_pieces entries = flat_map (λ (c : EntryLines). contents (shown_runs c.ent
 
 -- Steps that aren't compared with an image are this without their headings
 abbrev pub ShownUnheaded : Type 0
-ShownUnheaded = (s : Steps) (image : List ℕ) (n : ℕ) (entries : List EntryLines) → s.compares ≡ false → unheaded (steps_text s image n entries) ≡ shown_dump entries
+ShownUnheaded = (s : Steps) (image : List ℕ) (n : ℕ) (entries : List EntryLines) → s.compares ≡ false
+    → unheaded (steps_text s image n entries) ≡ shown_dump entries
 
 -- and the line on what is unfinished is a heading
 abbrev pub UnfinishedUnheaded : Type 0
@@ -48,7 +49,8 @@ ShownIsADump = (entries : List EntryLines) → dump_pieces (shown_dump entries) 
 
 -- Where no change changed the length, the change that these ask for makes of the image what the undo makes of it
 abbrev pub ShownReverts : (A : Type 0) → Type 0
-ShownReverts A = (entries : List EntryLines) (x : List ℕ) → KeepLength entries x → effect {A = A} (dump_change 0 (shown_pieces entries)) x ≡ steps_onto entries x
+ShownReverts A = (entries : List EntryLines) (x : List ℕ) → KeepLength entries x
+    → effect {A = A} (dump_change 0 (shown_pieces entries)) x ≡ steps_onto entries x
 
 -- and so does each change for which a revert reads it
 abbrev pub ShownIsUndone : (A : Type 0) → Type 0

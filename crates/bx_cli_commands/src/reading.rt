@@ -170,7 +170,8 @@ fn plain_from<R: Read + Drop, A: Allocator + Clone>(
     ensures err { IfErr result (λ e. (e ≡ IoFault.NoMemory) ⊎ (fault_of source.new.meter.state ≡ Some e)) }
     ensures stopped { IfErr result (λ e. StopsIn source.old.meter (R.remaining source.old.reader) (R.remaining source.new.reader) (IsRestCause e)) }
     ensures memory { IsErrOf result IoFault.NoMemory → (source.new ≡ source.old) ⊎ (source.new.meter.state ≡ State.Failed) }
-    ensures none_left { source.old.meter.state ≡ State.Ended → IfOk result (λ read. MatchResult read (IsChangeOf Form.Plain [] at) (IsTextFault Form.Plain [])) }
+    ensures none_left { source.old.meter.state ≡ State.Ended
+        → IfOk result (λ read. MatchResult read (IsChangeOf Form.Plain [] at) (IsTextFault Form.Plain [])) }
     ensures lasting { IfSome (fault_of source.old.meter.state) (λ e. IsErrOf result e ⊎ IsErrOf result IoFault.NoMemory) }
     ensures closed { source.old.meter.state ≢ State.Open → source.new.reader ≡ source.old.reader }
 {

@@ -9,6 +9,8 @@
 //! ```
 //!
 //! `docs/CALLING.md` has the whole caller, which the gate proves and runs.
+//!
+//! `docs/FORMATS.md` has the operands ("Operands of dd"), and `docs/DECISIONS.md` why seeks are as they are ("Seeks and copies").
 #![tactic(auto)]
 
 mod convert;

@@ -9,6 +9,8 @@
 //! ```
 //!
 //! `docs/CALLING.md` has the whole caller, which the gate proves and runs.
+//!
+//! `docs/FORMATS.md` has the lines ("Dumps that are written"), and `docs/SPEED.md` how fast they come.
 #![tactic(auto)]
 
 mod driver;

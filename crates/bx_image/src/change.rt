@@ -157,7 +157,8 @@ pub fn apply<D: Device, A: Allocator>(
     ensures survives { D.honest device.old → KeepsOnDisk change.now (D.image device.old) (D.survives device.old) (D.survives device.new) }
     ensures taken_back { D.honest device.old → IsAsGood (saved change.now (D.image device.old)) (D.image device.old) (D.image device.new) }
     ensures restores { D.honest device.old → RestoresBy change.now result (D.image device.old) (D.image device.new) }
-    ensures again { D.honest device.old → (s : _) → Restores change.now s → Covers s (D.image device.old) → IsAsGood s (D.image device.old) (D.image device.new) }
+    ensures again { D.honest device.old → (s : _) → Restores change.now s → Covers s (D.image device.old)
+        → IsAsGood s (D.image device.old) (D.image device.new) }
     ensures goes_on { GoesOn D.honest D.room D.failures (is_err result) device.old device.new }
 {
     begin(device, change)?;

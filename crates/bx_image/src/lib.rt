@@ -8,6 +8,8 @@
 //! ```
 //!
 //! `docs/CALLING.md` has the whole caller, which the gate proves and runs.
+//!
+//! `docs/DECISIONS.md` argues for devices and changes ("Devices and files"), and `docs/PROMISES.md` has what they promise.
 #![tactic(auto)]
 
 mod change;

@@ -38,7 +38,8 @@ PutsRange r old new is_behind = (before ranges bytes : List ℕ) → length byte
 
 -- lines of an entry of this length lead from runs whose ranges are put to others
 abbrev pub RangesOn : ℕ → List (List ℕ) → Ranging → List ℕ → List ℕ → Ranging → Type 0
-RangesOn len lines from old new to = (runs : List Run) (before : List ℕ) → AreRanged runs from (before ++ old) → AreRanged (runs_behind len runs lines) to (before ++ new)
+RangesOn len lines from old new to = (runs : List Run) (before : List ℕ) → AreRanged runs from (before ++ old)
+    → AreRanged (runs_behind len runs lines) to (before ++ new)
 
 -- the whole lines at the start of a window do
 pub record IsRangedIn (window : List ℕ) (len : ℕ) (from : Ranging) (old new : List ℕ) (l : RangedLines) : Type 0 where

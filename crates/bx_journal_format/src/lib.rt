@@ -1,4 +1,6 @@
 //! The text of a journal's entries: as it is written, read and counted. No device is in it. An inner part of `bx_journal`.
+//!
+//! `docs/FORMATS.md` has each line ("The journal"), and `docs/DECISIONS.md` why it is text ("Formats and numbers").
 #![tactic(auto)]
 
 mod fault;

@@ -35,12 +35,14 @@ OlderIsRefused = (line : ImageLine) (now : Standing) (count : ℕ) → is_older 
 -- The right image is never refused: let a line say nothing wrong of the image x, and let the blocks that some ranges touch be struck. Then an image that
 -- differs from x within these ranges, and whose length is between the line's two, isn't another one.
 abbrev pub NeverRefusesTheRightImage : Type 0
-NeverRefusesTheRightImage = (x y : List ℕ) (ranges : List Range) (line : ImageLine) (kept : List (Option ℕ)) → line.length ≡ length x → AreTrueMarks x line.marks
+NeverRefusesTheRightImage = (x y : List ℕ) (ranges : List Range) (line : ImageLine) (kept : List (Option ℕ)) → line.length ≡ length x
+    → AreTrueMarks x line.marks
     → AreStruck line.length ranges line.marks kept → DiffersWithin ranges x y → line.least ≤ length y → length y ≤ line.most → IsJudged line kept y Other → ⊥
 
 -- Another image is refused: one of a length that isn't between them, and one that has a block that no range touches, and that isn't the one that its mark tells.
 abbrev pub RefusesAnother : Type 0
-RefusesAnother = (line : ImageLine) (y : List ℕ) (ranges : List Range) (kept : List (Option ℕ)) (verdict : Verdict) → AreStruck line.length ranges line.marks kept
+RefusesAnother = (line : ImageLine) (y : List ℕ) (ranges : List Range) (kept : List (Option ℕ)) (verdict : Verdict)
+    → AreStruck line.length ranges line.marks kept
     → IsOther line ranges y → IsJudged line kept y verdict → verdict ≡ Other
 
 -- Of an image below 128 KiB each byte is in a block.
@@ -50,6 +52,7 @@ SmallAreWhole = (n a : ℕ) → n < 131072 → a < n → IsInBlock n a
 -- So it is where blocks were struck before the command, as for a command of several steps: let the marks say nothing wrong of the image x, let those be struck
 -- that some ranges touch, and the line have what is left, and let then those be struck that others touch. An image that differs from x within both isn't another one.
 abbrev pub NeverRefusesBehindSteps : Type 0
-NeverRefusesBehindSteps = (x y : List ℕ) (before touched : List Range) (marks kept : List (Option ℕ)) (line : ImageLine) → line.length ≡ length x → AreTrueMarks x marks
+NeverRefusesBehindSteps = (x y : List ℕ) (before touched : List Range) (marks kept : List (Option ℕ)) (line : ImageLine) → line.length ≡ length x
+    → AreTrueMarks x marks
     → AreStruck line.length before marks line.marks → AreStruck line.length touched line.marks kept → DiffersWithin (before ++ touched) x y
     → line.least ≤ length y → length y ≤ line.most → IsJudged line kept y Other → ⊥

@@ -70,6 +70,7 @@ AreAllIn s ranges = (a : ℕ) → a < s.len → is_in_one ranges a ≡ false →
 -- change behind its save line; restoring its record makes the same image of y, which is found, as of x; and y has a length between the line's two. Then y
 -- isn't judged to be another one.
 abbrev pub NeverRefusesWhatIsRecovered : Type 0
-NeverRefusesWhatIsRecovered = (x y text : List ℕ) (r : Reading) (v : Version) (s : Kept) (line : ImageLine) → Reads (shown text) r → r.stage ≡ Ending v s → s.len ≤ MAX_LEN
+NeverRefusesWhatIsRecovered = (x y text : List ℕ) (r : Reading) (v : Version) (s : Kept) (line : ImageLine) → Reads (shown text) r
+    → r.stage ≡ Ending v s → s.len ≤ MAX_LEN
     → length x < 2 ^ 64 → line.length ≡ length x → AreTrueMarks x line.marks → restore s y ≡ restore s x → line.least ≤ length y → length y ≤ line.most
     → IsUnfinishedJudged (Some line) text y (Some Other) → ⊥

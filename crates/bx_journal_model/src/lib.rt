@@ -1,5 +1,7 @@
 //! What a journal's text and an image stand for, with the types and the faults of a session: what reading a journal and writing it
 //! both stand on. An inner part of `bx_journal`.
+//!
+//! `docs/SAFETY.md` argues for it.
 #![tactic(auto)]
 
 mod answers;

@@ -1,5 +1,7 @@
 //! What a change, an undo and a redo prepare before their first write, which takes memory, and the steps that then write to an image,
 //! its journal and its redo text, each with a sync at its end, which take none. An inner part of `bx_journal`.
+//!
+//! `docs/SAFETY.md` argues for the order of the steps, and `docs/FORMATS.md` has it ("Order of device calls").
 #![tactic(auto)]
 
 mod before;

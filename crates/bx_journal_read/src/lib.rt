@@ -1,4 +1,6 @@
 //! A journal's text, read from its store and shown; memory is taken, and nothing is written to a device. An inner part of `bx_journal`.
+//!
+//! `docs/FORMATS.md` says how a text is read and judged ("The journal"), and `docs/SAFETY.md` what recovery rests on.
 #![tactic(auto)]
 
 mod scan;

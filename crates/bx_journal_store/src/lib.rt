@@ -1,4 +1,6 @@
 //! Texts that grow and are cut at their end, on stores that may fail.
+//!
+//! `docs/SAFETY.md` says what of a text may be lost with the power; `docs/DECISIONS.md` argues for stores ("Devices and files").
 #![tactic(auto)]
 
 mod counted;

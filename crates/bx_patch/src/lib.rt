@@ -1,4 +1,6 @@
 //! Patches that can be read: the text of what differs between two images, what such a text asks of an image, and an image behind changes that aren't made.
+//!
+//! `docs/FORMATS.md` has the text ("Patches"), and `docs/DECISIONS.md` why it has an end and one fault ("Patches").
 #![tactic(auto)]
 
 mod diff;

@@ -10,6 +10,8 @@
 //! ```
 //!
 //! `docs/CALLING.md` has the whole caller, which the gate proves and runs.
+//!
+//! `docs/FORMATS.md` has the forms that are read ("Dumps that `revert` reads").
 #![tactic(auto)]
 
 mod digits;

@@ -118,7 +118,8 @@ impl<A: Allocator> Windows<A> {
         ensures err { IfErr result (λ e. (w0 : Option (List ℕ)) (text : List ℕ) → HasLaid self.old.laying self.old.held.items w0 (W.contents w.old) text
             → StopsLaying self.old.laying.shift w0 (W.contents w.new) (answers 1 (lines_of (text ++ window.now))) e) }
         ensures apart { OnOk result (All (λ c. c ≢ 10) self.new.held.items) }
-        ensures countable { OnOk result (self.new.laying.lines + length self.new.held.items ≤ self.old.laying.lines + length self.old.held.items + length window.now) }
+        ensures countable { OnOk result (self.new.laying.lines + length self.new.held.items
+            ≤ self.old.laying.lines + length self.old.held.items + length window.now) }
         ensures near { OnOk result (self.new.laying.blocks.sent + length self.new.laying.blocks.pending.items ≤ 2 ^ 63 + 256) }
         ensures shift { OnOk result (self.new.laying.shift ≡ self.old.laying.shift) }
     {

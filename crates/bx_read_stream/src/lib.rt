@@ -1,6 +1,8 @@
 //! What a dump, or plain hexadecimal, makes of nothing, written: a dump line by line as it comes.
 //!
 //! `lay_dump(alloc, reader, writer, 0)` answers how many bytes were written.
+//!
+//! `docs/FORMATS.md` has the forms that are read ("Dumps that `revert` reads"), and `docs/DECISIONS.md` why no line may go back ("Formats and numbers").
 #![tactic(auto)]
 
 mod blocks;

@@ -8,6 +8,8 @@
 //! ```
 //!
 //! `docs/CALLING.md` has the whole caller, which the gate proves and runs.
+//!
+//! `docs/FORMATS.md` has the numbers and the default line of xxd, and `docs/DECISIONS.md` why they are so ("Formats and numbers").
 #![tactic(auto)]
 
 mod fault;

@@ -196,7 +196,8 @@ fn pass<W: Write, A: Allocator>(
     requires space { form.shape ≢ Flat → form.cbs ≤ vec_capacity waiting.old.held }
     requires part { form.shape ≡ Unblock → length waiting.old.held.items < form.cbs }
     requires few { turn.tail.cut + turn.have < 2 ^ 64 }
-    ensures within { IfOk result (λ t. (length waiting.new.held.items ≤ form.cbs) × (t.tail.cut + t.have ≤ turn.tail.cut + turn.have) × (t.have < unit_of form)) }
+    ensures within { IfOk result (λ t. (length waiting.new.held.items ≤ form.cbs) × (t.tail.cut + t.have ≤ turn.tail.cut + turn.have)
+        × (t.have < unit_of form)) }
     ensures part { IfOk result (λ t. form.shape ≡ Unblock → length waiting.new.held.items < form.cbs) }
     ensures space { vec_capacity waiting.old.held ≤ vec_capacity waiting.new.held }
     ensures read { IfOk result (λ t. t.read ≡ turn.read) }

@@ -32,7 +32,8 @@ impl<'a, D: Device, A: Allocator> Model for ChangedImage<'a, D, A> {
 
     ghost view = { λ c. record { device = c.device; changes = c.known.changes.now; before = c.known.before; len = c.len; failures = c.failures } };
 
-    ghost invariant = { λ c. (D.failures c.device ≤ c.failures) × (D.honest c.device → AreLengthsOf c.known.changes.now (D.image c.device) c.known.before c.len) };
+    ghost invariant = { λ c. (D.failures c.device ≤ c.failures) × (D.honest c.device
+        → AreLengthsOf c.known.changes.now (D.image c.device) c.known.before c.len) };
 }
 
 impl<'a, D: Device, A: Allocator> ChangedImage<'a, D, A> {

@@ -71,7 +71,8 @@ pub fn extend_run<A: Allocator>(
     bytes: &mut Vec<u8, A>,
     text: &[u8],
 ) -> Result<usize, NoMemory>
-    ensures { IfOk result (λ count. (front : List Run) → GoesOnBy len text.now (with_last front at bytes.old.items) (with_last front at bytes.new.items) count) }
+    ensures { IfOk result (λ count. (front : List Run)
+        → GoesOnBy len text.now (with_last front at bytes.old.items) (with_last front at bytes.new.items) count) }
 {
     let mut count = 0;
     let mut rest = text;
