@@ -16,7 +16,7 @@ use bx_dump::hexdump::HexdumpOptions;
 use bx_dump::od::{Address, OdOptions};
 use bx_dump::strings::StringsOptions;
 use bx_dump::xxd::XxdOptions;
-use bx_journal::Way;
+use bx_journal::Direction;
 use bx_text::{IoFault, Name, SizeStyle, Words};
 use clap::Error;
 use clap::error::ErrorKind;
@@ -494,9 +494,9 @@ fn show(alloc: Global, m: &Given<'_, '_>) -> Result<ShowJob, Fault> {
     };
     let target = target(alloc, m, access)?;
     let way = if m.get_flag("redo") {
-        Way::Redo
+        Direction::Redo
     } else {
-        Way::Undo
+        Direction::Undo
     };
     Ok(ShowJob {
         way,

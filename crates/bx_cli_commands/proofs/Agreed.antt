@@ -53,9 +53,9 @@ broken_not_full : Broken ≡ JournalFull → ⊥
 broken_not_full is = cc
 
 module _ {D T : Type 0} (d : DeviceViews D) (t : StoreViews T) where
-  look_same : (old new : SessionView D T) → OnlyLooks d t old new → d.honest old.image → IsSame d.image t.text old new
-  look_same old new looks honest = record {
-    image_same = looks.image honest;
+  look_same : (old new : SessionView D T) → OnlyLooks d t old new → d.faithful old.image → IsSame d.image t.text old new
+  look_same old new looks faithful = record {
+    image_same = looks.image faithful;
     text_same = ap t.text looks.journal;
     count = looks.count;
     broken = looks.is_broken;
@@ -64,19 +64,19 @@ module _ {D T : Type 0} (d : DeviceViews D) (t : StoreViews T) where
   look_redo_same : (old new : SessionView D T) → OnlyLooks d t old new → IsRedoSame t.text old new
   look_redo_same old new looks = record { text_same = ap t.text looks.redo; undone = looks.undone }
 
-  -- three devices are as honest as before
+  -- three devices are as faithful as before
   abbrev pub AsHonest : SessionView D T → SessionView D T → Type 0
-  AsHonest old new = (d.honest new.image ↔ d.honest old.image) × (t.honest new.journal ↔ t.honest old.journal) × (t.honest new.redo ↔ t.honest old.redo)
+  AsHonest old new = (d.faithful new.image ↔ d.faithful old.image) × (t.faithful new.journal ↔ t.faithful old.journal) × (t.faithful new.redo ↔ t.faithful old.redo)
 
   -- the session stands where it stood
   pub look_holds : (old new : SessionView D T) (s : Standing) → AsHonest old new → OnlyLooks d t old new → HoldsAt d t old s → HoldsAt d t new s
-  look_holds old new (Standing.Up images) honesty looks h =
-      holds_same d t old new (Standing.Up images) honesty.0 honesty.1 honesty.2 (look_same old new looks h.0) (look_redo_same old new looks) h
-  look_holds old new (Standing.Down images) honesty looks h =
-      holds_same d t old new (Standing.Down images) honesty.0 honesty.1 honesty.2 (look_same old new looks h.0) (look_redo_same old new looks) h
+  look_holds old new (Standing.Up images) faith looks h =
+      holds_same d t old new (Standing.Up images) faith.0 faith.1 faith.2 (look_same old new looks h.0) (look_redo_same old new looks) h
+  look_holds old new (Standing.Down images) faith looks h =
+      holds_same d t old new (Standing.Down images) faith.0 faith.1 faith.2 (look_same old new looks h.0) (look_redo_same old new looks) h
 
-  pub look_shows : (old new : SessionView D T) (images : Images) → OnlyLooks d t old new → d.honest old.image → Shows d.image t.text old images → Shows d.image t.text new images
-  look_shows old new images looks honest shows = shows_same d.image t.text old new images (look_same old new looks honest) (look_redo_same old new looks) shows
+  pub look_shows : (old new : SessionView D T) (images : Images) → OnlyLooks d t old new → d.faithful old.image → Shows d.image t.text old images → Shows d.image t.text new images
+  look_shows old new images looks faithful shows = shows_same d.image t.text old new images (look_same old new looks faithful) (look_redo_same old new looks) shows
 
   -- what is found of the device's image is found of the newest one
   found_of_top : (old : SessionView D T) (images : Images) (p : Asked) (found : Option Other) → Shows d.image t.text old images
@@ -90,16 +90,16 @@ module _ {D T : Type 0} (d : DeviceViews D) (t : StoreViews T) where
       → AsHonest old new → OnlyLooks d t old new → NothingNew d t old new → IsWholeRefusal reply → (IsOwnRefusal reply → ⊥)
       → CountsBy d t old new (cond (is_failure reply) 1 0)
       → ((before : Standing) → HoldsAt d t old before → Step before reply before)
-      → (d.honest old.image → (images : Images) → Shows d.image t.text old images → Step (Standing.Up images) reply (Standing.Up images))
+      → (d.faithful old.image → (images : Images) → Shows d.image t.text old images → Step (Standing.Up images) reply (Standing.Up images))
       → Obeys d t old new reply Step
-  look_refused Step old new reply honesty looks nothing whole other counts steps shown = record {
-    step = λ before h. (before, look_holds old new before honesty looks h, steps before h);
+  look_refused Step old new reply faith looks nothing whole other counts steps shown = record {
+    step = λ before h. (before, look_holds old new before faith looks h, steps before h);
     stands = λ device store redo unfailed images shows. (images, look_shows old new images looks device shows, shown device images shows);
     finds = λ stopped. absurd (stopped whole);
     found_before = λ is. nothing;
-    image_honesty = honesty.0;
-    journal_honesty = honesty.1;
-    redo_honesty = honesty.2;
+    image_faith = faith.0;
+    journal_faith = faith.1;
+    redo_faith = faith.2;
     counts = counts;
     own = λ own. absurd (other own);
     same = λ is device store. look_same old new looks device;
@@ -108,10 +108,10 @@ module _ {D T : Type 0} (d : DeviceViews D) (t : StoreViews T) where
 
   -- the image disagrees
   pub disagrees : (A : Type 0) (old new : SessionView D T) (p : Asked) (other : Other) → FailsSafely d t old new (found_in (Some other))
-      → OnlyLooks d t old new → NothingNew d t old new → (d.honest old.image → FindsOther p (d.image old.image) (Some other))
+      → OnlyLooks d t old new → NothingNew d t old new → (d.faithful old.image → FindsOther p (d.image old.image) (Some other))
       → Obeys d t old new (Refused (Disagrees other)) (λ before. AgreedStep A before p)
   disagrees A old new p other safe looks nothing found =
-      look_refused (λ before. AgreedStep A before p) old new (Refused (Disagrees other)) safe.honesty looks nothing (λ is. cc) (λ own. own)
+      look_refused (λ before. AgreedStep A before p) old new (Refused (Disagrees other)) safe.faith looks nothing (λ is. cc) (λ own. own)
       (unfailed_counts d t old new (Refused (Disagrees other)) refl safe.counts)
       (λ before h. at before h)
       (λ device images shows. inr (Some other, found_of_top old images p (Some other) shows (found device), (refl, refl)))
@@ -126,7 +126,7 @@ module _ {D T : Type 0} (d : DeviceViews D) (t : StoreViews T) where
       → OnlyLooks d t old new → NothingNew d t old new → EndsLook e
       → Obeys d t old new (Refused (Session e)) (λ before. AgreedStep A before p)
   uncompared A old new p e safe looks nothing ends =
-      look_refused (λ before. AgreedStep A before p) old new (Refused (Session e)) safe.honesty looks nothing (look_is_whole e ends) (λ own. own)
+      look_refused (λ before. AgreedStep A before p) old new (Refused (Session e)) safe.faith looks nothing (look_is_whole e ends) (λ own. own)
       (fault_counts d t old new e safe.counts)
       (λ before h. at before h)
       (λ device images shows. inl (failed shows.0.whole, refl))
@@ -145,27 +145,27 @@ module _ {D T : Type 0} (d : DeviceViews D) (t : StoreViews T) where
   -- What is done behind a look that was answered, from where the session stood: `Next` is its step, which leads to the whole one
   pub look_then : {V : Type 0} (v : V) (Step Next : Standing → Reply → Standing → Type 0) (old now new : SessionView D T) (reply : Reply)
       → FailsSafely d t old now (seen v) → OnlyLooks d t old now → NothingNew d t old now
-      → (d.honest old.image → (images : Images) → Shows d.image t.text old images → (then : Standing)
+      → (d.faithful old.image → (images : Images) → Shows d.image t.text old images → (then : Standing)
       → Next (Standing.Up images) reply then → Step (Standing.Up images) reply then)
       → Obeys d t now new reply Next → (IsOwnRefusal reply → ⊥) → Obeys d t old new reply Step
   look_then v Step Next old now new reply safe looks nothing lift obeys other = record {
     step = λ before h.
-        let made = obeys.step before (look_holds old now before safe.honesty looks h) in
+        let made = obeys.step before (look_holds old now before safe.faith looks h) in
         (made.0, made.1, after before made.0 h made.2);
     stands = λ device store redo unfailed images shows.
-        let made = obeys.stands (safe.honesty.0.1 device) (safe.honesty.1.1 store) (safe.honesty.2.1 redo) unfailed images (look_shows old now images looks device shows) in
+        let made = obeys.stands (safe.faith.0.1 device) (safe.faith.1.1 store) (safe.faith.2.1 redo) unfailed images (look_shows old now images looks device shows) in
         (made.0, made.1, lift device images shows (Standing.Up made.0) made.2);
     finds = λ stopped before h x text redo there text_there redo_there.
-        let left = obeys.finds stopped before (look_holds old now before safe.honesty looks h) x text redo there text_there redo_there in
+        let left = obeys.finds stopped before (look_holds old now before safe.faith looks h) x text redo there text_there redo_there in
         (left.0, after before left.0 h left.1, left.2, left.3);
-    found_before = λ whole. nothing_new_on d t old now new safe.honesty.0 safe.honesty.1 safe.honesty.2 nothing (obeys.found_before whole);
-    image_honesty = ((λ h. safe.honesty.0.0 (obeys.image_honesty.0 h)), (λ h. obeys.image_honesty.1 (safe.honesty.0.1 h)));
-    journal_honesty = ((λ h. safe.honesty.1.0 (obeys.journal_honesty.0 h)), (λ h. obeys.journal_honesty.1 (safe.honesty.1.1 h)));
-    redo_honesty = ((λ h. safe.honesty.2.0 (obeys.redo_honesty.0 h)), (λ h. obeys.redo_honesty.1 (safe.honesty.2.1 h)));
+    found_before = λ whole. nothing_new_on d t old now new safe.faith.0 safe.faith.1 safe.faith.2 nothing (obeys.found_before whole);
+    image_faith = ((λ h. safe.faith.0.0 (obeys.image_faith.0 h)), (λ h. obeys.image_faith.1 (safe.faith.0.1 h)));
+    journal_faith = ((λ h. safe.faith.1.0 (obeys.journal_faith.0 h)), (λ h. obeys.journal_faith.1 (safe.faith.1.1 h)));
+    redo_faith = ((λ h. safe.faith.2.0 (obeys.redo_faith.0 h)), (λ h. obeys.redo_faith.1 (safe.faith.2.1 h)));
     counts = counts_behind (cond (is_failure reply) 1 0) obeys.counts;
     own = λ own. absurd (other own);
-    same = λ whole device store. same_on d.image t.text old now new (look_same old now looks device) (obeys.same whole (safe.honesty.0.1 device) (safe.honesty.1.1 store));
-    redo_same = λ redo whole. redo_same_on t.text old now new (look_redo_same old now looks) (obeys.redo_same (safe.honesty.2.1 redo) whole);
+    same = λ whole device store. same_on d.image t.text old now new (look_same old now looks device) (obeys.same whole (safe.faith.0.1 device) (safe.faith.1.1 store));
+    redo_same = λ redo whole. redo_same_on t.text old now new (look_redo_same old now looks) (obeys.redo_same (safe.faith.2.1 redo) whole);
   }
     where
       after : (before then : Standing) → HoldsAt d t old before → Next before reply then → Step before reply then
@@ -180,7 +180,7 @@ module _ {D T : Type 0} (d : DeviceViews D) (t : StoreViews T) where
 
   -- the image agrees, and the change is made, refused or stopped
   pub agreed : {A : Type 0} (old now new : SessionView D T) (p : Asked) (reply : Reply) → FailsSafely d t old now (found_in None)
-      → OnlyLooks d t old now → NothingNew d t old now → (d.honest old.image → FindsOther p (d.image old.image) None)
+      → OnlyLooks d t old now → NothingNew d t old now → (d.faithful old.image → FindsOther p (d.image old.image) None)
       → Obeys d t now new reply (λ before. ChangeStep {A = A} before (patch_change p) None) → (IsOwnRefusal reply → ⊥)
       → Obeys d t old new reply (λ before. AgreedStep A before p)
   agreed {A = A} old now new p reply safe looks nothing found obeys other =

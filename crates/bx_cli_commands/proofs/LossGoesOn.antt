@@ -12,9 +12,9 @@ module _ {D T : Type 0} (d : DeviceViews D) (t : StoreViews T) where
   -- images that are found in what is left are on the disk
   left_on_disk : (x y : Devices D T) (s : Images) → AreLeft d t x y → Found (t.text y.journal) (d.image y.image) (t.text y.redo) s → AreOnDisk d t y s
   left_on_disk x y s left found = record {
-    image = left.image_honest;
-    journal = left.journal_honest;
-    redo = left.redo_honest;
+    image = left.image_faithful;
+    journal = left.journal_faithful;
+    redo = left.redo_faithful;
     found = found;
     all = λ z text redo image_there there redo_there.
         subst (λ r. Found text z r s) (sym (left.settled.redo redo redo_there))

@@ -4,8 +4,8 @@ use Rattle.std.specs.Prelude.{MatchResult}
 use Rattle.bx_image.specs.declared.device.Device.{Ghosts as DeviceViews}
 use Rattle.bx_journal_store.specs.declared.store.TextStore.{Ghosts as StoreViews}
 use Rattle.bx_journal.specs.Devices.{Devices}
-use Rattle.bx_journal.specs.How.{How}
-use Rattle.bx_journal.specs.How.TheVariants.{Clean, Dropped, Restored}
+use Rattle.bx_journal.specs.RecoveryOutcome.{RecoveryOutcome}
+use Rattle.bx_journal.specs.RecoveryOutcome.TheVariants.{Clean, Dropped, Restored}
 use Rattle.bx_journal.specs.Recovered.{Recovered}
 use Rattle.bx_journal.specs.Images.{Images}
 use Rattle.bx_journal.specs.Losses.{AllFound, emptied}
@@ -21,7 +21,7 @@ use Rattle.bx_cli_commands.proofs.Stopped.{ends_in_part}
 
 module _ {D T : Type 0} (d : DeviceViews D) (t : StoreViews T) where
   -- beside finished entries alone all that was undone is kept, else nothing
-  found_as : (how : How) (x : Devices D T) (s : Images) → (how ≡ Clean → AllFound d t x s) → ((how ≡ Clean → ⊥) → AllFound d t x (emptied s))
+  found_as : (how : RecoveryOutcome) (x : Devices D T) (s : Images) → (how ≡ Clean → AllFound d t x s) → ((how ≡ Clean → ⊥) → AllFound d t x (emptied s))
       → AllFound d t x (opened_as how s)
   found_as Clean x s clean other = λ y text redo image_there there redo_there.
       let found = clean refl y text redo image_there there redo_there in
@@ -44,9 +44,9 @@ module _ {D T : Type 0} (d : DeviceViews D) (t : StoreViews T) where
   pub opened_holds : (x : Devices D T) (o : SessionView D T × Recovered) (s : Images) → AreOnDisk d t x s → OpensDevices d t x (Ok o)
       → HoldsAt d t o.0 (Standing.Up (opened_as o.1.how s))
   opened_holds x o s on opens = (
-    opens.devices.image_honesty.1 on.image,
-    opens.devices.journal_honesty.1 on.journal,
-    opens.devices.redo_honesty.1 on.redo,
+    opens.devices.image_faith.1 on.image,
+    opens.devices.journal_faith.1 on.journal,
+    opens.devices.redo_faith.1 on.redo,
     (opens.keeps on.image on.journal s.stack on.found.recovers, opens.redo.keeps_undone on.image on.journal on.redo s on.found),
   )
 

@@ -80,9 +80,9 @@ module _ {D T : Type 0} (d : DeviceViews D) (t : StoreViews T) where
         let found = obeys.finds stopped before h new x redo there text_there redo_there in
         (found.0, next before found.0 found.1, found.2, found.3);
     found_before = obeys.found_before;
-    image_honesty = obeys.image_honesty;
-    journal_honesty = obeys.journal_honesty;
-    redo_honesty = obeys.redo_honesty;
+    image_faith = obeys.image_faith;
+    journal_faith = obeys.journal_faith;
+    redo_faith = obeys.redo_faith;
     counts = obeys.counts;
     own = obeys.own;
     same = obeys.same;
@@ -97,9 +97,9 @@ module _ {D T : Type 0} (d : DeviceViews D) (t : StoreViews T) where
     stands = λ device store redo whole images shows. (images, shows, refuses (Standing.Up images));
     finds = λ stopped. absurd (stopped whole_reply);
     found_before = λ whole. nothing_new_here d t s;
-    image_honesty = ((λ h. h), (λ h. h));
-    journal_honesty = ((λ h. h), (λ h. h));
-    redo_honesty = ((λ h. h), (λ h. h));
+    image_faith = ((λ h. h), (λ h. h));
+    journal_faith = ((λ h. h), (λ h. h));
+    redo_faith = ((λ h. h), (λ h. h));
     counts = unfailed_counts s s reply unfailed (refl, refl, refl);
     own = λ own. refl;
     same = λ whole device store. same_here d.image t.text s;
@@ -117,21 +117,21 @@ module _ {D T : Type 0} (d : DeviceViews D) (t : StoreViews T) where
 
   -- whatever is found, it is the next images
   abbrev AllFind : SessionView D T → SessionView D T → (Images → Images) → Type 0
-  AllFind old new next = d.honest old.image → t.honest old.journal → t.honest old.redo → (images : Images) → IsReady d.image t.text old images.stack → HasUndone d.image t.text old images.undone
+  AllFind old new next = d.faithful old.image → t.faithful old.journal → t.faithful old.redo → (images : Images) → IsReady d.image t.text old images.stack → HasUndone d.image t.text old images.undone
       → Survive d.image d.survives t.text t.survives new (λ text x redo. Found text x redo (next images))
 
   -- a call that was accepted, from where the session stood
   accepted_step : (From : Standing → Result ℕ SessionFault → Standing → Type 0) (next : Images → Images) (old new : SessionView D T) (n : ℕ)
       → FailsSafely d t old new (Ok n)
-      → ((images : Images) → d.honest old.image → t.honest old.journal → t.honest old.redo → Shows d.image t.text old images
+      → ((images : Images) → d.faithful old.image → t.faithful old.journal → t.faithful old.redo → Shows d.image t.text old images
       → Shows d.image t.text new (next images) × From (Standing.Up images) (Ok n) (Standing.Up (next images)))
-      → ((images : Images) → d.honest old.image → t.honest old.journal → t.honest old.redo → IsReady d.image t.text old images.stack → HasUndone d.image t.text old images.undone
+      → ((images : Images) → d.faithful old.image → t.faithful old.journal → t.faithful old.redo → IsReady d.image t.text old images.stack → HasUndone d.image t.text old images.undone
       → IsReady d.image t.text new (next images).stack)
       → (before : Standing) → HoldsAt d t old before → (after : Standing) × HoldsAt d t new after × From before (Ok n) after
   accepted_step From next old new n accepted shows sound (Standing.Up images) h =
       let shown = shows images h.0 h.1 h.2 (ready_shows d.image t.text old images h.3) in (
         Standing.Up (next images),
-        (accepted.honesty.0.1 h.0, accepted.honesty.1.1 h.1, accepted.honesty.2.1 h.2, (sound images h.0 h.1 h.2 h.3.0 h.3.1, shown.0.1)),
+        (accepted.faith.0.1 h.0, accepted.faith.1.1 h.1, accepted.faith.2.1 h.2, (sound images h.0 h.1 h.2 h.3.0 h.3.1, shown.0.1)),
         shown.1,
       )
   accepted_step From next old new n accepted shows sound (Standing.Down images) h =
@@ -140,9 +140,9 @@ module _ {D T : Type 0} (d : DeviceViews D) (t : StoreViews T) where
   -- what is found behind a call that was accepted
   accepted_survives : (From : Standing → Result ℕ SessionFault → Standing → Type 0) (next : Images → Images) (old new : SessionView D T) (n : ℕ)
       → FailsSafely d t old new (Ok n)
-      → ((images : Images) → d.honest old.image → t.honest old.journal → t.honest old.redo → Shows d.image t.text old images
+      → ((images : Images) → d.faithful old.image → t.faithful old.journal → t.faithful old.redo → Shows d.image t.text old images
       → Shows d.image t.text new (next images) × From (Standing.Up images) (Ok n) (Standing.Up (next images)))
-      → ((images : Images) → d.honest old.image → t.honest old.journal → t.honest old.redo → IsReady d.image t.text old images.stack → HasUndone d.image t.text old images.undone
+      → ((images : Images) → d.faithful old.image → t.faithful old.journal → t.faithful old.redo → IsReady d.image t.text old images.stack → HasUndone d.image t.text old images.undone
       → IsReady d.image t.text new (next images).stack)
       → AllFind old new next
       → (before : Standing) → HoldsAt d t old before → FindsEnd d t new (From before (Ok n))
@@ -151,7 +151,7 @@ module _ {D T : Type 0} (d : DeviceViews D) (t : StoreViews T) where
         Standing.Up (next images),
         shown.1,
         lasts h.0 h.1 h.2 images h.3.0 h.3.1 x text redo there text_there redo_there,
-        (accepted.honesty.0.1 h.0, accepted.honesty.1.1 h.1, accepted.honesty.2.1 h.2, (sound images h.0 h.1 h.2 h.3.0 h.3.1, shown.0.1)),
+        (accepted.faith.0.1 h.0, accepted.faith.1.1 h.1, accepted.faith.2.1 h.2, (sound images h.0 h.1 h.2 h.3.0 h.3.1, shown.0.1)),
       )
   accepted_survives From next old new n accepted shows sound lasts (Standing.Down images) h x text redo there text_there redo_there =
       let bad : Ok n ≡ Err Broken = accepted.broken.0 h.3.0 in absurd (cc)
@@ -160,9 +160,9 @@ module _ {D T : Type 0} (d : DeviceViews D) (t : StoreViews T) where
   call_accepted : (made : ℕ → Reply) (Call : Images → Result ℕ SessionFault → Standing → Type 0) (next : Images → Images)
       (old new : SessionView D T) (n : ℕ) (reply : Reply) → reply ≡ answered made (Ok n) → IsNoRefusal reply
       → FailsSafely d t old new (Ok n)
-      → ((images : Images) → d.honest old.image → t.honest old.journal → t.honest old.redo → Shows d.image t.text old images
+      → ((images : Images) → d.faithful old.image → t.faithful old.journal → t.faithful old.redo → Shows d.image t.text old images
       → Shows d.image t.text new (next images) × Call images (Ok n) (Standing.Up (next images)))
-      → ((images : Images) → d.honest old.image → t.honest old.journal → t.honest old.redo → IsReady d.image t.text old images.stack → HasUndone d.image t.text old images.undone
+      → ((images : Images) → d.faithful old.image → t.faithful old.journal → t.faithful old.redo → IsReady d.image t.text old images.stack → HasUndone d.image t.text old images.undone
       → IsReady d.image t.text new (next images).stack)
       → AllFind old new next
       → Obeys d t old new reply (λ before. CallStep made Call before)
@@ -177,9 +177,9 @@ module _ {D T : Type 0} (d : DeviceViews D) (t : StoreViews T) where
         let found = accepted_survives (CallFrom Call) next old new n accepted shows sound lasts before h x text redo there text_there redo_there in
         (found.0, called made Call before (Ok n) reply found.0 is found.1, found.2, found.3);
     found_before = λ whole. absurd (no_whole reply no_refusal whole);
-    image_honesty = accepted.honesty.0;
-    journal_honesty = accepted.honesty.1;
-    redo_honesty = accepted.honesty.2;
+    image_faith = accepted.faith.0;
+    journal_faith = accepted.faith.1;
+    redo_faith = accepted.faith.2;
     counts = unfailed_counts old new reply (no_failure reply no_refusal) accepted.counts;
     own = λ own. absurd (no_own reply no_refusal own);
     same = λ whole device store. absurd (no_whole reply no_refusal whole);
@@ -189,9 +189,9 @@ module _ {D T : Type 0} (d : DeviceViews D) (t : StoreViews T) where
   -- a call that was refused, or stopped, from where the session stood: what is left behind a stop, opening finds
   refused_step : (From : Standing → Result ℕ SessionFault → Standing → Type 0) (Left : Images → Type 0) (old new : SessionView D T) (e : SessionFault)
       → FailsSafely d t old new (refusal e)
-      → ((images : Images) → d.honest old.image → t.honest old.journal → t.honest old.redo → Shows d.image t.text old images → (e ≡ Interrupted → ⊥)
+      → ((images : Images) → d.faithful old.image → t.faithful old.journal → t.faithful old.redo → Shows d.image t.text old images → (e ≡ Interrupted → ⊥)
       → From (Standing.Up images) (Err e) (Standing.Up images))
-      → (d.honest old.image → t.honest old.journal → t.honest old.redo → (images : Images) → IsReady d.image t.text old images.stack → HasUndone d.image t.text old images.undone
+      → (d.faithful old.image → t.faithful old.journal → t.faithful old.redo → (images : Images) → IsReady d.image t.text old images.stack → HasUndone d.image t.text old images.undone
       → AfterFault e (Left images) (Unit {0}))
       → ((images : Images) → Left images → (found : Images) × SessionFinds d.image t.text new found × From (Standing.Up images) (Err Interrupted) (Standing.Down found))
       → ((images : Images) → From (Standing.Down images) (Err Broken) (Standing.Down images))
@@ -204,14 +204,14 @@ module _ {D T : Type 0} (d : DeviceViews D) (t : StoreViews T) where
             let found = stops images (subst After stopped (finds h.0 h.1 h.2 images h.3.0 h.3.1)) in
             let Step : SessionFault → Type 0 = λ f. From (Standing.Up images) (Err f) (Standing.Down found.0) in (
               Standing.Down found.0,
-              (refused.honesty.0.1 h.0, refused.honesty.1.1 h.1, refused.honesty.2.1 h.2, (subst (λ f. AfterFault f (new.is_broken ≡ true) (new.is_broken ≡ old.is_broken)) stopped refused.unmoved.2, found.1)),
+              (refused.faith.0.1 h.0, refused.faith.1.1 h.1, refused.faith.2.1 h.2, (subst (λ f. AfterFault f (new.is_broken ≡ true) (new.is_broken ≡ old.is_broken)) stopped refused.unmoved.2, found.1)),
               subst Step (sym stopped) found.2,
             )
         | inr whole ↦
             let same = after_same (IsSame d.image t.text old new) e (refused.refused h.0 h.1) whole in
             let redo_same = after_same (IsRedoSame t.text old new) e (refused.redo_same h.2) whole in (
               Standing.Up images,
-              holds_same d t old new (Standing.Up images) refused.honesty.0 refused.honesty.1 refused.honesty.2 same redo_same h,
+              holds_same d t old new (Standing.Up images) refused.faith.0 refused.faith.1 refused.faith.2 same redo_same h,
               stays images h.0 h.1 h.2 (ready_shows d.image t.text old images h.3) whole,
             )
       ]
@@ -222,13 +222,13 @@ module _ {D T : Type 0} (d : DeviceViews D) (t : StoreViews T) where
       let redo_same = after_same (IsRedoSame t.text old new) e (refused.redo_same h.2) whole in
       let Step : Result ℕ SessionFault → Type 0 = λ r. From (Standing.Down images) r (Standing.Down images) in (
         Standing.Down images,
-        holds_same d t old new (Standing.Down images) refused.honesty.0 refused.honesty.1 refused.honesty.2 same redo_same h,
+        holds_same d t old new (Standing.Down images) refused.faith.0 refused.faith.1 refused.faith.2 same redo_same h,
         subst Step (sym is) (down images),
       )
 
   -- what a stop leaves to be found
   abbrev StopFinds : SessionView D T → SessionView D T → SessionFault → (Images → Images → Type 0) → Type 0
-  StopFinds old new e Part = d.honest old.image → t.honest old.journal → t.honest old.redo → (images : Images) → IsReady d.image t.text old images.stack → HasUndone d.image t.text old images.undone
+  StopFinds old new e Part = d.faithful old.image → t.faithful old.journal → t.faithful old.redo → (images : Images) → IsReady d.image t.text old images.stack → HasUndone d.image t.text old images.undone
       → AfterFault e (Survive d.image d.survives t.text t.survives new (λ text x redo. (found : Images) × Part images found × Found text x redo found)) (Unit {0})
 
   refused_survives : (From : Standing → Result ℕ SessionFault → Standing → Type 0) (Part : Images → Images → Type 0) (old new : SessionView D T) (e : SessionFault)
@@ -253,9 +253,9 @@ module _ {D T : Type 0} (d : DeviceViews D) (t : StoreViews T) where
   call_refused : (made : ℕ → Reply) (Call : Images → Result ℕ SessionFault → Standing → Type 0) (Left : Images → Type 0)
       (old new : SessionView D T) (e : SessionFault)
       → FailsSafely d t old new (refusal e)
-      → ((images : Images) → d.honest old.image → t.honest old.journal → t.honest old.redo → Shows d.image t.text old images → (e ≡ Interrupted → ⊥)
+      → ((images : Images) → d.faithful old.image → t.faithful old.journal → t.faithful old.redo → Shows d.image t.text old images → (e ≡ Interrupted → ⊥)
       → Call images (Err e) (Standing.Up images))
-      → (d.honest old.image → t.honest old.journal → t.honest old.redo → (images : Images) → IsReady d.image t.text old images.stack → HasUndone d.image t.text old images.undone
+      → (d.faithful old.image → t.faithful old.journal → t.faithful old.redo → (images : Images) → IsReady d.image t.text old images.stack → HasUndone d.image t.text old images.undone
       → AfterFault e (Left images) (Unit {0}))
       → ((images : Images) → Left images → (found : Images) × SessionFinds d.image t.text new found × Call images (Err Interrupted) (Standing.Down found))
       → StopFinds old new e (λ images found. Call images (Err Interrupted) (Standing.Down found))
@@ -276,9 +276,9 @@ module _ {D T : Type 0} (d : DeviceViews D) (t : StoreViews T) where
             (λ images found part. part) before h x text redo there text_there redo_there in
             (found.0, called made Call before (Err e) (Refused (Session e)) found.0 refl found.1, found.2, found.3);
         found_before = λ whole. after_same (NothingNew d t old new) e nothing (whole_goes_on e whole);
-        image_honesty = refused.honesty.0;
-        journal_honesty = refused.honesty.1;
-        redo_honesty = refused.honesty.2;
+        image_faith = refused.faith.0;
+        journal_faith = refused.faith.1;
+        redo_faith = refused.faith.2;
         counts = fault_counts old new e refused.counts;
         own = λ own. absurd own;
         same = λ whole device store. after_same (IsSame d.image t.text old new) e (refused.refused device store) (whole_goes_on e whole);
@@ -288,10 +288,10 @@ module _ {D T : Type 0} (d : DeviceViews D) (t : StoreViews T) where
   -- a change that was made
   pub perform_obeys : {A : Type 0} (old new : SessionView D T) (c : Change A) (counts : Option Counts) (n : ℕ) (reply : Reply) → reply ≡ made_reply counts n
       → FailsSafely d t old new (Ok n)
-      → (d.honest old.image → t.honest old.journal → (stack : List (List ℕ)) → IsStanding d.image t.text old stack
+      → (d.faithful old.image → t.faithful old.journal → (stack : List (List ℕ)) → IsStanding d.image t.text old stack
       → PerformStep stack c (Ok n) (effect c (top stack) ∷ stack) × IsStanding d.image t.text new (effect c (top stack) ∷ stack))
-      → (d.honest old.image → t.honest old.journal → (stack : List (List ℕ)) → IsReady d.image t.text old stack → IsReady d.image t.text new (effect c (top stack) ∷ stack))
-      → (t.honest old.redo → HasUndone d.image t.text new [])
+      → (d.faithful old.image → t.faithful old.journal → (stack : List (List ℕ)) → IsReady d.image t.text old stack → IsReady d.image t.text new (effect c (top stack) ∷ stack))
+      → (t.faithful old.redo → HasUndone d.image t.text new [])
       → AllFind old new (λ s. change_to (effect c (top s.stack)) s)
       → Obeys d t old new reply (λ before. ChangeStep before c counts)
   perform_obeys old new c counts n reply is accepted makes sound undone lasts =
@@ -307,10 +307,10 @@ module _ {D T : Type 0} (d : DeviceViews D) (t : StoreViews T) where
   -- changes that were taken back
   pub undo_obeys : (old new : SessionView D T) (k left : ℕ)
       → FailsSafely d t old new (Ok left)
-      → (d.honest old.image → t.honest old.journal → (stack : List (List ℕ)) → IsStanding d.image t.text old stack
+      → (d.faithful old.image → t.faithful old.journal → (stack : List (List ℕ)) → IsStanding d.image t.text old stack
       → UndoStep stack k (Ok left) (drop k stack) × IsStanding d.image t.text new (drop k stack))
-      → (d.honest old.image → t.honest old.journal → (stack : List (List ℕ)) → IsReady d.image t.text old stack → IsReady d.image t.text new (drop k stack))
-      → (d.honest old.image → t.honest old.journal → t.honest old.redo → (s : Images) → IsStanding d.image t.text old s.stack → HasUndone d.image t.text old s.undone
+      → (d.faithful old.image → t.faithful old.journal → (stack : List (List ℕ)) → IsReady d.image t.text old stack → IsReady d.image t.text new (drop k stack))
+      → (d.faithful old.image → t.faithful old.journal → t.faithful old.redo → (s : Images) → IsStanding d.image t.text old s.stack → HasUndone d.image t.text old s.undone
       → HasUndone d.image t.text new (undone_by k s.stack s.undone))
       → AllFind old new (undo_of k)
       → Obeys d t old new (Undone left) (λ before. UndoesStep before k)
@@ -325,9 +325,9 @@ module _ {D T : Type 0} (d : DeviceViews D) (t : StoreViews T) where
   -- undone changes that were made again
   pub redo_obeys : (old new : SessionView D T) (j n : ℕ)
       → FailsSafely d t old new (Ok n)
-      → (d.honest old.image → t.honest old.journal → t.honest old.redo → (s : Images) → IsStanding d.image t.text old s.stack → HasUndone d.image t.text old s.undone
+      → (d.faithful old.image → t.faithful old.journal → t.faithful old.redo → (s : Images) → IsStanding d.image t.text old s.stack → HasUndone d.image t.text old s.undone
       → RedoStep s j (Ok n) (redo_of j s) × IsStanding d.image t.text new (redo_of j s).stack × HasUndone d.image t.text new (redo_of j s).undone)
-      → (d.honest old.image → t.honest old.journal → t.honest old.redo → (s : Images) → IsReady d.image t.text old s.stack → HasUndone d.image t.text old s.undone
+      → (d.faithful old.image → t.faithful old.journal → t.faithful old.redo → (s : Images) → IsReady d.image t.text old s.stack → HasUndone d.image t.text old s.undone
       → IsReady d.image t.text new (redo_of j s).stack × HasUndone d.image t.text new (redo_of j s).undone)
       → AllFind old new (redo_of j)
       → Obeys d t old new (Redone n) (λ before. RedoesStep before j)
@@ -343,13 +343,13 @@ module _ {D T : Type 0} (d : DeviceViews D) (t : StoreViews T) where
   pub unperformed_obeys : {A : Type 0} (old new : SessionView D T) (c : Change A) (counts : Option Counts) (e : SessionFault)
       → FailsSafely d t old new (refusal e)
       → (IsErrOf (refusal e) JournalFull ↔ ((old.is_broken ≡ false) × (65535 ≤ old.count)))
-      → (d.honest old.image → IsErrOf (refusal e) TooLarge → Fits c (length (d.image old.image)) MAX_LEN → ⊥)
-      → (d.honest old.image → IsErrOf (refusal e) NoMemory → Fits c (length (d.image old.image)) MAX_LEN)
-      → (d.honest old.image → IsErrOf (refusal e) Interrupted → Fits c (length (d.image old.image)) MAX_LEN)
+      → (d.faithful old.image → IsErrOf (refusal e) TooLarge → Fits c (length (d.image old.image)) MAX_LEN → ⊥)
+      → (d.faithful old.image → IsErrOf (refusal e) NoMemory → Fits c (length (d.image old.image)) MAX_LEN)
+      → (d.faithful old.image → IsErrOf (refusal e) Interrupted → Fits c (length (d.image old.image)) MAX_LEN)
       → PerformFault e
-      → (d.honest old.image → t.honest old.journal → t.honest old.redo → (s : Images) → IsReady d.image t.text old s.stack → HasUndone d.image t.text old s.undone
+      → (d.faithful old.image → t.faithful old.journal → t.faithful old.redo → (s : Images) → IsReady d.image t.text old s.stack → HasUndone d.image t.text old s.undone
       → AfterFault e (FindsEither d.image t.text new s (change_to (effect c (top s.stack)) s)) (Unit {0}))
-      → (d.honest old.image → t.honest old.journal → t.honest old.redo → (s : Images) → IsReady d.image t.text old s.stack → HasUndone d.image t.text old s.undone
+      → (d.faithful old.image → t.faithful old.journal → t.faithful old.redo → (s : Images) → IsReady d.image t.text old s.stack → HasUndone d.image t.text old s.undone
       → AfterFault e (Survive d.image d.survives t.text t.survives new (λ text x redo. Found text x redo s ⊎ Found text x redo (change_to (effect c (top s.stack)) s))) (Unit {0}))
       → AfterFault e (Unit {0}) (NothingNew d t old new)
       → Obeys d t old new (Refused (Session e)) (λ before. ChangeStep before c counts)
@@ -358,10 +358,10 @@ module _ {D T : Type 0} (d : DeviceViews D) (t : StoreViews T) where
       let Left : Images → Type 0 = λ s. FindsEither d.image t.text new s (Made s) × Fits c (length (top s.stack)) MAX_LEN in
       let Finds : Images → Type 0 = λ s. (found : Images) × SessionFinds d.image t.text new found × PerformUp c s (Err Interrupted) (Standing.Down found) in
       let Fit : Images → Type 0 = λ s. Fits c (length (top s.stack)) MAX_LEN in
-      let stopped_fits : d.honest old.image → (images : Images) → IsReady d.image t.text old images.stack → HasUndone d.image t.text old images.undone → e ≡ Interrupted → Fit images =
-      λ device images ready has stopped. fits_top d.honest d.image t.text old c images device (ready_shows d.image t.text old images (ready, has)) (fitted device (ap refusal stopped)) in
+      let stopped_fits : d.faithful old.image → (images : Images) → IsReady d.image t.text old images.stack → HasUndone d.image t.text old images.undone → e ≡ Interrupted → Fit images =
+      λ device images ready has stopped. fits_top d.faithful d.image t.text old c images device (ready_shows d.image t.text old images (ready, has)) (fitted device (ap refusal stopped)) in
       call_refused (made_reply counts) (PerformUp c) Left old new e refused
-      (λ images device store redo shows whole. perform_stays d.honest d.image t.text old c e refused.broken full large fits kind device images shows whole)
+      (λ images device store redo shows whole. perform_stays d.faithful d.image t.text old c e refused.broken full large fits kind device images shows whole)
       (λ device store redo images ready has.
       both_after (FindsEither d.image t.text new images (Made images)) (Fits c (length (top images.stack)) MAX_LEN) e (finds device store redo images ready has)
       (stopped_fits device images ready has))
@@ -382,16 +382,16 @@ module _ {D T : Type 0} (d : DeviceViews D) (t : StoreViews T) where
       → FailsSafely d t old new (refusal e)
       → (((old.is_broken ≡ false) × (old.count < k)) ↔ IsErrOf (refusal e) (TooFew old.count))
       → UndoFault old.count e
-      → (t.honest old.journal → HasCount (t.text old.journal) old.count → (line : ℕ) → e ≡ Damaged line → ⊥)
-      → (d.honest old.image → t.honest old.journal → t.honest old.redo → (s : Images) → IsReady d.image t.text old s.stack → HasUndone d.image t.text old s.undone
+      → (t.faithful old.journal → HasCount (t.text old.journal) old.count → (line : ℕ) → e ≡ Damaged line → ⊥)
+      → (d.faithful old.image → t.faithful old.journal → t.faithful old.redo → (s : Images) → IsReady d.image t.text old s.stack → HasUndone d.image t.text old s.undone
       → AfterFault e ((i : ℕ) × (i ≤ k) × SessionFinds d.image t.text new (undo_of i s)) (Unit {0}))
-      → (d.honest old.image → t.honest old.journal → t.honest old.redo → (s : Images) → IsReady d.image t.text old s.stack → HasUndone d.image t.text old s.undone
+      → (d.faithful old.image → t.faithful old.journal → t.faithful old.redo → (s : Images) → IsReady d.image t.text old s.stack → HasUndone d.image t.text old s.undone
       → AfterFault e (Survive d.image d.survives t.text t.survives new (λ text x redo. (i : ℕ) × (i ≤ k) × Found text x redo (undo_of i s))) (Unit {0}))
       → AfterFault e (Unit {0}) (NothingNew d t old new)
       → Obeys d t old new (Refused (Session e)) (λ before. UndoesStep before k)
   kept_obeys old new k e refused few kind undamaged finds lasts nothing =
       call_refused Undone (UndoUp k) (λ s. (i : ℕ) × (i ≤ k) × SessionFinds d.image t.text new (undo_of i s)) old new e refused
-      (λ images device store redo shows whole. undo_stays t.honest d.image t.text old k e refused.broken few kind undamaged store images shows whole)
+      (λ images device store redo shows whole. undo_stays t.faithful d.image t.text old k e refused.broken few kind undamaged store images shows whole)
       finds
       (λ images left. (undo_of left.0 images, left.2, (left.0, left.1, refl)))
       (λ device store redo images ready has.
@@ -407,16 +407,16 @@ module _ {D T : Type 0} (d : DeviceViews D) (t : StoreViews T) where
       → FailsSafely d t old new (refusal e)
       → (((old.is_broken ≡ false) × (old.undone < j)) ↔ IsErrOf (refusal e) (NothingToRedo old.undone))
       → RedoFault old.undone e
-      → (t.honest old.redo → HasCount (t.text old.redo) old.undone → (line : ℕ) → e ≡ RedoDamaged line → ⊥)
-      → (d.honest old.image → t.honest old.journal → t.honest old.redo → (s : Images) → IsReady d.image t.text old s.stack → HasUndone d.image t.text old s.undone
+      → (t.faithful old.redo → HasCount (t.text old.redo) old.undone → (line : ℕ) → e ≡ RedoDamaged line → ⊥)
+      → (d.faithful old.image → t.faithful old.journal → t.faithful old.redo → (s : Images) → IsReady d.image t.text old s.stack → HasUndone d.image t.text old s.undone
       → AfterFault e ((i : ℕ) × (i ≤ j) × SessionFinds d.image t.text new (redo_of i s)) (Unit {0}))
-      → (d.honest old.image → t.honest old.journal → t.honest old.redo → (s : Images) → IsReady d.image t.text old s.stack → HasUndone d.image t.text old s.undone
+      → (d.faithful old.image → t.faithful old.journal → t.faithful old.redo → (s : Images) → IsReady d.image t.text old s.stack → HasUndone d.image t.text old s.undone
       → AfterFault e (Survive d.image d.survives t.text t.survives new (λ text x redo. (i : ℕ) × (i ≤ j) × Found text x redo (redo_of i s))) (Unit {0}))
       → AfterFault e (Unit {0}) (NothingNew d t old new)
       → Obeys d t old new (Refused (Session e)) (λ before. RedoesStep before j)
   unredone_obeys old new j e refused none kind undamaged finds lasts nothing =
       call_refused Redone (RedoUp j) (λ s. (i : ℕ) × (i ≤ j) × SessionFinds d.image t.text new (redo_of i s)) old new e refused
-      (λ images device store redo shows whole. redo_stays t.honest d.image t.text old j e refused.broken none kind undamaged redo images shows whole)
+      (λ images device store redo shows whole. redo_stays t.faithful d.image t.text old j e refused.broken none kind undamaged redo images shows whole)
       finds
       (λ images left. (redo_of left.0 images, left.2, (left.0, left.1, refl)))
       (λ device store redo images ready has.

@@ -73,16 +73,16 @@ module _ {D T : Type 0} (d : DeviceViews D) (t : StoreViews T) where
         strict = λ e. absurd (false≢true (sym e));
       }
 
-  -- three devices are as honest as before
+  -- three devices are as faithful as before
   abbrev AreAsHonest : SessionView D T → SessionView D T → Type 0
-  AreAsHonest old new = (d.honest new.image ↔ d.honest old.image) × (t.honest new.journal ↔ t.honest old.journal) × (t.honest new.redo ↔ t.honest old.redo)
+  AreAsHonest old new = (d.faithful new.image ↔ d.faithful old.image) × (t.faithful new.journal ↔ t.faithful old.journal) × (t.faithful new.redo ↔ t.faithful old.redo)
 
   -- a session that was looked at shows the same images
   pub look_rests : (old new : SessionView D T) (i : Images) → OnlyLooks d t old new → AreAsHonest old new → RestsIn d t old i → RestsIn d t new i
-  look_rests old new i looks honesty rests = record {
-    image = honesty.0.1 rests.image;
-    journal = honesty.1.1 rests.journal;
-    redo = honesty.2.1 rests.redo;
+  look_rests old new i looks faith rests = record {
+    image = faith.0.1 rests.image;
+    journal = faith.1.1 rests.journal;
+    redo = faith.2.1 rests.redo;
     shows = shows_same d.image t.text old new i
         (record { image_same = looks.image rests.image; text_same = ap t.text looks.journal; count = looks.count; broken = looks.is_broken })
         (record { text_same = ap t.text looks.redo; undone = looks.undone }) rests.shows;
@@ -90,7 +90,7 @@ module _ {D T : Type 0} (d : DeviceViews D) (t : StoreViews T) where
 
   -- a change behind a look that found nothing otherwise
   pub made_patched : (A : Type 0) (p : Asked) (old new : SessionView D T) (c : Change A) (i : Images) → RestsIn d t old i
-      → (d.honest old.image → Agrees p (d.image old.image)) → c ≡ patch_change p → RestsIn d t new (images_after c i)
+      → (d.faithful old.image → Agrees p (d.image old.image)) → c ≡ patch_change p → RestsIn d t new (images_after c i)
       → IsPatched d t A p (devices_of old) (devices_of new) true
   made_patched A p old new c i rests agrees is made =
       let top_is = sym (top_rests d t old i rests) in
@@ -102,13 +102,13 @@ module _ {D T : Type 0} (d : DeviceViews D) (t : StoreViews T) where
       }
 
   -- a look that found something otherwise
-  pub other_patched : (A : Type 0) (p : Asked) (old new : SessionView D T) (other : Other) → OnlyLooks d t old new → d.honest old.image
-      → (d.honest old.image → HasOther p (d.image old.image) other) → IsPatched d t A p (devices_of old) (devices_of new) false
-  other_patched A p old new other looks honest has = record {
+  pub other_patched : (A : Type 0) (p : Asked) (old new : SessionView D T) (other : Other) → OnlyLooks d t old new → d.faithful old.image
+      → (d.faithful old.image → HasOther p (d.image old.image) other) → IsPatched d t A p (devices_of old) (devices_of new) false
+  other_patched A p old new other looks faithful has = record {
     agrees = λ e. absurd (false≢true e);
     changed = λ e. absurd (false≢true e);
-    disagrees = λ _ agrees. other_disagrees p (d.image old.image) other (has honest) agrees;
-    same = λ _. record { image = looks.image honest; journal = ap t.text looks.journal; redo = ap t.text looks.redo };
+    disagrees = λ _ agrees. other_disagrees p (d.image old.image) other (has faithful) agrees;
+    same = λ _. record { image = looks.image faithful; journal = ap t.text looks.journal; redo = ap t.text looks.redo };
   }
 
   -- so it is of devices that hold the same before and behind it

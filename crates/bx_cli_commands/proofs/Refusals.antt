@@ -148,8 +148,8 @@ module _ {D T : Type 0} (d : DeviceViews D) (t : StoreViews T) where
   pub nothing_new_here : (s : SessionView D T) → NothingNew d t s s
   nothing_new_here s = record { image_before = λ h c there. there; journal_before = λ h c there. there; redo_before = λ h c there. there }
 
-  pub nothing_new_on : (first now next : SessionView D T) → (d.honest now.image ↔ d.honest first.image) → (t.honest now.journal ↔ t.honest first.journal)
-      → (t.honest now.redo ↔ t.honest first.redo) → NothingNew d t first now → NothingNew d t now next → NothingNew d t first next
+  pub nothing_new_on : (first now next : SessionView D T) → (d.faithful now.image ↔ d.faithful first.image) → (t.faithful now.journal ↔ t.faithful first.journal)
+      → (t.faithful now.redo ↔ t.faithful first.redo) → NothingNew d t first now → NothingNew d t now next → NothingNew d t first next
   nothing_new_on first now next device store redo before after = record {
     image_before = λ h c there. before.image_before h c (after.image_before (device.1 h) c there);
     journal_before = λ h c there. before.journal_before h c (after.journal_before (store.1 h) c there);

@@ -36,7 +36,7 @@ module _ {D T : Type 0} (d : DeviceViews D) (t : StoreViews T) where
       }
 
   -- so do devices that have what it has
-  pub stand_at : (x : Devices D T) (s : SessionView D T) (i : Images) → d.honest x.image → t.honest x.journal → t.honest x.redo
+  pub stand_at : (x : Devices D T) (s : SessionView D T) (i : Images) → d.faithful x.image → t.faithful x.journal → t.faithful x.redo
       → d.image s.image ≡ d.image x.image → t.text s.journal ≡ t.text x.journal → t.text s.redo ≡ t.text x.redo → RestsIn d t s i → StandAt d t x i
   stand_at x s i dh th rh image_same text_same redo_same rests =
       let stand = at_rest s i rests in

@@ -74,9 +74,9 @@ module _ {S C : Type 0} (Step : S → C → C → Reply → S → Type 0) where
   run_induction P none more old new (c ∷ list) [] replies run = absurd run
   run_induction P none more old new (c ∷ list) (d ∷ left) [] run = absurd run
 
--- the three devices are honest
+-- the three devices are faithful
 abbrev AreHonest : {D T : Type 0} → DeviceViews D → StoreViews T → SessionView D T → Type 0
-AreHonest d t s = d.honest s.image × t.honest s.journal × t.honest s.redo
+AreHonest d t s = d.faithful s.image × t.faithful s.journal × t.faithful s.redo
 
 -- P holds of the first element
 all_head : {X : Type 0} (P : X → Type 0) (x : X) (xs : List X) → All P (x ∷ xs) → P x
@@ -137,9 +137,9 @@ module _ {D T : Type 0} (d : DeviceViews D) (t : StoreViews T) where
   abbrev Refuses : SessionView D T → List Reply → SessionView D T → Type 0
   Refuses old replies new = All IsWholeRefusal replies → NothingNew d t old new
 
-  holds_honest : (s : SessionView D T) (standing : Standing) → HoldsAt d t s standing → AreHonest d t s
-  holds_honest s (Standing.Up images) h = (h.0, h.1, h.2)
-  holds_honest s (Standing.Down images) h = (h.0, h.1, h.2)
+  holds_faithful : (s : SessionView D T) (standing : Standing) → HoldsAt d t s standing → AreHonest d t s
+  holds_faithful s (Standing.Up images) h = (h.0, h.1, h.2)
+  holds_faithful s (Standing.Down images) h = (h.0, h.1, h.2)
 
   is_at : (s : SessionView D T) (standing : Standing) → HoldsAt d t s standing → IsAt d t s standing
   is_at s (Standing.Up images) h = h
@@ -194,17 +194,17 @@ module _ {D T R A : Type 0} (d : DeviceViews D) (t : StoreViews T) (remaining : 
       let rest = later made.0 made.1 in
       (rest.0, rest.1, (made.0, made.2, rest.2)))
 
-  -- from the images that honest devices stand for, where no reply tells of a failure
+  -- from the images that faithful devices stand for, where no reply tells of a failure
   pub stacks_of : (old new : SessionView D T) (list left : List (Command R A)) (replies : List Reply) → Runs old list left replies new
       → AreHonest d t old → All Unfailed replies → LeadsOn (Shows d.image t.text) (λ start. StackRun remaining start list replies) old new
   stacks_of = run_induction Step
       (λ old list replies new. AreHonest d t old → All Unfailed replies → LeadsOn (Shows d.image t.text) (λ start. StackRun remaining start list replies) old new)
-      (λ s honest all start shows. (start, shows, refl))
-      (λ old now new c left list p replies step later honest all start shows.
+      (λ s faithful all start shows. (start, shows, refl))
+      (λ old now new c left list p replies step later faithful all start shows.
       let obeys = obeys_command old now c left p step in
       let unfailed = all_head Unfailed p replies all in
-      let made = obeys.stands honest.0 honest.1 honest.2 unfailed start shows in
-      let rest = later (obeys.image_honesty.1 honest.0, obeys.journal_honesty.1 honest.1, obeys.redo_honesty.1 honest.2) (all_tail Unfailed p replies all) made.0 made.1 in
+      let made = obeys.stands faithful.0 faithful.1 faithful.2 unfailed start shows in
+      let rest = later (obeys.image_faith.1 faithful.0, obeys.journal_faith.1 faithful.1, obeys.redo_faith.1 faithful.2) (all_tail Unfailed p replies all) made.0 made.1 in
       (rest.0, rest.1, (made.0, (made.2, unfailed), rest.2)))
 
   pub counts_once : (old new : SessionView D T) (c left : Command R A) (reply : Reply) → SessionStep (Obeys d t) Tells remaining old c left reply new
@@ -241,16 +241,16 @@ module _ {D T R A : Type 0} (d : DeviceViews D) (t : StoreViews T) (remaining : 
       (λ old now new c left list p replies step later all device store.
       let obeys = obeys_command old now c left p step in
       same_on d.image t.text old now new (obeys.same (all_head IsWholeRefusal p replies all) device store)
-      (later (all_tail IsWholeRefusal p replies all) (obeys.image_honesty.1 device) (obeys.journal_honesty.1 store)))
+      (later (all_tail IsWholeRefusal p replies all) (obeys.image_faith.1 device) (obeys.journal_faith.1 store)))
 
   pub redo_same_of : (old new : SessionView D T) (list left : List (Command R A)) (replies : List Reply) → Runs old list left replies new
-      → t.honest old.redo → All IsWholeRefusal replies → IsRedoSame t.text old new
-  redo_same_of = run_induction Step (λ old list replies new. t.honest old.redo → All IsWholeRefusal replies → IsRedoSame t.text old new)
+      → t.faithful old.redo → All IsWholeRefusal replies → IsRedoSame t.text old new
+  redo_same_of = run_induction Step (λ old list replies new. t.faithful old.redo → All IsWholeRefusal replies → IsRedoSame t.text old new)
       (λ s redo all. redo_same_here t.text s)
       (λ old now new c left list p replies step later redo all.
       let obeys = obeys_command old now c left p step in
       redo_same_on t.text old now new (obeys.redo_same redo (all_head IsWholeRefusal p replies all))
-      (later (obeys.redo_honesty.1 redo) (all_tail IsWholeRefusal p replies all)))
+      (later (obeys.redo_faith.1 redo) (all_tail IsWholeRefusal p replies all)))
 
   abbrev Finds : SessionView D T → List (Command R A) → List Reply → SessionView D T → Type 0
   Finds old list replies new = RunFinds d t remaining old list replies new
@@ -268,10 +268,10 @@ module _ {D T R A : Type 0} (d : DeviceViews D) (t : StoreViews T) (remaining : 
       let Holds : Standing → Type 0 = λ s. HoldsAt d t now s in
       let Steps : Standing → Type 0 = λ s. CommandStep remaining before c p s in
       let nothing = obeys.found_before whole in
-      let honest = holds_honest d t old before h in
+      let faithful = holds_faithful d t old before h in
       let found = later before (subst Holds stays made.1)
       (λ all y u s y_there u_there s_there.
-      first (All-cons IsWholeRefusal p replies whole all) y u s (nothing.image_before honest.0 y y_there) (nothing.journal_before honest.1 u u_there) (nothing.redo_before honest.2 s s_there))
+      first (All-cons IsWholeRefusal p replies whole all) y u s (nothing.image_before faithful.0 y y_there) (nothing.journal_before faithful.1 u u_there) (nothing.redo_before faithful.2 s s_there))
       x text redo there text_there redo_there in
       (found.0, (before, subst Steps stays made.2, found.1), found.2, found.3)
 
@@ -300,8 +300,8 @@ module _ {D T R A : Type 0} (d : DeviceViews D) (t : StoreViews T) (remaining : 
       elim (all_whole_or replies) as (λ _. (after : Standing) × CommandRun remaining before (c ∷ list) (p ∷ replies) after × Found text x redo (images_of after) × IsAt d t new after) [
         | inl all ↦
             let nothing = refuses all in
-            let honest = holds_honest d t now made.0 made.1 in
-            let found = obeys.finds stopped before h x text redo (nothing.image_before honest.0 x there) (nothing.journal_before honest.1 text text_there) (nothing.redo_before honest.2 redo redo_there) in
+            let faithful = holds_faithful d t now made.0 made.1 in
+            let found = obeys.finds stopped before h x text redo (nothing.image_before faithful.0 x there) (nothing.journal_before faithful.1 text text_there) (nothing.redo_before faithful.2 redo redo_there) in
             let kept = ends_kept now new made.0 found.0 list replies all goes made.1 found.3 in
             (found.0, (found.0, found.1, kept.0), found.2, kept.1)
         | inr some ↦
@@ -322,7 +322,7 @@ module _ {D T R A : Type 0} (d : DeviceViews D) (t : StoreViews T) (remaining : 
             let rest = later.0 made.0 made.1 in
             (rest.0, rest.1, (made.0, made.2, rest.2))),
         (λ all.
-            nothing_new_on d t old now new obeys.image_honesty obeys.journal_honesty obeys.redo_honesty (obeys.found_before (all_head IsWholeRefusal p replies all))
+            nothing_new_on d t old now new obeys.image_faith obeys.journal_faith obeys.redo_faith (obeys.found_before (all_head IsWholeRefusal p replies all))
             (later.1 (all_tail IsWholeRefusal p replies all))),
         elim (whole_or p) as (λ _. Finds old (c ∷ list) (p ∷ replies) new) [
           | inl whole ↦ survives_refused old now new c left list p replies step whole later.2

@@ -62,7 +62,7 @@ module _ {D T : Type 0} (image : D → List ℕ) (text : T → List ℕ) where
       (record { stands = ready.0.rest.stands; count = ready.0.count; whole = ready.0.whole }, ready.1)
 
 pub holds_same : {D T : Type 0} (d : DeviceViews D) (t : StoreViews T) (old new : SessionView D T) (standing : Standing)
-    → (d.honest new.image ↔ d.honest old.image) → (t.honest new.journal ↔ t.honest old.journal) → (t.honest new.redo ↔ t.honest old.redo)
+    → (d.faithful new.image ↔ d.faithful old.image) → (t.faithful new.journal ↔ t.faithful old.journal) → (t.faithful new.redo ↔ t.faithful old.redo)
     → IsSame d.image t.text old new → IsRedoSame t.text old new
     → HoldsAt d t old standing → HoldsAt d t new standing
 holds_same d t old new (Standing.Up images) device store redo same redo_same h =

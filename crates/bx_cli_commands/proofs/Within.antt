@@ -80,15 +80,15 @@ module _ {D T : Type 0} (d : DeviceViews D) (t : StoreViews T) where
 
   -- the image would get longer
   longer_by : {A V : Type 0} (v : V) (old new : SessionView D T) (c : ChangeOf A) (has wanted : ℕ) → FailsSafely d t old new (seen v)
-      → OnlyLooks d t old new → NothingNew d t old new → (d.honest old.image → Lengthens c (d.image old.image) (Grows has wanted))
+      → OnlyLooks d t old new → NothingNew d t old new → (d.faithful old.image → Lengthens c (d.image old.image) (Grows has wanted))
       → Obeys d t old new (Refused (Grows has wanted)) (λ before. WithinStep before c)
   longer_by v old new c has wanted safe looks nothing is =
-      look_refused d t (λ before. WithinStep before c) old new (Refused (Grows has wanted)) safe.honesty looks nothing (λ is. cc) (λ own. own)
+      look_refused d t (λ before. WithinStep before c) old new (Refused (Grows has wanted)) safe.faith looks nothing (λ is. cc) (λ own. own)
       (unfailed_counts d t old new (Refused (Grows has wanted)) refl safe.counts)
       (λ before h. at before h)
       (λ device images shows. told device images shows)
     where
-      told : d.honest old.image → (images : Images) → Shows d.image t.text old images
+      told : d.faithful old.image → (images : Images) → Shows d.image t.text old images
           → WithinStep (Standing.Up images) c (Refused (Grows has wanted)) (Standing.Up images)
       told device images shows =
           inr (inl (Grows has wanted, refl, of_top (λ x. Lengthens c x (Grows has wanted)) old images shows (is device), refl))
@@ -99,14 +99,14 @@ module _ {D T : Type 0} (d : DeviceViews D) (t : StoreViews T) where
 
   pub longer : {A V : Type 0} (v : V) (old new : SessionView D T) (c : ChangeOf A) (has wanted : ℕ) (fault : Fault) → fault ≡ Grows has wanted
       → FailsSafely d t old new (seen v) → OnlyLooks d t old new → NothingNew d t old new
-      → (d.honest old.image → Lengthens c (d.image old.image) fault) → Obeys d t old new (Refused fault) (λ before. WithinStep before c)
+      → (d.faithful old.image → Lengthens c (d.image old.image) fault) → Obeys d t old new (Refused fault) (λ before. WithinStep before c)
   longer v old new c has wanted fault kind safe looks nothing is =
       let Told : Fault → Type 0 = λ f. Lengthens c (d.image old.image) f in
-      rw kind (longer_by v old new c has wanted safe looks nothing (λ honest. subst Told kind (is honest)))
+      rw kind (longer_by v old new c has wanted safe looks nothing (λ faithful. subst Told kind (is faithful)))
 
   -- it wouldn't, and the change is made, refused or stopped
   pub within : {A V : Type 0} (v : V) (old now new : SessionView D T) (c : ChangeOf A) (reply : Reply) → FailsSafely d t old now (seen v)
-      → OnlyLooks d t old now → NothingNew d t old now → (d.honest old.image → LengthensNot c (d.image old.image))
+      → OnlyLooks d t old now → NothingNew d t old now → (d.faithful old.image → LengthensNot c (d.image old.image))
       → Obeys d t now new reply (λ before. ChangeStep before c None) → (IsOwnRefusal reply → ⊥)
       → Obeys d t old new reply (λ before. WithinStep before c)
   within v old now new c reply safe looks nothing is obeys other =
@@ -120,7 +120,7 @@ module _ {D T : Type 0} (d : DeviceViews D) (t : StoreViews T) where
       → ((images : Images) → Step (Standing.Down images) (Refused (Session Broken)) (Standing.Down images))
       → Obeys d t old new (Refused (Session e)) Step
   unlooked {V = V} Step old new e safe looks nothing ends up down =
-      look_refused d t Step old new (Refused (Session e)) safe.honesty looks nothing (look_is_whole e ends) (λ own. own)
+      look_refused d t Step old new (Refused (Session e)) safe.faith looks nothing (look_is_whole e ends) (λ own. own)
       (fault_counts d t old new e safe.counts)
       (λ before h. at before h)
       (λ device images shows. failed shows.0.whole images)
@@ -156,15 +156,15 @@ module _ {D T : Type 0} (d : DeviceViews D) (t : StoreViews T) where
 
   -- the image disagrees with the patch
   pub patch_disagrees : (A : Type 0) (old new : SessionView D T) (p : Asked) (other : Other) → FailsSafely d t old new (seen (Some other))
-      → OnlyLooks d t old new → NothingNew d t old new → (d.honest old.image → FindsOther p (d.image old.image) (Some other))
+      → OnlyLooks d t old new → NothingNew d t old new → (d.faithful old.image → FindsOther p (d.image old.image) (Some other))
       → Obeys d t old new (Refused (Disagrees other)) (λ before. PatchWithin A before p)
   patch_disagrees A old new p other safe looks nothing found =
-      look_refused d t (λ before. PatchWithin A before p) old new (Refused (Disagrees other)) safe.honesty looks nothing (λ is. cc) (λ own. own)
+      look_refused d t (λ before. PatchWithin A before p) old new (Refused (Disagrees other)) safe.faith looks nothing (λ is. cc) (λ own. own)
       (unfailed_counts d t old new (Refused (Disagrees other)) refl safe.counts)
       (λ before h. at before h)
       (λ device images shows. told device images shows)
     where
-      told : d.honest old.image → (images : Images) → Shows d.image t.text old images
+      told : d.faithful old.image → (images : Images) → Shows d.image t.text old images
           → PatchWithin A (Standing.Up images) p (Refused (Disagrees other)) (Standing.Up images)
       told device images shows = inr (Some other, of_top (λ x. FindsOther p x (Some other)) old images shows (found device), (refl, refl))
 
@@ -174,7 +174,7 @@ module _ {D T : Type 0} (d : DeviceViews D) (t : StoreViews T) where
 
   -- it agrees, and the change is made where the image doesn't get longer
   pub patch_agreed : (A : Type 0) (old now new : SessionView D T) (p : Asked) (reply : Reply) → FailsSafely {V = Option Other} d t old now (seen None)
-      → OnlyLooks d t old now → NothingNew d t old now → (d.honest old.image → FindsOther p (d.image old.image) None)
+      → OnlyLooks d t old now → NothingNew d t old now → (d.faithful old.image → FindsOther p (d.image old.image) None)
       → Obeys d t now new reply (λ before. WithinStep {A = A} before (patch_change p)) → (IsOwnRefusal reply → ⊥)
       → Obeys d t old new reply (λ before. PatchWithin A before p)
   patch_agreed A old now new p reply safe looks nothing found obeys other =

@@ -45,10 +45,10 @@ IsMade (Undone left) = ⊥
 IsMade (Redone n) = ⊥
 IsMade (Refused e) = ⊥
 
--- a run on honest devices, none of whose calls fails
+-- a run on faithful devices, none of whose calls fails
 abbrev pub RunsOn : {D T R A : Type 0} → DeviceViews D → StoreViews T → (R → Option (List ℕ)) → SessionView D T → List (Command R A) → List Reply
     → SessionView D T → Type 0
-RunsOn d t remaining old list replies new = d.honest old.image × t.honest old.journal × t.honest old.redo × IsUnfailed d.failures t.failures old new
+RunsOn d t remaining old list replies new = d.faithful old.image × t.faithful old.journal × t.faithful old.redo × IsUnfailed d.failures t.failures old new
     × Runs d t (Shows d.image t.text) remaining old list replies new
 
 -- behind changes that were all made, an undo of as many that is made leads back to the first stack, so to its image
@@ -73,7 +73,7 @@ RedoGivesPart R A remaining = (start undone after : Images) (k j left changes : 
     → after ≡ undo_of (k - j) start
 
 -- Behind k changes that were all made, an undo of k that is made leads back to the first stack, and the image of the device is the first one: on
--- honest devices, none of whose calls fails, from any images that the first session shows
+-- faithful devices, none of whose calls fails, from any images that the first session shows
 abbrev pub KChangesAndUndo : {D T : Type 0} → DeviceViews D → StoreViews T → (R A : Type 0) → (R → Option (List ℕ)) → Type 0
 KChangesAndUndo {D = D} {T = T} d t R A remaining = (old changed new : SessionView D T) (list : List (Command R A)) (replies : List Reply) (left : ℕ) (start : Images)
     → Shows d.image t.text old start → RunsOn d t remaining old list replies changed → All IsMade replies

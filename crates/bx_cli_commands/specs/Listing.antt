@@ -15,9 +15,9 @@ log_line row = decimal row.number ++ codes " " ++ decimal row.old_len ++ codes "
 
 -- which fault a log with ranges answers: one of a look at the changes of the text
 abbrev pub StopsListing : Type 0 → List ℕ → Fault → Type 0
-StopsListing honest text (of.Session fault) = StopsLog honest text (look.Text fault)
-StopsListing honest text (of.Io fault) = StopsLog honest text (look.Io fault)
-StopsListing honest text _ = ⊥
+StopsListing faithful text (of.Session fault) = StopsLog faithful text (look.Text fault)
+StopsListing faithful text (of.Io fault) = StopsLog faithful text (look.Io fault)
+StopsListing faithful text _ = ⊥
 
 -- what was written where it was stopped: as of a look
 abbrev pub StopsListed : List ℕ → Option (List ℕ) → Option (List ℕ) → Fault → Type 0
@@ -33,9 +33,9 @@ ListCounts _ d t d_new t_new = ⊥
 
 -- which fault a list of steps answers: one of a look at the steps
 abbrev pub StopsShowing : Type 0 → List ℕ → Steps → Fault → Type 0
-StopsShowing honest text s (of.Session fault) = StopsSteps honest text s (look.Text fault)
-StopsShowing honest text s (of.Io fault) = StopsSteps honest text s (look.Io fault)
-StopsShowing honest text s _ = ⊥
+StopsShowing faithful text s (of.Session fault) = StopsSteps faithful text s (look.Text fault)
+StopsShowing faithful text s (of.Io fault) = StopsSteps faithful text s (look.Io fault)
+StopsShowing faithful text s _ = ⊥
 
 -- what was written where it was stopped: as of a look at the steps
 abbrev pub StopsShownList : List ℕ → List ℕ → Steps → Option (List ℕ) → Option (List ℕ) → Fault → Type 0

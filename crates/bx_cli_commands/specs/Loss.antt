@@ -4,7 +4,7 @@ use Rattle.bx_image.specs.Fuse.{Fused}
 use Rattle.bx_image.specs.declared.device.Device.{Ghosts as DeviceViews}
 use Rattle.bx_journal_store.specs.declared.store.TextStore.{Ghosts as StoreViews}
 use Rattle.bx_journal.specs.Devices.{Devices}
-use Rattle.bx_journal.specs.How.{How}
+use Rattle.bx_journal.specs.RecoveryOutcome.{RecoveryOutcome}
 use Rattle.bx_journal.specs.Images.{Images}
 use Rattle.bx_journal.specs.Losses.{AllFound, AreLeft, emptied}
 use Rattle.bx_journal.specs.Opened.{Opening, OpensDevices}
@@ -20,16 +20,16 @@ abbrev pub unfused : {D T : Type 0} → Devices (Fused D) (Fused T) → Devices 
 unfused x = record { image = x.image.within; journal = x.journal.within; redo = x.redo.within }
 
 -- the images at which a session opens that finds these: where something was unfinished nothing is undone any more
-abbrev pub opened_as : How → Images → Images
+abbrev pub opened_as : RecoveryOutcome → Images → Images
 opened_as how s = record { stack = s.stack; undone = found_undone how s.undone }
 
 -- Of three devices.
 module _ {D T : Type 0} (d : DeviceViews D) (t : StoreViews T) where
-  -- they are honest, and opening finds the images in them, whatever a loss of power leaves of them too
+  -- they are faithful, and opening finds the images in them, whatever a loss of power leaves of them too
   pub record AreOnDisk (x : Devices D T) (s : Images) : Type 0 where
-    pub image : d.honest x.image
-    pub journal : t.honest x.journal
-    pub redo : t.honest x.redo
+    pub image : d.faithful x.image
+    pub journal : t.faithful x.journal
+    pub redo : t.faithful x.redo
     pub found : Found (t.text x.journal) (d.image x.image) (t.text x.redo) s
     pub all : AllFound d t x s
 

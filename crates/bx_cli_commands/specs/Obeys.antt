@@ -18,14 +18,14 @@ use Rattle.bx_cli_commands.specs.Standing.{CountsBy, HoldsAt, LeadsOn, Shows, St
 pub record Obeys {D T : Type 0} (d : DeviceViews D) (t : StoreViews T) (old new : SessionView D T) (reply : Reply)
     (Step : Standing → Reply → Standing → Type 0) : Type 0 where
   pub step : LeadsOn (HoldsAt d t) (λ before. Step before reply) old new
-  pub stands : d.honest old.image → t.honest old.journal → t.honest old.redo → Unfailed reply
+  pub stands : d.faithful old.image → t.faithful old.journal → t.faithful old.redo → Unfailed reply
       → LeadsOn (Shows d.image t.text) (λ before after. Step (Standing.Up before) reply (Standing.Up after)) old new
   pub finds : (IsWholeRefusal reply → ⊥) → (before : Standing) → HoldsAt d t old before → FindsEnd d t new (Step before reply)
   pub found_before : IsWholeRefusal reply → NothingNew d t old new
-  pub image_honesty : d.honest new.image ↔ d.honest old.image
-  pub journal_honesty : t.honest new.journal ↔ t.honest old.journal
-  pub redo_honesty : t.honest new.redo ↔ t.honest old.redo
+  pub image_faith : d.faithful new.image ↔ d.faithful old.image
+  pub journal_faith : t.faithful new.journal ↔ t.faithful old.journal
+  pub redo_faith : t.faithful new.redo ↔ t.faithful old.redo
   pub counts : CountsBy d t old new (cond (is_failure reply) 1 0)
   pub own : IsOwnRefusal reply → new ≡ old
   pub same : IsWholeRefusal reply → KeepsImageAndJournal d t old new
-  pub redo_same : t.honest old.redo → IsWholeRefusal reply → IsRedoSame t.text old new
+  pub redo_same : t.faithful old.redo → IsWholeRefusal reply → IsRedoSame t.text old new

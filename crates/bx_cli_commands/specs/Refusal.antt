@@ -22,6 +22,6 @@ abbrev pub IsWholeRefusal : Reply → Type 0
 IsWholeRefusal (Refused e) = e ≢ Session Interrupted
 IsWholeRefusal p = ⊥
 
--- image, journal and count are as they were, where the two devices are honest
+-- image, journal and count are as they were, where the two devices are faithful
 abbrev pub KeepsImageAndJournal : {D T : Type 0} → DeviceViews D → StoreViews T → SessionView D T → SessionView D T → Type 0
-KeepsImageAndJournal d t old new = d.honest old.image → t.honest old.journal → IsSame d.image t.text old new
+KeepsImageAndJournal d t old new = d.faithful old.image → t.faithful old.journal → IsSame d.image t.text old new

@@ -19,19 +19,19 @@ images_after c i = change_to (effect c (top i.stack)) i
 
 -- Of a device and stores with these views.
 module _ {D T : Type 0} (d : DeviceViews D) (t : StoreViews T) where
-  -- the three are honest, journal and image stand for the images that stand, and redo text and image for those that are undone
+  -- the three are faithful, journal and image stand for the images that stand, and redo text and image for those that are undone
   pub record StandAt (x : Devices D T) (i : Images) : Type 0 where
-    pub image : d.honest x.image
-    pub journal : t.honest x.journal
-    pub redo : t.honest x.redo
+    pub image : d.faithful x.image
+    pub journal : t.faithful x.journal
+    pub redo : t.faithful x.redo
     pub stands : StandsFor (t.text x.journal) (d.image x.image) i.stack
     pub undone : IsRedoOf (t.text x.redo) (d.image x.image) (changes_of i.stack) i.undone
 
-  -- the session shows the images, and its three devices are honest
+  -- the session shows the images, and its three devices are faithful
   pub record RestsIn (s : SessionView D T) (i : Images) : Type 0 where
-    pub image : d.honest s.image
-    pub journal : t.honest s.journal
-    pub redo : t.honest s.redo
+    pub image : d.faithful s.image
+    pub journal : t.faithful s.journal
+    pub redo : t.faithful s.redo
     pub shows : Shows d.image t.text s i
 
   -- from images that the old session shows, the new one, where there is one, shows the next

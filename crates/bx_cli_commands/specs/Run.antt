@@ -111,12 +111,12 @@ StackStep remaining before c reply after = CommandStep remaining (Standing.Up be
 abbrev pub StackRun : {R A : Type 0} → (R → Option (List ℕ)) → Images → List (Command R A) → List Reply → Images → Type 0
 StackRun remaining before list replies after = Chain (StackStep remaining) before list replies after
 
--- From honest devices, none of whose calls fails: wherever the first session stands, by `Stands`, the replies are a run to images
+-- From faithful devices, none of whose calls fails: wherever the first session stands, by `Stands`, the replies are a run to images
 -- that the last one stands for
 abbrev pub Runs : {D T R A : Type 0} → DeviceViews D → StoreViews T → (SessionView D T → Images → Type 0) → (R → Option (List ℕ))
     → SessionView D T → List (Command R A) → List Reply → SessionView D T → Type 0
 Runs d t Stands remaining old list replies new =
-    d.honest old.image → t.honest old.journal → t.honest old.redo → IsUnfailed d.failures t.failures old new
+    d.faithful old.image → t.faithful old.journal → t.faithful old.redo → IsUnfailed d.failures t.failures old new
     → LeadsOn Stands (λ start. StackRun remaining start list replies) old new
 
 -- the reply to a change that was made; dd's tells its counts too

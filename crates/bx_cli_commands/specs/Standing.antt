@@ -26,11 +26,11 @@ Shows image text s images = IsStanding image text s images.stack × HasUndone im
 abbrev pub RestsAt : {D T : Type 0} → (D → List ℕ) → (T → List ℕ) → SessionView D T → Images → Type 0
 RestsAt image text s images = IsReady image text s images.stack × HasUndone image text s images.undone
 
--- The three devices are honest, and the session rests at the images, or it is broken and opening finds them
+-- The three devices are faithful, and the session rests at the images, or it is broken and opening finds them
 abbrev pub HoldsAt : {D T : Type 0} → DeviceViews D → StoreViews T → SessionView D T → Standing → Type 0
-HoldsAt d t s (Up images) = d.honest s.image × t.honest s.journal × t.honest s.redo × RestsAt d.image t.text s images
+HoldsAt d t s (Up images) = d.faithful s.image × t.faithful s.journal × t.faithful s.redo × RestsAt d.image t.text s images
 HoldsAt d t s (Down images) =
-    d.honest s.image × t.honest s.journal × t.honest s.redo × ((s.is_broken ≡ true) × SessionFinds d.image t.text s images)
+    d.faithful s.image × t.faithful s.journal × t.faithful s.redo × ((s.is_broken ≡ true) × SessionFinds d.image t.text s images)
 
 -- wherever the first session stands, the last one stands where the step leads from there
 abbrev pub LeadsOn : {S X : Type 0} → (S → X → Type 0) → (X → X → Type 0) → S → S → Type 0

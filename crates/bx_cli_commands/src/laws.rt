@@ -53,7 +53,7 @@ pub fn stops_in_part<R: Read, A: Allocator>()
     ensures { StopsInPart R A R.remaining }
 {}
 
-/// **A loss of power inside a call.** Three honest devices are put behind fuses, which pass some calls and fail all others; they are
+/// **A loss of power inside a call.** Three faithful devices are put behind fuses, which pass some calls and fail all others; they are
 /// opened, and a list of commands is run on them. Whatever the fuses pass, what is then found of the devices below them is what opening found,
 /// or the images after all commands that were answered, or a part of the one that was stopped.
 pub fn loss_at_any_call<D: Device, T: TextStore, R: Read, A: Allocator>()

@@ -45,10 +45,10 @@ pub fn list_ranges<T: TextStore, A: Allocator + Clone, W: Write>(
     out: &mut W,
 ) -> Result<(), Fault>
     requires { T.failures journal.old < u64.MAX }
-    ensures rows { T.honest journal.old → OnOk result (RangesOf (T.text journal.old) (W.contents out.old) (W.contents out.new)) }
-    ensures fault { IfErr result (StopsListing (T.honest journal.old) (T.text journal.old)) }
-    ensures stops { T.honest journal.old → IfErr result (StopsListed (T.text journal.old) (W.contents out.old) (W.contents out.new)) }
-    ensures text { Stays T.honest T.text T.failures result journal.old journal.new }
+    ensures rows { T.faithful journal.old → OnOk result (RangesOf (T.text journal.old) (W.contents out.old) (W.contents out.new)) }
+    ensures fault { IfErr result (StopsListing (T.faithful journal.old) (T.text journal.old)) }
+    ensures stops { T.faithful journal.old → IfErr result (StopsListed (T.text journal.old) (W.contents out.old) (W.contents out.new)) }
+    ensures text { Stays T.faithful T.text T.failures result journal.old journal.new }
     ensures counts { IfErr result (λ f. ListCounts f (T.failures journal.old) 0 (T.failures journal.new) 0) }
 {
     match log_ranges(alloc, journal, out) {
@@ -72,14 +72,14 @@ pub fn list_steps<D: Device, T: TextStore, A: Allocator + Clone, W: Write>(
 ) -> Result<(), Fault>
     requires countable { D.failures image.old < u64.MAX }
     requires also_countable { T.failures journal.old < u64.MAX }
-    ensures shows { T.honest journal.old → (IsTrue steps.compares → D.honest image.old) → OnOk result
+    ensures shows { T.faithful journal.old → (IsTrue steps.compares → D.faithful image.old) → OnOk result
         (ShowsText (T.text journal.old) (D.image image.old) steps (W.contents out.old) (W.contents out.new)) }
-    ensures fault { IfErr result (StopsShowing (T.honest journal.old) (T.text journal.old) steps) }
+    ensures fault { IfErr result (StopsShowing (T.faithful journal.old) (T.text journal.old) steps) }
     ensures quiet { IfErr result (λ fault. RefusesShowing fault → W.contents out.new ≡ W.contents out.old) }
-    ensures stops { T.honest journal.old → (IsTrue steps.compares → D.honest image.old) → IfErr result
+    ensures stops { T.faithful journal.old → (IsTrue steps.compares → D.faithful image.old) → IfErr result
         (StopsShownList (T.text journal.old) (D.image image.old) steps (W.contents out.old) (W.contents out.new)) }
-    ensures image { Stays D.honest D.image D.failures result image.old image.new }
-    ensures text { Stays T.honest T.text T.failures result journal.old journal.new }
+    ensures image { Stays D.faithful D.image D.failures result image.old image.new }
+    ensures text { Stays T.faithful T.text T.failures result journal.old journal.new }
     ensures counts { IfErr result (λ f. ListCounts f (D.failures image.old) (T.failures journal.old) (D.failures image.new) (T.failures journal.new)) }
 {
     match show_steps(alloc, image, journal, steps, out) {

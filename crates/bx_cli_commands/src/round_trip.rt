@@ -12,7 +12,7 @@ pub mod patch;
 
 use bx_image::{Change, Device};
 use bx_journal::laws::{one_stack, one_undone};
-use bx_journal::{Devices, How, Session};
+use bx_journal::{Devices, RecoveryOutcome, Session};
 use bx_journal_store::TextStore;
 use std::alloc::Allocator;
 
@@ -31,9 +31,9 @@ fn open_clean<D: Device + Drop, T: TextStore + Drop, A: Allocator + Clone>(
     };
     match Session::open_devices(alloc, devices) {
         Ok((session, recovered)) => match recovered.how {
-            How::Clean => Some(session),
-            How::Dropped => None,
-            How::Restored { .. } => None,
+            RecoveryOutcome::Clean => Some(session),
+            RecoveryOutcome::Dropped => None,
+            RecoveryOutcome::Restored { .. } => None,
         },
         Err(_) => None,
     }

@@ -180,7 +180,7 @@ pub fn run_all<D: Device, T: TextStore, R: Read, A: Allocator + Clone>(
     requires redo_countable { T.failures session.old.redo + length list.old ≤ u64.MAX }
     requires near { All IsNear list.old }
 
-    // Where the devices are honest and none fails, the replies and the final devices are a run of the machine, from the whole
+    // Where the devices are faithful and none fails, the replies and the final devices are a run of the machine, from the whole
     // images that the first devices stand for to those that the final ones stand for.
     ensures headline { IfOk result (λ p. Runs D.Device T.TextStore (Shows D.image T.text) R.remaining session.old list.old p.items session.new) }
 
@@ -213,7 +213,7 @@ pub fn run_all<D: Device, T: TextStore, R: Read, A: Allocator + Clone>(
     // refused, but by no interruption, leaves image and text, byte for byte, and the redo text with the count of what is undone.
     ensures own { IfOk result (λ replies. All IsOwnRefusal replies.items → session.new ≡ session.old) }
     ensures same { IfOk result (λ p. All IsWholeRefusal p.items → KeepsImageAndJournal D.Device T.TextStore session.old session.new) }
-    ensures redo_same { T.honest session.old.redo
+    ensures redo_same { T.faithful session.old.redo
         → IfOk result (λ replies. All IsWholeRefusal replies.items → IsRedoSame T.text session.old session.new) }
 
     // Where memory for the replies is refused, no command ran.

@@ -20,7 +20,7 @@ use crate::text::steps::{Standing, tell_of_begun, tell_of_dropped, tell_of_steps
 use bx_cli_commands::{ChangeJob, Job, StepsJob, Target};
 use bx_dd::Counts;
 use bx_image::Change;
-use bx_journal::{How, Way};
+use bx_journal::{Direction, RecoveryOutcome};
 use std::alloc::Global;
 use std::fs::{self, File};
 use std::io::ErrorKind;
@@ -119,20 +119,30 @@ impl Remarks {
     }
 
     /// Says of an undo or a redo, behind a recovery, that this came first, and what it then did.
-    pub fn tell_behind_recovery<R>(&self, rt: &R, way: Way, job: &StepsJob, how: Option<How>)
+    pub fn tell_behind_recovery<R>(
+        &self,
+        rt: &R,
+        way: Direction,
+        job: &StepsJob,
+        how: Option<RecoveryOutcome>,
+    )
     where
         R: Eprint + AllocGlobal,
     {
-        if let (Some(standing), Some(How::Dropped | How::Restored { .. })) = (&self.standing, how) {
+        if let (
+            Some(standing),
+            Some(RecoveryOutcome::Dropped | RecoveryOutcome::Restored { .. }),
+        ) = (&self.standing, how)
+        {
             tell_of_begun(rt, standing, way, job);
         }
     }
 
     /// Takes what opening found unfinished: recovery writes the journal last, and makes another image than was looked at.
-    pub fn look_at_recovered(&mut self, how: Option<How>) {
+    pub fn look_at_recovered(&mut self, how: Option<RecoveryOutcome>) {
         match how {
-            None | Some(How::Clean) => {}
-            Some(How::Dropped | How::Restored { .. }) => {
+            None | Some(RecoveryOutcome::Clean) => {}
+            Some(RecoveryOutcome::Dropped | RecoveryOutcome::Restored { .. }) => {
                 self.is_later = false;
                 self.effect = None;
             }
@@ -241,18 +251,18 @@ impl Remarks {
             }
             ChangeJob::Forget(_) => self.tell_of_history(rt, name, true),
             ChangeJob::Undo(steps) => {
-                self.tell_of_steps(rt, name, Way::Undo, steps);
+                self.tell_of_steps(rt, name, Direction::Undo, steps);
                 self.tell_of_times(rt, name, steps.count, "redo", operands);
             }
             ChangeJob::Redo(steps) => {
-                self.tell_of_steps(rt, name, Way::Redo, steps);
+                self.tell_of_steps(rt, name, Direction::Redo, steps);
                 self.tell_of_times(rt, name, steps.count, "undo", operands);
             }
         }
     }
 
     /// Which changes were taken back or made again.
-    fn tell_of_steps<R>(&self, rt: &R, name: &str, way: Way, job: &StepsJob)
+    fn tell_of_steps<R>(&self, rt: &R, name: &str, way: Direction, job: &StepsJob)
     where
         R: Eprint + AllocGlobal,
     {

@@ -11,9 +11,9 @@ image_file i = i.file
 abbrev pub image_in : {F : Type 0} {G : Ghosts F} → FileImage F G → List ℕ
 image_in {G = G} i = G.content i.file
 
--- whether the file is honest
-abbrev pub honest_in : {F : Type 0} {G : Ghosts F} → FileImage F G → Type 0
-honest_in {G = G} i = G.honest i.file
+-- whether the file is faithful
+abbrev pub faithful_in : {F : Type 0} {G : Ghosts F} → FileImage F G → Type 0
+faithful_in {G = G} i = G.faithful i.file
 
 -- what may be found of the image after a loss of power
 abbrev pub found_in : {F : Type 0} {G : Ghosts F} → FileImage F G → List ℕ → Type 0

@@ -65,10 +65,10 @@ fn end_of_write<A: Allocator>(write: &Piece<A>) -> Result<u64, TooLarge>
 fn set_length<D: Device>(device: &mut D, n: u64) -> Result<(), DeviceFailed>
     requires countable { D.failures device.old < u64.MAX }
     requires room { n ≤ D.room device.old }
-    ensures ok { D.honest device.old → OnOk result (D.image device.new ≡ cut (D.image device.old) n) }
-    ensures failed { D.honest device.old → OnErr result (IsPartlyCut n (D.image device.old) (D.image device.new)) }
-    ensures survives { D.honest device.old → Follows (KeepsBelow (min n (length (D.image device.old)))) (D.survives device.old) (D.survives device.new) }
-    ensures goes_on { GoesOn D.honest D.room D.failures (is_err result) device.old device.new }
+    ensures ok { D.faithful device.old → OnOk result (D.image device.new ≡ cut (D.image device.old) n) }
+    ensures failed { D.faithful device.old → OnErr result (IsPartlyCut n (D.image device.old) (D.image device.new)) }
+    ensures survives { D.faithful device.old → Follows (KeepsBelow (min n (length (D.image device.old)))) (D.survives device.old) (D.survives device.new) }
+    ensures goes_on { GoesOn D.faithful D.room D.failures (is_err result) device.old device.new }
 {
     device.set_len(n)
 }
@@ -78,10 +78,10 @@ fn set_length<D: Device>(device: &mut D, n: u64) -> Result<(), DeviceFailed>
 fn set_base<D: Device>(device: &mut D, base: Option<u64>) -> Result<(), DeviceFailed>
     requires countable { D.failures device.old < u64.MAX }
     requires room { IfSome base (λ n. n ≤ D.room device.old) }
-    ensures ok { D.honest device.old → OnOk result (D.image device.new ≡ cut_to base (D.image device.old)) }
-    ensures failed { D.honest device.old → OnErr result (IsPartlyCutTo base (D.image device.old) (D.image device.new)) }
-    ensures survives { D.honest device.old → Follows (KeepsBelowBase base (length (D.image device.old))) (D.survives device.old) (D.survives device.new) }
-    ensures goes_on { GoesOn D.honest D.room D.failures (is_err result) device.old device.new }
+    ensures ok { D.faithful device.old → OnOk result (D.image device.new ≡ cut_to base (D.image device.old)) }
+    ensures failed { D.faithful device.old → OnErr result (IsPartlyCutTo base (D.image device.old) (D.image device.new)) }
+    ensures survives { D.faithful device.old → Follows (KeepsBelowBase base (length (D.image device.old))) (D.survives device.old) (D.survives device.new) }
+    ensures goes_on { GoesOn D.faithful D.room D.failures (is_err result) device.old device.new }
 {
     if let Some(n) = base {
         set_length(device, n)?;
@@ -97,10 +97,10 @@ fn replaces_tail<D: Device, A: Allocator>(
     change: &Change<A>,
 ) -> Result<bool, DeviceFailed>
     requires countable { D.failures device.old < u64.MAX }
-    ensures same { D.honest device.old → IfOk result (λ b. b ≡ true → placed change.now.writes (D.image device.old) ≡ effect change.now (D.image device.old)) }
-    ensures image { D.honest device.old → D.image device.new ≡ D.image device.old }
-    ensures survives { D.honest device.old → NoMore (D.survives device.old) (D.survives device.new) }
-    ensures goes_on { GoesOn D.honest D.room D.failures (is_err result) device.old device.new }
+    ensures same { D.faithful device.old → IfOk result (λ b. b ≡ true → placed change.now.writes (D.image device.old) ≡ effect change.now (D.image device.old)) }
+    ensures image { D.faithful device.old → D.image device.new ≡ D.image device.old }
+    ensures survives { D.faithful device.old → NoMore (D.survives device.old) (D.survives device.new) }
+    ensures goes_on { GoesOn D.faithful D.room D.failures (is_err result) device.old device.new }
 {
     let Some(base) = change.base else {
         return Ok(false);
@@ -122,10 +122,10 @@ fn replaces_tail<D: Device, A: Allocator>(
 fn begin<D: Device, A: Allocator>(device: &mut D, change: &Change<A>) -> Result<(), DeviceFailed>
     requires countable { D.failures device.old < u64.MAX }
     requires room { length (effect change.now []) ≤ D.room device.old }
-    ensures leads { D.honest device.old → OnOk result (placed change.now.writes (D.image device.new) ≡ effect change.now (D.image device.old)) }
-    ensures kept { D.honest device.old → KeepsUntouched change.now (D.image device.old) (D.image device.new) }
-    ensures survives { D.honest device.old → KeepsOnDisk change.now (D.image device.old) (D.survives device.old) (D.survives device.new) }
-    ensures goes_on { GoesOn D.honest D.room D.failures (is_err result) device.old device.new }
+    ensures leads { D.faithful device.old → OnOk result (placed change.now.writes (D.image device.new) ≡ effect change.now (D.image device.old)) }
+    ensures kept { D.faithful device.old → KeepsUntouched change.now (D.image device.old) (D.image device.new) }
+    ensures survives { D.faithful device.old → KeepsOnDisk change.now (D.image device.old) (D.survives device.old) (D.survives device.new) }
+    ensures goes_on { GoesOn D.faithful D.room D.failures (is_err result) device.old device.new }
 {
     if replaces_tail(device, change)? {
         return Ok(());
@@ -152,14 +152,14 @@ pub fn apply<D: Device, A: Allocator>(
 ) -> Result<(), DeviceFailed>
     requires countable { D.failures device.old < u64.MAX }
     requires room { length (effect change.now []) ≤ D.room device.old }
-    ensures ok { D.honest device.old → OnOk result (D.image device.new ≡ effect change.now (D.image device.old)) }
-    ensures failed { D.honest device.old → OnErr result (KeepsUntouched change.now (D.image device.old) (D.image device.new)) }
-    ensures survives { D.honest device.old → KeepsOnDisk change.now (D.image device.old) (D.survives device.old) (D.survives device.new) }
-    ensures taken_back { D.honest device.old → IsAsGood (saved change.now (D.image device.old)) (D.image device.old) (D.image device.new) }
-    ensures restores { D.honest device.old → RestoresBy change.now result (D.image device.old) (D.image device.new) }
-    ensures again { D.honest device.old → (s : _) → Restores change.now s → Covers s (D.image device.old)
+    ensures ok { D.faithful device.old → OnOk result (D.image device.new ≡ effect change.now (D.image device.old)) }
+    ensures failed { D.faithful device.old → OnErr result (KeepsUntouched change.now (D.image device.old) (D.image device.new)) }
+    ensures survives { D.faithful device.old → KeepsOnDisk change.now (D.image device.old) (D.survives device.old) (D.survives device.new) }
+    ensures taken_back { D.faithful device.old → IsAsGood (saved change.now (D.image device.old)) (D.image device.old) (D.image device.new) }
+    ensures restores { D.faithful device.old → RestoresBy change.now result (D.image device.old) (D.image device.new) }
+    ensures again { D.faithful device.old → (s : _) → Restores change.now s → Covers s (D.image device.old)
         → IsAsGood s (D.image device.old) (D.image device.new) }
-    ensures goes_on { GoesOn D.honest D.room D.failures (is_err result) device.old device.new }
+    ensures goes_on { GoesOn D.faithful D.room D.failures (is_err result) device.old device.new }
 {
     begin(device, change)?;
     for write in change.writes.as_slice() {

@@ -66,18 +66,18 @@ impl<T: Drop> From<AllocFailed<T>> for ImageFault {
 
 /// What holds the bytes of one image. Addresses count its bytes from 0.
 ///
-/// A device is honest if a read gives what was written and nobody else writes, and what is said of
-/// the image is said of honest devices. A device is honest after a call exactly if it was before.
+/// A device is faithful if a read gives what was written and nobody else writes, and what is said of
+/// the image is said of faithful devices. A device is faithful after a call exactly if it was before.
 ///
 /// Each call that answers `DeviceFailed` adds one to `faults`, no other call changes it, and each
 /// call that may fail asks that it is below `u64::MAX`. The room, up to which an image can grow
 /// without memory, never falls.
 pub trait Device {
-    /// The bytes that an honest device has.
+    /// The bytes that a faithful device has.
     ghost image: { Self → List ℕ };
 
     /// A read gives what was written, and nobody else writes.
-    ghost honest: { Self → Type 0 };
+    ghost faithful: { Self → Type 0 };
 
     /// Writes up to this length take no memory.
     ghost room: { Self → ℕ };
@@ -91,20 +91,20 @@ pub trait Device {
     /// The length of the image in bytes. The image stays.
     fn len(&mut self) -> Result<u64, DeviceFailed>
         requires { failures self.old < u64.MAX }
-        ensures len { honest self.old → IfOk result (λ n. n ≡ length (image self.old)) }
-        ensures image { honest self.old → image self.new ≡ image self.old }
-        ensures survives { honest self.old → NoMore (survives self.old) (survives self.new) }
-        ensures goes_on { GoesOn honest room failures (is_err result) self.old self.new };
+        ensures len { faithful self.old → IfOk result (λ n. n ≡ length (image self.old)) }
+        ensures image { faithful self.old → image self.new ≡ image self.old }
+        ensures survives { faithful self.old → NoMore (survives self.old) (survives self.new) }
+        ensures goes_on { GoesOn faithful room failures (is_err result) self.old self.new };
 
     /// Fills `buf` with the bytes from the address `at` on; the range has to lie within the image.
     /// The image stays.
     fn read_at(&mut self, at: u64, buf: &mut [u8]) -> Result<(), DeviceFailed>
         requires countable { failures self.old < u64.MAX }
-        requires range { honest self.old → at + length buf.old ≤ length (image self.old) }
-        ensures bytes { honest self.old → OnOk result (buf.new ≡ take (length buf.old) (drop at (image self.old))) }
-        ensures image { honest self.old → image self.new ≡ image self.old }
-        ensures survives { honest self.old → NoMore (survives self.old) (survives self.new) }
-        ensures goes_on { GoesOn honest room failures (is_err result) self.old self.new };
+        requires range { faithful self.old → at + length buf.old ≤ length (image self.old) }
+        ensures bytes { faithful self.old → OnOk result (buf.new ≡ take (length buf.old) (drop at (image self.old))) }
+        ensures image { faithful self.old → image self.new ≡ image self.old }
+        ensures survives { faithful self.old → NoMore (survives self.old) (survives self.new) }
+        ensures goes_on { GoesOn faithful room failures (is_err result) self.old self.new };
 
     /// Places the bytes at the address `at`; their end has to lie within the room. The image grows
     /// where they need it, and a gap is zeros. No bytes leave it as it is.
@@ -114,10 +114,10 @@ pub trait Device {
     fn write_at(&mut self, at: u64, bytes: &[u8]) -> Result<(), DeviceFailed>
         requires countable { failures self.old < u64.MAX }
         requires range { at + length bytes.now ≤ room self.old }
-        ensures ok { honest self.old → OnOk result (image self.new ≡ place (image self.old) at bytes.now) }
-        ensures failed { honest self.old → OnErr result (IsPartlyWritten at (length bytes.now) (image self.old) (image self.new)) }
-        ensures survives { honest self.old → Follows (KeepsOutside at (length bytes.now)) (survives self.old) (survives self.new) }
-        ensures goes_on { GoesOn honest room failures (is_err result) self.old self.new };
+        ensures ok { faithful self.old → OnOk result (image self.new ≡ place (image self.old) at bytes.now) }
+        ensures failed { faithful self.old → OnErr result (IsPartlyWritten at (length bytes.now) (image self.old) (image self.new)) }
+        ensures survives { faithful self.old → Follows (KeepsOutside at (length bytes.now)) (survives self.old) (survives self.new) }
+        ensures goes_on { GoesOn faithful room failures (is_err result) self.old self.new };
 
     /// Cuts the image to `n` bytes, or fills it up to them with zeros; `n` is at most the room.
     ///
@@ -125,18 +125,18 @@ pub trait Device {
     fn set_len(&mut self, n: u64) -> Result<(), DeviceFailed>
         requires countable { failures self.old < u64.MAX }
         requires range { n ≤ room self.old }
-        ensures ok { honest self.old → OnOk result (image self.new ≡ cut (image self.old) n) }
-        ensures failed { honest self.old → OnErr result (IsPartlyCut n (image self.old) (image self.new)) }
-        ensures survives { honest self.old → Follows (KeepsBelow (min n (length (image self.old)))) (survives self.old) (survives self.new) }
-        ensures goes_on { GoesOn honest room failures (is_err result) self.old self.new };
+        ensures ok { faithful self.old → OnOk result (image self.new ≡ cut (image self.old) n) }
+        ensures failed { faithful self.old → OnErr result (IsPartlyCut n (image self.old) (image self.new)) }
+        ensures survives { faithful self.old → Follows (KeepsBelow (min n (length (image self.old)))) (survives self.old) (survives self.new) }
+        ensures goes_on { GoesOn faithful room failures (is_err result) self.old self.new };
 
     /// Puts all that was written on the disk, so that a loss of power leaves the image as it is. The image stays.
     fn sync(&mut self) -> Result<(), DeviceFailed>
         requires { failures self.old < u64.MAX }
-        ensures settled { honest self.old → OnOk result (Only (image self.old) (survives self.new)) }
-        ensures image { honest self.old → image self.new ≡ image self.old }
-        ensures survives { honest self.old → NoMore (survives self.old) (survives self.new) }
-        ensures goes_on { GoesOn honest room failures (is_err result) self.old self.new };
+        ensures settled { faithful self.old → OnOk result (Only (image self.old) (survives self.new)) }
+        ensures image { faithful self.old → image self.new ≡ image self.old }
+        ensures survives { faithful self.old → NoMore (survives self.old) (survives self.new) }
+        ensures goes_on { GoesOn faithful room failures (is_err result) self.old self.new };
 
     /// Makes room for an image of `n` bytes. The image stays.
     ///
@@ -147,9 +147,9 @@ pub trait Device {
         ensures within { n ≤ room self.old → IsOk result }
         ensures ok { OnOk result (n ≤ room self.new) }
         ensures err { OnErr result (room self.new ≡ room self.old) }
-        ensures image { honest self.old → image self.new ≡ image self.old }
-        ensures survives { honest self.old → NoMore (survives self.old) (survives self.new) }
-        ensures goes_on { GoesOn honest room failures false self.old self.new };
+        ensures image { faithful self.old → image self.new ≡ image self.old }
+        ensures survives { faithful self.old → NoMore (survives self.old) (survives self.new) }
+        ensures goes_on { GoesOn faithful room failures false self.old self.new };
 
     /// The room that there is: up to which length, in bytes, the image can grow without memory.
     fn reserved(&self) -> u64
@@ -159,9 +159,9 @@ pub trait Device {
     fn faults(&self) -> u64
         ensures { result ≡ failures self.now };
 
-    /// An honest device has room for what it has.
-    ghost within_room: { (d : Self) → honest d → length (image d) ≤ room d };
+    /// A faithful device has room for what it has.
+    ghost within_room: { (d : Self) → faithful d → length (image d) ≤ room d };
 
     /// An image that is there may also be found.
-    ghost present: { (d : Self) → honest d → survives d (image d) };
+    ghost present: { (d : Self) → faithful d → survives d (image d) };
 }

@@ -1,7 +1,7 @@
 -- What opening finds in a text whose entries were counted.
 use Rattle.std.proofs.Common.{◌≡◌, ℕ, suc, List, [], ◌++◌, length, drop, arith, ap, sym, ◌∙◌, subst, inl, inr, ◌⊎◌, Option, Some, Result, Ok, Err}
 use Rattle.std.specs.Prelude.{IfSome, OnOk}
-use Rattle.bx_journal_model.specs.declared.answers.How.TheVariants.{Clean}
+use Rattle.bx_journal_model.specs.declared.answers.RecoveryOutcome.TheVariants.{Clean}
 use Rattle.bx_journal_model.specs.declared.fault.SessionFault.{SessionFault}
 use Rattle.bx_journal_format.specs.Text.{Between, Reading, Reads, split}
 use Rattle.bx_journal_model.specs.Stack.{HaveLengths, IsSound, Recovers, image_at, recovered, stack_of}
@@ -75,7 +75,7 @@ module _ (text x : List ℕ) (count : ℕ) (told : Option ℕ) (c : IsCounted te
 
   -- what comparing the image's length may answer
   abbrev pub LengthFault : Type 0 → SessionFault → Type 0
-  LengthFault honest e = (e ≡ DeviceFailed) ⊎ ((n : ℕ) × (e ≡ LengthDiffers n) × (honest → (told ≡ Some n) × (length x ≡ n → ⊥)))
+  LengthFault faithful e = (e ≡ DeviceFailed) ⊎ ((n : ℕ) × (e ≡ LengthDiffers n) × (faithful → (told ≡ Some n) × (length x ≡ n → ⊥)))
 
   pub length_opens : (H : Type 0) (r : Reading) (e : SessionFault) → Reads text r → H → LengthFault H e → OpenFault r x e
   length_opens H r e reads h fault = elim fault [

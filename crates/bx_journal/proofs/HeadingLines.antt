@@ -6,8 +6,8 @@ use Rattle.core.specs.Fmt.{digit_glyph, digits, digits_onto}
 use Rattle.bx_journal_format.specs.Kept.{Kept, Run}
 use Rattle.bx_journal_format.specs.Ranges.{range_text, ranges_text}
 use Rattle.bx_journal_format.specs.Text.{Entry}
-use Rattle.bx_journal_read.specs.declared.show.way.Way.{Way}
-use Rattle.bx_journal_read.specs.declared.show.way.Way.TheVariants.{Undo, Redo}
+use Rattle.bx_journal_read.specs.declared.show.way.Direction.{Direction}
+use Rattle.bx_journal_read.specs.declared.show.way.Direction.TheVariants.{Undo, Redo}
 use Rattle.bx_journal_read.specs.show.Showing.{after_text, bytes_of}
 use Rattle.bx_journal_read.specs.show.ShownSteps.{bytes_text, keeps_length, length_words, way_word, writes_text}
 
@@ -91,7 +91,7 @@ lengths after len =
     (joined (front ++ codes " to ") (decimal len)
     (joined front (codes " to ") (joined (codes "length ") (after_text after) (looked (codes "length ") refl) (after_in after)) (looked (codes " to ") refl)) (number len))
 
-way_in : (way : Way) → IsOneLine (way_word way)
+way_in : (way : Direction) → IsOneLine (way_word way)
 way_in Undo = looked (codes "undo") refl
 way_in Redo = looked (codes "redo") refl
 
@@ -100,10 +100,10 @@ pub change_in : (n : ℕ) → IsOneLine (codes "# change " ++ decimal n)
 change_in n = joined (codes "# change ") (decimal n) (looked (codes "# change ") refl) (number n)
 
 -- a heading without its newline
-abbrev pub head : Way → ℕ → Entry → List ℕ
+abbrev pub head : Direction → ℕ → Entry → List ℕ
 head way n e = codes "# change " ++ decimal n ++ codes ": " ++ way_word way ++ codes " writes " ++ writes_text e.saved ++ codes ", " ++ length_words e.after e.saved.len
 
-pub head_in : (way : Way) (n : ℕ) (e : Entry) → IsOneLine (head way n e)
+pub head_in : (way : Direction) (n : ℕ) (e : Entry) → IsOneLine (head way n e)
 head_in way n e =
     let first = codes "# change " ++ decimal n in
     let word = first ++ codes ": " ++ way_word way in

@@ -146,12 +146,12 @@ listed_all H now stored text len count r still same long all reached place many 
     }
 
 -- the rows of a text behind a call that only looked at it
-pub rows_behind : {T A V : Type 0} (t : StoreViews T) {count : ℕ} {v : V} {old now new : T} → LooksAt t.honest t.text t.failures (Ok v) old now
-    → (t.honest old → NoMore (t.survives old) (t.survives now)) → (r : Result (Vec LogRow A) SessionFault) → FindsRows t count r now new → FindsRows t count r old new
+pub rows_behind : {T A V : Type 0} (t : StoreViews T) {count : ℕ} {v : V} {old now new : T} → LooksAt t.faithful t.text t.failures (Ok v) old now
+    → (t.faithful old → NoMore (t.survives old) (t.survives now)) → (r : Result (Vec LogRow A) SessionFault) → FindsRows t count r now new → FindsRows t count r old new
 rows_behind t {count = count} {old = old} {now = now} first before r next = record {
-  rows = IfOk-weaker r (λ v. AreRowsOf (t.honest now) (t.text now) v.items count) (λ v. AreRowsOf (t.honest old) (t.text old) v.items count)
-      (λ v f. record { text = f.text; is = λ h. sym (first.same h) ∙ f.is (first.honesty.1 h); entries = f.entries; finished = f.finished; counted = f.counted; rows_are = f.rows_are }) next.rows;
+  rows = IfOk-weaker r (λ v. AreRowsOf (t.faithful now) (t.text now) v.items count) (λ v. AreRowsOf (t.faithful old) (t.text old) v.items count)
+      (λ v f. record { text = f.text; is = λ h. sym (first.same h) ∙ f.is (first.faith.1 h); entries = f.entries; finished = f.finished; counted = f.counted; rows_are = f.rows_are }) next.rows;
   fault = again_behind first count r next.fault;
   looks = looks_before first next.looks;
-  found_before = λ h. NoMore_then _ _ _ (before h) (next.found_before (first.honesty.1 h));
+  found_before = λ h. NoMore_then _ _ _ (before h) (next.found_before (first.faith.1 h));
 }

@@ -7,8 +7,8 @@ use Rattle.bx_image.specs.declared.device.Device.{Ghosts as DeviceViews}
 use Rattle.bx_journal_store.specs.declared.store.TextStore.{Ghosts as StoreViews}
 use Rattle.bx_journal_model.specs.declared.devices.Devices.{Devices}
 use Rattle.bx_journal_model.specs.Power.{Found, FoundBefore}
-use Rattle.bx_journal_model.specs.declared.answers.How.{How}
-use Rattle.bx_journal_model.specs.declared.answers.How.TheVariants.{Clean, Dropped, Restored}
+use Rattle.bx_journal_model.specs.declared.answers.RecoveryOutcome.{RecoveryOutcome}
+use Rattle.bx_journal_model.specs.declared.answers.RecoveryOutcome.TheVariants.{Clean, Dropped, Restored}
 use Rattle.bx_journal_model.specs.declared.fault.SessionFault.{SessionFault}
 use Rattle.bx_journal_model.specs.declared.fault.SessionFault.TheVariants.{NoMemory, TooLarge, DeviceFailed, Damaged, TooFew, JournalFull, Interrupted, Broken, LengthDiffers, NothingToRedo, RedoDamaged}
 use Rattle.bx_journal_model.specs.Calls.{AfterFault}
@@ -25,7 +25,7 @@ finds_is_found text x redo s finds =
     record { recovers = subst (λ t. Recovers t x s.stack) (sym same) r; undone = finds.undone }
 
 -- beside finished entries alone the one, and else the other
-clean_or : {P Q : Type 0} (how : How) → (how ≡ Clean → P) → ((how ≡ Clean → ⊥) → Q) → P ⊎ Q
+clean_or : {P Q : Type 0} (how : RecoveryOutcome) → (how ≡ Clean → P) → ((how ≡ Clean → ⊥) → Q) → P ⊎ Q
 clean_or Clean p q = inl (p refl)
 clean_or Dropped p q = inr (q (λ is. cc))
 clean_or (Restored n) p q = inr (q (λ is. cc))
@@ -45,7 +45,7 @@ stopped_or (NothingToRedo have) p q = inl p
 stopped_or (RedoDamaged line) p q = inl p
 
 module _ {D T : Type 0} (d : DeviceViews D) (t : StoreViews T) where
-  found_on : (old new : Devices D T) (s : Images) → d.honest old.image → t.honest old.journal → t.honest old.redo → AllFound d t old s → FoundBefore d t old new → AllFound d t new s
+  found_on : (old new : Devices D T) (s : Images) → d.faithful old.image → t.faithful old.journal → t.faithful old.redo → AllFound d t old s → FoundBefore d t old new → AllFound d t new s
   found_on old new s dh th rh all before y text redo image_there there redo_there =
       all y text redo (before.image_before dh y image_there) (before.journal_before th text there) (before.redo_before rh redo redo_there)
 
@@ -72,7 +72,7 @@ module _ {D T : Type 0} (d : DeviceViews D) (t : StoreViews T) where
   pub openings_find : OpeningsFind d t
   openings_find [] x last s all is = inl (subst (λ y. AllFound d t y s) (sym is) all)
   openings_find (o ∷ list) x last s all run =
-      elim (opening_finds o.0 o.1 s run.0.image_honest run.0.journal_honest run.0.redo_honest run.1 (left_found x o.0 s all run.0) (left_all x o.0 s all run.0)) [
+      elim (opening_finds o.0 o.1 s run.0.image_faithful run.0.journal_faithful run.0.redo_faithful run.1 (left_found x o.0 s all run.0) (left_all x o.0 s all run.0)) [
         | inl same ↦ openings_find list (left_by o.1) last s same run.2
         | inr fewer ↦ elim (openings_find list (left_by o.1) last (emptied s) fewer run.2) [ inl same ↦ inr same | inr more ↦ inr more ]
       ]

@@ -2,8 +2,8 @@
 use Rattle.std.proofs.Common.{◌≡◌, ℕ, suc, ◌+◌, ◌≤◌, List, [], ◌∷◌, length, refl, ap, sym, ◌∙◌, subst, inl, inr, ◌⊎◌, arith, Option, Some, None, Result, Ok, Err}
 use Rattle.std.specs.Prelude.{IfOk, IfErr, OnOk, OnErr, MatchResult}
 use Rattle.std.proofs.lemmas.Bool.{cases_lt}
-use Rattle.bx_journal_model.specs.declared.answers.How.{How}
-use Rattle.bx_journal_model.specs.declared.answers.How.TheVariants.{Clean, Dropped, Restored}
+use Rattle.bx_journal_model.specs.declared.answers.RecoveryOutcome.{RecoveryOutcome}
+use Rattle.bx_journal_model.specs.declared.answers.RecoveryOutcome.TheVariants.{Clean, Dropped, Restored}
 use Rattle.bx_journal_model.specs.declared.answers.Recovered.{Recovered}
 use Rattle.bx_journal_model.specs.declared.fault.SessionFault.{SessionFault}
 use Rattle.bx_journal_model.specs.declared.fault.SessionFault.TheVariants.{NoMemory, TooLarge, DeviceFailed, Damaged, TooFew, JournalFull, Interrupted, Broken, LengthDiffers, NothingToRedo, RedoDamaged}
@@ -180,7 +180,7 @@ pub err_then : {T E P : Type 0} (Q : E → Type 0) (o : Result T E) → P → If
 err_then Q (Ok v) p = tt
 err_then Q (Err e) p = λ q. p
 
-found_none : (how : How) (undone : List (List ℕ)) → (how ≡ Clean → ⊥) → [] ≡ found_undone how undone
+found_none : (how : RecoveryOutcome) (undone : List (List ℕ)) → (how ≡ Clean → ⊥) → [] ≡ found_undone how undone
 found_none Clean undone apart = absurd (apart refl)
 found_none Dropped undone apart = refl
 found_none (Restored n) undone apart = refl

@@ -13,18 +13,18 @@ use Rattle.bx_journal_model.specs.Undoing.{AgainFault, HasCount, RedoAgainFault}
 use Rattle.bx_journal_model.specs.Fault.{redo_fault}
 use Rattle.bx_journal_model.proofs.Judged.{undamaged}
 
-pub redo_again : (honest : Type 0) (text : List ℕ) (count : ℕ) (e : SessionFault) → AgainFault honest text count e → RedoAgainFault honest text count (redo_fault e)
-redo_again honest text count NoMemory h = h
-redo_again honest text count DeviceFailed h = h
-redo_again honest text count (Damaged line) h = h
-redo_again honest text count TooLarge h = absurd h
-redo_again honest text count (TooFew have) h = absurd h
-redo_again honest text count JournalFull h = absurd h
-redo_again honest text count Interrupted h = absurd h
-redo_again honest text count Broken h = absurd h
-redo_again honest text count (LengthDiffers expected) h = absurd h
-redo_again honest text count (NothingToRedo have) h = absurd h
-redo_again honest text count (RedoDamaged line) h = absurd h
+pub redo_again : (faithful : Type 0) (text : List ℕ) (count : ℕ) (e : SessionFault) → AgainFault faithful text count e → RedoAgainFault faithful text count (redo_fault e)
+redo_again faithful text count NoMemory h = h
+redo_again faithful text count DeviceFailed h = h
+redo_again faithful text count (Damaged line) h = h
+redo_again faithful text count TooLarge h = absurd h
+redo_again faithful text count (TooFew have) h = absurd h
+redo_again faithful text count JournalFull h = absurd h
+redo_again faithful text count Interrupted h = absurd h
+redo_again faithful text count Broken h = absurd h
+redo_again faithful text count (LengthDiffers expected) h = absurd h
+redo_again faithful text count (NothingToRedo have) h = absurd h
+redo_again faithful text count (RedoDamaged line) h = absurd h
 
 pub redo_counts : (e : SessionFault) (t u : ℕ) → FaultCounts e t 0 u 0 → FaultCounts (redo_fault e) t 0 u 0
 redo_counts NoMemory t u h = h
@@ -40,9 +40,9 @@ redo_counts (RedoDamaged line) t u h = h
 redo_counts (Damaged line) t u h = h
 
 -- a redo text of `count` finished entries alone isn't called damaged
-pub redo_in_step : (honest : Type 0) (text : List ℕ) (count : ℕ) (e : SessionFault) → honest → HasCount text count → RedoAgainFault honest text count e → (line : ℕ) → e ≡ RedoDamaged line → ⊥
-redo_in_step honest text count e th has h line is =
-    elim (subst (RedoAgainFault honest text count) is h th) [
+pub redo_in_step : (faithful : Type 0) (text : List ℕ) (count : ℕ) (e : SessionFault) → faithful → HasCount text count → RedoAgainFault faithful text count e → (line : ℕ) → e ≡ RedoDamaged line → ⊥
+redo_in_step faithful text count e th has h line is =
+    elim (subst (RedoAgainFault faithful text count) is h th) [
       | inl damage ↦ undamaged text line (record { entries = has.0; stage = Between }, has.1.reads) damage
       | inr apart ↦ apart.2 has
     ]

@@ -4,8 +4,8 @@ use Rattle.bx_journal_format.specs.Shown.{shown}
 use Rattle.bx_journal_format.specs.Text.{Between, Reading, Reads, IsDamagedAt}
 use Rattle.bx_journal_format.specs.Finished.{IsFinished}
 use Rattle.bx_journal_format.proofs.CleanLemmas.{clean_shown}
-use Rattle.bx_journal_model.specs.declared.answers.How.{How}
-use Rattle.bx_journal_model.specs.declared.answers.How.TheVariants.{Clean, Dropped, Restored}
+use Rattle.bx_journal_model.specs.declared.answers.RecoveryOutcome.{RecoveryOutcome}
+use Rattle.bx_journal_model.specs.declared.answers.RecoveryOutcome.TheVariants.{Clean, Dropped, Restored}
 use Rattle.bx_journal_model.specs.declared.fault.SessionFault.{SessionFault}
 use Rattle.bx_journal_model.specs.declared.fault.SessionFault.TheVariants.{NoMemory, TooLarge, DeviceFailed, Damaged, TooFew, JournalFull, Interrupted, Broken, LengthDiffers, NothingToRedo, RedoDamaged}
 use Rattle.bx_journal_model.specs.Calls.{how_of}
@@ -23,7 +23,7 @@ use Rattle.bx_journal_protocol.proofs.LawProofs.{damaged_at_one}
 use Rattle.bx_journal_model.proofs.Phases.{rest_recovers}
 
 -- where nothing was unfinished, what was undone is kept
-pub kept_undone : (redo x : List ℕ) (changes count : ℕ) (how : How) (undone : List (List ℕ)) → how ≡ Clean → IsRedoOf redo x changes (found_undone how undone) → count ≡ length (found_undone how undone)
+pub kept_undone : (redo x : List ℕ) (changes count : ℕ) (how : RecoveryOutcome) (undone : List (List ℕ)) → how ≡ Clean → IsRedoOf redo x changes (found_undone how undone) → count ≡ length (found_undone how undone)
     → IsRedoOf redo x changes undone × (count ≡ length undone)
 kept_undone redo x changes count Clean undone is kept counted = (kept, counted)
 kept_undone redo x changes count Dropped undone is kept counted = absurd (cc)
@@ -48,7 +48,7 @@ module _ (text x redo : List ℕ) (s : Images) (rest : IsAtRest text x s.stack) 
   pub rest_found : IsRedoOf redo x (changes_of s.stack) s.undone → Found text x redo s
   rest_found undone = record { recovers = rest_recovers_shown; undone = λ clean. undone }
 
-  pub rest_clean : (how : How) → how ≡ how_of rest_reading (left_over text) → how ≡ Clean
+  pub rest_clean : (how : RecoveryOutcome) → how ≡ how_of rest_reading (left_over text) → how ≡ Clean
   rest_clean how is = is ∙ ap (how_of rest_reading) (left_none text rest_shown rest.stands.whole)
 
   -- no fault of opening is left but want of memory and a failed device

@@ -55,7 +55,7 @@ module _ {D T : Type 0} {d : DeviceViews D} {t : StoreViews T} where
     refused = λ dh th. tt;
     redo_same = λ rh. tt;
     unmoved = tt;
-    honesty = (steps.image_honesty, steps.journal_honesty, steps.redo_honesty);
+    faith = (steps.image_faith, steps.journal_faith, steps.redo_faith);
     counts = steps.no_failure;
   }
 
@@ -68,7 +68,7 @@ module _ {D T : Type 0} {d : DeviceViews D} {t : StoreViews T} where
     refused = λ dh th. tt;
     redo_same = λ rh. tt;
     unmoved = (count, undone, broken);
-    honesty = (steps.image_honesty, steps.journal_honesty, steps.redo_honesty);
+    faith = (steps.image_faith, steps.journal_faith, steps.redo_faith);
     counts = steps.failure;
   }
 
@@ -90,7 +90,7 @@ module _ {D T : Type 0} {d : DeviceViews D} {t : StoreViews T} where
         refused = λ dh th. record { image_same = stayed.image_same dh; text_same = stayed.text_same th; count = count; broken = broken };
         redo_same = λ rh. record { text_same = stayed.redo_same rh; undone = undone };
         unmoved = (count, undone, broken);
-        honesty = (stayed.image_honesty, stayed.journal_honesty, stayed.redo_honesty);
+        faith = (stayed.image_faith, stayed.journal_faith, stayed.redo_faith);
         counts = none h;
       }
       by_fault DeviceFailed f h = record {
@@ -99,7 +99,7 @@ module _ {D T : Type 0} {d : DeviceViews D} {t : StoreViews T} where
         refused = λ dh th. record { image_same = stayed.image_same dh; text_same = stayed.text_same th; count = count; broken = broken };
         redo_same = λ rh. record { text_same = stayed.redo_same rh; undone = undone };
         unmoved = (count, undone, broken);
-        honesty = (stayed.image_honesty, stayed.journal_honesty, stayed.redo_honesty);
+        faith = (stayed.image_faith, stayed.journal_faith, stayed.redo_faith);
         counts = one h;
       }
       by_fault TooLarge f h = absurd f

@@ -12,8 +12,8 @@ use Rattle.bx_journal_format.specs.count.Mark.{IsMark}
 use Rattle.bx_journal_format.proofs.ShownLemmas.{shown_is_front, shown_short, take_shown}
 use Rattle.bx_journal_model.specs.declared.mark.Mark.{Mark}
 use Rattle.bx_journal_read.specs.declared.scan.torn.Torn.{Torn}
-use Rattle.bx_journal_model.specs.declared.answers.How.{How}
-use Rattle.bx_journal_model.specs.declared.answers.How.TheVariants.{Dropped, Restored}
+use Rattle.bx_journal_model.specs.declared.answers.RecoveryOutcome.{RecoveryOutcome}
+use Rattle.bx_journal_model.specs.declared.answers.RecoveryOutcome.TheVariants.{Dropped, Restored}
 use Rattle.bx_journal_model.specs.Calls.{how_of}
 use Rattle.bx_journal_model.specs.Opening.{IsOpened, left_over}
 use Rattle.bx_journal_model.specs.Redo.{IsClean}
@@ -126,7 +126,7 @@ torn_restored bytes t r v s torn is =
     ap Restored number ∙ ap (λ stage. how_of (record { entries = r.entries; stage = stage }) (left_over bytes)) (sym is)
 
 -- what is left where the text is cut at the place at which what is unfinished begins
-pub torn_opened : (text bytes x new y : List ℕ) (t : Torn) (r : Reading) (how : How) (changes : ℕ) → IsTorn (shown bytes) r t → text ≡ bytes → HaveLengths r.entries (image_at r.stage x)
+pub torn_opened : (text bytes x new y : List ℕ) (t : Torn) (r : Reading) (how : RecoveryOutcome) (changes : ℕ) → IsTorn (shown bytes) r t → text ≡ bytes → HaveLengths r.entries (image_at r.stage x)
     → y ≡ image_at r.stage x → new ≡ take t.begins text → changes ≡ t.count → how ≡ how_of r (left_over bytes) → IsOpened text x r new y how changes
 torn_opened text bytes x new y t r how changes torn same lengths image cut counted is =
     let es : List Entry = r.entries in

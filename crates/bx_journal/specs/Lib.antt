@@ -37,11 +37,11 @@ pub mod ShowLaws
 pub mod ShownText
 pub mod private
 pub use Rattle.bx_journal_model.specs.declared.fault.SessionFault
-pub use Rattle.bx_journal_model.specs.declared.answers.How
+pub use Rattle.bx_journal_model.specs.declared.answers.RecoveryOutcome
 pub use Rattle.bx_journal_model.specs.declared.answers.LogRow
 pub use Rattle.bx_journal_model.specs.declared.answers.Recovered
 pub use Rattle.bx_journal_read.specs.declared.show.fault.ShowFault
 pub use Rattle.bx_journal_read.specs.declared.show.way.Steps
-pub use Rattle.bx_journal_read.specs.declared.show.way.Way
+pub use Rattle.bx_journal_read.specs.declared.show.way.Direction
 pub use Rattle.bx_journal_model.specs.declared.devices.Devices
 pub use Rattle.bx_journal_model.specs.ThreeDevices

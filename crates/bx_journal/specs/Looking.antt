@@ -6,7 +6,7 @@ use Rattle.bx_journal_model.specs.SessionView.{SessionView}
 
 -- the image is as it was, and all else is untouched
 pub record OnlyLooks {D T : Type 0} (d : DeviceViews D) (t : StoreViews T) (old new : SessionView D T) : Type 0 where
-  pub image : d.honest old.image → d.image new.image ≡ d.image old.image
+  pub image : d.faithful old.image → d.image new.image ≡ d.image old.image
   pub journal : new.journal ≡ old.journal
   pub redo : new.redo ≡ old.redo
   pub count : new.count ≡ old.count

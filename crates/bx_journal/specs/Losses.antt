@@ -29,11 +29,11 @@ module _ {D T : Type 0} (d : DeviceViews D) (t : StoreViews T) where
   abbrev pub AllFound : Devices D T → Images → Type 0
   AllFound x s = (y text redo : List ℕ) → d.survives x.image y → t.survives x.journal text → t.survives x.redo redo → Found text y redo s
 
-  -- behind a loss of power: honest devices, on the disk, that have what was found of those before it
+  -- behind a loss of power: faithful devices, on the disk, that have what was found of those before it
   pub record AreLeft (x y : Devices D T) : Type 0 where
-    pub image_honest : d.honest y.image
-    pub journal_honest : t.honest y.journal
-    pub redo_honest : t.honest y.redo
+    pub image_faithful : d.faithful y.image
+    pub journal_faithful : t.faithful y.journal
+    pub redo_faithful : t.faithful y.redo
     pub image : d.survives x.image (d.image y.image)
     pub journal : t.survives x.journal (t.text y.journal)
     pub redo : t.survives x.redo (t.text y.redo)
@@ -48,7 +48,7 @@ module _ {D T : Type 0} (d : DeviceViews D) (t : StoreViews T) where
   -- what opening finds is kept through it: where the three were found with these images whatever is lost, they still are, or without those that
   -- were undone
   abbrev pub OpeningFinds : Type 0
-  OpeningFinds = (old : Devices D T) (result : Opening D T) (s : Images) → d.honest old.image → t.honest old.journal → t.honest old.redo
+  OpeningFinds = (old : Devices D T) (result : Opening D T) (s : Images) → d.faithful old.image → t.faithful old.journal → t.faithful old.redo
       → OpensDevices d t old result → Found (t.text old.journal) (d.image old.image) (t.text old.redo) s → AllFound old s
       → AllFound (left_by result) s ⊎ AllFound (left_by result) (emptied s)
 

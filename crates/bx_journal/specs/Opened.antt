@@ -4,8 +4,8 @@ use Rattle.bx_image.specs.declared.device.Device.{Ghosts as DeviceViews}
 use Rattle.bx_journal_store.specs.declared.store.TextStore.{Ghosts as StoreViews}
 use Rattle.bx_journal_format.specs.Shown.{shown}
 use Rattle.bx_journal_format.specs.Text.{IsAccepted, IsDamagedAt, Reading, Reads}
-use Rattle.bx_journal_model.specs.declared.answers.How.{How}
-use Rattle.bx_journal_model.specs.declared.answers.How.TheVariants.{Clean}
+use Rattle.bx_journal_model.specs.declared.answers.RecoveryOutcome.{RecoveryOutcome}
+use Rattle.bx_journal_model.specs.declared.answers.RecoveryOutcome.TheVariants.{Clean}
 use Rattle.bx_journal_model.specs.declared.answers.Recovered.{Recovered}
 use Rattle.bx_journal_model.specs.declared.fault.SessionFault.{SessionFault}
 use Rattle.bx_journal_model.specs.declared.fault.SessionFault.TheVariants.{Damaged, Interrupted, LengthDiffers, RedoDamaged}
@@ -48,15 +48,15 @@ AsFound text x holds = (stack : List (List ℕ)) → Recovers (shown text) x sta
 
 -- Of three devices before opening.
 module _ {D T : Type 0} (d : DeviceViews D) (t : StoreViews T) (old : Devices D T) where
-  -- it holds where image and journal are honest
+  -- it holds where image and journal are faithful
   abbrev pub OfPair : Type 0 → Type 0
-  OfPair holds = d.honest old.image → t.honest old.journal → holds
+  OfPair holds = d.faithful old.image → t.faithful old.journal → holds
 
-  -- it holds where all three are honest
+  -- it holds where all three are faithful
   abbrev pub OfAll : Type 0 → Type 0
-  OfAll holds = d.honest old.image → t.honest old.journal → t.honest old.redo → holds
+  OfAll holds = d.faithful old.image → t.faithful old.journal → t.faithful old.redo → holds
 
-  -- it holds of the images that opening finds of the three, where they are honest
+  -- it holds of the images that opening finds of the three, where they are faithful
   abbrev pub OfFound : (Images → Type 0) → Type 0
   OfFound holds = OfAll ((s : Images) → Found (t.text old.journal) (d.image old.image) (t.text old.redo) s → holds s)
 
@@ -137,7 +137,7 @@ module _ {D T : Type 0} (d : DeviceViews D) (t : StoreViews T) (old : Devices D 
   ShowImages s = IsAtRest (t.text old.journal) (d.image old.image) s.stack × IsRedoOf (t.text old.redo) (d.image old.image) (changes_of s.stack) s.undone
 
   -- nothing was unfinished and nothing was written, and the session is ready with these images
-  pub record IsReopened (images : Images) (s : SessionView D T) (how : How) : Type 0 where
+  pub record IsReopened (images : Images) (s : SessionView D T) (how : RecoveryOutcome) : Type 0 where
     pub clean : how ≡ Clean
     pub pair_same : IsPairSame (devices_of s)
     pub redo_same : t.text s.redo ≡ t.text old.redo
@@ -148,14 +148,14 @@ module _ {D T : Type 0} (d : DeviceViews D) (t : StoreViews T) (old : Devices D 
   pub record FindsStack (result : Opening D T) : Type 0 where
     pub opened : Leaves Opens result
     pub standing : OfPair ((r : Reading) → Reads (shown (t.text old.journal)) r → IfOk result (λ o. IsStanding d.image t.text o.0 (recovered r (d.image old.image))))
-    pub left : t.honest old.journal → (r : Reading) → Reads (shown (t.text old.journal)) r → IfOk result (λ o. HasLeft (t.text old.journal) (t.text o.0.journal) r.entries)
+    pub left : t.faithful old.journal → (r : Reading) → Reads (shown (t.text old.journal)) r → IfOk result (λ o. HasLeft (t.text old.journal) (t.text o.0.journal) r.entries)
     pub fresh : IfOk result (λ o. (o.0.count ≡ o.1.changes) × (o.0.undone ≡ o.1.undone) × (o.0.is_broken ≡ false))
 
   -- A text that isn't accepted is never opened, and one that is accepted is never called damaged
   pub record JudgesText (result : Opening D T) : Type 0 where
-    pub accepted : t.honest old.journal → OnOk result (IsAccepted (shown (t.text old.journal)))
-    pub damaged : t.honest old.journal → IfErr result (λ e. (line : ℕ) → e.1 ≡ Damaged line → IsDamagedAt (shown (t.text old.journal)) line)
-    pub unaccepted : t.honest old.journal → (IsAccepted (shown (t.text old.journal)) → ⊥) → MatchResult result (λ _. ⊥) (λ e. RefusesText e.1)
+    pub accepted : t.faithful old.journal → OnOk result (IsAccepted (shown (t.text old.journal)))
+    pub damaged : t.faithful old.journal → IfErr result (λ e. (line : ℕ) → e.1 ≡ Damaged line → IsDamagedAt (shown (t.text old.journal)) line)
+    pub unaccepted : t.faithful old.journal → (IsAccepted (shown (t.text old.journal)) → ⊥) → MatchResult result (λ _. ⊥) (λ e. RefusesText e.1)
 
   -- Which fault comes: a length differs exactly where the newest finished entry tells another one than that of the image below which it
   -- stands, an interruption comes only where something was unfinished, and no fault of another call comes at all
@@ -163,7 +163,7 @@ module _ {D T : Type 0} (d : DeviceViews D) (t : StoreViews T) (old : Devices D 
     pub faults : Leaves (λ new. FaultsAsRead) result
     pub differs : Leaves (λ new. IsLengthRefused) result
     pub lengths_kept : OfPair (AsFound (t.text old.journal) (d.image old.image) (λ stack. IfErr result (λ e. (n : ℕ) → e.1 ≡ LengthDiffers n → ⊥)))
-    pub unfinished : t.honest old.journal → IfErr result (λ e. e.1 ≡ Interrupted → IsClean (t.text old.journal) → ⊥)
+    pub unfinished : t.faithful old.journal → IfErr result (λ e. e.1 ≡ Interrupted → IsClean (t.text old.journal) → ⊥)
     pub kind : IfErr result (λ e. OpenKind e.1)
 
   -- What is left: beside finished entries alone, and behind each fault but an interruption, all is as it was; behind an interruption opening
@@ -171,14 +171,14 @@ module _ {D T : Type 0} (d : DeviceViews D) (t : StoreViews T) (old : Devices D 
   pub record SparesDevices (result : Opening D T) : Type 0 where
     pub clean : Leaves SparesClean result
     pub refused : Leaves SparesPair result
-    pub redo_same : t.honest old.redo → Leaves (λ new r. IfErr r (λ e. AfterFault e (Unit {0}) (t.text new.redo ≡ t.text old.redo))) result
+    pub redo_same : t.faithful old.redo → Leaves (λ new r. IfErr r (λ e. AfterFault e (Unit {0}) (t.text new.redo ≡ t.text old.redo))) result
     pub keeps : Leaves KeepsPair result
     pub finds_err : Leaves FindsAgain result
 
   -- What becomes of the redo text: beside a finished journal it stays, and stands for the undone images; what is unfinished empties it
   pub record OpensRedo (result : Opening D T) : Type 0 where
-    pub clean_redo : t.honest old.redo → IfOk result (λ o. o.1.how ≡ Clean → t.text o.0.redo ≡ t.text old.redo)
-    pub emptied : t.honest old.redo → IfOk result (λ o. (o.1.how ≡ Clean → ⊥) → (t.text o.0.redo ≡ []) × (o.1.undone ≡ 0))
+    pub clean_redo : t.faithful old.redo → IfOk result (λ o. o.1.how ≡ Clean → t.text o.0.redo ≡ t.text old.redo)
+    pub emptied : t.faithful old.redo → IfOk result (λ o. (o.1.how ≡ Clean → ⊥) → (t.text o.0.redo ≡ []) × (o.1.undone ≡ 0))
     pub undone : OfAll (IfOk result (λ o. (undone : List (List ℕ)) × HasUndone d.image t.text o.0 undone))
     pub keeps_undone : OfFound (λ s. IfOk result (λ o. HasUndone d.image t.text o.0 (found_undone o.1.how s.undone)))
 
@@ -188,13 +188,13 @@ module _ {D T : Type 0} (d : DeviceViews D) (t : StoreViews T) (old : Devices D 
     pub redo_unfit : Leaves (λ new. TellsUnfit) result
     pub redo_kept : Leaves (λ new. KeepsRedoText) result
 
-  -- Each device is honest as it was, and counts a failure more where its call failed
+  -- Each device is faithful as it was, and counts a failure more where its call failed
   pub record CountsCalls (result : Opening D T) : Type 0 where
-    pub image_honesty : IfOk result (λ o. d.honest o.0.image ↔ d.honest old.image)
-    pub journal_honesty : IfOk result (λ o. t.honest o.0.journal ↔ t.honest old.journal)
-    pub redo_honesty : IfOk result (λ o. t.honest o.0.redo ↔ t.honest old.redo)
-    pub honesty_err : IfErr result (λ e. (d.honest e.0.image ↔ d.honest old.image) × (t.honest e.0.journal ↔ t.honest old.journal)
-        × (t.honest e.0.redo ↔ t.honest old.redo))
+    pub image_faith : IfOk result (λ o. d.faithful o.0.image ↔ d.faithful old.image)
+    pub journal_faith : IfOk result (λ o. t.faithful o.0.journal ↔ t.faithful old.journal)
+    pub redo_faith : IfOk result (λ o. t.faithful o.0.redo ↔ t.faithful old.redo)
+    pub faith_err : IfErr result (λ e. (d.faithful e.0.image ↔ d.faithful old.image) × (t.faithful e.0.journal ↔ t.faithful old.journal)
+        × (t.faithful e.0.redo ↔ t.faithful old.redo))
     pub image_failures : IfOk result (λ o. d.failures o.0.image ≡ d.failures old.image)
     pub journal_failures : IfOk result (λ o. t.failures o.0.journal ≡ t.failures old.journal)
     pub redo_failures : IfOk result (λ o. t.failures o.0.redo ≡ t.failures old.redo)

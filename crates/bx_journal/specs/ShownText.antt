@@ -5,7 +5,7 @@ use Rattle.bx_journal_format.specs.Spelled.{EntryLines, IsSpelled}
 use Rattle.bx_journal_format.specs.Text.{Stage}
 use Rattle.bx_journal_read.specs.declared.show.fault.ShowFault.{ShowFault}
 use Rattle.bx_journal_read.specs.declared.show.way.Steps.{Steps}
-use Rattle.bx_journal_read.specs.declared.show.way.Way.TheVariants.{Undo}
+use Rattle.bx_journal_read.specs.declared.show.way.Direction.TheVariants.{Undo}
 use Rattle.bx_journal_read.specs.show.ShownSteps.{HasFront, IsUnfinishedBehind, shown_steps, shows_patch, unfinished_line}
 use Rattle.bx_journal_read.specs.show.Stopping.{StopsPrefix}
 

@@ -18,11 +18,11 @@ use bx_journal_store::TextStore;
 /// Empties a text, and puts that on the disk.
 fn empty_text<T: TextStore>(store: &mut T) -> Result<(), DeviceFailed>
     requires countable { T.failures store.old < u64.MAX }
-    ensures emptied { T.honest store.old → OnOk result (T.text store.new ≡ []) }
-    ensures part { T.honest store.old → IsCutInPart 0 (T.text store.old) (T.text store.new) }
-    ensures settled { T.honest store.old → OnOk result (Only [] (T.survives store.new)) }
-    ensures survives { T.honest store.old → Only (T.text store.old) (T.survives store.old) → AllFade 0 (T.text store.old) (T.survives store.new) }
-    ensures goes_on { GoesOn T.honest T.room T.failures (is_err result) store.old store.new }
+    ensures emptied { T.faithful store.old → OnOk result (T.text store.new ≡ []) }
+    ensures part { T.faithful store.old → IsCutInPart 0 (T.text store.old) (T.text store.new) }
+    ensures settled { T.faithful store.old → OnOk result (Only [] (T.survives store.new)) }
+    ensures survives { T.faithful store.old → Only (T.text store.old) (T.survives store.old) → AllFade 0 (T.text store.old) (T.survives store.new) }
+    ensures goes_on { GoesOn T.faithful T.room T.failures (is_err result) store.old store.new }
 {
     // In one cut, and no byte is kept: a front of a journal is a journal too, of other images. `docs/DECISIONS.md`, "History that
     // is dropped".
@@ -34,13 +34,13 @@ fn empty_text<T: TextStore>(store: &mut T) -> Result<(), DeviceFailed>
 pub fn empty_texts<D: Device, T: TextStore>(devices: &mut Devices<D, T>) -> Result<(), DeviceFailed>
     requires countable { AreBelow D.Device T.TextStore u64.MAX devices.old }
     ensures image { devices.new.image ≡ devices.old.image }
-    ensures journal { T.honest devices.old.journal → OnOk result (T.text devices.new.journal ≡ []) }
-    ensures redo { T.honest devices.old.redo → OnOk result (T.text devices.new.redo ≡ []) }
-    ensures left { T.honest devices.old.journal → T.honest devices.old.redo
+    ensures journal { T.faithful devices.old.journal → OnOk result (T.text devices.new.journal ≡ []) }
+    ensures redo { T.faithful devices.old.redo → OnOk result (T.text devices.new.redo ≡ []) }
+    ensures left { T.faithful devices.old.journal → T.faithful devices.old.redo
         → LeavesTexts (T.text devices.old.journal) (T.text devices.old.redo) (T.text devices.new.journal) (T.text devices.new.redo) }
-    ensures settles { T.honest devices.old.journal → T.honest devices.old.redo → AreSettled D.Device T.TextStore devices.old
+    ensures settles { T.faithful devices.old.journal → T.faithful devices.old.redo → AreSettled D.Device T.TextStore devices.old
         → OnOk result (AreSettled D.Device T.TextStore devices.new) }
-    ensures survives { T.honest devices.old.journal → T.honest devices.old.redo → AreSettled D.Device T.TextStore devices.old
+    ensures survives { T.faithful devices.old.journal → T.faithful devices.old.redo → AreSettled D.Device T.TextStore devices.old
         → FadesInOrder (T.text devices.old.journal) (T.text devices.old.redo) (T.survives devices.new.journal) (T.survives devices.new.redo) }
     ensures steps_on { StepsOn D.Device T.TextStore result devices.old devices.new }
 {
@@ -58,16 +58,16 @@ pub fn forget_devices<D: Device, T: TextStore>(
     devices: &mut Devices<D, T>,
 ) -> Result<(), SessionFault>
     requires countable { AreBelow D.Device T.TextStore u64.MAX devices.old }
-    ensures image { D.honest devices.old.image → D.image devices.new.image ≡ D.image devices.old.image }
+    ensures image { D.faithful devices.old.image → D.image devices.new.image ≡ D.image devices.old.image }
     ensures alone { OfAll D.Device T.TextStore devices.old (OnOk result (AreAlone D.Device T.TextStore (D.image devices.old.image) devices.new)) }
     ensures fault { IfErr result ForgetDevicesFault }
     ensures left { OfAll D.Device T.TextStore devices.old (LoseOrKeep T.TextStore devices.old devices.new result) }
     ensures finds { OfAll D.Device T.TextStore devices.old (ForgetsInPart D.Device T.TextStore devices.old devices.new result) }
     ensures survives { OfAll D.Device T.TextStore devices.old (BehindInterruption result (KeepImage D.Device T.TextStore devices.old devices.new)) }
     ensures found_before { IfErr result (λ e. AfterFault e (Unit {0}) (FoundBefore D.Device T.TextStore devices.old devices.new)) }
-    ensures image_honesty { D.honest devices.new.image ↔ D.honest devices.old.image }
-    ensures journal_honesty { T.honest devices.new.journal ↔ T.honest devices.old.journal }
-    ensures redo_honesty { T.honest devices.new.redo ↔ T.honest devices.old.redo }
+    ensures image_faith { D.faithful devices.new.image ↔ D.faithful devices.old.image }
+    ensures journal_faith { T.faithful devices.new.journal ↔ T.faithful devices.old.journal }
+    ensures redo_faith { T.faithful devices.new.redo ↔ T.faithful devices.old.redo }
     ensures no_failure { AreUnfailed D.Device T.TextStore devices.old devices.new result }
     ensures counts { AreCounted D.Device T.TextStore devices.old devices.new result }
 {

@@ -19,8 +19,8 @@ mod look;
 mod recovery;
 mod session;
 
-pub use bx_journal_model::{Devices, How, LogRow, Recovered, SessionFault};
-pub use bx_journal_read::{ShowFault, Steps, Way};
+pub use bx_journal_model::{Devices, LogRow, Recovered, RecoveryOutcome, SessionFault};
+pub use bx_journal_read::{Direction, ShowFault, Steps};
 pub use bx_journal_store::{FileText, FuseText, MemText, TextStore};
 pub use forget::forget_devices;
 pub use look::{log_ranges, show_steps};

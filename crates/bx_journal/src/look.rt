@@ -13,7 +13,8 @@ use crate::look::step::{put_last, put_steps};
 use bx_image::{Device, DeviceFailed};
 use bx_journal_model::{SessionFault, of_redo};
 use bx_journal_read::{
-    Marked, ShowFault, Steps, Torn, Way, all_marks, begin_writing, front_marks, line_from, put_torn,
+    Direction, Marked, ShowFault, Steps, Torn, all_marks, begin_writing, front_marks, line_from,
+    put_torn,
 };
 use bx_journal_store::TextStore;
 use std::alloc::Allocator;
@@ -33,10 +34,10 @@ pub fn log_ranges<T: TextStore, A: Allocator + Clone, W: Write>(
     out: &mut W,
 ) -> Result<(), ShowFault>
     requires { T.failures journal.old < u64.MAX }
-    ensures rows { T.honest journal.old → OnOk result (RangesOf (T.text journal.old) (W.contents out.old) (W.contents out.new)) }
-    ensures fault { IfErr result (StopsLog (T.honest journal.old) (T.text journal.old)) }
-    ensures stops { T.honest journal.old → IfErr result (StopsRows (T.text journal.old) (W.contents out.old) (W.contents out.new)) }
-    ensures text { Stays T.honest T.text T.failures result journal.old journal.new }
+    ensures rows { T.faithful journal.old → OnOk result (RangesOf (T.text journal.old) (W.contents out.old) (W.contents out.new)) }
+    ensures fault { IfErr result (StopsLog (T.faithful journal.old) (T.text journal.old)) }
+    ensures stops { T.faithful journal.old → IfErr result (StopsRows (T.text journal.old) (W.contents out.old) (W.contents out.new)) }
+    ensures text { Stays T.faithful T.text T.failures result journal.old journal.new }
     ensures counts { IfErr result (λ f. LookCounts f (T.failures journal.old) 0 (T.failures journal.new) 0) }
 {
     let marks = match all_marks(alloc, journal) {
@@ -47,33 +48,33 @@ pub fn log_ranges<T: TextStore, A: Allocator + Clone, W: Write>(
 }
 
 /// A fault of reading the text, as the call that steps over its changes answers it.
-fn fault_on(way: Way, fault: SessionFault) -> SessionFault
+fn fault_on(way: Direction, fault: SessionFault) -> SessionFault
     ensures { result ≡ fault_that way fault }
 {
     match way {
-        Way::Undo => fault,
-        Way::Redo => of_redo(fault),
+        Direction::Undo => fault,
+        Direction::Redo => of_redo(fault),
     }
 }
 
 /// What is answered where a text has fewer entries than there are to be steps.
-fn too_few(way: Way, have: u32) -> SessionFault
+fn too_few(way: Direction, have: u32) -> SessionFault
     ensures { result ≡ few_that way have }
 {
     match way {
-        Way::Undo => SessionFault::TooFew { have },
-        Way::Redo => SessionFault::NothingToRedo { have },
+        Direction::Undo => SessionFault::TooFew { have },
+        Direction::Redo => SessionFault::NothingToRedo { have },
     }
 }
 
 /// What is unfinished, where steps this way don't deal with it.
-fn left_of(way: Way, torn: Option<Torn>) -> Option<Torn>
+fn left_of(way: Direction, torn: Option<Torn>) -> Option<Torn>
     ensures some { IfSome result (IsLeftIn way torn) }
     ensures none { IfNone result (IsSettled way torn) }
 {
     match way {
-        Way::Undo => None,
-        Way::Redo => torn,
+        Direction::Undo => None,
+        Direction::Redo => torn,
     }
 }
 
@@ -99,7 +100,7 @@ fn find_steps<T: TextStore, A: Allocator + Clone>(
     steps: Steps,
 ) -> Result<Marked<A>, SessionFault>
     requires { T.failures journal.old < u64.MAX }
-    ensures { FindsSteps T.honest T.text T.failures steps result journal.old journal.new }
+    ensures { FindsSteps T.faithful T.text T.failures steps result journal.old journal.new }
 {
     let found = match front_marks(alloc, journal) {
         Ok(found) => found,
@@ -126,16 +127,16 @@ fn put_found<D: Device, T: TextStore, A: Allocator + Clone, W: Write>(
     requires countable { D.failures image.old < u64.MAX }
     requires also_countable { T.failures journal.old < u64.MAX }
     requires enough { steps.count ≤ length found.now.marks.items }
-    requires lie { (len : ℕ) × (T.honest journal.old → len ≤ length (T.text journal.old)) × All (LiesWithin len) found.now.marks.items }
-    ensures put { T.honest journal.old → (IsTrue steps.compares → D.honest image.old) → OnOk result
+    requires lie { (len : ℕ) × (T.faithful journal.old → len ≤ length (T.text journal.old)) × All (LiesWithin len) found.now.marks.items }
+    ensures put { T.faithful journal.old → (IsTrue steps.compares → D.faithful image.old) → OnOk result
         (IsFoundPut steps (D.image image.old) (T.text journal.old) found.now (W.contents out.old) (W.contents out.new)) }
-    ensures counted { T.honest journal.old → (IsTrue steps.compares → D.honest image.old) → IfOk result (CountsBytes 0
+    ensures counted { T.faithful journal.old → (IsTrue steps.compares → D.faithful image.old) → IfOk result (CountsBytes 0
         (torn_text found.now.torn ++ newest_steps steps (D.image image.old) (T.text journal.old) steps.count found.now.marks.items)) }
-    ensures stops { T.honest journal.old → (IsTrue steps.compares → D.honest image.old) → IfErr result
+    ensures stops { T.faithful journal.old → (IsTrue steps.compares → D.faithful image.old) → IfErr result
         (StopsFound steps (D.image image.old) (T.text journal.old) found.now (W.contents out.old) (W.contents out.new)) }
     ensures kind { IfErr result PutFault }
-    ensures image { Stays D.honest D.image D.failures result image.old image.new }
-    ensures stays { Stays T.honest T.text T.failures result journal.old journal.new }
+    ensures image { Stays D.faithful D.image D.failures result image.old image.new }
+    ensures stays { Stays T.faithful T.text T.failures result journal.old journal.new }
     ensures counts { IfErr result (λ f. LookCounts f (D.failures image.old) (T.failures journal.old) (D.failures image.new) (T.failures journal.new)) }
 {
     let before = put_torn(alloc, found.torn, out)?;
@@ -173,14 +174,14 @@ pub fn show_steps<D: Device, T: TextStore, A: Allocator + Clone, W: Write>(
 ) -> Result<(), ShowFault>
     requires countable { D.failures image.old < u64.MAX }
     requires also_countable { T.failures journal.old < u64.MAX }
-    ensures shows { T.honest journal.old → (IsTrue steps.compares → D.honest image.old) → OnOk result
+    ensures shows { T.faithful journal.old → (IsTrue steps.compares → D.faithful image.old) → OnOk result
         (ShowsText (T.text journal.old) (D.image image.old) steps (W.contents out.old) (W.contents out.new)) }
-    ensures fault { IfErr result (StopsSteps (T.honest journal.old) (T.text journal.old) steps) }
+    ensures fault { IfErr result (StopsSteps (T.faithful journal.old) (T.text journal.old) steps) }
     ensures quiet { IfErr result (λ fault. RefusesSteps fault → W.contents out.new ≡ W.contents out.old) }
-    ensures stops { T.honest journal.old → (IsTrue steps.compares → D.honest image.old) → IfErr result
+    ensures stops { T.faithful journal.old → (IsTrue steps.compares → D.faithful image.old) → IfErr result
         (StopsShownPatch (T.text journal.old) (D.image image.old) steps (W.contents out.old) (W.contents out.new)) }
-    ensures image { Stays D.honest D.image D.failures result image.old image.new }
-    ensures text { Stays T.honest T.text T.failures result journal.old journal.new }
+    ensures image { Stays D.faithful D.image D.failures result image.old image.new }
+    ensures text { Stays T.faithful T.text T.failures result journal.old journal.new }
     ensures counts { IfErr result (λ f. LookCounts f (D.failures image.old) (T.failures journal.old) (D.failures image.new) (T.failures journal.new)) }
 {
     let found = match find_steps(alloc, journal, steps) {

@@ -12,7 +12,7 @@ mod unfinished;
 use crate::recovery::finished::open_finished;
 use crate::recovery::unfinished::recover_read;
 use bx_image::Device;
-use bx_journal_model::{Devices, How, Recovered, SessionFault};
+use bx_journal_model::{Devices, Recovered, RecoveryOutcome, SessionFault};
 use bx_journal_read::{Found, read_text};
 use bx_journal_store::TextStore;
 use std::alloc::Allocator;

@@ -60,25 +60,25 @@ impl<D: Device, T: TextStore, A: Allocator + Clone> Session<D, T, A> {
         requires redo_countable { T.failures self.old.redo < u64.MAX }
 
         // Accepted, it makes the machine's step, and the session goes on.
-        ensures accepted { D.honest self.old.image → T.honest self.old.journal → Steps D.image T.text self.old self.new PerformStep change.now changed result }
-        ensures sound { D.honest self.old.image → T.honest self.old.journal → StaysReady D.image T.text self.old self.new (changed change.now) result }
+        ensures accepted { D.faithful self.old.image → T.faithful self.old.journal → Steps D.image T.text self.old self.new PerformStep change.now changed result }
+        ensures sound { D.faithful self.old.image → T.faithful self.old.journal → StaysReady D.image T.text self.old self.new (changed change.now) result }
         ensures number { IfOk result (λ n. (n ≡ self.old.count + 1) × (self.new.count ≡ n) × (self.new.undone ≡ 0) × (self.new.is_broken ≡ false)) }
-        ensures entry { D.honest self.old.image → T.honest self.old.journal
+        ensures entry { D.faithful self.old.image → T.faithful self.old.journal
             → IfOk result (AppendsEntry D.image T.text change.now self.old self.new) }
 
         // What was undone is given up.
-        ensures emptied { T.honest self.old.redo → OnOk result (T.text self.new.redo ≡ []) }
-        ensures undone { T.honest self.old.redo → OnOk result (HasUndone D.image T.text self.new []) }
+        ensures emptied { T.faithful self.old.redo → OnOk result (T.text self.new.redo ≡ []) }
+        ensures undone { T.faithful self.old.redo → OnOk result (HasUndone D.image T.text self.new []) }
 
         // An interruption leaves the old stack or the new one, and another fault leaves all as it was.
-        ensures fault { D.honest self.old.image → T.honest self.old.journal → StopsPerform D.image T.text change.now self.old self.new result }
+        ensures fault { D.faithful self.old.image → T.faithful self.old.journal → StopsPerform D.image T.text change.now self.old self.new result }
 
-        ensures finds { D.honest self.old.image → T.honest self.old.journal → T.honest self.old.redo
+        ensures finds { D.faithful self.old.image → T.faithful self.old.journal → T.faithful self.old.redo
             → FindsOne D.image T.text change.now self.old self.new result }
 
         // So it is behind a loss of power inside the call; where it is accepted, the new images are on the disk,
         // and of each of the three no more is found than what it has.
-        ensures survives { D.honest self.old.image → T.honest self.old.journal → T.honest self.old.redo
+        ensures survives { D.faithful self.old.image → T.faithful self.old.journal → T.faithful self.old.redo
             → ChangeSurvives D.image D.survives T.text T.survives change.now self.old self.new result
             × OnOk result (AreSettled D.Device T.TextStore (devices_of self.new)) }
 

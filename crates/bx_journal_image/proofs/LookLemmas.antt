@@ -9,16 +9,16 @@ use Rattle.bx_journal_image.specs.Blocks.{OnlyReadsImage}
 use Rattle.bx_journal_image.specs.Looks.{BothCount, LooksAtBoth, LeavesDevice}
 
 -- no call yet
-pub looks_none : {D : Type 0} (honest : D → Type 0) (view : D → List ℕ) (survives : D → List ℕ → Type 0) (now : D) → LeavesDevice honest view survives now now
-looks_none honest view survives now = record { same = λ h. refl; survives = λ h x there. there; honesty = ((λ h. h), λ h. h) }
+pub looks_none : {D : Type 0} (faithful : D → Type 0) (view : D → List ℕ) (survives : D → List ℕ → Type 0) (now : D) → LeavesDevice faithful view survives now now
+looks_none faithful view survives now = record { same = λ h. refl; survives = λ h x there. there; faith = ((λ h. h), λ h. h) }
 
 -- calls behind others
-pub looks_then : {D : Type 0} (honest : D → Type 0) (view : D → List ℕ) (survives : D → List ℕ → Type 0) (old now new : D) → LeavesDevice honest view survives old now → LeavesDevice honest view survives now new
-    → LeavesDevice honest view survives old new
-looks_then honest view survives old now new first more = record {
-  same = λ h. more.same (first.honesty.1 h) ∙ first.same h;
-  survives = λ h. NoMore_then _ _ _ (first.survives h) (more.survives (first.honesty.1 h));
-  honesty = ((λ h. first.honesty.0 (more.honesty.0 h)), λ h. more.honesty.1 (first.honesty.1 h));
+pub looks_then : {D : Type 0} (faithful : D → Type 0) (view : D → List ℕ) (survives : D → List ℕ → Type 0) (old now new : D) → LeavesDevice faithful view survives old now → LeavesDevice faithful view survives now new
+    → LeavesDevice faithful view survives old new
+looks_then faithful view survives old now new first more = record {
+  same = λ h. more.same (first.faith.1 h) ∙ first.same h;
+  survives = λ h. NoMore_then _ _ _ (first.survives h) (more.survives (first.faith.1 h));
+  faith = ((λ h. first.faith.0 (more.faith.0 h)), λ h. more.faith.1 (first.faith.1 h));
 }
 
 counted_then : (failed : Bool) (d t d_now t_now d_new t_new : ℕ) → BothCount false d t d_now t_now → BothCount failed d_now t_now d_new t_new → BothCount failed d t d_new t_new
@@ -37,8 +37,8 @@ module _ {D T : Type 0} (d : DeviceViews D) (t : StoreViews T) where
   -- no call yet
   pub both_none : (image : D) (text : T) → LooksAtBoth d t false image image text text
   both_none image text = record {
-    image = looks_none d.honest d.image d.survives image;
-    text = looks_none t.honest t.text t.survives text;
+    image = looks_none d.faithful d.image d.survives image;
+    text = looks_none t.faithful t.text t.survives text;
     counted = (refl, refl);
   }
 
@@ -46,22 +46,22 @@ module _ {D T : Type 0} (d : DeviceViews D) (t : StoreViews T) where
   pub both_then : {failed : Bool} {image image_now image_new : D} {text text_now text_new : T} → LooksAtBoth d t false image image_now text text_now → LooksAtBoth d t failed image_now image_new text_now text_new
       → LooksAtBoth d t failed image image_new text text_new
   both_then {failed = failed} first more = record {
-    image = looks_then d.honest d.image d.survives _ _ _ first.image more.image;
-    text = looks_then t.honest t.text t.survives _ _ _ first.text more.text;
+    image = looks_then d.faithful d.image d.survives _ _ _ first.image more.image;
+    text = looks_then t.faithful t.text t.survives _ _ _ first.text more.text;
     counted = counted_then failed _ _ _ _ _ _ first.counted more.counted;
   }
 
   image_both : {failed : Bool} {image image_new : D} (text : T) → OnlyReadsImage d failed image image_new → LooksAtBoth d t failed image image_new text text
   image_both {failed = failed} text reads = record {
-    image = record { same = reads.image; survives = reads.survives; honesty = reads.goes_on.honesty };
-    text = looks_none t.honest t.text t.survives text;
+    image = record { same = reads.image; survives = reads.survives; faith = reads.goes_on.faith };
+    text = looks_none t.faithful t.text t.survives text;
     counted = image_counted failed _ _ _ reads.goes_on.counted;
   }
 
   text_both : {failed : Bool} (image : D) {text text_new : T} → OnlyReadsText t failed text text_new → LooksAtBoth d t failed image image text text_new
   text_both {failed = failed} image reads = record {
-    image = looks_none d.honest d.image d.survives image;
-    text = record { same = reads.text; survives = reads.survives; honesty = reads.goes_on.honesty };
+    image = looks_none d.faithful d.image d.survives image;
+    text = record { same = reads.text; survives = reads.survives; faith = reads.goes_on.faith };
     counted = text_counted failed _ _ _ reads.goes_on.counted;
   }
 
@@ -78,8 +78,8 @@ module _ {D T : Type 0} (d : DeviceViews D) (t : StoreViews T) where
 -- calls that read an image, one behind another
 pub reads_then : {D : Type 0} (d : DeviceViews D) {failed : Bool} {old now new : D} → OnlyReadsImage d false old now → OnlyReadsImage d failed now new → OnlyReadsImage d failed old new
 reads_then d first more = record {
-  image = λ h. more.image (first.goes_on.honesty.1 h) ∙ first.image h;
-  survives = λ h. NoMore_then _ _ _ (first.survives h) (more.survives (first.goes_on.honesty.1 h));
+  image = λ h. more.image (first.goes_on.faith.1 h) ∙ first.image h;
+  survives = λ h. NoMore_then _ _ _ (first.survives h) (more.survives (first.goes_on.faith.1 h));
   goes_on = GoesOn_then _ _ _ _ _ _ _ first.goes_on more.goes_on;
 }
 

@@ -87,8 +87,8 @@ line_near x page line near old new run count bytes some are has least is sums =
     ) sums
 
 -- what a page has of an image that is the same as before
-pub near_again : (honest now_honest : Type 0) (x now page : List ℕ) (near : Near) → (now_honest → honest) → (now_honest → now ≡ x) → IsInPage honest x page near → IsInPage now_honest now page near
-near_again honest now_honest x now page near still same is = record {
+pub near_again : (faithful now_faithful : Type 0) (x now page : List ℕ) (near : Near) → (now_faithful → faithful) → (now_faithful → now ≡ x) → IsInPage faithful x page near → IsInPage now_faithful now page near
+near_again faithful now_faithful x now page near still same is = record {
   long = λ h. is.long (still h) ∙ sym (ap length (same h));
   are = λ h. is.are (still h) ∙ ap (λ im. take near.count (drop near.at im)) (sym (same h));
   inside = is.inside;

@@ -117,9 +117,9 @@ IsJudged line marks x Untold = (line.least ≤ length x) × (length x ≤ line.m
 
 -- calls that only read an image, the last of them failed or not: it stays, and a loss of power finds no more than before
 pub record OnlyReadsImage {D : Type 0} (d : DeviceViews D) (failed : Bool) (old new : D) : Type 0 where
-  pub image : d.honest old → d.image new ≡ d.image old
-  pub survives : d.honest old → NoMore (d.survives old) (d.survives new)
-  pub goes_on : GoesOn d.honest d.room d.failures failed old new
+  pub image : d.faithful old → d.image new ≡ d.image old
+  pub survives : d.faithful old → NoMore (d.survives old) (d.survives new)
+  pub goes_on : GoesOn d.faithful d.room d.failures failed old new
 
 -- the range has an address
 abbrev pub is_in : Range → ℕ → Bool

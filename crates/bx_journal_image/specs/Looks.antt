@@ -7,10 +7,10 @@ use Rattle.bx_journal_model.specs.Opening.{OneMoreOfThree}
 use Rattle.bx_journal_model.specs.Looking.{OneMore}
 
 -- calls that only look at a device, the image's or a text's: it stays, and a loss of power finds no more than before
-pub record LeavesDevice {D : Type 0} (honest : D → Type 0) (view : D → List ℕ) (found : D → List ℕ → Type 0) (old new : D) : Type 0 where
-  pub same : honest old → view new ≡ view old
-  pub survives : honest old → NoMore (found old) (found new)
-  pub honesty : honest new ↔ honest old
+pub record LeavesDevice {D : Type 0} (faithful : D → Type 0) (view : D → List ℕ) (found : D → List ℕ → Type 0) (old new : D) : Type 0 where
+  pub same : faithful old → view new ≡ view old
+  pub survives : faithful old → NoMore (found old) (found new)
+  pub faith : faithful new ↔ faithful old
 
 -- how the counts of failed calls go on, where the last call on one of two devices failed or not
 abbrev pub BothCount : Bool → ℕ → ℕ → ℕ → ℕ → Type 0
@@ -19,8 +19,8 @@ BothCount false d t d_new t_new = (d_new ≡ d) × (t_new ≡ t)
 
 -- calls that only look at an image and a text, the last of them failed or not
 pub record LooksAtBoth {D T : Type 0} (d : DeviceViews D) (t : StoreViews T) (failed : Bool) (x y : D) (s u : T) : Type 0 where
-  pub image : LeavesDevice d.honest d.image d.survives x y
-  pub text : LeavesDevice t.honest t.text t.survives s u
+  pub image : LeavesDevice d.faithful d.image d.survives x y
+  pub text : LeavesDevice t.faithful t.text t.survives s u
   pub counted : BothCount failed (d.failures x) (t.failures s) (d.failures y) (t.failures u)
 
 -- the same of three devices

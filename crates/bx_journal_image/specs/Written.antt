@@ -31,9 +31,9 @@ appended_bytes x None = []
 appended_bytes x (Some before) = take 65536 (drop before x)
 
 -- some of an image's bytes are in a page, which has room for those of a line
-pub record IsInPage (honest : Type 0) (x page : List ℕ) (near : Near) : Type 0 where
-  pub long : honest → near.length ≡ length x
-  pub are : honest → take near.count page ≡ take near.count (drop near.at x)
+pub record IsInPage (faithful : Type 0) (x page : List ℕ) (near : Near) : Type 0 where
+  pub long : faithful → near.length ≡ length x
+  pub are : faithful → take near.count page ≡ take near.count (drop near.at x)
   pub inside : near.count ≤ length page
   pub room : 16 ≤ length page
 

@@ -66,20 +66,20 @@ plain_drop (suc n) [] plain = tt
 plain_drop (suc n) (b ∷ t) plain = plain_drop n t plain.1
 
 -- what stands between a place and the first newline behind it
-module _ (honest : Type 0) (stored : List ℕ) (at len end : ℕ) (f : IsNewlineFrom honest stored at len end) where
-  bytes_are : honest → f.plain.bytes ≡ take (length f.plain.bytes) (drop at stored)
+module _ (faithful : Type 0) (stored : List ℕ) (at len end : ℕ) (f : IsNewlineFrom faithful stored at len end) where
+  bytes_are : faithful → f.plain.bytes ≡ take (length f.plain.bytes) (drop at stored)
   bytes_are h =
       let size : end - at ≡ length f.plain.bytes = omega (arith, f.plain.long) in
       f.plain.is h ∙ ap (λ n. take n (drop at stored)) size
 
-  with_newline : honest → end < len → take (length f.plain.bytes + 1) (drop at stored) ≡ ended f.plain.bytes
+  with_newline : faithful → end < len → take (length f.plain.bytes + 1) (drop at stored) ≡ ended f.plain.bytes
   with_newline h less =
       let bytes : List ℕ = f.plain.bytes in
       let here : drop (length bytes) (drop at stored) ≡ 10 ∷ (f.newline h less).0 = drop_twice at (length bytes) stored ∙ ap (λ n. drop n stored) f.plain.long ∙ (f.newline h less).1 in
       take_sum (length bytes) 1 (drop at stored) ∙ ap (λ t. t ++ take 1 (drop (length bytes) (drop at stored))) (sym (bytes_are h)) ∙ ap (λ t. bytes ++ take 1 t) here
 
   -- there is none
-  pub no_line : len ≤ end → HasShortLine honest stored at len
+  pub no_line : len ≤ end → HasShortLine faithful stored at len
   no_line most h line rest is plain =
       let size : end - at ≡ len - at = omega (arith, most, f.within) in
       let bytes : f.plain.bytes ≡ line ++ 10 ∷ rest = f.plain.is h ∙ ap (λ n. take n (drop at stored)) size ∙ is in
@@ -91,7 +91,7 @@ module _ (honest : Type 0) (stored : List ℕ) (at len end : ℕ) (f : IsNewline
       all (b ∷ t) = ap (λ u. b ∷ u) (all t)
 
   -- or it comes soon
-  pub short_line : end < len → length f.plain.bytes < 1024 → HasShortLine honest stored at len
+  pub short_line : end < len → length f.plain.bytes < 1024 → HasShortLine faithful stored at len
   short_line less few h line rest is plain =
       let bytes : List ℕ = f.plain.bytes in
       let n : ℕ = length bytes + 1 in
@@ -102,8 +102,8 @@ module _ (honest : Type 0) (stored : List ℕ) (at len end : ℕ) (f : IsNewline
       omega (arith, most, few)
 
   -- or what was read again isn't what was there
-  pub other_line : end < len → (front : List ℕ) (i : ℕ) → (honest → front ≡ take 1024 (drop at stored)) → 1024 ≤ length f.plain.bytes → i < length front → front ≡ take i front ++ 10 ∷ drop (i + 1) front → length front ≤ 1024
-      → HasShortLine honest stored at len
+  pub other_line : end < len → (front : List ℕ) (i : ℕ) → (faithful → front ≡ take 1024 (drop at stored)) → 1024 ≤ length f.plain.bytes → i < length front → front ≡ take i front ++ 10 ∷ drop (i + 1) front → length front ≤ 1024
+      → HasShortLine faithful stored at len
   other_line less front i read many below is most h line rest all plain =
       let bytes : List ℕ = f.plain.bytes in
       let count : 1024 + (length bytes - 1024) ≡ length bytes = omega (arith, many) in
@@ -122,8 +122,8 @@ module _ (honest : Type 0) (stored : List ℕ) (at len end : ℕ) (f : IsNewline
       plain_take (suc n) (b ∷ t) plain = (plain.0, plain_take n t plain.1)
 
   -- or the line is long
-  pub line_is : end < len → (front : List ℕ) → (honest → front ≡ take 1024 (drop at stored)) → length front ≡ 1024 → 1024 ≤ length f.plain.bytes → HasNoNewline front → (size : ℕ) → size ≡ end - at
-      → IsLongLine honest stored at len front size
+  pub line_is : end < len → (front : List ℕ) → (faithful → front ≡ take 1024 (drop at stored)) → length front ≡ 1024 → 1024 ≤ length f.plain.bytes → HasNoNewline front → (size : ℕ) → size ≡ end - at
+      → IsLongLine faithful stored at len front size
   line_is less front read few many plain size is =
       let bytes : List ℕ = f.plain.bytes in
       let count : 1024 + (length bytes - 1024) ≡ length bytes = omega (arith, many) in
@@ -177,9 +177,9 @@ passed_most c taken n is =
     ]
 
 -- whole lines of a window, and those of the text that they stand for
-pub record StandsFor (honest : Type 0) (stored : List ℕ) (at len : ℕ) (bytes : List ℕ) (c : Cut) (taken : ℕ) : Type 1 where
+pub record StandsFor (faithful : Type 0) (stored : List ℕ) (at len : ℕ) (bytes : List ℕ) (c : Cut) (taken : ℕ) : Type 1 where
   pub text : List ℕ
-  pub is : honest → text ≡ take (passed_of c taken) (drop at stored)
+  pub is : faithful → text ≡ take (passed_of c taken) (drop at stored)
   pub long : length text ≡ passed_of c taken
   pub whole : (split text).rest ≡ []
   pub alike : (P : List (List ℕ) → Type 0) → ((front more : List ℕ) → 1024 ≤ length front → P (front ∷ []) → P ((front ++ more) ∷ [])) → P (split bytes).lines → P (split text).lines
@@ -191,10 +191,10 @@ take_of_take n m t le =
     let more : n + (m - n) ≡ m = omega (arith, le) in
     ap (λ k. take n (take k t)) (sym more) ∙ take_less n (m - n) t
 
-pub stands_for : (honest : Type 0) (stored : List ℕ) (at len : ℕ) (window : List ℕ) (c : Cut) (taken : ℕ) → IsCut honest stored at len window c → taken ≤ c.count
-    → (split (take taken (take c.count window))).rest ≡ [] → StandsFor honest stored at len (take taken (take c.count window)) c taken
+pub stands_for : (faithful : Type 0) (stored : List ℕ) (at len : ℕ) (window : List ℕ) (c : Cut) (taken : ℕ) → IsCut faithful stored at len window c → taken ≤ c.count
+    → (split (take taken (take c.count window))).rest ≡ [] → StandsFor faithful stored at len (take taken (take c.count window)) c taken
 unfolding split
-stands_for honest stored at len window c taken cut within whole =
+stands_for faithful stored at len window c taken cut within whole =
     elim cut.stands [
       | inl plain ↦
           let same = passed_same c taken plain.0 in
@@ -252,9 +252,9 @@ stands_for honest stored at len window c taken cut within whole =
     plain_taken (suc n) (b ∷ t) plain = (plain.0, plain_taken n t plain.1)
 
 -- a line that is cut
-pub cut_is : (honest : Type 0) (stored : List ℕ) (at len : ℕ) (front window : List ℕ) (size left : ℕ) → (l : IsLongLine honest stored at len front size) → length front ≡ 1024 → take 1025 window ≡ ended front → left ≡ size - 1024
-    → IsCutLine honest (take 1025 window) stored at (1025 + left)
-cut_is honest stored at len front window size left l few is more =
+pub cut_is : (faithful : Type 0) (stored : List ℕ) (at len : ℕ) (front window : List ℕ) (size left : ℕ) → (l : IsLongLine faithful stored at len front size) → length front ≡ 1024 → take 1025 window ≡ ended front → left ≡ size - 1024
+    → IsCutLine faithful (take 1025 window) stored at (1025 + left)
+cut_is faithful stored at len front window size left l few is more =
     let count : size + 1 ≡ 1025 + left = omega (arith, more, l.long, few) in
     record {
       front = front;
@@ -302,8 +302,8 @@ begins_whole stored now at n m i read le less plain is line rest text_is apart =
     (take i now, [], drop (i + 1) now, is, sym same ∙ sym (append-nil (take i now)), inr refl)
 
 -- a line that is cut begins as it does
-pub begins_cut : (honest : Type 0) (bytes stored : List ℕ) (at size m : ℕ) → honest → size ≤ m → IsCutLine honest bytes stored at size → BeginsAlike (take m (drop at stored)) bytes
-begins_cut honest bytes stored at size m h le l line rest text_is apart =
+pub begins_cut : (faithful : Type 0) (bytes stored : List ℕ) (at size m : ℕ) → faithful → size ≤ m → IsCutLine faithful bytes stored at size → BeginsAlike (take m (drop at stored)) bytes
+begins_cut faithful bytes stored at size m h le l line rest text_is apart =
     let more : List ℕ = take (m - size) (drop size (drop at stored)) in
     let all : (l.front ++ l.more) ++ 10 ∷ more ≡ line ++ 10 ∷ rest =
     sym (append_assoc (l.front ++ l.more) (10 ∷ []) more) ∙ ap (λ t. t ++ more) (sym (l.is h)) ∙ sym (apart_at size m (drop at stored) le) ∙ text_is in
@@ -311,9 +311,9 @@ begins_cut honest bytes stored at size m h le l line rest text_is apart =
     (l.front, l.more, [], l.bytes_are, sym same, inl l.enough)
 
 -- where no newline comes, or too late, no whole line does
-pub begins_none : (honest : Type 0) (stored now bytes : List ℕ) (at n m len size : ℕ) → honest → m ≡ len - at → now ≡ take n (drop at stored) → length now ≡ n → HasNoNewline now → (n ≡ m) ⊎ (1024 < n) → n ≤ m
-    → HasShortLine honest stored at len → BeginsAlike (take m (drop at stored)) bytes
-begins_none honest stored now bytes at n m len size h is read long plain most le short line rest text_is apart =
+pub begins_none : (faithful : Type 0) (stored now bytes : List ℕ) (at n m len size : ℕ) → faithful → m ≡ len - at → now ≡ take n (drop at stored) → length now ≡ n → HasNoNewline now → (n ≡ m) ⊎ (1024 < n) → n ≤ m
+    → HasShortLine faithful stored at len → BeginsAlike (take m (drop at stored)) bytes
+begins_none faithful stored now bytes at n m len size h is read long plain most le short line rest text_is apart =
     let less = short h line rest (ap (λ k. take k (drop at stored)) (sym is) ∙ text_is) apart in
     let same : now ≡ take n (line ++ 10 ∷ rest) = read ∙ sym (take_of_take n m (drop at stored) le) ∙ ap (take n) text_is in
     let below = first_newline line rest now n same plain in

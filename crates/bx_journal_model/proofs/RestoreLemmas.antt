@@ -298,10 +298,10 @@ after_one r q front more enough e =
     let b = bind_some (λ p. after_lines p []) (next_at r.entries r.stage front) q e in
     rw (in_place_more r.entries r.stage front more b.0 enough b.1) b.2
 
-pub cut_given : (honest : Type 0) (text : List ℕ) (len at to taken : ℕ) (window old new : List ℕ) (c : Cut) (parts : List Part) → honest → IsCut honest text at to window c → old ≡ take c.count window → GivesParts len old new parts taken
+pub cut_given : (faithful : Type 0) (text : List ℕ) (len at to taken : ℕ) (window old new : List ℕ) (c : Cut) (parts : List Part) → faithful → IsCut faithful text at to window c → old ≡ take c.count window → GivesParts len old new parts taken
     → (es : List Entry) (v : Version) (runs : List Run) → IsIn (take at text) es v (record { len = len; runs = runs })
     → IsIn (take (at + passed_of c taken) text) es v (record { len = len; runs = with_runs runs (map (part_run new) parts) })
-cut_given honest text len at to taken window old new c parts h cut is gives es v runs inside =
+cut_given faithful text len at to taken window old new c parts h cut is gives es v runs inside =
     let a : List ℕ = take at text in
     let r : Reading = record { entries = es; stage = Saving v (record { len = len; runs = runs }) } in
     let q : Reading = record { entries = es; stage = Saving v (record { len = len; runs = with_runs runs (map (part_run new) parts) }) } in
@@ -311,7 +311,7 @@ cut_given honest text len at to taken window old new c parts h cut is gives es v
     let both = split-append a bytes inside.whole in
     let whole : (split bytes).rest ≡ [] = sym (ap (λ s. s.rest) both) ∙ led.whole in
     let below : taken ≤ c.count = omega (arith, gives.within, ap length is, length-take c.count window, cut.within) in
-    let s = stands_for honest text at to window c taken cut below whole in
+    let s = stands_for faithful text at to window c taken cut below whole in
     let lines : after_lines r (split bytes).lines ≡ Some q = sym (after_lines-append start r (split a).lines (split bytes).lines inside.lines) ∙ ap (after_lines start) (sym (ap (λ p. p.lines) both)) ∙ led.lines in
     let more : after_lines r (split s.text).lines ≡ Some q = s.alike (λ ls. after_lines r ls ≡ Some q) (λ front rest enough e. after_one r q front rest enough e) lines in
     let next = split-append a s.text inside.whole in

@@ -14,11 +14,11 @@ module _ {T : Type 0} (t : StoreViews T) where
   read_none now = record { text = λ h. refl; survives = λ h y there. there; goes_on = GoesOn_refl _ _ _ _ }
 
   -- one call more
-  pub read_then : {failed : Bool} {old now new : T} → OnlyReadsText t false old now → (t.honest now → t.text new ≡ t.text now) → (t.honest now → NoMore (t.survives now) (t.survives new))
-      → GoesOn t.honest t.room t.failures failed now new → OnlyReadsText t failed old new
+  pub read_then : {failed : Bool} {old now new : T} → OnlyReadsText t false old now → (t.faithful now → t.text new ≡ t.text now) → (t.faithful now → NoMore (t.survives now) (t.survives new))
+      → GoesOn t.faithful t.room t.failures failed now new → OnlyReadsText t failed old new
   read_then first text survives goes_on = record {
-    text = λ h. text (first.goes_on.honesty.1 h) ∙ first.text h;
-    survives = λ h. NoMore_then _ _ _ (first.survives h) (survives (first.goes_on.honesty.1 h));
+    text = λ h. text (first.goes_on.faith.1 h) ∙ first.text h;
+    survives = λ h. NoMore_then _ _ _ (first.survives h) (survives (first.goes_on.faith.1 h));
     goes_on = GoesOn_then _ _ _ _ _ _ _ first.goes_on goes_on;
   }
 
@@ -30,7 +30,7 @@ module _ {T : Type 0} (t : StoreViews T) where
   pub read_through : {R : Type 0} {old new : T} → (v : R) → OnlyReadsText t false old new → LooksThrough t (Ok v) old new
   read_through v reads = record {
     fault = tt;
-    looks = record { same = reads.text; honesty = reads.goes_on.honesty; no_failure = reads.goes_on.counted; counts = tt };
+    looks = record { same = reads.text; faith = reads.goes_on.faith; no_failure = reads.goes_on.counted; counts = tt };
     survives = reads.survives;
   }
 
@@ -40,7 +40,7 @@ module _ {T : Type 0} (t : StoreViews T) where
     fault = inr refl;
     looks = record {
       same = reads.text;
-      honesty = reads.goes_on.honesty;
+      faith = reads.goes_on.faith;
       no_failure = tt;
       counts = (omega (arith, reads.goes_on.counted), omega arith, omega (arith, reads.goes_on.counted));
     };
@@ -48,7 +48,7 @@ module _ {T : Type 0} (t : StoreViews T) where
   }
 
   -- the bytes that it reads are those of the text before them all
-  pub read_bytes : {old now : T} → OnlyReadsText t false old now → (bytes : List ℕ) (at m n : ℕ) → m ≡ n → (t.honest now → bytes ≡ take m (drop at (t.text now)))
-      → t.honest old → bytes ≡ take n (drop at (t.text old))
+  pub read_bytes : {old now : T} → OnlyReadsText t false old now → (bytes : List ℕ) (at m n : ℕ) → m ≡ n → (t.faithful now → bytes ≡ take m (drop at (t.text now)))
+      → t.faithful old → bytes ≡ take n (drop at (t.text old))
   read_bytes {now = now} first bytes at m n is read h =
-      read (first.goes_on.honesty.1 h) ∙ ap (λ k. take k (drop at (t.text now))) is ∙ ap (λ y. take n (drop at y)) (first.text h)
+      read (first.goes_on.faith.1 h) ∙ ap (λ k. take k (drop at (t.text now))) is ∙ ap (λ y. take n (drop at y)) (first.text h)

@@ -15,13 +15,13 @@ pub record IsUndone {A : Type 0} (bytes : List ℕ) (es : List (EntryRead A)) (t
   pub marked : AreMarked bytes older 0 es to
   pub mark : IsMark bytes to (record { entries = entries_onto older es; stage = Between })
 
--- where undoing is in a text that was read again: the store's, where that is honest
-pub record IsUndoing {A : Type 0} (honest : Type 0) (first now : List ℕ) (es : List (EntryRead A)) : Type 0 where
+-- where undoing is in a text that was read again: the store's, where that is faithful
+pub record IsUndoing {A : Type 0} (faithful : Type 0) (first now : List ℕ) (es : List (EntryRead A)) : Type 0 where
   pub text : List ℕ
   pub to : ℕ
   pub undone : IsUndone text es to
-  pub is : honest → first ≡ text
-  pub left : honest → now ≡ take to text
+  pub is : faithful → first ≡ text
+  pub left : faithful → now ≡ take to text
 
 -- the places of the newest entry
 pub popped : {A : Type 0} → (bytes : List ℕ) (es : List (EntryRead A)) (e : EntryRead A) (to : ℕ) → (u : IsUndone bytes (es ++ e ∷ []) to)

@@ -2,8 +2,8 @@
 use Rattle.std.specs.Prelude.{◌≡◌, ℕ, suc, Some, List, [], ◌∷◌, ◌++◌, length, sum, map}
 use Rattle.bx_journal_format.specs.Kept.{Run}
 use Rattle.bx_journal_model.specs.declared.answers.LogRow.{LogRow}
-use Rattle.bx_journal_model.specs.declared.answers.How.{How}
-use Rattle.bx_journal_model.specs.declared.answers.How.TheVariants.{Clean, Dropped, Restored}
+use Rattle.bx_journal_model.specs.declared.answers.RecoveryOutcome.{RecoveryOutcome}
+use Rattle.bx_journal_model.specs.declared.answers.RecoveryOutcome.TheVariants.{Clean, Dropped, Restored}
 use Rattle.bx_journal_model.specs.declared.fault.SessionFault.{SessionFault}
 use Rattle.bx_journal_model.specs.declared.fault.SessionFault.TheVariants.{Interrupted, LengthDiffers, RedoDamaged, NoMemory, Damaged}
 use Rattle.bx_journal_model.specs.Fault.{DeviceFault}
@@ -17,10 +17,10 @@ rows_of (e ∷ entries) = rows_of entries
     ++ record { number = suc (length entries); old_len = e.saved.len; saved = sum (map (λ (run : Run). length run.bytes) e.saved.runs) } ∷ []
 
 -- what was found: `rest` is what follows the last newline
-abbrev pub how_of : Reading → List ℕ → How
+abbrev pub how_of : Reading → List ℕ → RecoveryOutcome
 how_of r rest = how_at (suc (length r.entries)) r.stage rest
   where
-    how_at : ℕ → Stage → List ℕ → How
+    how_at : ℕ → Stage → List ℕ → RecoveryOutcome
     how_at n Between [] = Clean
     how_at n Between (b ∷ rest) = Dropped
     how_at n (Saving v s) rest = Dropped

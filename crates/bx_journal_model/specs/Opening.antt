@@ -1,6 +1,6 @@
 -- What opening a pair finds and leaves.
 use Rattle.std.specs.Prelude.{◌≡◌, ◌≤◌, ℕ, ◌+◌, List, ◌++◌, length, drop}
-use Rattle.bx_journal_model.specs.declared.answers.How.{How}
+use Rattle.bx_journal_model.specs.declared.answers.RecoveryOutcome.{RecoveryOutcome}
 use Rattle.bx_journal_model.specs.declared.fault.SessionFault.{SessionFault}
 use Rattle.bx_journal_model.specs.declared.fault.SessionFault.TheVariants.{DeviceFailed, Damaged, Interrupted, LengthDiffers}
 use Rattle.bx_journal_format.specs.Shown.{shown}
@@ -14,7 +14,7 @@ abbrev pub left_over : List ℕ → List ℕ
 left_over text = (split (shown text)).rest ++ drop (length (shown text)) text
 
 -- what opening leaves stands for what was found
-pub record IsOpened (text x : List ℕ) (r : Reading) (new y : List ℕ) (how : How) (changes : ℕ) : Type 0 where
+pub record IsOpened (text x : List ℕ) (r : Reading) (new y : List ℕ) (how : RecoveryOutcome) (changes : ℕ) : Type 0 where
   pub stands : StandsFor new y (recovered r x)
   pub changes_are : changes ≡ length r.entries
   pub how_is : how ≡ how_of r (left_over text)

@@ -100,6 +100,6 @@ module _ {D T : Type 0} (image : D → List ℕ) (text : T → List ℕ) where
 -- Whatever the redo text gives, a redo of j keeps the old stack: it stands with j images on top, behind an interruption with some, and another fault
 -- leaves all as it was
 pub record KeepsOldStack {D T : Type 0} (d : DeviceViews D) (t : StoreViews T) (j : ℕ) (old new : SessionView D T) (result : Result ℕ SessionFault) : Type 0 where
-  pub stands : d.honest old.image → t.honest old.journal → StandsOnTop d.image t.text j old new result
-  pub ready : d.honest old.image → t.honest old.journal → StaysOnTop d.image t.text j old new result
-  pub fault : d.honest old.image → t.honest old.journal → StopsRedo d.image t.text j old new result
+  pub stands : d.faithful old.image → t.faithful old.journal → StandsOnTop d.image t.text j old new result
+  pub ready : d.faithful old.image → t.faithful old.journal → StaysOnTop d.image t.text j old new result
+  pub fault : d.faithful old.image → t.faithful old.journal → StopsRedo d.image t.text j old new result

@@ -23,9 +23,9 @@ pub record Found (text x redo : List ℕ) (s : Images) : Type 0 where
 
 -- whatever is found of the three devices was found before
 pub record FoundBefore {D T : Type 0} (d : DeviceViews D) (t : StoreViews T) (old new : Devices D T) : Type 0 where
-  pub image_before : d.honest old.image → NoMore (d.survives old.image) (d.survives new.image)
-  pub journal_before : t.honest old.journal → NoMore (t.survives old.journal) (t.survives new.journal)
-  pub redo_before : t.honest old.redo → NoMore (t.survives old.redo) (t.survives new.redo)
+  pub image_before : d.faithful old.image → NoMore (d.survives old.image) (d.survives new.image)
+  pub journal_before : t.faithful old.journal → NoMore (t.survives old.journal) (t.survives new.journal)
+  pub redo_before : t.faithful old.redo → NoMore (t.survives old.redo) (t.survives new.redo)
 
 -- whatever is found of the session's three devices was found before
 abbrev pub NothingNew : {D T : Type 0} → DeviceViews D → StoreViews T → SessionView D T → SessionView D T → Type 0

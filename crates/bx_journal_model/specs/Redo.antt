@@ -6,8 +6,8 @@ use Rattle.bx_journal_format.specs.Parsed.{told_by}
 use Rattle.bx_journal_model.specs.Stack.{StandsFor, Recovers}
 use Rattle.bx_journal_format.specs.Text.{Entry, Between, Reading, Reads, split, start, after_lines, IsDamagedAt}
 use Rattle.bx_journal_format.specs.Finished.{AllTell, IsFinished}
-use Rattle.bx_journal_model.specs.declared.answers.How.{How}
-use Rattle.bx_journal_model.specs.declared.answers.How.TheVariants.{Clean, Dropped, Restored}
+use Rattle.bx_journal_model.specs.declared.answers.RecoveryOutcome.{RecoveryOutcome}
+use Rattle.bx_journal_model.specs.declared.answers.RecoveryOutcome.TheVariants.{Clean, Dropped, Restored}
 use Rattle.bx_journal_model.specs.Images.{Images}
 
 -- A redo text and the image stand for the undone images below it. With `changes` changes they are not too many for a journal
@@ -90,7 +90,7 @@ pub record RefusesRedoAt (text x redo : List ℕ) (line : ℕ) : Type 0 where
   pub refused : IsRefusedAt redo x (length entries) line
 
 -- what opening keeps of the undone images
-abbrev pub found_undone : How → List (List ℕ) → List (List ℕ)
+abbrev pub found_undone : RecoveryOutcome → List (List ℕ) → List (List ℕ)
 found_undone Clean undone = undone
 found_undone Dropped undone = []
 found_undone (Restored number) undone = []

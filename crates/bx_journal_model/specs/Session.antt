@@ -57,9 +57,9 @@ SessionCounts failures text_failures old new e =
 pub record FailsSafely {D T V : Type 0} (d : DeviceViews D) (t : StoreViews T) (old new : SessionView D T) (result : Result V SessionFault) : Type 0 where
   pub broken : (old.is_broken ≡ true) ↔ IsErrOf result Broken
   pub same : IsErrOf result Broken → new ≡ old
-  pub refused : d.honest old.image → t.honest old.journal → IfErr result (λ e. AfterFault e (Unit {0}) (IsSame d.image t.text old new))
-  pub redo_same : t.honest old.redo → IfErr result (λ e. AfterFault e (Unit {0}) (IsRedoSame t.text old new))
+  pub refused : d.faithful old.image → t.faithful old.journal → IfErr result (λ e. AfterFault e (Unit {0}) (IsSame d.image t.text old new))
+  pub redo_same : t.faithful old.redo → IfErr result (λ e. AfterFault e (Unit {0}) (IsRedoSame t.text old new))
   pub unmoved : IfErr result (λ e. (new.count ≡ old.count) × (new.undone ≡ old.undone) × AfterFault e (new.is_broken ≡ true) (new.is_broken ≡ old.is_broken))
-  pub honesty : (d.honest new.image ↔ d.honest old.image) × (t.honest new.journal ↔ t.honest old.journal)
-      × (t.honest new.redo ↔ t.honest old.redo)
+  pub faith : (d.faithful new.image ↔ d.faithful old.image) × (t.faithful new.journal ↔ t.faithful old.journal)
+      × (t.faithful new.redo ↔ t.faithful old.redo)
   pub counts : MatchResult result (λ n. IsUnfailed d.failures t.failures old new) (SessionCounts d.failures t.failures old new)

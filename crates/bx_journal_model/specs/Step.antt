@@ -53,13 +53,13 @@ pub record HasTail (text x : List ℕ) (stack : List (List ℕ)) (entries : List
 -- with the head of an entry behind it a text at rest is open on what the head keeps
 abbrev pub HeadOpens : {T V E : Type 0} → StoreViews T → T → List ℕ → T → Result V E → Type 0
 HeadOpens t old head new result =
-    t.honest old → (x : List ℕ) (stack : List (List ℕ)) (s : Kept) → StartsEntry (t.text old) x stack s head
+    t.faithful old → (x : List ℕ) (stack : List (List ℕ)) (s : Kept) → StartsEntry (t.text old) x stack s head
     → OnOk result (IsOpen Second (as_read s) (t.text new) x stack)
 
 -- and with a front of the head opening finds its stack
 abbrev pub HeadStops : {T V E : Type 0} → StoreViews T → T → List ℕ → T → Result V E → Type 0
 HeadStops t old head new result =
-    t.honest old → (x : List ℕ) (stack : List (List ℕ)) (s : Kept) → StartsEntry (t.text old) x stack s head → OnErr result (Recovers (t.text new) x stack)
+    t.faithful old → (x : List ℕ) (stack : List (List ℕ)) (s : Kept) → StartsEntry (t.text old) x stack s head → OnErr result (Recovers (t.text new) x stack)
 
 -- with the end of an entry behind it a text is at rest, and the image is the newest of its stack
 abbrev pub EndRests : {V E : Type 0} → List ℕ → List ℕ → List ℕ → Result V E → Type 0

@@ -28,8 +28,8 @@ IsOutOfStep text count line = IsDamagedAt text line ⊎ ((line ≡ 1) × IsAccep
 
 -- which fault reading again may answer: want of memory, a failed device, or a text that is out of step
 abbrev pub AgainFault : Type 0 → List ℕ → ℕ → SessionFault → Type 0
-AgainFault honest text count (Damaged line) = honest → IsOutOfStep text count line
-AgainFault honest text count e = DeviceFault e
+AgainFault faithful text count (Damaged line) = faithful → IsOutOfStep text count line
+AgainFault faithful text count e = DeviceFault e
 
 -- which fault undoing may answer, where `count` changes stand
 abbrev pub UndoFault : ℕ → SessionFault → Type 0
@@ -55,22 +55,22 @@ pub record IsReadLast {A : Type 0} (text : List ℕ) (es : List (EntryRead A)) (
 abbrev pub HasRoomFor : {A V E : Type 0} → ℕ → List (EntryRead A) → ℕ → Result V E → Type 0
 HasRoomFor room es k result = (text : List ℕ) (count : ℕ) → IsReadLast text es count → OnOk result (AllKept room (drop (length es - k) es))
 
--- the same of a text of this length: the store's, where that is honest
-pub record IsLastFrom {A : Type 0} (honest : Type 0) (stored : List ℕ) (len : ℕ) (es : List (EntryRead A)) (count : ℕ) : Type 0 where
+-- the same of a text of this length: the store's, where that is faithful
+pub record IsLastFrom {A : Type 0} (faithful : Type 0) (stored : List ℕ) (len : ℕ) (es : List (EntryRead A)) (count : ℕ) : Type 0 where
   pub text : List ℕ
-  pub is : honest → stored ≡ text
+  pub is : faithful → stored ≡ text
   pub long : len ≡ length text
   pub read : IsReadLast text es count
 
--- the text of a store, where that is honest, is some older entries and these alone, with the places of these
-pub record AreReadFrom {A : Type 0} (honest : Type 0) (stored : List ℕ) (es : List (EntryRead A)) : Type 0 where
+-- the text of a store, where that is faithful, is some older entries and these alone, with the places of these
+pub record AreReadFrom {A : Type 0} (faithful : Type 0) (stored : List ℕ) (es : List (EntryRead A)) : Type 0 where
   pub text : List ℕ
   pub older : List Entry
-  pub is : honest → stored ≡ text
+  pub is : faithful → stored ≡ text
   pub mark : IsMark text (length text) (record { entries = entries_onto older es; stage = Between })
   pub marked : AreMarked text older 0 es (length text)
 
 -- which fault reading the redo text again may answer
 abbrev pub RedoAgainFault : Type 0 → List ℕ → ℕ → SessionFault → Type 0
-RedoAgainFault honest text count (RedoDamaged line) = honest → IsOutOfStep text count line
-RedoAgainFault honest text count e = DeviceFault e
+RedoAgainFault faithful text count (RedoDamaged line) = faithful → IsOutOfStep text count line
+RedoAgainFault faithful text count e = DeviceFault e

@@ -2,7 +2,7 @@
 
 /// What opening found behind the finished entries.
 #[derive(Clone, Copy, Debug, PartialEq, Eq)]
-pub enum How {
+pub enum RecoveryOutcome {
     /// Nothing.
     Clean,
     /// An entry without its save line, whose change had not begun. It was cut off.
@@ -14,7 +14,7 @@ pub enum How {
 /// What opening found, how many changes stand, and how many are undone.
 #[derive(Clone, Copy, Debug, PartialEq, Eq)]
 pub struct Recovered {
-    pub how: How,
+    pub how: RecoveryOutcome,
     pub changes: u32,
     pub undone: u32,
 }

@@ -12,7 +12,7 @@ mod long;
 mod mark;
 mod window;
 
-pub use answers::{How, LogRow, Recovered};
+pub use answers::{LogRow, Recovered, RecoveryOutcome};
 pub use devices::Devices;
 pub use entries::FinishedRead;
 pub use fault::{SessionFault, of_redo, of_text};

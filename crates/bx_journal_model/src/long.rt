@@ -15,10 +15,10 @@ pub fn newline_from<T: TextStore>(
     len: u64,
 ) -> Result<u64, DeviceFailed>
     requires countable { T.failures store.old < u64.MAX }
-    requires within { T.honest store.old → len ≤ length (T.text store.old) }
+    requires within { T.faithful store.old → len ≤ length (T.text store.old) }
     requires below { from ≤ len }
     requires some { 0 < length window.old }
-    ensures newline { IfOk result (IsNewlineFrom (T.honest store.old) (T.text store.old) from len) }
+    ensures newline { IfOk result (IsNewlineFrom (T.faithful store.old) (T.text store.old) from len) }
     ensures window { length window.new ≡ length window.old }
     ensures reads { OnlyReadsText T.TextStore (is_err result) store.old store.new }
 {
@@ -44,11 +44,11 @@ pub fn long_line<T: TextStore>(
     len: u64,
 ) -> Result<Option<u64>, DeviceFailed>
     requires countable { T.failures store.old < u64.MAX }
-    requires within { T.honest store.old → len ≤ length (T.text store.old) }
+    requires within { T.faithful store.old → len ≤ length (T.text store.old) }
     requires below { at ≤ len }
     requires room { 1024 ≤ length window.old }
-    ensures long { IfOk result (λ found. IfSome found (IsLongLine (T.honest store.old) (T.text store.old) at len (take 1024 window.new))) }
-    ensures none { IfOk result (λ found. IfNone found (HasShortLine (T.honest store.old) (T.text store.old) at len)) }
+    ensures long { IfOk result (λ found. IfSome found (IsLongLine (T.faithful store.old) (T.text store.old) at len (take 1024 window.new))) }
+    ensures none { IfOk result (λ found. IfNone found (HasShortLine (T.faithful store.old) (T.text store.old) at len)) }
     ensures window { length window.new ≡ length window.old }
     ensures reads { OnlyReadsText T.TextStore (is_err result) store.old store.new }
 {
@@ -103,13 +103,13 @@ fn cut_line<T: TextStore>(
     len: u64,
 ) -> Result<Cut, DeviceFailed>
     requires countable { T.failures store.old < u64.MAX }
-    requires within { T.honest store.old → len ≤ length (T.text store.old) }
+    requires within { T.faithful store.old → len ≤ length (T.text store.old) }
     requires below { at ≤ len }
     requires room { 1024 < length window.old }
-    ensures cut { IfOk result (IsCut (T.honest store.old) (T.text store.old) at len window.new) }
+    ensures cut { IfOk result (IsCut (T.faithful store.old) (T.text store.old) at len window.new) }
     ensures long { IfOk result (λ c. 0 < c.count
-        → IsCutLine (T.honest store.old) (take c.count window.new) (T.text store.old) at (c.count + c.left)) }
-    ensures none { IfOk result (λ c. c.count ≡ 0 → HasShortLine (T.honest store.old) (T.text store.old) at len) }
+        → IsCutLine (T.faithful store.old) (take c.count window.new) (T.text store.old) at (c.count + c.left)) }
+    ensures none { IfOk result (λ c. c.count ≡ 0 → HasShortLine (T.faithful store.old) (T.text store.old) at len) }
     ensures window { length window.new ≡ length window.old }
     ensures reads { OnlyReadsText T.TextStore (is_err result) store.old store.new }
 {
@@ -133,10 +133,10 @@ pub fn read_cut<T: TextStore>(
     len: u64,
 ) -> Result<Cut, DeviceFailed>
     requires countable { T.failures store.old < u64.MAX }
-    requires within { T.honest store.old → len ≤ length (T.text store.old) }
+    requires within { T.faithful store.old → len ≤ length (T.text store.old) }
     requires below { at ≤ len }
-    ensures cut { IfOk result (IsCut (T.honest store.old) (T.text store.old) at len window.new) }
-    ensures begins { 1024 < length window.old → T.honest store.old → IfOk result (λ c. BeginsAlike (take (len - at) (drop at (T.text store.old)))
+    ensures cut { IfOk result (IsCut (T.faithful store.old) (T.text store.old) at len window.new) }
+    ensures begins { 1024 < length window.old → T.faithful store.old → IfOk result (λ c. BeginsAlike (take (len - at) (drop at (T.text store.old)))
         (take c.count window.new)) }
     ensures window { length window.new ≡ length window.old }
     ensures reads { OnlyReadsText T.TextStore (is_err result) store.old store.new }

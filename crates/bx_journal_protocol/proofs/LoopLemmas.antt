@@ -25,18 +25,18 @@ pub standing : {text x redo : List ℕ} {s : Images} → AreAtRest text x redo s
 standing rest = record { stands = rest.rest.stands; undone = rest.undone }
 
 -- behind i turns: the entries that are left, in a text that was `first` and is now the front of it that ends with them, and the records, the newest filled from the image x
-pub record AreLeft {A : Type 0} (text_honest honest : Type 0) (first now x : List ℕ) (i : ℕ) (entries es : List (EntryRead A)) (takens ts : List (Saved A)) : Type 0 where
+pub record AreLeft {A : Type 0} (text_faithful faithful : Type 0) (first now x : List ℕ) (i : ℕ) (entries es : List (EntryRead A)) (takens ts : List (Saved A)) : Type 0 where
   pub gone : length es + i ≡ length entries
   pub more : length ts + i ≡ length takens
   pub few : length takens ≤ length entries
-  pub place : IsUndoing text_honest first now es
-  pub dropped : text_honest → (fs : List Entry) → IsFinished first fs → IsFinished now (drop i fs)
+  pub place : IsUndoing text_faithful first now es
+  pub dropped : text_faithful → (fs : List Entry) → IsFinished first fs → IsFinished now (drop i fs)
   pub kept : AllKept MAX_LEN (drop (length entries - length takens) es)
   pub shaped : AllShaped ts
-  pub ready : honest → AreReady x (reverse es) (reverse ts)
+  pub ready : faithful → AreReady x (reverse es) (reverse ts)
 
-pub none_gone : {A : Type 0} {text_honest honest : Type 0} {stored x : List ℕ} {entries : List (EntryRead A)} {takens : List (Saved A)} → AreReadFrom text_honest stored entries → length takens ≤ length entries
-    → AllShaped takens → (honest → AreReady x (reverse entries) (reverse takens)) → AreLeft text_honest honest stored stored x 0 entries entries takens takens
+pub none_gone : {A : Type 0} {text_faithful faithful : Type 0} {stored x : List ℕ} {entries : List (EntryRead A)} {takens : List (Saved A)} → AreReadFrom text_faithful stored entries → length takens ≤ length entries
+    → AllShaped takens → (faithful → AreReady x (reverse entries) (reverse takens)) → AreLeft text_faithful faithful stored stored x 0 entries entries takens takens
 none_gone {entries = entries} {takens = takens} read few shaped ready =
     let left = all_left {room = MAX_LEN} read few (kept_reading read (length entries - length takens)) in record {
       gone = left.gone;
@@ -50,27 +50,27 @@ none_gone {entries = entries} {takens = takens} read few shaped ready =
     }
 
 -- without the records
-abbrev entries_of : {A : Type 0} {text_honest honest : Type 0} {first now x : List ℕ} {i : ℕ} {entries es : List (EntryRead A)} {takens ts : List (Saved A)}
-    → AreLeft text_honest honest first now x i entries es takens ts → EntriesLeft text_honest first now MAX_LEN i entries es (length takens) (length ts)
+abbrev entries_of : {A : Type 0} {text_faithful faithful : Type 0} {first now x : List ℕ} {i : ℕ} {entries es : List (EntryRead A)} {takens ts : List (Saved A)}
+    → AreLeft text_faithful faithful first now x i entries es takens ts → EntriesLeft text_faithful first now MAX_LEN i entries es (length takens) (length ts)
 entries_of was = record { gone = was.gone; more = was.more; few = was.few; place = was.place; dropped = was.dropped; kept = was.kept }
 
 -- what a turn takes off, which are the last of both
-pub record IsTurn {A : Type 0} {text_honest honest : Type 0} {first now x : List ℕ} {i : ℕ} {entries all : List (EntryRead A)} {takens records : List (Saved A)}
-    (was : AreLeft text_honest honest first now x i entries all takens records) (es : List (EntryRead A)) (e : EntryRead A) (ts : List (Saved A)) (t : Saved A) : Type 0 where
+pub record IsTurn {A : Type 0} {text_faithful faithful : Type 0} {first now x : List ℕ} {i : ℕ} {entries all : List (EntryRead A)} {takens records : List (Saved A)}
+    (was : AreLeft text_faithful faithful first now x i entries all takens records) (es : List (EntryRead A)) (e : EntryRead A) (ts : List (Saved A)) (t : Saved A) : Type 0 where
   pub long : length es + 1 ≡ length all
   pub most : length ts + 1 ≡ length records
   pub lens : entries_len records ≡ entries_len ts + length (entry_text 0 (kept_of t) 0)
   pub undone : IsUndone was.place.text (es ++ e ∷ []) was.place.to
   pub shaped : AllShaped ts × AllWithin t.len t.runs
   pub kept : AllKept MAX_LEN (drop (length entries - length takens) es) × AllWithin e.kept.len (map run_of e.kept.runs) × (e.kept.len ≤ MAX_LEN)
-  pub ready : honest → IsTakenBy x e t × AreZeros e.kept.len (reverse es) (reverse ts)
+  pub ready : faithful → IsTakenBy x e t × AreZeros e.kept.len (reverse es) (reverse ts)
 
 -- the newest record and the others
 ready_pop : {A : Type 0} (x : List ℕ) (es : List (EntryRead A)) (e : EntryRead A) (ts : List (Saved A)) (t : Saved A) → AreReady x (reverse (es ++ e ∷ [])) (reverse (ts ++ t ∷ [])) → IsTakenBy x e t × AreZeros e.kept.len (reverse es) (reverse ts)
 ready_pop x es e ts t ready = subst (λ us. AreReady x (e ∷ reverse es) us) (reverse_last ts t) (subst (λ fs. AreReady x fs (reverse (ts ++ t ∷ []))) (reverse_last es e) ready)
 
-pub turn_of : {A : Type 0} {text_honest honest : Type 0} {first now x : List ℕ} {i : ℕ} {entries all : List (EntryRead A)} {takens records : List (Saved A)}
-    (was : AreLeft text_honest honest first now x i entries all takens records) {es : List (EntryRead A)} {e : EntryRead A} {ts : List (Saved A)} {t : Saved A} → all ≡ es ++ e ∷ [] → records ≡ ts ++ t ∷ [] → IsTurn was es e ts t
+pub turn_of : {A : Type 0} {text_faithful faithful : Type 0} {first now x : List ℕ} {i : ℕ} {entries all : List (EntryRead A)} {takens records : List (Saved A)}
+    (was : AreLeft text_faithful faithful first now x i entries all takens records) {es : List (EntryRead A)} {e : EntryRead A} {ts : List (Saved A)} {t : Saved A} → all ≡ es ++ e ∷ [] → records ≡ ts ++ t ∷ [] → IsTurn was es e ts t
 turn_of {x = x} {records = records} was {es = es} {e = e} {ts = ts} {t = t} is ends =
     let turn = entry_turn (entries_of was) {less = length ts} is (sym (ap length ends ∙ length-append ts (t ∷ []))) in
     record {
@@ -89,12 +89,12 @@ first_of_zeros len [] (t ∷ ts) z = absurd z
 first_of_zeros len (e ∷ es) (t ∷ ts) z = z.0.below
 
 -- a front of the text is left
-pub left_at : {A : Type 0} {text_honest honest : Type 0} {first now x : List ℕ} {i : ℕ} {entries all : List (EntryRead A)} {takens records : List (Saved A)}
-    (was : AreLeft text_honest honest first now x i entries all takens records) → text_honest → (fs : List Entry) → IsFinished first fs → HasLeft first now (drop i fs)
+pub left_at : {A : Type 0} {text_faithful faithful : Type 0} {first now x : List ℕ} {i : ℕ} {entries all : List (EntryRead A)} {takens records : List (Saved A)}
+    (was : AreLeft text_faithful faithful first now x i entries all takens records) → text_faithful → (fs : List Entry) → IsFinished first fs → HasLeft first now (drop i fs)
 left_at was th fs finished = front_left (entries_of was) th fs finished
 
-module _ {A : Type 0} {text_honest honest : Type 0} {first now x : List ℕ} {i : ℕ} {entries all : List (EntryRead A)} {takens records : List (Saved A)}
-    {was : AreLeft text_honest honest first now x i entries all takens records} {es : List (EntryRead A)} {e : EntryRead A} {ts : List (Saved A)} {t : Saved A} (turn : IsTurn was es e ts t) where
+module _ {A : Type 0} {text_faithful faithful : Type 0} {first now x : List ℕ} {i : ℕ} {entries all : List (EntryRead A)} {takens records : List (Saved A)}
+    {was : AreLeft text_faithful faithful first now x i entries all takens records} {es : List (EntryRead A)} {e : EntryRead A} {ts : List (Saved A)} {t : Saved A} (turn : IsTurn was es e ts t) where
   -- without the record
   abbrev alone : EntryTurn (entries_of was) es e (length ts)
   alone = record { long = turn.long; most = turn.most; undone = turn.undone; kept = turn.kept }
@@ -102,28 +102,28 @@ module _ {A : Type 0} {text_honest honest : Type 0} {first now x : List ℕ} {i 
   pub places : HasMarks was.place.text (entries_onto turn.undone.older es) e.version (entry_of e) e.begins e.saved × (e.saved ≤ was.place.to)
   places = entry_places alone
 
-  pub long_at : text_honest → e.saved ≤ length now
+  pub long_at : text_faithful → e.saved ≤ length now
   long_at th = entry_within alone th
 
-  pub marks_at : text_honest → HasMarks now (entries_onto turn.undone.older es) e.version (entry_of e) e.begins e.saved
+  pub marks_at : text_faithful → HasMarks now (entries_onto turn.undone.older es) e.version (entry_of e) e.begins e.saved
   marks_at th = entry_marks alone th
 
   -- the text without the entry
-  pub finished_below : {new : List ℕ} → text_honest → new ≡ take e.begins now → IsFinished new (entries_onto turn.undone.older es)
+  pub finished_below : {new : List ℕ} → text_faithful → new ≡ take e.begins now → IsFinished new (entries_onto turn.undone.older es)
   finished_below th cut = without_entry alone th cut
 
-  pub entries_same : text_honest → (fs : List Entry) → Reads now (record { entries = fs; stage = Between }) → fs ≡ entry_of e ∷ entries_onto turn.undone.older es
+  pub entries_same : text_faithful → (fs : List Entry) → Reads now (record { entries = fs; stage = Between }) → fs ≡ entry_of e ∷ entries_onto turn.undone.older es
   entries_same th fs reads = same_entries alone th fs reads
 
-  zeros_at : (y : List ℕ) → honest → length y ≡ e.kept.len → AreZeros (length y) (reverse es) (reverse ts)
+  zeros_at : (y : List ℕ) → faithful → length y ≡ e.kept.len → AreZeros (length y) (reverse es) (reverse ts)
   zeros_at y h long = subst (λ n. AreZeros n (reverse es) (reverse ts)) (sym long) (turn.ready h).1
 
-  pub first_below : (y : List ℕ) → honest → length y ≡ e.kept.len → IsFirstBelow (length y) (reverse ts)
+  pub first_below : (y : List ℕ) → faithful → length y ≡ e.kept.len → IsFirstBelow (length y) (reverse ts)
   first_below y h long = first_of_zeros (length y) (reverse es) (reverse ts) (zeros_at y h long)
 
   -- behind the turn
-  pub one_gone : {new z : List ℕ} {filled : List (Saved A)} → (text_honest → new ≡ take e.begins now) → (honest → length z ≡ e.kept.len) → (AllShaped ts → AllShaped filled)
-      → length filled ≡ length ts → (honest → AreFilled z ts filled) → AreLeft text_honest honest first new z (i + 1) entries es takens filled
+  pub one_gone : {new z : List ℕ} {filled : List (Saved A)} → (text_faithful → new ≡ take e.begins now) → (faithful → length z ≡ e.kept.len) → (AllShaped ts → AllShaped filled)
+      → length filled ≡ length ts → (faithful → AreFilled z ts filled) → AreLeft text_faithful faithful first new z (i + 1) entries es takens filled
   one_gone {z = z} cut long shaped count filled =
       let left = one_less alone {room_new = MAX_LEN} cut (omega arith) in record {
         gone = left.gone;

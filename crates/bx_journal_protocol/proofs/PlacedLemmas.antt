@@ -34,14 +34,14 @@ stands_cut text new n m s st fits within is =
     })
 
 -- an entry at its place
-pub placed_marks : {A : Type 0} {honest : Type 0} {text x : List ℕ} {e : EntryRead A} {p : Placed} {below : List (List ℕ)} → IsPlaced honest text e p
+pub placed_marks : {A : Type 0} {faithful : Type 0} {text x : List ℕ} {e : EntryRead A} {p : Placed} {below : List (List ℕ)} → IsPlaced faithful text e p
     → TakesBack text x below e.version (entry_of e) e.begins e.saved → TakesBack text x below e.version (entry_of e) p.begins p.mark.saved
 placed_marks {text = text} {x = x} {e = e} {p = p} {below = below} placed t =
     subst (λ b. TakesBack text x below e.version (entry_of e) b p.mark.saved) (sym placed.begins)
     (subst (λ s. TakesBack text x below e.version (entry_of e) e.begins s) (sym placed.saved) t)
 
 -- what an undo leaves, by its entry and by its place
-pub at_place : {A : Type 0} {honest : Type 0} {stored : List ℕ} {e : EntryRead A} {p : Placed} → IsPlaced honest stored e p → (redo : List ℕ) (taken : Kept) (n : ℕ) → {text x left : List ℕ} {old : Side} {below : List (List ℕ)} {y : List ℕ}
+pub at_place : {A : Type 0} {faithful : Type 0} {stored : List ℕ} {e : EntryRead A} {p : Placed} → IsPlaced faithful stored e p → (redo : List ℕ) (taken : Kept) (n : ℕ) → {text x left : List ℕ} {old : Side} {below : List (List ℕ)} {y : List ℕ}
     → LeavesEither text x left old (side_of below y (kept_text redo taken n p.mark.len)) → LeavesEither text x left old (side_of below y (kept_text redo taken n e.kept.len))
 at_place placed redo taken n {text = text} {x = x} {left = left} {old = old} {below = below} {y = y} leaves =
     subst (λ k. LeavesEither text x left old (side_of below y (kept_text redo taken n k))) placed.len leaves
@@ -68,7 +68,7 @@ kept_drop limit zero es kept = kept
 kept_drop limit (suc n) [] kept = tt
 kept_drop limit (suc n) (e ∷ es) kept = kept_drop limit n es kept.2
 
-pub kept_reading : {A : Type 0} {honest : Type 0} {stored : List ℕ} {es : List (EntryRead A)} → AreReadFrom honest stored es → (n : ℕ) → AllKept MAX_LEN (drop n es)
+pub kept_reading : {A : Type 0} {faithful : Type 0} {stored : List ℕ} {es : List (EntryRead A)} → AreReadFrom faithful stored es → (n : ℕ) → AllKept MAX_LEN (drop n es)
 kept_reading {es = es} read n =
     let lines : List (List ℕ) = (split (take (length read.text) read.text)).lines in
     let sane = (read_sane lines (record { entries = entries_onto read.older es; stage = Between }) read.mark.lines).0 in
@@ -98,42 +98,42 @@ pub all_before : {A : Type 0} (text : List ℕ) (done : List Entry) (from to : �
 all_before text done from to es marked = before_reverse to es (before_of text done from to es marked).0
 
 -- older entries stand where they stood in what a cut behind them leaves
-pub placed_cut : {A : Type 0} (honest : Type 0) (text new : List ℕ) (n : ℕ) (es : List (EntryRead A)) (ps : List Placed) → (honest → n ≤ length text) → (honest → new ≡ take n text) → AllBefore n es
-    → ArePlaced honest text es ps → ArePlaced honest new es ps
-placed_cut honest text new n es [] within is before placed = tt
-placed_cut honest text new n [] (p ∷ ps) within is before placed = absurd placed
-placed_cut honest text new n (e ∷ es) (p ∷ ps) within is before placed = (
+pub placed_cut : {A : Type 0} (faithful : Type 0) (text new : List ℕ) (n : ℕ) (es : List (EntryRead A)) (ps : List Placed) → (faithful → n ≤ length text) → (faithful → new ≡ take n text) → AllBefore n es
+    → ArePlaced faithful text es ps → ArePlaced faithful new es ps
+placed_cut faithful text new n es [] within is before placed = tt
+placed_cut faithful text new n [] (p ∷ ps) within is before placed = absurd placed
+placed_cut faithful text new n (e ∷ es) (p ∷ ps) within is before placed = (
   record {
     begins = placed.0.begins;
     saved = placed.0.saved;
     len = placed.0.len;
     stands = λ h. stands_cut text new n p.mark (kept_of e.kept) (placed.0.stands h) (omega (arith, placed.0.saved, before.0)) (within h) (is h);
   },
-  placed_cut honest text new n es ps within is before.1 placed.1,
+  placed_cut faithful text new n es ps within is before.1 placed.1,
 )
 
 -- the last of the places, and its entry
-pub record PlacePopped {A : Type 0} (honest : Type 0) (text : List ℕ) (es : List (EntryRead A)) (p : Placed) (ps : List Placed) : Type 0 where
+pub record PlacePopped {A : Type 0} (faithful : Type 0) (text : List ℕ) (es : List (EntryRead A)) (p : Placed) (ps : List Placed) : Type 0 where
   pub below : List (EntryRead A)
   pub entry : EntryRead A
   pub is : es ≡ below ++ entry ∷ []
-  pub placed : IsPlaced honest text entry p
-  pub rest : ArePlaced honest text (reverse below) ps
+  pub placed : IsPlaced faithful text entry p
+  pub rest : ArePlaced faithful text (reverse below) ps
 
-popped_by : {A : Type 0} (honest : Type 0) (text : List ℕ) (es rs : List (EntryRead A)) (p : Placed) (ps : List Placed) → es ≡ reverse rs → ArePlaced honest text rs (p ∷ ps) → PlacePopped honest text es p ps
-popped_by honest text es [] p ps is placed = absurd placed
-popped_by honest text es (e ∷ rs) p ps is placed = record {
+popped_by : {A : Type 0} (faithful : Type 0) (text : List ℕ) (es rs : List (EntryRead A)) (p : Placed) (ps : List Placed) → es ≡ reverse rs → ArePlaced faithful text rs (p ∷ ps) → PlacePopped faithful text es p ps
+popped_by faithful text es [] p ps is placed = absurd placed
+popped_by faithful text es (e ∷ rs) p ps is placed = record {
   below = reverse rs;
   entry = e;
   is = is ∙ reverse-append (e ∷ []) rs;
   placed = placed.0;
-  rest = subst (λ fs. ArePlaced honest text fs ps) (sym (reverse-reverse rs)) placed.1;
+  rest = subst (λ fs. ArePlaced faithful text fs ps) (sym (reverse-reverse rs)) placed.1;
 }
 
-pub place_popped : {A : Type 0} {honest : Type 0} {text : List ℕ} {es : List (EntryRead A)} {all : List Placed} (ps : List Placed) {p : Placed} → all ≡ ps ++ p ∷ [] → ArePlaced honest text (reverse es) (reverse all) → PlacePopped honest text es p (reverse ps)
-place_popped {honest = honest} {text = text} {es = es} ps {p = p} is placed =
-    popped_by honest text es (reverse es) p (reverse ps) (sym (reverse-reverse es))
-    (subst (ArePlaced honest text (reverse es)) (reverse_last ps p) (subst (λ all. ArePlaced honest text (reverse es) (reverse all)) is placed))
+pub place_popped : {A : Type 0} {faithful : Type 0} {text : List ℕ} {es : List (EntryRead A)} {all : List Placed} (ps : List Placed) {p : Placed} → all ≡ ps ++ p ∷ [] → ArePlaced faithful text (reverse es) (reverse all) → PlacePopped faithful text es p (reverse ps)
+place_popped {faithful = faithful} {text = text} {es = es} ps {p = p} is placed =
+    popped_by faithful text es (reverse es) p (reverse ps) (sym (reverse-reverse es))
+    (subst (ArePlaced faithful text (reverse es)) (reverse_last ps p) (subst (λ all. ArePlaced faithful text (reverse es) (reverse all)) is placed))
 
 -- a place lies in order, within an image's room, and any line within a window
 pub record Fits (room window : ℕ) (p : Placed) : Type 0 where

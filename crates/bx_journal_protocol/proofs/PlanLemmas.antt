@@ -84,46 +84,46 @@ marked_ordered text done from to (e ∷ es) marked =
     ((stands_here text done e marked.1).order, marked_ordered text (entry_of e ∷ done) e.saved to es marked.2)
 
 -- where the last entries stand
-placed_one : {A : Type 0} (honest : Type 0) (stored text : List ℕ) (done : List Entry) (e : EntryRead A) → (honest → stored ≡ text) → HasMarks text done e.version (entry_of e) e.begins e.saved
-    → IsPlaced honest stored e (place_in e)
-placed_one honest stored text done e is marks = record {
+placed_one : {A : Type 0} (faithful : Type 0) (stored text : List ℕ) (done : List Entry) (e : EntryRead A) → (faithful → stored ≡ text) → HasMarks text done e.version (entry_of e) e.begins e.saved
+    → IsPlaced faithful stored e (place_in e)
+placed_one faithful stored text done e is marks = record {
   begins = refl;
   saved = refl;
   len = refl;
   stands = λ h. subst (λ u. StandsAt u (place_in e).mark (kept_of e.kept)) (sym (is h)) (stands_here text done e marks);
 }
 
-placed_more : {A : Type 0} (honest : Type 0) (stored : List ℕ) (es fs : List (EntryRead A)) (ps : List Placed) → ArePlaced honest stored es ps → ArePlaced honest stored (es ++ fs) ps
-placed_more honest stored es fs [] placed = tt
-placed_more honest stored [] fs (p ∷ ps) placed = absurd placed
-placed_more honest stored (e ∷ es) fs (p ∷ ps) placed = (placed.0, placed_more honest stored es fs ps placed.1)
+placed_more : {A : Type 0} (faithful : Type 0) (stored : List ℕ) (es fs : List (EntryRead A)) (ps : List Placed) → ArePlaced faithful stored es ps → ArePlaced faithful stored (es ++ fs) ps
+placed_more faithful stored es fs [] placed = tt
+placed_more faithful stored [] fs (p ∷ ps) placed = absurd placed
+placed_more faithful stored (e ∷ es) fs (p ∷ ps) placed = (placed.0, placed_more faithful stored es fs ps placed.1)
 
-placed_next : {A : Type 0} (honest : Type 0) (stored : List ℕ) (es : List (EntryRead A)) (ps : List Placed) (e : EntryRead A) (p : Placed) → length ps ≡ length es → ArePlaced honest stored es ps
-    → IsPlaced honest stored e p → ArePlaced honest stored (es ++ e ∷ []) (ps ++ p ∷ [])
-placed_next honest stored [] [] e p long placed one = (one, tt)
-placed_next honest stored [] (q ∷ ps) e p long placed one = absurd placed
-placed_next honest stored (f ∷ es) [] e p long placed one = absurd (omega (arith, long))
-placed_next honest stored (f ∷ es) (q ∷ ps) e p long placed one = (placed.0, placed_next honest stored es ps e p (omega (arith, long)) placed.1 one)
+placed_next : {A : Type 0} (faithful : Type 0) (stored : List ℕ) (es : List (EntryRead A)) (ps : List Placed) (e : EntryRead A) (p : Placed) → length ps ≡ length es → ArePlaced faithful stored es ps
+    → IsPlaced faithful stored e p → ArePlaced faithful stored (es ++ e ∷ []) (ps ++ p ∷ [])
+placed_next faithful stored [] [] e p long placed one = (one, tt)
+placed_next faithful stored [] (q ∷ ps) e p long placed one = absurd placed
+placed_next faithful stored (f ∷ es) [] e p long placed one = absurd (omega (arith, long))
+placed_next faithful stored (f ∷ es) (q ∷ ps) e p long placed one = (placed.0, placed_next faithful stored es ps e p (omega (arith, long)) placed.1 one)
 
 length_map : {X Y : Type 0} (f : X → Y) (xs : List X) → length (map f xs) ≡ length xs
 length_map f [] = refl
 length_map f (x ∷ xs) = ap suc (length_map f xs)
 
-pub placed_last : {A : Type 0} (honest : Type 0) (stored text : List ℕ) (done : List Entry) (from to : ℕ) (es : List (EntryRead A)) (n : ℕ) → (honest → stored ≡ text)
-    → AreMarked text done from es to → ArePlaced honest stored (reverse es) (reverse (map place_in (drop n es)))
-placed_last honest stored text done from to [] zero is marked = tt
-placed_last honest stored text done from to [] (suc n) is marked = tt
-placed_last honest stored text done from to (e ∷ es) zero is marked =
+pub placed_last : {A : Type 0} (faithful : Type 0) (stored text : List ℕ) (done : List Entry) (from to : ℕ) (es : List (EntryRead A)) (n : ℕ) → (faithful → stored ≡ text)
+    → AreMarked text done from es to → ArePlaced faithful stored (reverse es) (reverse (map place_in (drop n es)))
+placed_last faithful stored text done from to [] zero is marked = tt
+placed_last faithful stored text done from to [] (suc n) is marked = tt
+placed_last faithful stored text done from to (e ∷ es) zero is marked =
     let ps : List Placed = map place_in es in
     let long : length (reverse ps) ≡ length (reverse es) = length-reverse ps ∙ length_map place_in es ∙ sym (length-reverse es) in
-    let rest : ArePlaced honest stored (reverse es) (reverse ps) = placed_last honest stored text (entry_of e ∷ done) e.saved to es zero is marked.2 in
-    subst (λ fs. ArePlaced honest stored fs (reverse (place_in e ∷ ps))) (sym (reverse-append (e ∷ []) es))
-    (subst (ArePlaced honest stored (reverse es ++ e ∷ [])) (sym (reverse-append (place_in e ∷ []) ps))
-    (placed_next honest stored (reverse es) (reverse ps) e (place_in e) long rest (placed_one honest stored text done e is marked.1)))
-placed_last honest stored text done from to (e ∷ es) (suc n) is marked =
+    let rest : ArePlaced faithful stored (reverse es) (reverse ps) = placed_last faithful stored text (entry_of e ∷ done) e.saved to es zero is marked.2 in
+    subst (λ fs. ArePlaced faithful stored fs (reverse (place_in e ∷ ps))) (sym (reverse-append (e ∷ []) es))
+    (subst (ArePlaced faithful stored (reverse es ++ e ∷ [])) (sym (reverse-append (place_in e ∷ []) ps))
+    (placed_next faithful stored (reverse es) (reverse ps) e (place_in e) long rest (placed_one faithful stored text done e is marked.1)))
+placed_last faithful stored text done from to (e ∷ es) (suc n) is marked =
     let ps : List Placed = reverse (map place_in (drop n es)) in
-    let rest : ArePlaced honest stored (reverse es) ps = placed_last honest stored text (entry_of e ∷ done) e.saved to es n is marked.2 in
-    subst (λ fs. ArePlaced honest stored fs ps) (sym (reverse-append (e ∷ []) es)) (placed_more honest stored (reverse es) (e ∷ []) ps rest)
+    let rest : ArePlaced faithful stored (reverse es) ps = placed_last faithful stored text (entry_of e ∷ done) e.saved to es n is marked.2 in
+    subst (λ fs. ArePlaced faithful stored fs ps) (sym (reverse-append (e ∷ []) es)) (placed_more faithful stored (reverse es) (e ∷ []) ps rest)
 
 -- they lie in order, within the room of an image
 pub places_fit : {A : Type 0} (es : List (EntryRead A)) (window longest room : ℕ) → AreOrdered es → All (λ (e : EntryRead A). e.kept.len ≤ longest) es → longest ≤ room → IsEnough window

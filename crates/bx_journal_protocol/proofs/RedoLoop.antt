@@ -90,12 +90,12 @@ pub record IsRedoBy {A : Type 0} (e : EntryRead A) (n : ℕ) (c : Change A) (lin
   pub line_is : line ≡ end_text (n + 1) e.kept.len
 
 -- the newest entry is made again: the image is changed, the journal has an entry of it, and the redo text is cut where its own began
-pub record IsMadeAgain {A : Type 0} (redo_honest honest text_honest : Type 0) (redo x text redo_new z new : List ℕ) (e : EntryRead A) (s : Kept) (n : ℕ) (c : Change A) (line : List ℕ) : Type 0 where
-  pub changed : honest → z ≡ effect c x
-  pub good : honest → IsAsGood (kept_of (saved c x)) x z
-  pub cut : redo_honest → redo_new ≡ take e.begins redo
-  pub written : honest → text_honest → new ≡ text ++ head_text (n + 1) s ++ line
-  pub rests : honest → text_honest → (stack : List (List ℕ)) → WritesEntry c text x stack (head_text (n + 1) s) line → IsAtRest new z (effect c x ∷ stack)
+pub record IsMadeAgain {A : Type 0} (redo_faithful faithful text_faithful : Type 0) (redo x text redo_new z new : List ℕ) (e : EntryRead A) (s : Kept) (n : ℕ) (c : Change A) (line : List ℕ) : Type 0 where
+  pub changed : faithful → z ≡ effect c x
+  pub good : faithful → IsAsGood (kept_of (saved c x)) x z
+  pub cut : redo_faithful → redo_new ≡ take e.begins redo
+  pub written : faithful → text_faithful → new ≡ text ++ head_text (n + 1) s ++ line
+  pub rests : faithful → text_faithful → (stack : List (List ℕ)) → WritesEntry c text x stack (head_text (n + 1) s) line → IsAtRest new z (effect c x ∷ stack)
 
 -- the entry of a change that is made again: what it keeps, its number and its text
 record WritesAgain {A : Type 0} (c : Change A) (x : List ℕ) (stack : List (List ℕ)) (head line : List ℕ) : Type 0 where
@@ -106,9 +106,9 @@ record WritesAgain {A : Type 0} (c : Change A) (x : List ℕ) (stack : List (Lis
   after : length (effect c x) ≤ MAX_LEN
   line_is : line ≡ end_text (length stack) (length (effect c x))
 
-module _ {A : Type 0} {redo_honest honest : Type 0} {first redo x : List ℕ} {room i k m : ℕ} {entries all : List (EntryRead A)}
-    {was : EntriesLeft redo_honest first redo room i entries all k m} {es : List (EntryRead A)} {e : EntryRead A} {less : ℕ} (turn : EntryTurn was es e less)
-    {kept : Kept} (keeps : IsKeptOf honest x e kept) {n : ℕ} {c : Change A} {line : List ℕ} (by : IsRedoBy e n c line) where
+module _ {A : Type 0} {redo_faithful faithful : Type 0} {first redo x : List ℕ} {room i k m : ℕ} {entries all : List (EntryRead A)}
+    {was : EntriesLeft redo_faithful first redo room i entries all k m} {es : List (EntryRead A)} {e : EntryRead A} {less : ℕ} (turn : EntryTurn was es e less)
+    {kept : Kept} (keeps : IsKeptOf faithful x e kept) {n : ℕ} {c : Change A} {line : List ℕ} (by : IsRedoBy e n c line) where
   effect_is : effect c x ≡ restore (kept_of e.kept) x
   effect_is = effect-restore c e.kept x by.back (within_out e.kept.len e.kept.runs turn.kept.1) ∙ sym (same_restore e.kept x)
 
@@ -122,7 +122,7 @@ module _ {A : Type 0} {redo_honest honest : Type 0} {first redo x : List ℕ} {r
       (subst AreBounded (onto-push turn.undone.older es e) bounded.0).0
 
   -- the entry that is written of an image that an entry can tell, whatever stack image and journal stand for
-  writes_on : {text : List ℕ} → honest → n + 1 ≤ 65535 → (stack : List (List ℕ)) → StandsFor text x stack → n ≡ changes_of stack → WritesAgain c x stack (head_text (n + 1) kept) line
+  writes_on : {text : List ℕ} → faithful → n + 1 ≤ 65535 → (stack : List (List ℕ)) → StandsFor text x stack → n ≡ changes_of stack → WritesAgain c x stack (head_text (n + 1) kept) line
   writes_on {text = text} h few stack stands count =
       let same : kept ≡ kept_of (saved c x) = keeps.is h c by.back in
       let number : n + 1 ≡ length stack = omega (arith, count, some_stands text x stack stands) in
@@ -137,7 +137,7 @@ module _ {A : Type 0} {redo_honest honest : Type 0} {first redo x : List ℕ} {r
         line_is = by.line_is ∙ ap (λ m. end_text m e.kept.len) number ∙ ap (end_text (length stack)) (sym long);
       }
 
-  entry_on : {text : List ℕ} → honest → n + 1 ≤ 65535 → (stack : List (List ℕ)) → IsAtRest text x stack → n ≡ changes_of stack → WritesEntry c text x stack (head_text (n + 1) kept) line
+  entry_on : {text : List ℕ} → faithful → n + 1 ≤ 65535 → (stack : List (List ℕ)) → IsAtRest text x stack → n ≡ changes_of stack → WritesEntry c text x stack (head_text (n + 1) kept) line
   entry_on h few stack rest count =
       let w = writes_on h few stack rest.stands count in record {
         starts = record { rest = rest; kept = w.kept; fits = w.fits; number = w.number; head_is = w.head_is };
@@ -146,7 +146,7 @@ module _ {A : Type 0} {redo_honest honest : Type 0} {first redo x : List ℕ} {r
       }
 
   -- stopped in the turn, with i images on top of a stack of m changes
-  pub stopped_on : {text new y : List ℕ} {before most : ℕ} → honest → n + 1 ≤ 65535 → i < most → n ≡ before + i → (stack : List (List ℕ)) → 1 ≤ length stack → before ≡ changes_of stack → OnTop i stack (IsAtRest text x)
+  pub stopped_on : {text new y : List ℕ} {before most : ℕ} → faithful → n + 1 ≤ 65535 → i < most → n ≡ before + i → (stack : List (List ℕ)) → 1 ≤ length stack → before ≡ changes_of stack → OnTop i stack (IsAtRest text x)
       → ((s : List (List ℕ)) → WritesEntry c text x s (head_text (n + 1) kept) line → RecoversEither new y s (effect c x ∷ s)) → (j : ℕ) × (j ≤ most) × OnTop j stack (Recovers new y)
   stopped_on h few below number stack some count on stops =
       elim (stops (on.0 ++ stack) (entry_on h few (on.0 ++ stack) on.2 (changes_on stack on.0 some on.1 count number))) [
@@ -154,7 +154,7 @@ module _ {A : Type 0} {redo_honest honest : Type 0} {first redo x : List ℕ} {r
         | inr f ↦ (i + 1, omega (arith, below), (effect c x ∷ on.0, omega (arith, on.1), f))
       ]
 
-  module _ (rh : redo_honest) where
+  module _ (rh : redo_faithful) where
     newest : (s : Images) → IsRedoOf redo x (changes_of s.stack) s.undone → HasNewest x (entry_of e) s.undone
     newest s undone = has_newest redo x (entry_of e) (entries_onto turn.undone.older es) (changes_of s.stack) s.undone undone (finished_now turn rh)
 
@@ -170,13 +170,13 @@ module _ {A : Type 0} {redo_honest honest : Type 0} {first redo x : List ℕ} {r
       marks = marks_at turn rh;
     }
 
-    writes_again : {text : List ℕ} → honest → (s : Images) → AreStanding text x redo s → n ≡ changes_of s.stack → WritesAgain c x s.stack (head_text (n + 1) kept) line
+    writes_again : {text : List ℕ} → faithful → (s : Images) → AreStanding text x redo s → n ≡ changes_of s.stack → WritesAgain c x s.stack (head_text (n + 1) kept) line
     writes_again {text = text} h s both count =
         let has = newest s both.undone in
         let more : length s.undone ≡ suc (length (drop 1 s.undone)) = ap length has.undone_is in
         writes_on h (omega (arith, both.undone.few, more, count)) s.stack both.stands count
 
-    writes_entry : {text : List ℕ} → honest → (s : Images) → AreAtRest text x redo s → n ≡ changes_of s.stack → WritesEntry c text x s.stack (head_text (n + 1) kept) line
+    writes_entry : {text : List ℕ} → faithful → (s : Images) → AreAtRest text x redo s → n ≡ changes_of s.stack → WritesEntry c text x s.stack (head_text (n + 1) kept) line
     writes_entry h s rest count =
         let w = writes_again h s (standing rest) count in record {
           starts = record { rest = rest.rest; kept = w.kept; fits = w.fits; number = w.number; head_is = w.head_is };
@@ -191,7 +191,7 @@ module _ {A : Type 0} {redo_honest honest : Type 0} {first redo x : List ℕ} {r
         ap (λ (q : Images). q.stack) next ∙ ap (λ y. y ∷ (redo_of i s).stack) (sym effect_is)
 
     -- stopped in the turn
-    pub redo_stopped : {text new y redo_new : List ℕ} {most : ℕ} → honest → i < most → (s : Images) → AreAtRest text x redo (redo_of i s) → n ≡ changes_of (redo_of i s).stack
+    pub redo_stopped : {text new y redo_new : List ℕ} {most : ℕ} → faithful → i < most → (s : Images) → AreAtRest text x redo (redo_of i s) → n ≡ changes_of (redo_of i s).stack
         → ((stack : List (List ℕ)) → WritesEntry c text x stack (head_text (n + 1) kept) line
         → LeavesEither new y redo_new (side_of stack x redo) (side_of (effect c x ∷ stack) (effect c x) (take e.begins redo)))
         → (j : ℕ) × (j ≤ most) × Finds new y redo_new (redo_of j s)
@@ -203,11 +203,11 @@ module _ {A : Type 0} {redo_honest honest : Type 0} {first redo x : List ℕ} {r
         ]
 
   -- behind the turn
-  module _ {text_honest : Type 0} {text redo_new z new : List ℕ} (made : IsMadeAgain redo_honest honest text_honest redo x text redo_new z new e kept n c line) where
-    pub rests_again : redo_honest → honest → text_honest → (s : Images) → AreAtRest text x redo (redo_of i s) → n ≡ changes_of (redo_of i s).stack → IsAtRest new z (redo_of (i + 1) s).stack
+  module _ {text_faithful : Type 0} {text redo_new z new : List ℕ} (made : IsMadeAgain redo_faithful faithful text_faithful redo x text redo_new z new e kept n c line) where
+    pub rests_again : redo_faithful → faithful → text_faithful → (s : Images) → AreAtRest text x redo (redo_of i s) → n ≡ changes_of (redo_of i s).stack → IsAtRest new z (redo_of (i + 1) s).stack
     rests_again rh h th s rest count = subst (IsAtRest new z) (sym (top_is rh s (standing rest))) (made.rests h th (redo_of i s).stack (writes_entry rh h (redo_of i s) rest count))
 
-    stands_with : honest → text_honest → (stack : List (List ℕ)) → StandsFor text x stack → WritesAgain c x stack (head_text (n + 1) kept) line → StandsFor new z (effect c x ∷ stack)
+    stands_with : faithful → text_faithful → (stack : List (List ℕ)) → StandsFor text x stack → WritesAgain c x stack (head_text (n + 1) kept) line → StandsFor new z (effect c x ∷ stack)
     stands_with h th stack stands w =
         let k : Kept = kept_of (saved c x) in
         let after : ℕ = length (effect c x) in
@@ -217,25 +217,25 @@ module _ {A : Type 0} {redo_honest honest : Type 0} {first redo x : List ℕ} {r
         let done : StandsFor new z (z ∷ stack) = performed c text new x z stack k after stands w.number w.kept w.fits w.after (ap length (made.changed h)) ((made.good h).same ∙ w.kept.back) text_is in
         subst (λ y. StandsFor new z (y ∷ stack)) (made.changed h) done
 
-    stands_again : redo_honest → honest → text_honest → (s : Images) → AreStanding text x redo s → n ≡ changes_of s.stack → StandsFor new z (effect c x ∷ s.stack)
+    stands_again : redo_faithful → faithful → text_faithful → (s : Images) → AreStanding text x redo s → n ≡ changes_of s.stack → StandsFor new z (effect c x ∷ s.stack)
     stands_again rh h th s both count = stands_with h th s.stack both.stands (writes_again rh h s both count)
 
     -- one image more is on top
-    pub rests_on : {before : ℕ} → honest → text_honest → n + 1 ≤ 65535 → n ≡ before + i → (stack : List (List ℕ)) → 1 ≤ length stack → before ≡ changes_of stack → OnTop i stack (IsAtRest text x) → OnTop (i + 1) stack (IsAtRest new z)
+    pub rests_on : {before : ℕ} → faithful → text_faithful → n + 1 ≤ 65535 → n ≡ before + i → (stack : List (List ℕ)) → 1 ≤ length stack → before ≡ changes_of stack → OnTop i stack (IsAtRest text x) → OnTop (i + 1) stack (IsAtRest new z)
     rests_on h th few number stack some count on = (
       effect c x ∷ on.0,
       omega (arith, on.1),
       made.rests h th (on.0 ++ stack) (entry_on h few (on.0 ++ stack) on.2 (changes_on stack on.0 some on.1 count number)),
     )
 
-    pub stands_on : {before : ℕ} → honest → text_honest → n + 1 ≤ 65535 → n ≡ before + i → (stack : List (List ℕ)) → 1 ≤ length stack → before ≡ changes_of stack → OnTop i stack (StandsFor text x) → OnTop (i + 1) stack (StandsFor new z)
+    pub stands_on : {before : ℕ} → faithful → text_faithful → n + 1 ≤ 65535 → n ≡ before + i → (stack : List (List ℕ)) → 1 ≤ length stack → before ≡ changes_of stack → OnTop i stack (StandsFor text x) → OnTop (i + 1) stack (StandsFor new z)
     stands_on h th few number stack some count on = (
       effect c x ∷ on.0,
       omega (arith, on.1),
       stands_with h th (on.0 ++ stack) on.2 (writes_on h few (on.0 ++ stack) on.2 (changes_on stack on.0 some on.1 count number)),
     )
 
-    pub redone_next : redo_honest → honest → text_honest → (s : Images) → AreStanding text x redo (redo_of i s) → n ≡ changes_of (redo_of i s).stack
+    pub redone_next : redo_faithful → faithful → text_faithful → (s : Images) → AreStanding text x redo (redo_of i s) → n ≡ changes_of (redo_of i s).stack
         → AreStanding new z redo_new (redo_of (i + 1) s) × (n + 1 ≡ changes_of (redo_of (i + 1) s).stack)
     redone_next rh h th s both count =
         let p : Images = redo_of i s in
@@ -250,7 +250,7 @@ module _ {A : Type 0} {redo_honest honest : Type 0} {first redo x : List ℕ} {r
         )
 
     -- what the ranges that are left lead on to
-    pub grown_next : redo_honest → honest → text_honest → (fs : List Entry) → IsFinished first fs → taken_by less (drop (i + 1) fs) z (n + 1) new ≡ taken_by m (drop i fs) x n text
+    pub grown_next : redo_faithful → faithful → text_faithful → (fs : List Entry) → IsFinished first fs → taken_by less (drop (i + 1) fs) z (n + 1) new ≡ taken_by m (drop i fs) x n text
     grown_next rh h th fs finished =
         let below : List Entry = entries_onto turn.undone.older es in
         let same : drop i fs ≡ entry_of e ∷ below = entries_same turn rh (drop i fs) (was.dropped rh fs finished).reads in

@@ -52,15 +52,15 @@ unfolding stack_of
 top_of e es x = refl
 
 -- the newest entry is taken back: the image is restored, the text is cut where the entry began, and the redo text keeps what was taken
-pub record IsTakenBack {A : Type 0} (text_honest honest redo_honest : Type 0) (text x redo new z redo_new : List ℕ) (e : EntryRead A) (t : Saved A) (n : ℕ) : Type 0 where
-  pub restored : text_honest → honest → z ≡ restore (kept_of e.kept) x
-  pub cut : text_honest → new ≡ take e.begins text
-  pub kept : redo_honest → redo_new ≡ kept_text redo (kept_of t) (n + 1) e.kept.len
-  pub rests : honest → text_honest → (below : List (List ℕ)) → TakesBack text x below e.version (entry_of e) e.begins e.saved → IsAtRest new z below
+pub record IsTakenBack {A : Type 0} (text_faithful faithful redo_faithful : Type 0) (text x redo new z redo_new : List ℕ) (e : EntryRead A) (t : Saved A) (n : ℕ) : Type 0 where
+  pub restored : text_faithful → faithful → z ≡ restore (kept_of e.kept) x
+  pub cut : text_faithful → new ≡ take e.begins text
+  pub kept : redo_faithful → redo_new ≡ kept_text redo (kept_of t) (n + 1) e.kept.len
+  pub rests : faithful → text_faithful → (below : List (List ℕ)) → TakesBack text x below e.version (entry_of e) e.begins e.saved → IsAtRest new z below
 
-module _ {A : Type 0} {text_honest honest : Type 0} {first text x : List ℕ} {i : ℕ} {entries all : List (EntryRead A)} {takens records : List (Saved A)}
-    {was : AreLeft text_honest honest first text x i entries all takens records} {es : List (EntryRead A)} {e : EntryRead A} {ts : List (Saved A)} {t : Saved A} (turn : IsTurn was es e ts t) where
-  module _ (th : text_honest) where
+module _ {A : Type 0} {text_faithful faithful : Type 0} {first text x : List ℕ} {i : ℕ} {entries all : List (EntryRead A)} {takens records : List (Saved A)}
+    {was : AreLeft text_faithful faithful first text x i entries all takens records} {es : List (EntryRead A)} {e : EntryRead A} {ts : List (Saved A)} {t : Saved A} (turn : IsTurn was es e ts t) where
+  module _ (th : text_faithful) where
     stack_below : (stack : List (List ℕ)) → StandsFor text x stack → stack ≡ x ∷ stack_of (entries_onto turn.undone.older es) (restore (kept_of e.kept) x)
     stack_below stack stands =
         stands.stack_is ∙ ap (λ fs. stack_of fs x) (entries_same turn th stands.entries stands.reads) ∙ top_of (entry_of e) (entries_onto turn.undone.older es) x
@@ -86,7 +86,7 @@ module _ {A : Type 0} {text_honest honest : Type 0} {first text x : List ℕ} {i
           stack_is = ap (drop 1) (stack_below stack stands) ∙ ap (stack_of es_below) (sym restored);
         }
 
-    undoes_one : honest → (s : Images) → StandsFor text x s.stack → UndoesOne (change_back e) e.kept x s (entry_of e) (kept_of t) (drop 1 s.stack)
+    undoes_one : faithful → (s : Images) → StandsFor text x s.stack → UndoesOne (change_back e) e.kept x s (entry_of e) (kept_of t) (drop 1 s.stack)
     undoes_one h s stands =
         let es_below : List Entry = entries_onto turn.undone.older es in
         let long : length (drop 1 s.stack) ≡ suc (length es_below) = ap (λ k. length (drop 1 k)) (stack_below s.stack stands) ∙ length-stack_of es_below (restore (kept_of e.kept) x) in
@@ -113,7 +113,7 @@ module _ {A : Type 0} {text_honest honest : Type 0} {first text x : List ℕ} {i
           | inr f ↦ (i + 1, omega (arith, less), subst (Recovers new y) (drop_one i stack) f)
         ]
 
-    pub undo_stopped : {redo new y redo_new : List ℕ} {n k : ℕ} → honest → i < k → (s : Images) → AreAtRest text x redo (undo_of i s) → n ≡ length (undo_of i s).undone
+    pub undo_stopped : {redo new y redo_new : List ℕ} {n k : ℕ} → faithful → i < k → (s : Images) → AreAtRest text x redo (undo_of i s) → n ≡ length (undo_of i s).undone
         → ((below : List (List ℕ)) → TakesBack text x below e.version (entry_of e) e.begins e.saved
         → LeavesEither new y redo_new (side_of (x ∷ below) x redo) (side_of below (restore (kept_of e.kept) x) (kept_text redo (kept_of t) (n + 1) e.kept.len)))
         → (j : ℕ) × (j ≤ k) × Finds new y redo_new (undo_of j s)
@@ -128,14 +128,14 @@ module _ {A : Type 0} {text_honest honest : Type 0} {first text x : List ℕ} {i
         ]
 
   -- behind the turn
-  module _ {redo_honest : Type 0} {redo new z redo_new : List ℕ} {n : ℕ} (back : IsTakenBack text_honest honest redo_honest text x redo new z redo_new e t n) where
-    pub rests_below : text_honest → honest → (stack : List (List ℕ)) → IsAtRest text x (drop i stack) → IsAtRest new z (drop (i + 1) stack)
+  module _ {redo_faithful : Type 0} {redo new z redo_new : List ℕ} {n : ℕ} (back : IsTakenBack text_faithful faithful redo_faithful text x redo new z redo_new e t n) where
+    pub rests_below : text_faithful → faithful → (stack : List (List ℕ)) → IsAtRest text x (drop i stack) → IsAtRest new z (drop (i + 1) stack)
     rests_below th h stack rest = subst (IsAtRest new z) (drop_one i stack) (back.rests h th (drop 1 (drop i stack)) (takes_back th (drop i stack) rest))
 
-    pub stood_below : text_honest → honest → (stack : List (List ℕ)) → StandsFor text x (drop i stack) → StandsFor new z (drop (i + 1) stack)
+    pub stood_below : text_faithful → faithful → (stack : List (List ℕ)) → StandsFor text x (drop i stack) → StandsFor new z (drop (i + 1) stack)
     stood_below th h stack stands = subst (StandsFor new z) (drop_one i stack) (stands_below th (back.cut th) (back.restored th h) (drop i stack) stands)
 
-    pub undone_next : text_honest → honest → redo_honest → (s : Images) → AreStanding text x redo (undo_of i s) → n ≡ length (undo_of i s).undone
+    pub undone_next : text_faithful → faithful → redo_faithful → (s : Images) → AreStanding text x redo (undo_of i s) → n ≡ length (undo_of i s).undone
         → AreStanding new z redo_new (undo_of (i + 1) s) × ((if nat_le t.len MAX_LEN then n + 1 else 0) ≡ length (undo_of (i + 1) s).undone)
     undone_next th h rh s both count =
         let p : Images = undo_of i s in
@@ -153,7 +153,7 @@ module _ {A : Type 0} {text_honest honest : Type 0} {first text x : List ℕ} {i
         )
 
     -- the room that is left
-    pub room_left : (filled : List (Saved A)) {limit more : ℕ} → redo_honest → length redo + entries_len records ≤ limit → limit ≤ more → entries_len filled ≡ entries_len ts → length redo_new + entries_len filled ≤ more
+    pub room_left : (filled : List (Saved A)) {limit more : ℕ} → redo_faithful → length redo + entries_len records ≤ limit → limit ≤ more → entries_len filled ≡ entries_len ts → length redo_new + entries_len filled ≤ more
     room_left filled {more = more} rh fits rises same = by_test (nat_le t.len MAX_LEN) (back.kept rh)
       where
         by_test : (b : Bool) → redo_new ≡ (if b then redo ++ entry_text (n + 1) (kept_of t) e.kept.len else []) → length redo_new + entries_len filled ≤ more
@@ -161,7 +161,7 @@ module _ {A : Type 0} {text_honest honest : Type 0} {first text x : List ℕ} {i
         by_test false is = omega (arith, ap length is, turn.lens, fits, rises, same)
 
     -- what the records that are left lead on to
-    pub taken_next : text_honest → honest → redo_honest → {m : ℕ} → m ≡ (if nat_le t.len MAX_LEN then n + 1 else 0) → (filled : List (Saved A)) → length filled ≡ length ts → (fs : List Entry) → IsFinished first fs
+    pub taken_next : text_faithful → faithful → redo_faithful → {m : ℕ} → m ≡ (if nat_le t.len MAX_LEN then n + 1 else 0) → (filled : List (Saved A)) → length filled ≡ length ts → (fs : List Entry) → IsFinished first fs
         → (last : List ℕ) → AreKept (length filled) (drop (i + 1) fs) z m redo_new last → AreKept (length records) (drop i fs) x n redo last
     taken_next th h rh {m = m} number filled count fs finished last left =
         let below : List Entry = entries_onto turn.undone.older es in

@@ -19,14 +19,14 @@ use Rattle.bx_journal_protocol.proofs.TakenLemmas.{last_is, reverse_last}
 use Rattle.bx_journal_protocol.proofs.TakingLemmas.{length_here}
 
 -- what the entry that is written when e is restored keeps of the image x
-pub record IsKeptOf {A : Type 0} (honest : Type 0) (x : List ℕ) (e : EntryRead A) (s : Kept) : Type 0 where
-  pub short : honest → length x ≤ MAX_LEN
-  pub of_x : honest → IsOf s x
-  pub is : honest → (c : Change A) → Restores c e.kept → s ≡ kept_of (saved c x)
+pub record IsKeptOf {A : Type 0} (faithful : Type 0) (x : List ℕ) (e : EntryRead A) (s : Kept) : Type 0 where
+  pub short : faithful → length x ≤ MAX_LEN
+  pub of_x : faithful → IsOf s x
+  pub is : faithful → (c : Change A) → Restores c e.kept → s ≡ kept_of (saved c x)
 
 -- it is what the image has in the ranges that e touches, once these were looked at
-pub kept_by : {A honest : Type 0} {x : List ℕ} {len : ℕ} {e : EntryRead A} {r : List Span} → IsTouched len e r → (honest → len ≡ length x) → (honest → HaveBytes (kept_over x r).runs)
-    → IsKeptOf honest x e (kept_over x r)
+pub kept_by : {A faithful : Type 0} {x : List ℕ} {len : ℕ} {e : EntryRead A} {r : List Span} → IsTouched len e r → (faithful → len ≡ length x) → (faithful → HaveBytes (kept_over x r).runs)
+    → IsKeptOf faithful x e (kept_over x r)
 kept_by {x = x} {r = r} touched long bytes = record {
   short = λ h. omega (arith, touched.few, long h);
   of_x = λ h. kept_of_image x r (subst (λ n. LieWithin n r) (long h) touched.within) (bytes h);
@@ -39,9 +39,9 @@ pub touched_pop : {A B : Type 0} (len : ℕ) (es : List (EntryRead A)) (e : Entr
 touched_pop len es e rs r touched =
     subst (λ us. AreTouched len (e ∷ reverse es) us) (reverse_last rs r) (subst (λ fs. AreTouched len fs (reverse (rs ++ r ∷ []))) (reverse_last es e) touched)
 
-pub begun_pop : {B honest : Type 0} (x : List ℕ) (n : ℕ) (rs : List (Vec Span B)) (r : Vec Span B) (page : List ℕ) (place : Place) → IsFirstBegun honest x n (reverse (rs ++ r ∷ [])) page place
-    → IsHeadBegun honest x n r.items page place
-begun_pop {honest = honest} x n rs r page place begun = subst (λ us. IsFirstBegun honest x n us page place) (reverse_last rs r) begun
+pub begun_pop : {B faithful : Type 0} (x : List ℕ) (n : ℕ) (rs : List (Vec Span B)) (r : Vec Span B) (page : List ℕ) (place : Place) → IsFirstBegun faithful x n (reverse (rs ++ r ∷ [])) page place
+    → IsHeadBegun faithful x n r.items page place
+begun_pop {faithful = faithful} x n rs r page place begun = subst (λ us. IsFirstBegun faithful x n us page place) (reverse_last rs r) begun
 
 pub over_pop : {B : Type 0} (rs : List (Vec Span B)) (r : Vec Span B) → entries_over (rs ++ r ∷ []) ≡ entries_over rs + (80 + left_len r.items 0)
 over_pop [] r = omega arith
@@ -84,12 +84,12 @@ pub over_more : {B : Type 0} (rs : List (Vec Span B)) (i : ℕ) (d : Vec Span B)
 over_more rs i d inside = ap entries_over (take_more rs i d inside) ∙ over_pop (take i rs) (slice_index_or rs i d)
 
 -- what was begun on a device that has the same image, of the same ranges
-pub begun_same : {B honest here : Type 0} {x y : List ℕ} (n : ℕ) {rs slice : List (Vec Span B)} (page : List ℕ) (place : Place) → (honest → here) → (honest → y ≡ x) → slice ≡ rs
-    → IsFirstBegun here x n (reverse slice) page place → IsFirstBegun honest y n (reverse rs) page place
-begun_same {B = B} {honest = honest} {here = here} {x = x} {y = y} n {rs = rs} page place still same is begun =
+pub begun_same : {B faithful here : Type 0} {x y : List ℕ} (n : ℕ) {rs slice : List (Vec Span B)} (page : List ℕ) (place : Place) → (faithful → here) → (faithful → y ≡ x) → slice ≡ rs
+    → IsFirstBegun here x n (reverse slice) page place → IsFirstBegun faithful y n (reverse rs) page place
+begun_same {B = B} {faithful = faithful} {here = here} {x = x} {y = y} n {rs = rs} page place still same is begun =
     go (reverse rs) (subst (λ us. IsFirstBegun here x n (reverse us) page place) is begun)
   where
-    go : (us : List (Vec Span B)) → IsFirstBegun here x n us page place → IsFirstBegun honest y n us page place
+    go : (us : List (Vec Span B)) → IsFirstBegun here x n us page place → IsFirstBegun faithful y n us page place
     go [] begun = tt
     go (r ∷ us) begun = record {
       is_place = begun.is_place;
@@ -100,8 +100,8 @@ begun_same {B = B} {honest = honest} {here = here} {x = x} {y = y} n {rs = rs} p
     }
 
 -- what begins the head of an entry with ranges
-pub begun_of : {E honest : Type 0} (x : List ℕ) (n : ℕ) (rs : List Span) (page : List ℕ) (r : Result Place E) → (honest → IfOk r (λ p. head_from x rs p page n ≡ head_text n (kept_over x rs)))
-    → (honest → OnOk r (HaveBytes (kept_over x rs).runs)) → IfOk r (λ p. length page + rest_len rs p ≡ 34 + left_len rs 0) → OnOk r (0 < length page) → IfOk r (IsPlace rs) → IfOk r (IsHeadBegun honest x n rs page)
+pub begun_of : {E faithful : Type 0} (x : List ℕ) (n : ℕ) (rs : List Span) (page : List ℕ) (r : Result Place E) → (faithful → IfOk r (λ p. head_from x rs p page n ≡ head_text n (kept_over x rs)))
+    → (faithful → OnOk r (HaveBytes (kept_over x rs).runs)) → IfOk r (λ p. length page + rest_len rs p ≡ 34 + left_len rs 0) → OnOk r (0 < length page) → IfOk r (IsPlace rs) → IfOk r (IsHeadBegun faithful x n rs page)
 begun_of x n rs page (Ok p) text bytes long some place = record { is_place = place; text = text; bytes = bytes; long = long; some = some }
 begun_of x n rs page (Err e) text bytes long some place = tt
 
@@ -112,14 +112,14 @@ first_is ts n d long = ap reverse (last_is ts n d long) ∙ reverse_last (take n
 pub last_within : {B : Type 0} (len : ℕ) (ts : List (Vec Span B)) (n : ℕ) (d : Vec Span B) → length ts ≡ suc n → IsFirstWithin len (reverse ts) → LieWithin len (slice_index_or ts n d).items
 last_within len ts n d long within = subst (IsFirstWithin len) (first_is ts n d long) within
 
-pub last_begun : {B E : Type 0} (honest : Type 0) (x : List ℕ) (number : ℕ) (ts : List (Vec Span B)) (n : ℕ) (d : Vec Span B) (page : List ℕ) (r : Result Place E) → length ts ≡ suc n
-    → IfOk r (IsHeadBegun honest x number (slice_index_or ts n d).items page) → IfOk r (IsFirstBegun honest x number (reverse ts) page)
-last_begun honest x number ts n d page (Ok p) long begun = subst (λ us. IsFirstBegun honest x number us page p) (sym (first_is ts n d long)) begun
-last_begun honest x number ts n d page (Err e) long begun = tt
+pub last_begun : {B E : Type 0} (faithful : Type 0) (x : List ℕ) (number : ℕ) (ts : List (Vec Span B)) (n : ℕ) (d : Vec Span B) (page : List ℕ) (r : Result Place E) → length ts ≡ suc n
+    → IfOk r (IsHeadBegun faithful x number (slice_index_or ts n d).items page) → IfOk r (IsFirstBegun faithful x number (reverse ts) page)
+last_begun faithful x number ts n d page (Ok p) long begun = subst (λ us. IsFirstBegun faithful x number us page p) (sym (first_is ts n d long)) begun
+last_begun faithful x number ts n d page (Err e) long begun = tt
 
-pub none_begun : {B : Type 0} (honest : Type 0) (x : List ℕ) (number : ℕ) (ts : List (Vec Span B)) (page : List ℕ) (p : Place) → length ts ≡ 0 → IsFirstBegun honest x number (reverse ts) page p
-none_begun honest x number [] page p none = tt
-none_begun honest x number (t ∷ ts) page p none = absurd (omega (arith, none))
+pub none_begun : {B : Type 0} (faithful : Type 0) (x : List ℕ) (number : ℕ) (ts : List (Vec Span B)) (page : List ℕ) (p : Place) → length ts ≡ 0 → IsFirstBegun faithful x number (reverse ts) page p
+none_begun faithful x number [] page p none = tt
+none_begun faithful x number (t ∷ ts) page p none = absurd (omega (arith, none))
 
 pub ranges_in : (len wide : ℕ) (spans : List Span) → len ≤ wide → LieWithin len spans → AreRanges wide spans
 ranges_in len wide spans le within = ranges_more len wide spans le (are_ranges len spans within)

@@ -27,9 +27,9 @@ has_count stored text es count read is =
     (entries_onto read.older es, subst (λ t. IsFinished t (entries_onto read.older es)) (sym is) read.finished, omega (arith, length-onto read.older es, read.counted))
 
 -- a text of `count` finished entries alone isn't called damaged
-pub in_step : (honest : Type 0) (text : List ℕ) (count : ℕ) (e : SessionFault) → honest → HasCount text count → AgainFault honest text count e → (line : ℕ) → e ≡ Damaged line → ⊥
-in_step honest text count e th has h line is =
-    elim (subst (AgainFault honest text count) is h th) [
+pub in_step : (faithful : Type 0) (text : List ℕ) (count : ℕ) (e : SessionFault) → faithful → HasCount text count → AgainFault faithful text count e → (line : ℕ) → e ≡ Damaged line → ⊥
+in_step faithful text count e th has h line is =
+    elim (subst (AgainFault faithful text count) is h th) [
       | inl damage ↦ undamaged text line (record { entries = has.0; stage = Between }, has.1.reads) damage
       | inr apart ↦ apart.2 has
     ]

@@ -11,8 +11,8 @@ use Rattle.bx_journal_read.specs.declared.show.fault.ShowFault.{ShowFault}
 use Rattle.bx_journal_read.specs.show.Showing.{LookCounts, Stays}
 
 -- a cache of an image that is the same as before
-pub cache_again : (honest now_honest : Type 0) (image now page : List ℕ) (c : Cached) → (now_honest → honest) → (now_honest → now ≡ image) → IsCache honest image page c → IsCache now_honest now page c
-cache_again honest now_honest image now page c still same cache = record {
+pub cache_again : (faithful now_faithful : Type 0) (image now page : List ℕ) (c : Cached) → (now_faithful → faithful) → (now_faithful → now ≡ image) → IsCache faithful image page c → IsCache now_faithful now page c
+cache_again faithful now_faithful image now page c still same cache = record {
   long = λ h. cache.long (still h) ∙ sym (ap length (same h));
   are = λ h. cache.are (still h) ∙ ap (λ im. take c.count (drop c.at im)) (sym (same h));
   inside = cache.inside;
@@ -51,30 +51,30 @@ now_added image page old new k at most there are has less short more =
     more ∙ ap (λ bs. old ++ signed_line (codes "-") at bs) bytes
 
 -- a call that only looks, behind another that did and did not fail
-pub stays_behind : {T R E : Type 0} {honest : T → Type 0} {text : T → List ℕ} {failures : T → ℕ} {r : Result R E} {old now new : T} → (honest old → text now ≡ text old) → (honest now ↔ honest old)
-    → failures now ≡ failures old → Stays honest text failures r now new → Stays honest text failures r old new
-stays_behind {failures = failures} {r = r} {new = new} same honesty unfailed next = record {
-  same = λ h. next.same (honesty.1 h) ∙ same h;
-  honesty = ((λ h. honesty.0 (next.honesty.0 h)), λ h. next.honesty.1 (honesty.1 h));
+pub stays_behind : {T R E : Type 0} {faithful : T → Type 0} {text : T → List ℕ} {failures : T → ℕ} {r : Result R E} {old now new : T} → (faithful old → text now ≡ text old) → (faithful now ↔ faithful old)
+    → failures now ≡ failures old → Stays faithful text failures r now new → Stays faithful text failures r old new
+stays_behind {failures = failures} {r = r} {new = new} same faith unfailed next = record {
+  same = λ h. next.same (faith.1 h) ∙ same h;
+  faith = ((λ h. faith.0 (next.faith.0 h)), λ h. next.faith.1 (faith.1 h));
   no_failure = subst (λ n. OnOk r (failures new ≡ n)) unfailed next.no_failure;
 }
 
 -- calls that only looked and did not fail, up to now
-pub record HasStayed {T : Type 0} (honest : T → Type 0) (text : T → List ℕ) (failures : T → ℕ) (old now : T) : Type 0 where
-  pub same : honest old → text now ≡ text old
-  pub honesty : honest now ↔ honest old
+pub record HasStayed {T : Type 0} (faithful : T → Type 0) (text : T → List ℕ) (failures : T → ℕ) (old now : T) : Type 0 where
+  pub same : faithful old → text now ≡ text old
+  pub faith : faithful now ↔ faithful old
   pub no_failure : failures now ≡ failures old
 
 -- none yet
-pub stayed_none : {T : Type 0} (honest : T → Type 0) (text : T → List ℕ) (failures : T → ℕ) (now : T) → HasStayed honest text failures now now
-stayed_none honest text failures now = record { same = λ h. refl; honesty = ((λ h. h), λ h. h); no_failure = refl }
+pub stayed_none : {T : Type 0} (faithful : T → Type 0) (text : T → List ℕ) (failures : T → ℕ) (now : T) → HasStayed faithful text failures now now
+stayed_none faithful text failures now = record { same = λ h. refl; faith = ((λ h. h), λ h. h); no_failure = refl }
 
 -- one more
-pub stayed_on : {T : Type 0} {honest : T → Type 0} {text : T → List ℕ} {failures : T → ℕ} {old now new : T} → HasStayed honest text failures old now → (honest now → text new ≡ text now) → (honest new ↔ honest now)
-    → failures new ≡ failures now → HasStayed honest text failures old new
-stayed_on first same honesty unfailed = record {
-  same = λ h. same (first.honesty.1 h) ∙ first.same h;
-  honesty = ((λ h. first.honesty.0 (honesty.0 h)), λ h. honesty.1 (first.honesty.1 h));
+pub stayed_on : {T : Type 0} {faithful : T → Type 0} {text : T → List ℕ} {failures : T → ℕ} {old now new : T} → HasStayed faithful text failures old now → (faithful now → text new ≡ text now) → (faithful new ↔ faithful now)
+    → failures new ≡ failures now → HasStayed faithful text failures old new
+stayed_on first same faith unfailed = record {
+  same = λ h. same (first.faith.1 h) ∙ first.same h;
+  faith = ((λ h. first.faith.0 (faith.0 h)), λ h. faith.1 (first.faith.1 h));
   no_failure = unfailed ∙ first.no_failure;
 }
 

@@ -33,13 +33,13 @@ pub diff_alike : (image : List ℕ) (len : ℕ) → Alike (diff_line image len)
 diff_alike image len front more enough = ap (lines_beside image) (saved_same len front more enough)
 
 -- the lines of a window that was read
-module _ (honest : Type 0) (stored window bytes : List ℕ) (at len : ℕ) (c : Cut) (cut : IsCut honest stored at len window c) (is : bytes ≡ take c.count window) where
-  cut_stands : (taken : ℕ) → taken ≤ length bytes → (split (take taken bytes)).rest ≡ [] → StandsFor honest stored at len (take taken (take c.count window)) c taken
+module _ (faithful : Type 0) (stored window bytes : List ℕ) (at len : ℕ) (c : Cut) (cut : IsCut faithful stored at len window c) (is : bytes ≡ take c.count window) where
+  cut_stands : (taken : ℕ) → taken ≤ length bytes → (split (take taken bytes)).rest ≡ [] → StandsFor faithful stored at len (take taken (take c.count window)) c taken
   cut_stands taken within whole =
-      stands_for honest stored at len window c taken cut (omega (arith, within, ap length is, length-take c.count window, cut.within)) (ap (λ t. (split (take taken t)).rest) (sym is) ∙ whole)
+      stands_for faithful stored at len window c taken cut (omega (arith, within, ap length is, length-take c.count window, cut.within)) (ap (λ t. (split (take taken t)).rest) (sym is) ∙ whole)
 
   module _ (show : List ℕ → List ℕ) (alike : Alike show) (taken : ℕ) (old text : List ℕ) (within : taken ≤ length bytes) (empty : old ≡ []) (added : AreAdded show bytes taken old text) where
-    s : StandsFor honest stored at len (take taken (take c.count window)) c taken
+    s : StandsFor faithful stored at len (take taken (take c.count window)) c taken
     s = cut_stands taken within added.whole
 
     all_added : AreAdded show s.text (length s.text) old text
@@ -52,25 +52,25 @@ module _ (honest : Type 0) (stored window bytes : List ℕ) (at len : ℕ) (c : 
               (s.alike (λ ls. text ≡ old ++ flat_map show ls) (λ front more enough e. e ∙ ap (λ l. old ++ (l ++ [])) (sym (alike front more enough))) here);
         }
 
-    pub cut_written : (n : ℕ) (w0 w1 : Option (List ℕ)) → n ≡ passed_of c taken → honest → Appends w0 w1 text → AreWritten show stored at (at + n) w0 w1
+    pub cut_written : (n : ℕ) (w0 w1 : Option (List ℕ)) → n ≡ passed_of c taken → faithful → Appends w0 w1 text → AreWritten show stored at (at + n) w0 w1
     cut_written n w0 w1 to h put =
         subst (λ k. AreWritten show stored at (at + k) w0 w1) (s.long ∙ sym to) (written_window show s.text stored at (length s.text) (passed_of c taken) old text w0 w1 (omega arith) (s.is h) empty all_added put)
 
-    pub cut_counted : (n before after : ℕ) → n ≡ passed_of c taken → honest → CountsBytes before text after → CountsBytes before (shown_between show stored at (at + n)) after
+    pub cut_counted : (n before after : ℕ) → n ≡ passed_of c taken → faithful → CountsBytes before text after → CountsBytes before (shown_between show stored at (at + n)) after
     cut_counted n before after to h counted =
         subst (λ k. CountsBytes before (shown_between show stored at (at + k)) after) (s.long ∙ sym to)
         (window_counted show s.text stored at (length s.text) (passed_of c taken) old text before after (omega arith) (s.is h) empty all_added counted)
 
-    pub cut_stopped : (before : ℕ) (w0 w1 : Option (List ℕ)) (fault : ShowFault) → honest → StopsPrefix before text w0 w1 fault → StopsPrefix before (shown_between show stored at len) w0 w1 fault
+    pub cut_stopped : (before : ℕ) (w0 w1 : Option (List ℕ)) (fault : ShowFault) → faithful → StopsPrefix before text w0 w1 fault → StopsPrefix before (shown_between show stored at len) w0 w1 fault
     cut_stopped before w0 w1 fault h stop =
         window_stopped show s.text stored at (length s.text) (passed_of c taken) len old text before w0 w1 fault (omega arith) (s.is h) empty all_added (omega (arith, s.long, s.within)) stop
 
   -- the same of ranges
   module _ (limit : ℕ) (from : Ranging) (old put : List ℕ) (l : RangedLines) (ranged : IsRangedIn bytes limit from old put l) where
-    pub stands_of : StandsFor honest stored at len (take l.taken (take c.count window)) c l.taken
+    pub stands_of : StandsFor faithful stored at len (take l.taken (take c.count window)) c l.taken
     stands_of = cut_stands l.taken ranged.within ranged.whole
 
-    abbrev r : StandsFor honest stored at len (take l.taken (take c.count window)) c l.taken
+    abbrev r : StandsFor faithful stored at len (take l.taken (take c.count window)) c l.taken
     r = stands_of
 
     all_lead : RangesOn limit (split r.text).lines from old put l.ranging

@@ -17,9 +17,9 @@ use Rattle.bx_journal_model.specs.Long.{IsPlainTo}
 use Rattle.bx_journal_read.specs.scan.Windows.{IsReached, IsWalkedTo}
 
 -- lines in place were walked along
-pub placed_of : (honest : Type 0) (stored : List ℕ) (len : ℕ) (r : Reached PlaceScan) → IsReached honest stored IsInPlace len r
-    → IsWalkedTo honest stored false len (record { tally = r.scan.tally; at = r.at; lines = r.scan.lines })
-placed_of honest stored len r reached = record {
+pub placed_of : (faithful : Type 0) (stored : List ℕ) (len : ℕ) (r : Reached PlaceScan) → IsReached faithful stored IsInPlace len r
+    → IsWalkedTo faithful stored false len (record { tally = r.scan.tally; at = r.at; lines = r.scan.lines })
+placed_of faithful stored len r reached = record {
   led = record { text = reached.led.text; is = reached.led.is; long = reached.led.long; leads = reached.led.leads.tallied };
   below = reached.below;
   lines = omega (arith, reached.led.leads.lines, reached.led.long);

@@ -19,8 +19,8 @@ use Rattle.bx_journal_read.specs.scan.Entries.{IsReadFrom, IsReadBehind}
 use Rattle.bx_journal_read.specs.scan.Windows.{IsFrontCounted}
 
 -- what was counted is a front
-pub front_is : (honest : Type 0) (stored : List ℕ) (f : Front) → (c : IsFrontCounted honest stored false f) → IsFront c.front c.counted.counted.entries f
-front_is honest stored f c =
+pub front_is : (faithful : Type 0) (stored : List ℕ) (f : Front) → (c : IsFrontCounted faithful stored false f) → IsFront c.front c.counted.counted.entries f
+front_is faithful stored f c =
     let counted : IsCounted c.front f.count f.told = c.counted.counted in
     let taken : take f.at c.front ≡ c.front = take_all f.at c.front (omega (arith, c.long)) in
     record {
@@ -36,13 +36,13 @@ front_is honest stored f c =
     }
 
 -- all of a store's text was read
-pub behind_all : {A : Type 0} → (honest : Type 0) (stored : List ℕ) (f : Front) (len : ℕ) (r : LinesRead A) → (b : IsReadBehind honest stored f r) → r.at ≡ len → (honest → len ≡ length stored) → honest → stored ≡ b.text
-behind_all honest stored f len r b all long h = sym (b.is h ∙ take_all r.at stored (omega (arith, all, long h)))
+pub behind_all : {A : Type 0} → (faithful : Type 0) (stored : List ℕ) (f : Front) (len : ℕ) (r : LinesRead A) → (b : IsReadBehind faithful stored f r) → r.at ≡ len → (faithful → len ≡ length stored) → faithful → stored ≡ b.text
+behind_all faithful stored f len r b all long h = sym (b.is h ∙ take_all r.at stored (omega (arith, all, long h)))
 
-pub last_from : {A : Type 0} → (honest : Type 0) (stored text : List ℕ) (len count : ℕ) (o : Option (FinishedRead A)) → (honest → stored ≡ text) → len ≡ length text
-    → IfSome o (λ r. IsReadLast text r.entries.items count) → IfSome o (λ r. r.len ≡ len) → IfSome o (λ r. IsLastFrom honest stored r.len r.entries.items count)
-last_from honest stored text len count None is long read same = tt
-last_from honest stored text len count (Some r) is long read same = record { text = text; is = is; long = same ∙ long; read = read }
+pub last_from : {A : Type 0} → (faithful : Type 0) (stored text : List ℕ) (len count : ℕ) (o : Option (FinishedRead A)) → (faithful → stored ≡ text) → len ≡ length text
+    → IfSome o (λ r. IsReadLast text r.entries.items count) → IfSome o (λ r. r.len ≡ len) → IfSome o (λ r. IsLastFrom faithful stored r.len r.entries.items count)
+last_from faithful stored text len count None is long read same = tt
+last_from faithful stored text len count (Some r) is long read same = record { text = text; is = is; long = same ∙ long; read = read }
 
 -- a text that was read behind its older entries, and in which none is unfinished
 pub last_read : {A : Type 0} → (text : List ℕ) (older : List Entry) (f : Front) (r : LinesRead A) (first count : ℕ) → IsReadUpTo text older f r → r.stage ≡ BetweenRead → first ≡ f.count
@@ -66,8 +66,8 @@ last_read text older f r first count read is before many =
     }
 
 -- all of it was read
-pub last_of_all : {A : Type 0} → (honest : Type 0) (stored : List ℕ) (len count : ℕ) (es : List (EntryRead A)) → IsReadFrom honest stored len es count → IsLastFrom honest stored len es count
-last_of_all honest stored len count es r =
+pub last_of_all : {A : Type 0} → (faithful : Type 0) (stored : List ℕ) (len count : ℕ) (es : List (EntryRead A)) → IsReadFrom faithful stored len es count → IsLastFrom faithful stored len es count
+last_of_all faithful stored len count es r =
     record { text = r.text; is = r.is; long = r.long; read = record { older = []; finished = r.read.finished; mark = r.read.mark; marked = r.read.marked; counted = omega (arith, r.read.counted) } }
 
 -- what is said of a store that is the same as before
@@ -86,11 +86,11 @@ module _ (H now : Type 0) (stored text : List ℕ) (still : H → now) (same : H
   again_last count (Err e) f = tt
 
 -- at least k entries were read where all were
-pub few_of_all : {A E : Type 0} → (honest : Type 0) (stored : List ℕ) (count k : ℕ) (r : Result (FinishedRead A) E) → k ≤ count → IfOk r (λ o. IsReadFrom honest stored o.len o.entries.items count) → IfOk r (λ o. k ≤ length o.entries.items)
-few_of_all honest stored count k (Ok r) few f = omega (arith, few, f.read.counted)
-few_of_all honest stored count k (Err e) few f = tt
+pub few_of_all : {A E : Type 0} → (faithful : Type 0) (stored : List ℕ) (count k : ℕ) (r : Result (FinishedRead A) E) → k ≤ count → IfOk r (λ o. IsReadFrom faithful stored o.len o.entries.items count) → IfOk r (λ o. k ≤ length o.entries.items)
+few_of_all faithful stored count k (Ok r) few f = omega (arith, few, f.read.counted)
+few_of_all faithful stored count k (Err e) few f = tt
 
 -- nothing but want of memory, or a failed device
-pub again_fault : (honest : Type 0) (text : List ℕ) (count : ℕ) (e : SessionFault) → (e ≡ NoMemory) ⊎ (e ≡ DeviceFailed) → AgainFault honest text count e
-again_fault honest text count e (inl is) = subst (AgainFault honest text count) (sym is) tt
-again_fault honest text count e (inr is) = subst (AgainFault honest text count) (sym is) tt
+pub again_fault : (faithful : Type 0) (text : List ℕ) (count : ℕ) (e : SessionFault) → (e ≡ NoMemory) ⊎ (e ≡ DeviceFailed) → AgainFault faithful text count e
+again_fault faithful text count e (inl is) = subst (AgainFault faithful text count) (sym is) tt
+again_fault faithful text count e (inr is) = subst (AgainFault faithful text count) (sym is) tt

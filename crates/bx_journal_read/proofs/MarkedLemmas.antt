@@ -21,9 +21,9 @@ use Rattle.bx_journal_read.specs.show.Showing.{AreAllMarks, AreMarksOf, FindsMar
 use Rattle.bx_journal_read.specs.scan.Windows.{IsReached}
 
 -- a text that stands between two entries is finished entries alone
-pub marked_all : {A : Type 0} → (honest : Type 0) (stored : List ℕ) (len : ℕ) (r : Reached (MarkScan A)) → IsReached honest stored (λ s text. IsMarked text s.marking s.marks.items) len r → r.at ≡ len
-    → r.scan.marking.sums.tally.place ≡ BetweenPlace → AreMarksOf honest stored len r.scan.marks.items
-marked_all honest stored len r reached all place =
+pub marked_all : {A : Type 0} → (faithful : Type 0) (stored : List ℕ) (len : ℕ) (r : Reached (MarkScan A)) → IsReached faithful stored (λ s text. IsMarked text s.marking s.marks.items) len r → r.at ≡ len
+    → r.scan.marking.sums.tally.place ≡ BetweenPlace → AreMarksOf faithful stored len r.scan.marks.items
+marked_all faithful stored len r reached all place =
     let h = reached.led.leads in
     let m = r.scan.marking in
     let between : h.reading.stage ≡ Between = subst (HasForm h.reading.stage) place (has_form h.reading.stage m.sums.tally.place (ap (λ (s : Summed). s.tally.place) h.is)) in
@@ -43,8 +43,8 @@ marked_all honest stored len r reached all place =
     }
 
 -- the marks of a whole text, behind a call that only looked at it
-pub marks_all : (honest now : Type 0) (stored text : List ℕ) (len : ℕ) (marks : List Mark) → (honest → now) → (honest → text ≡ stored) → (honest → len ≡ length stored) → AreMarksOf now text len marks → AreAllMarks honest stored marks
-marks_all honest now stored text len marks still same long of = record {
+pub marks_all : (faithful now : Type 0) (stored text : List ℕ) (len : ℕ) (marks : List Mark) → (faithful → now) → (faithful → text ≡ stored) → (faithful → len ≡ length stored) → AreMarksOf now text len marks → AreAllMarks faithful stored marks
+marks_all faithful now stored text len marks still same long of = record {
   text = of.front;
   is = λ h. sym (of.is (still h) ∙ ap (take len) (same h) ∙ take_all len stored (omega (arith, long h)));
   entries = of.entries;
@@ -53,11 +53,11 @@ marks_all honest now stored text len marks still same long of = record {
 }
 
 -- what is said of a text behind a call that only looked at it
-module _ {T V : Type 0} {honest : T → Type 0} {text : T → List ℕ} {failures : T → ℕ} {v : V} {old now : T} (first : LooksAt honest text failures (Ok v) old now) where
-  pub marks_behind : {A : Type 0} {new : T} → (r : Result (Vec Mark A) SessionFault) → FindsMarks honest text failures r now new → FindsMarks honest text failures r old new
+module _ {T V : Type 0} {faithful : T → Type 0} {text : T → List ℕ} {failures : T → ℕ} {v : V} {old now : T} (first : LooksAt faithful text failures (Ok v) old now) where
+  pub marks_behind : {A : Type 0} {new : T} → (r : Result (Vec Mark A) SessionFault) → FindsMarks faithful text failures r now new → FindsMarks faithful text failures r old new
   marks_behind r next = record {
-    marks = IfOk-weaker r (λ m. AreAllMarks (honest now) (text now) m.items) (λ m. AreAllMarks (honest old) (text old) m.items)
-        (λ m a. record { text = a.text; is = λ h. sym (first.same h) ∙ a.is (first.honesty.1 h); entries = a.entries; spelled = a.spelled; marks_are = a.marks_are }) next.marks;
-    fault = IfErr-weaker r (FindFault (honest now) (shown (text now))) (FindFault (honest old) (shown (text old))) (fault_is first) next.fault;
+    marks = IfOk-weaker r (λ m. AreAllMarks (faithful now) (text now) m.items) (λ m. AreAllMarks (faithful old) (text old) m.items)
+        (λ m a. record { text = a.text; is = λ h. sym (first.same h) ∙ a.is (first.faith.1 h); entries = a.entries; spelled = a.spelled; marks_are = a.marks_are }) next.marks;
+    fault = IfErr-weaker r (FindFault (faithful now) (shown (text now))) (FindFault (faithful old) (shown (text old))) (fault_is first) next.fault;
     looks = looks_before first next.looks;
   }

@@ -27,9 +27,9 @@ use Rattle.bx_journal_model.proofs.WindowBytes.{front_of}
 use Rattle.std.specs.Io.KnownBytes.{Appends}
 
 -- nothing is put yet
-pub put_none : (honest : Type 0) (stored : List ℕ) (mark : Mark) (d : Done) (w : Option (List ℕ)) → d.at ≡ mark.from → AreRanged [] d.ranging [] → ArePutTo honest stored mark d.written d w w
+pub put_none : (faithful : Type 0) (stored : List ℕ) (mark : Mark) (d : Done) (w : Option (List ℕ)) → d.at ≡ mark.from → AreRanged [] d.ranging [] → ArePutTo faithful stored mark d.written d w w
 unfolding split runs_behind
-put_none honest stored mark d w at none = record {
+put_none faithful stored mark d w at none = record {
   bytes = [];
   is = λ h. ap (λ n. take n (drop mark.from stored)) (zero_is at);
   whole = refl;
@@ -43,9 +43,9 @@ put_none honest stored mark d w at none = record {
     zero_is at = omega (arith, at)
 
 -- a window of a store that is the same as before
-pub puts_from : (honest now : Type 0) (stored text : List ℕ) (mark : Mark) (old new : Done) (w0 w1 : Option (List ℕ)) → (honest → now) → (honest → text ≡ stored) → PutsOn now text mark old new w0 w1
-    → PutsOn honest stored mark old new w0 w1
-puts_from honest now stored text mark old new w0 w1 still same p = record {
+pub puts_from : (faithful now : Type 0) (stored text : List ℕ) (mark : Mark) (old new : Done) (w0 w1 : Option (List ℕ)) → (faithful → now) → (faithful → text ≡ stored) → PutsOn now text mark old new w0 w1
+    → PutsOn faithful stored mark old new w0 w1
+puts_from faithful now stored text mark old new w0 w1 still same p = record {
   bytes = p.bytes;
   is = λ h. p.is (still h) ∙ ap (λ t. take (new.at - old.at) (drop old.at t)) (same h);
   whole = p.whole;
@@ -59,9 +59,9 @@ puts_from honest now stored text mark old new w0 w1 still same p = record {
 }
 
 -- a window more
-pub put_more : (honest : Type 0) (stored : List ℕ) (mark : Mark) (start : ℕ) (old new : Done) (w0 w1 w2 : Option (List ℕ)) → mark.from ≤ old.at → ArePutTo honest stored mark start old w0 w1
-    → PutsOn honest stored mark old new w1 w2 → ArePutTo honest stored mark start new w0 w2
-put_more honest stored mark start old new w0 w1 w2 behind to on =
+pub put_more : (faithful : Type 0) (stored : List ℕ) (mark : Mark) (start : ℕ) (old new : Done) (w0 w1 w2 : Option (List ℕ)) → mark.from ≤ old.at → ArePutTo faithful stored mark start old w0 w1
+    → PutsOn faithful stored mark old new w1 w2 → ArePutTo faithful stored mark start new w0 w2
+put_more faithful stored mark start old new w0 w1 w2 behind to on =
     let parts : split (to.bytes ++ on.bytes) ≡ record { lines = (split to.bytes).lines ++ (split on.bytes).lines; rest = (split on.bytes).rest } = split-append to.bytes on.bytes to.whole in
     let runs : runs_behind mark.len [] (split (to.bytes ++ on.bytes)).lines ≡ runs_behind mark.len (runs_behind mark.len [] (split to.bytes).lines) (split on.bytes).lines =
     ap (λ (s : Split). runs_behind mark.len [] s.lines) parts ∙ runs_behind-append mark.len [] (split to.bytes).lines (split on.bytes).lines in
@@ -83,36 +83,36 @@ put_more honest stored mark start old new w0 w1 w2 behind to on =
     }
 
 -- and the last range
-all_put : (honest : Type 0) (stored : List ℕ) (mark : Mark) (start : ℕ) (d : Done) (w0 w1 : Option (List ℕ)) (last : List ℕ) → d.at ≡ mark.to → (to : ArePutTo honest stored mark start d w0 w1) → EndsRanges d.ranging [] last
-    → honest → to.text ++ last ≡ ranges_at stored mark
-all_put honest stored mark start d w0 w1 last at to ends h =
+all_put : (faithful : Type 0) (stored : List ℕ) (mark : Mark) (start : ℕ) (d : Done) (w0 w1 : Option (List ℕ)) (last : List ℕ) → d.at ≡ mark.to → (to : ArePutTo faithful stored mark start d w0 w1) → EndsRanges d.ranging [] last
+    → faithful → to.text ++ last ≡ ranges_at stored mark
+all_put faithful stored mark start d w0 w1 last at to ends h =
     let before : AreRanged (runs_behind mark.len [] (split to.bytes).lines) d.ranging (to.text ++ []) = subst (AreRanged (runs_behind mark.len [] (split to.bytes).lines) d.ranging) (sym (append-nil to.text)) to.put in
     let all = ends (runs_behind mark.len [] (split to.bytes).lines) to.text before in
     let bytes : to.bytes ≡ take (mark.to - mark.from) (drop mark.from stored) = to.is h ∙ ap (λ n. take (n - mark.from) (drop mark.from stored)) at in
     all ∙ ap (λ t. ranges_text (runs_behind mark.len [] (split t).lines)) bytes
 
-pub put_all : (honest : Type 0) (stored : List ℕ) (mark : Mark) (start : ℕ) (d : Done) (w0 w1 w2 : Option (List ℕ)) (last : List ℕ) → d.at ≡ mark.to → ArePutTo honest stored mark start d w0 w1 → EndsRanges d.ranging [] last
-    → Appends w1 w2 last → honest → Appends w0 w2 (ranges_at stored mark)
-put_all honest stored mark start d w0 w1 w2 last at to ends put h =
-    subst (Appends w0 w2) (all_put honest stored mark start d w0 w1 last at to ends h) (Appends-trans w0 w1 w2 to.text last to.appended put)
+pub put_all : (faithful : Type 0) (stored : List ℕ) (mark : Mark) (start : ℕ) (d : Done) (w0 w1 w2 : Option (List ℕ)) (last : List ℕ) → d.at ≡ mark.to → ArePutTo faithful stored mark start d w0 w1 → EndsRanges d.ranging [] last
+    → Appends w1 w2 last → faithful → Appends w0 w2 (ranges_at stored mark)
+put_all faithful stored mark start d w0 w1 w2 last at to ends put h =
+    subst (Appends w0 w2) (all_put faithful stored mark start d w0 w1 last at to ends h) (Appends-trans w0 w1 w2 to.text last to.appended put)
 
 -- it was counted
-pub put_all_counted : (honest : Type 0) (stored : List ℕ) (mark : Mark) (start after : ℕ) (d : Done) (w0 w1 : Option (List ℕ)) (last : List ℕ) → d.at ≡ mark.to → ArePutTo honest stored mark start d w0 w1
-    → EndsRanges d.ranging [] last → CountsBytes d.written last after → honest → CountsBytes start (ranges_at stored mark) after
-put_all_counted honest stored mark start after d w0 w1 last at to ends counted h =
-    subst (λ t. CountsBytes start t after) (all_put honest stored mark start d w0 w1 last at to ends h) (counts_both start d.written after to.text last to.counted counted)
+pub put_all_counted : (faithful : Type 0) (stored : List ℕ) (mark : Mark) (start after : ℕ) (d : Done) (w0 w1 : Option (List ℕ)) (last : List ℕ) → d.at ≡ mark.to → ArePutTo faithful stored mark start d w0 w1
+    → EndsRanges d.ranging [] last → CountsBytes d.written last after → faithful → CountsBytes start (ranges_at stored mark) after
+put_all_counted faithful stored mark start after d w0 w1 last at to ends counted h =
+    subst (λ t. CountsBytes start t after) (all_put faithful stored mark start d w0 w1 last at to ends h) (counts_both start d.written after to.text last to.counted counted)
 
 -- it was stopped
-pub put_all_stopped : (honest : Type 0) (stored : List ℕ) (mark : Mark) (start : ℕ) (d : Done) (w0 w1 w2 : Option (List ℕ)) (last : List ℕ) (fault : ShowFault) → d.at ≡ mark.to → ArePutTo honest stored mark start d w0 w1
-    → EndsRanges d.ranging [] last → StopsPrefix d.written last w1 w2 fault → honest → StopsPrefix start (ranges_at stored mark) w0 w2 fault
-put_all_stopped honest stored mark start d w0 w1 w2 last fault at to ends stop h =
-    subst (λ t. StopsPrefix start t w0 w2 fault) (all_put honest stored mark start d w0 w1 last at to ends h)
+pub put_all_stopped : (faithful : Type 0) (stored : List ℕ) (mark : Mark) (start : ℕ) (d : Done) (w0 w1 w2 : Option (List ℕ)) (last : List ℕ) (fault : ShowFault) → d.at ≡ mark.to → ArePutTo faithful stored mark start d w0 w1
+    → EndsRanges d.ranging [] last → StopsPrefix d.written last w1 w2 fault → faithful → StopsPrefix start (ranges_at stored mark) w0 w2 fault
+put_all_stopped faithful stored mark start d w0 w1 w2 last fault at to ends stop h =
+    subst (λ t. StopsPrefix start t w0 w2 fault) (all_put faithful stored mark start d w0 w1 last at to ends h)
     (stops_later start d.written to.text last w0 w1 w2 fault to.appended to.counted stop)
 
 -- a window was stopped, of a store that is the same as before
-pub put_stopped : (honest : Type 0) (stored text : List ℕ) (mark : Mark) (start : ℕ) (d : Done) (w0 w1 w2 : Option (List ℕ)) (fault : ShowFault) → mark.from ≤ d.at → d.at ≤ mark.to → text ≡ stored
-    → ArePutTo honest stored mark start d w0 w1 → StopsRanges text mark d w1 w2 fault → honest → StopsPrefix start (ranges_at stored mark) w0 w2 fault
-put_stopped honest stored text mark start d w0 w1 w2 fault behind on same to stop h =
+pub put_stopped : (faithful : Type 0) (stored text : List ℕ) (mark : Mark) (start : ℕ) (d : Done) (w0 w1 w2 : Option (List ℕ)) (fault : ShowFault) → mark.from ≤ d.at → d.at ≤ mark.to → text ≡ stored
+    → ArePutTo faithful stored mark start d w0 w1 → StopsRanges text mark d w1 w2 fault → faithful → StopsPrefix start (ranges_at stored mark) w0 w2 fault
+put_stopped faithful stored text mark start d w0 w1 w2 fault behind on same to stop h =
     let found = stop (runs_behind mark.len [] (split to.bytes).lines) to.text to.put in
     let more : List ℕ = take (mark.to - d.at) (drop d.at stored) in
     let sum : mark.to - mark.from ≡ (d.at - mark.from) + (mark.to - d.at) = omega (arith, behind, on) in

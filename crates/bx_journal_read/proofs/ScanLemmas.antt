@@ -12,14 +12,14 @@ use Rattle.bx_journal_read.specs.scan.Windows.{IfReached, IsCountedBy, IsLedTo, 
 use Rattle.bx_journal_model.proofs.WindowBytes.{front_of}
 
 -- a window more
-pub reached_on : {S : Type 0} → (honest : Type 0) (stored window : List ℕ) (Leads : S → List ℕ → Type 0) (len at m n : ℕ) (old new : S)
-    → (led : IsLedTo honest stored Leads at old) → (honest → window ≡ take m (drop at stored)) → n ≤ length window → at + length window ≤ len
-    → Leads new (led.text ++ take n window) → IsReached honest stored Leads len (record { scan = new; at = at + n })
-reached_on honest stored window Leads len at m n old new led read within below leads =
+pub reached_on : {S : Type 0} → (faithful : Type 0) (stored window : List ℕ) (Leads : S → List ℕ → Type 0) (len at m n : ℕ) (old new : S)
+    → (led : IsLedTo faithful stored Leads at old) → (faithful → window ≡ take m (drop at stored)) → n ≤ length window → at + length window ≤ len
+    → Leads new (led.text ++ take n window) → IsReached faithful stored Leads len (record { scan = new; at = at + n })
+reached_on faithful stored window Leads len at m n old new led read within below leads =
     let a : List ℕ = led.text in
     let bytes : List ℕ = take n window in
     let more : length bytes ≡ n = omega (arith, length-take n window, within) in
-    let is : honest → a ++ bytes ≡ take (at + n) stored =
+    let is : faithful → a ++ bytes ≡ take (at + n) stored =
     λ h. ap (λ l. l ++ bytes) (led.is h) ∙ ap (λ l. take at stored ++ l) (front_of n m window (drop at stored) within (read h)) ∙ sym (take_sum at n stored) in
     record {
       led = record { text = a ++ bytes; is = is; long = omega (arith, length-append a bytes, led.long, more); leads = leads };
@@ -40,9 +40,9 @@ pub reached_all : {S : Type 0} → (H now : Type 0) (stored text : List ℕ) (Le
 reached_all H now stored text Leads len at scan still same long all led h = sym (led.is (still h) ∙ ap (take at) (same h) ∙ take_all at stored (omega (arith, all, long h)))
 
 -- what was counted was walked along
-pub walked_of : (honest : Type 0) (stored : List ℕ) (first : CountScan) (len : ℕ) (r : Reached CountScan) → IsReached honest stored (IsCountedBy first) len r
-    → IsWalkedTo honest stored first.only_second len (record { tally = r.scan.tally; at = r.at; lines = r.scan.lines })
-walked_of honest stored first len r reached = record {
+pub walked_of : (faithful : Type 0) (stored : List ℕ) (first : CountScan) (len : ℕ) (r : Reached CountScan) → IsReached faithful stored (IsCountedBy first) len r
+    → IsWalkedTo faithful stored first.only_second len (record { tally = r.scan.tally; at = r.at; lines = r.scan.lines })
+walked_of faithful stored first len r reached = record {
   led = record { text = reached.led.text; is = reached.led.is; long = reached.led.long; leads = reached.led.leads.tallied };
   below = reached.below;
   lines = omega (arith, reached.led.leads.lines, reached.led.long);
@@ -50,9 +50,9 @@ walked_of honest stored first len r reached = record {
 }
 
 -- a line that is longer than a window more
-pub reached_long : {S : Type 0} → (honest : Type 0) (stored front : List ℕ) (Leads : S → List ℕ → Type 0) (len at size : ℕ) (old new : S) → (led : IsLedTo honest stored Leads at old)
-    → (l : IsLongLine honest stored at len front size) → Leads new (led.text ++ ended (front ++ l.more)) → IsReached honest stored Leads len (record { scan = new; at = at + size + 1 })
-reached_long honest stored front Leads len at size old new led l leads =
+pub reached_long : {S : Type 0} → (faithful : Type 0) (stored front : List ℕ) (Leads : S → List ℕ → Type 0) (len at size : ℕ) (old new : S) → (led : IsLedTo faithful stored Leads at old)
+    → (l : IsLongLine faithful stored at len front size) → Leads new (led.text ++ ended (front ++ l.more)) → IsReached faithful stored Leads len (record { scan = new; at = at + size + 1 })
+reached_long faithful stored front Leads len at size old new led l leads =
     let line : List ℕ = ended (front ++ l.more) in
     let place : at + (size + 1) ≡ at + size + 1 = omega arith in
     record {
@@ -66,17 +66,17 @@ reached_long honest stored front Leads len at size old new led l leads =
     }
 
 -- or it isn't taken
-pub long_reached : {S : Type 0} → (honest : Type 0) (stored front : List ℕ) (Leads : S → List ℕ → Type 0) (len at size : ℕ) (old : S) (t : Taken S) → (led : IsLedTo honest stored Leads at old)
-    → (l : IsLongLine honest stored at len front size) → TakesLong Leads led.text (ended (front ++ l.more)) t → 0 < t.taken → IsReached honest stored Leads len (record { scan = t.scan; at = at + size + 1 })
-long_reached honest stored front Leads len at size old t led l takes some =
+pub long_reached : {S : Type 0} → (faithful : Type 0) (stored front : List ℕ) (Leads : S → List ℕ → Type 0) (len at size : ℕ) (old : S) (t : Taken S) → (led : IsLedTo faithful stored Leads at old)
+    → (l : IsLongLine faithful stored at len front size) → TakesLong Leads led.text (ended (front ++ l.more)) t → 0 < t.taken → IsReached faithful stored Leads len (record { scan = t.scan; at = at + size + 1 })
+long_reached faithful stored front Leads len at size old t led l takes some =
     elim takes [
       | inl none ↦ absurd (omega (arith, none.0, some))
-      | inr more ↦ reached_long honest stored front Leads len at size old t.scan led l more.1
+      | inr more ↦ reached_long faithful stored front Leads len at size old t.scan led l more.1
     ]
 
-pub long_stays : {S : Type 0} → (honest : Type 0) (stored line : List ℕ) (Leads : S → List ℕ → Type 0) (len at : ℕ) (old : S) (t : Taken S) → (led : IsLedTo honest stored Leads at old) → at ≤ len
-    → TakesLong Leads led.text line t → t.taken ≡ 0 → IsReached honest stored Leads len (record { scan = t.scan; at = at })
-long_stays honest stored line Leads len at old t led below takes none =
+pub long_stays : {S : Type 0} → (faithful : Type 0) (stored line : List ℕ) (Leads : S → List ℕ → Type 0) (len at : ℕ) (old : S) (t : Taken S) → (led : IsLedTo faithful stored Leads at old) → at ≤ len
+    → TakesLong Leads led.text line t → t.taken ≡ 0 → IsReached faithful stored Leads len (record { scan = t.scan; at = at })
+long_stays faithful stored line Leads len at old t led below takes none =
     elim takes [
       | inl same ↦ record { led = record { text = led.text; is = led.is; long = led.long; leads = same.1 }; below = below }
       | inr more ↦ absurd (omega (arith, more.0, none))

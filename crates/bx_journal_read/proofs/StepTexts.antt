@@ -18,8 +18,8 @@ use Rattle.bx_journal_read.proofs.RowTexts.{joined-append, lines_there, marks_ma
 use Rattle.bx_journal_read.specs.show.Differences.{diff_line, made_line}
 use Rattle.bx_journal_read.specs.show.ShownSteps.{bytes_text, heading, length_words, lines_text, next_number, step_text, steps_text, amount_text, heading_at, heading_end, heading_front, heading_start, length_told, mark_step, newest_first, number_at, saved_lines_at, where_at}
 use Rattle.bx_journal_read.specs.declared.show.way.Steps.{Steps}
-use Rattle.bx_journal_read.specs.declared.show.way.Way.{Way}
-use Rattle.bx_journal_read.specs.declared.show.way.Way.TheVariants.{Undo, Redo}
+use Rattle.bx_journal_read.specs.declared.show.way.Direction.{Direction}
+use Rattle.bx_journal_read.specs.declared.show.way.Direction.TheVariants.{Undo, Redo}
 use Rattle.bx_journal_read.specs.show.Showing.{lines_at}
 
 -- a heading is written in three parts, and what a patch tells behind it with the last
@@ -90,7 +90,7 @@ heading_parts front amount places writes end is =
 
 -- what there is of an entry at the place of its mark
 module _ (older : List EntryLines) (c : EntryLines) (rest text : List ℕ) (is : text ≡ text_of_lines (entry_lines (c ∷ older)) ++ rest) (plain : AllPlain c.saved) (runs : c.entry.saved.runs ≡ runs_behind c.entry.saved.len [] c.saved) where
-  heading_there : (way : Way) (n : ℕ) → heading_at text way n (mark_of older c) ≡ heading way n c.entry
+  heading_there : (way : Direction) (n : ℕ) → heading_at text way n (mark_of older c) ≡ heading way n c.entry
   heading_there way n =
       let mark = mark_of older c in
       let places : where_at text mark ≡ (if mark.saved == 0 then [] else ranges_text c.entry.saved.runs) = ap (λ t. if mark.saved == 0 then [] else t) (ranges_there older c rest text is plain runs) in
@@ -109,11 +109,11 @@ module _ (older : List EntryLines) (c : EntryLines) (rest text : List ℕ) (is :
       ap (λ t. t ++ told ++ saved_lines_at s.compares image text (mark_of older c) ++ codes "\n") (heading_there s.way n)
       ∙ ap (λ t. heading s.way n c.entry ++ told ++ t ++ codes "\n") (saved_there s.compares image)
 
-number_none : (way : Way) (n : ℕ) → number_at way n 0 ≡ n
+number_none : (way : Direction) (n : ℕ) → number_at way n 0 ≡ n
 number_none Undo n = omega arith
 number_none Redo n = omega arith
 
-number_more : (way : Way) (n i k : ℕ) → k ≡ i + 1 → number_at way n k ≡ number_at way (next_number way n) i
+number_more : (way : Direction) (n i k : ℕ) → k ≡ i + 1 → number_at way n k ≡ number_at way (next_number way n) i
 number_more Undo n i k is = omega (arith, is)
 number_more Redo n i k is = omega (arith, is)
 

@@ -24,8 +24,8 @@ use Rattle.bx_journal_read.specs.show.ShownSteps.{HasEntries, HasShown, IsUnfini
 use Rattle.bx_journal_read.specs.declared.show.fault.ShowFault.{ShowFault}
 use Rattle.bx_journal_read.specs.declared.show.fault.ShowFault.TheVariants.{Text, Io}
 use Rattle.bx_journal_read.specs.declared.show.way.Steps.{Steps}
-use Rattle.bx_journal_read.specs.declared.show.way.Way.{Way}
-use Rattle.bx_journal_read.specs.declared.show.way.Way.TheVariants.{Undo, Redo}
+use Rattle.bx_journal_read.specs.declared.show.way.Direction.{Direction}
+use Rattle.bx_journal_read.specs.declared.show.way.Direction.TheVariants.{Undo, Redo}
 use Rattle.bx_journal_read.specs.declared.show.unfinished.Marked.{Marked}
 use Rattle.bx_journal_model.specs.declared.mark.Mark.{Mark as Place}
 use Rattle.bx_journal_read.specs.declared.scan.torn.Torn.{Torn}
@@ -40,8 +40,8 @@ use Rattle.bx_journal_read.specs.scan.Recovery.{FindFault, HasMark, IsTornIn, Is
 use Rattle.bx_journal_read.specs.show.Showing.{AreAllMarks, AreMarksOf, LiesWithin, PutFault}
 
 -- all of a text is finished entries
-pub all_front : (honest : Type 0) (stored : List ℕ) (marks : List Mark) → AreAllMarks honest stored marks → AreFrontMarks honest stored marks None
-all_front honest stored marks a = record { front = a.text; entries = a.entries; spelled = a.spelled; marks_are = a.marks_are; behind = λ h. a.is h }
+pub all_front : (faithful : Type 0) (stored : List ℕ) (marks : List Mark) → AreAllMarks faithful stored marks → AreFrontMarks faithful stored marks None
+all_front faithful stored marks a = record { front = a.text; entries = a.entries; spelled = a.spelled; marks_are = a.marks_are; behind = λ h. a.is h }
 
 word_is : (text : List ℕ) (stage : Stage) (mark : Option Place) → HasMark text stage mark → mark_word mark ≡ next_word stage
 word_is text Between None m = refl
@@ -51,14 +51,14 @@ word_is text Between (Some mark) m = absurd m
 word_is text (Saving v s) (Some mark) m = absurd m
 word_is text (Ending v s) None m = absurd m
 
-pub torn_within : (honest : Type 0) (stored : List ℕ) (torn : Torn) → IsUnfinishedIn honest stored torn → honest → torn.begins ≤ length stored
-torn_within honest stored torn u h = omega (arith, (u.torn h).torn.begins.within, shown_short stored)
+pub torn_within : (faithful : Type 0) (stored : List ℕ) (torn : Torn) → IsUnfinishedIn faithful stored torn → faithful → torn.begins ≤ length stored
+torn_within faithful stored torn u h = omega (arith, (u.torn h).torn.begins.within, shown_short stored)
 
 -- the entries before what is unfinished
-pub torn_front : (honest : Type 0) (stored : List ℕ) (torn : Torn) (marks : List Mark) → AreMarksOf honest stored torn.begins marks → IsUnfinishedIn honest stored torn → AreFrontMarks honest stored marks (Some torn)
-torn_front honest stored torn marks a u = record { front = a.front; entries = a.entries; spelled = a.spelled; marks_are = a.marks_are; behind = behind }
+pub torn_front : (faithful : Type 0) (stored : List ℕ) (torn : Torn) (marks : List Mark) → AreMarksOf faithful stored torn.begins marks → IsUnfinishedIn faithful stored torn → AreFrontMarks faithful stored marks (Some torn)
+torn_front faithful stored torn marks a u = record { front = a.front; entries = a.entries; spelled = a.spelled; marks_are = a.marks_are; behind = behind }
   where
-    behind : honest → StandsBehind stored a.front a.entries (Some torn)
+    behind : faithful → StandsBehind stored a.front a.entries (Some torn)
     behind h =
         let t = u.torn h in
         let r : Reading = t.reading in
@@ -78,62 +78,62 @@ torn_front honest stored torn marks a u = record { front = a.front; entries = a.
           t.torn.count ∙ ap length entries ∙ length-map a.entries entry_in,
           word_is (shown stored) r.stage torn.mark t.torn.mark,
           record {
-            within = torn_within honest stored torn u h;
+            within = torn_within faithful stored torn u h;
             lines = ap (λ s. after_lines start (split s).lines) (sym (a.is h)) ∙ a.spelled.finished.reads.lines;
             whole = ap (λ s. (split s).rest) (sym (a.is h)) ∙ a.spelled.finished.whole;
           },
         )
 
 -- the same of a text behind a call that only looked at it
-module _ {T V : Type 0} {honest : T → Type 0} {text : T → List ℕ} {failures : T → ℕ} {v : V} {old now : T} (first : LooksAt honest text failures (Ok v) old now) where
-  pub front_is : (marks : List Mark) (torn : Option Torn) → AreFrontMarks (honest now) (text now) marks torn → AreFrontMarks (honest old) (text old) marks torn
+module _ {T V : Type 0} {faithful : T → Type 0} {text : T → List ℕ} {failures : T → ℕ} {v : V} {old now : T} (first : LooksAt faithful text failures (Ok v) old now) where
+  pub front_is : (marks : List Mark) (torn : Option Torn) → AreFrontMarks (faithful now) (text now) marks torn → AreFrontMarks (faithful old) (text old) marks torn
   front_is marks torn a = record {
     front = a.front;
     entries = a.entries;
     spelled = a.spelled;
     marks_are = a.marks_are;
-    behind = λ h. subst (λ t. StandsBehind t a.front a.entries torn) (first.same h) (a.behind (first.honesty.1 h));
+    behind = λ h. subst (λ t. StandsBehind t a.front a.entries torn) (first.same h) (a.behind (first.faith.1 h));
   }
 
-  pub unfinished_now : (torn : Torn) → IsUnfinishedIn (honest old) (text old) torn → IsUnfinishedIn (honest now) (text now) torn
+  pub unfinished_now : (torn : Torn) → IsUnfinishedIn (faithful old) (text old) torn → IsUnfinishedIn (faithful now) (text now) torn
   unfinished_now torn u = record {
-    torn = λ h. subst (λ t. IsTornIn t torn) (sym (first.same (first.honesty.0 h))) (u.torn (first.honesty.0 h));
+    torn = λ h. subst (λ t. IsTornIn t torn) (sym (first.same (first.faith.0 h))) (u.torn (first.faith.0 h));
     few = u.few;
     order = u.order;
   }
 
-  pub front_behind : {A : Type 0} {new : T} → (r : Result (Marked A) SessionFault) → FindsFront honest text failures r now new → FindsFront honest text failures r old new
+  pub front_behind : {A : Type 0} {new : T} → (r : Result (Marked A) SessionFault) → FindsFront faithful text failures r now new → FindsFront faithful text failures r old new
   front_behind r next = record {
-    marks = IfOk-weaker r (λ m. AreFrontMarks (honest now) (text now) m.marks.items m.torn) (λ m. AreFrontMarks (honest old) (text old) m.marks.items m.torn) (λ m a. front_is m.marks.items m.torn a) next.marks;
-    fault = IfErr-weaker r (FindFault (honest now) (shown (text now))) (FindFault (honest old) (shown (text old))) (fault_is first) next.fault;
+    marks = IfOk-weaker r (λ m. AreFrontMarks (faithful now) (text now) m.marks.items m.torn) (λ m. AreFrontMarks (faithful old) (text old) m.marks.items m.torn) (λ m a. front_is m.marks.items m.torn a) next.marks;
+    fault = IfErr-weaker r (FindFault (faithful now) (shown (text now))) (FindFault (faithful old) (shown (text old))) (fault_is first) next.fault;
     looks = looks_before first next.looks;
   }
 
 -- what is found of a text behind a call that looked at it
-pub front_found : {T A V : Type 0} {honest : T → Type 0} {text : T → List ℕ} {failures : T → ℕ} {v : V} {old now : T} → (found : Marked A) → LooksAt honest text failures (Ok v) old now
-    → AreFrontMarks (honest old) (text old) found.marks.items found.torn → FindsFront honest text failures (Ok found) old now
-front_found found looks a = record { marks = a; fault = tt; looks = record { same = looks.same; honesty = looks.honesty; no_failure = looks.no_failure; counts = tt } }
+pub front_found : {T A V : Type 0} {faithful : T → Type 0} {text : T → List ℕ} {failures : T → ℕ} {v : V} {old now : T} → (found : Marked A) → LooksAt faithful text failures (Ok v) old now
+    → AreFrontMarks (faithful old) (text old) found.marks.items found.torn → FindsFront faithful text failures (Ok found) old now
+front_found found looks a = record { marks = a; fault = tt; looks = record { same = looks.same; faith = looks.faith; no_failure = looks.no_failure; counts = tt } }
 
 -- how many marks there are
-pub front_few : (honest : Type 0) (stored : List ℕ) (marks : List Mark) (torn : Option Torn) → AreFrontMarks honest stored marks torn → length marks ≤ 65535
-front_few honest stored marks torn a = omega (arith, ap length a.marks_are, marks_many a.entries, spelled_few a.front a.entries a.spelled)
+pub front_few : (faithful : Type 0) (stored : List ℕ) (marks : List Mark) (torn : Option Torn) → AreFrontMarks faithful stored marks torn → length marks ≤ 65535
+front_few faithful stored marks torn a = omega (arith, ap length a.marks_are, marks_many a.entries, spelled_few a.front a.entries a.spelled)
 
 -- what a fault of reading the text is
-pub find_stops : (honest : Type 0) (stored : List ℕ) (s : Steps) (way : Way) → s.way ≡ way → (e : SessionFault) → FindFault honest (shown stored) e → StopsSteps honest stored s (Text (fault_that way e))
-find_stops honest stored s Undo is (Damaged line) f = (is, f)
-find_stops honest stored s Redo is (Damaged line) f = (is, λ h. inl (f h))
-find_stops honest stored s Undo is NoMemory f = tt
-find_stops honest stored s Redo is NoMemory f = tt
-find_stops honest stored s Undo is DeviceFailed f = tt
-find_stops honest stored s Redo is DeviceFailed f = tt
-find_stops honest stored s way is TooLarge f = absurd f
-find_stops honest stored s way is (TooFew have) f = absurd f
-find_stops honest stored s way is JournalFull f = absurd f
-find_stops honest stored s way is Interrupted f = absurd f
-find_stops honest stored s way is Broken f = absurd f
-find_stops honest stored s way is (LengthDiffers n) f = absurd f
-find_stops honest stored s way is (NothingToRedo have) f = absurd f
-find_stops honest stored s way is (RedoDamaged line) f = absurd f
+pub find_stops : (faithful : Type 0) (stored : List ℕ) (s : Steps) (way : Direction) → s.way ≡ way → (e : SessionFault) → FindFault faithful (shown stored) e → StopsSteps faithful stored s (Text (fault_that way e))
+find_stops faithful stored s Undo is (Damaged line) f = (is, f)
+find_stops faithful stored s Redo is (Damaged line) f = (is, λ h. inl (f h))
+find_stops faithful stored s Undo is NoMemory f = tt
+find_stops faithful stored s Redo is NoMemory f = tt
+find_stops faithful stored s Undo is DeviceFailed f = tt
+find_stops faithful stored s Redo is DeviceFailed f = tt
+find_stops faithful stored s way is TooLarge f = absurd f
+find_stops faithful stored s way is (TooFew have) f = absurd f
+find_stops faithful stored s way is JournalFull f = absurd f
+find_stops faithful stored s way is Interrupted f = absurd f
+find_stops faithful stored s way is Broken f = absurd f
+find_stops faithful stored s way is (LengthDiffers n) f = absurd f
+find_stops faithful stored s way is (NothingToRedo have) f = absurd f
+find_stops faithful stored s way is (RedoDamaged line) f = absurd f
 
 -- how many entries a text has
 front_entries : (stored front : List ℕ) (cs : List EntryLines) (torn : Option Torn) → IsSpelled front cs → StandsBehind stored front cs torn → HasEntries stored (length cs)
@@ -142,22 +142,22 @@ front_entries stored front cs None s is =
     (record { entries = map entry_in cs; stage = Between }, subst (λ t. Reads t (record { entries = map entry_in cs; stage = Between })) same s.finished.reads, length-map cs entry_in)
 front_entries stored front cs (Some torn) s is = (record { entries = map entry_in cs; stage = is.0 }, is.1.reads, length-map cs entry_in)
 
-few_stops : (honest : Type 0) (stored : List ℕ) (s : Steps) (way : Way) (have : ℕ) → s.way ≡ way → have < s.count → (honest → HasEntries stored have) → StopsSteps honest stored s (Text (few_that way have))
-few_stops honest stored s Undo have is few has = (is, few, has)
-few_stops honest stored s Redo have is few has = (is, few, has)
+few_stops : (faithful : Type 0) (stored : List ℕ) (s : Steps) (way : Direction) (have : ℕ) → s.way ≡ way → have < s.count → (faithful → HasEntries stored have) → StopsSteps faithful stored s (Text (few_that way have))
+few_stops faithful stored s Undo have is few has = (is, few, has)
+few_stops faithful stored s Redo have is few has = (is, few, has)
 
 -- why steps aren't taken
-pub cannot_stops : {A : Type 0} → (honest : Type 0) (stored : List ℕ) (s : Steps) (found : Marked A) → AreFrontMarks honest stored found.marks.items found.torn → (e : SessionFault) → CannotStep s found e
-    → StopsSteps honest stored s (Text e)
-cannot_stops honest stored s found a e is =
+pub cannot_stops : {A : Type 0} → (faithful : Type 0) (stored : List ℕ) (s : Steps) (found : Marked A) → AreFrontMarks faithful stored found.marks.items found.torn → (e : SessionFault) → CannotStep s found e
+    → StopsSteps faithful stored s (Text e)
+cannot_stops faithful stored s found a e is =
     let many : length a.entries ≡ length found.marks.items = sym (ap length a.marks_are ∙ marks_many a.entries) in
-    subst (λ f. StopsSteps honest stored s (Text f)) (sym is.1)
-    (few_stops honest stored s s.way (length found.marks.items) refl is.0 (λ h. subst (HasEntries stored) many (front_entries stored a.front a.entries found.torn a.spelled (a.behind h))))
+    subst (λ f. StopsSteps faithful stored s (Text f)) (sym is.1)
+    (few_stops faithful stored s s.way (length found.marks.items) refl is.0 (λ h. subst (HasEntries stored) many (front_entries stored a.front a.entries found.torn a.spelled (a.behind h))))
 
 -- the line at a place isn't found for want of memory, or where a device failed
-lacks_stops : (honest : Type 0) (stored : List ℕ) (s : Steps) (e : SessionFault) → LacksOrFails e → StopsSteps honest stored s (Text e)
-lacks_stops honest stored s e (inl is) = subst (λ f. StopsSteps honest stored s (Text f)) (sym is) tt
-lacks_stops honest stored s e (inr is) = subst (λ f. StopsSteps honest stored s (Text f)) (sym is) tt
+lacks_stops : (faithful : Type 0) (stored : List ℕ) (s : Steps) (e : SessionFault) → LacksOrFails e → StopsSteps faithful stored s (Text e)
+lacks_stops faithful stored s e (inl is) = subst (λ f. StopsSteps faithful stored s (Text f)) (sym is) tt
+lacks_stops faithful stored s e (inr is) = subst (λ f. StopsSteps faithful stored s (Text f)) (sym is) tt
 
 -- a fault counts as a step's as it did as the text's
 redo_counts : (e : SessionFault) (n m : ℕ) → FaultCounts e n 0 m 0 → FaultCounts (redo_fault e) n 0 m 0
@@ -173,72 +173,72 @@ redo_counts (LengthDiffers k) n m c = c
 redo_counts (NothingToRedo have) n m c = c
 redo_counts (RedoDamaged line) n m c = c
 
-that_counts : (way : Way) (e : SessionFault) (n m : ℕ) → FaultCounts e n 0 m 0 → FaultCounts (fault_that way e) n 0 m 0
+that_counts : (way : Direction) (e : SessionFault) (n m : ℕ) → FaultCounts e n 0 m 0 → FaultCounts (fault_that way e) n 0 m 0
 that_counts Undo e n m c = c
 that_counts Redo e n m c = redo_counts e n m c
 
-few_counts : (way : Way) (have n m : ℕ) → m ≡ n → FaultCounts (few_that way have) n 0 m 0
+few_counts : (way : Direction) (have n m : ℕ) → m ≡ n → FaultCounts (few_that way have) n 0 m 0
 few_counts Undo have n m same = (same, refl)
 few_counts Redo have n m same = (same, refl)
 
 -- what is found, where it isn't read
-pub front_refused : {T A : Type 0} {honest : T → Type 0} {text : T → List ℕ} {failures : T → ℕ} {old new : T} → (s : Steps) (e f : SessionFault) → FindsFront {A = A} honest text failures (Err e) old new → f ≡ fault_that s.way e
-    → FindsSteps {A = A} honest text failures s (Err f) old new
-front_refused {honest = honest} {text = text} {failures = failures} {old = old} {new = new} s e f finds is = record {
+pub front_refused : {T A : Type 0} {faithful : T → Type 0} {text : T → List ℕ} {failures : T → ℕ} {old new : T} → (s : Steps) (e f : SessionFault) → FindsFront {A = A} faithful text failures (Err e) old new → f ≡ fault_that s.way e
+    → FindsSteps {A = A} faithful text failures s (Err f) old new
+front_refused {faithful = faithful} {text = text} {failures = failures} {old = old} {new = new} s e f finds is = record {
   marks = tt;
   can = tt;
-  fault = subst (λ x. StopsSteps (honest old) (text old) s (Text x)) (sym is) (find_stops (honest old) (text old) s s.way refl e finds.fault);
+  fault = subst (λ x. StopsSteps (faithful old) (text old) s (Text x)) (sym is) (find_stops (faithful old) (text old) s s.way refl e finds.fault);
   looks = record {
     same = finds.looks.same;
-    honesty = finds.looks.honesty;
+    faith = finds.looks.faith;
     no_failure = tt;
     counts = subst (λ x. FaultCounts x (failures old) 0 (failures new) 0) (sym is) (that_counts s.way e (failures old) (failures new) finds.looks.counts);
   };
 }
 
 -- and where it is checked
-pub front_checked : {T A : Type 0} {honest : T → Type 0} {text : T → List ℕ} {failures : T → ℕ} {old new : T} → (s : Steps) (found : Marked A) (r : Result (Marked A) SessionFault) → FindsFront honest text failures (Ok found) old new
-    → IfOk r (IsChecked s found) → IfErr r (CannotStep s found) → FindsSteps honest text failures s r old new
-front_checked {honest = honest} {text = text} {old = old} s found (Ok checked) finds ok err = record {
-  marks = subst (λ torn. AreFrontMarks (honest old) (text old) checked.marks.items torn) (sym ok.1) (subst (λ items. AreFrontMarks (honest old) (text old) items found.torn) (sym ok.0) finds.marks);
+pub front_checked : {T A : Type 0} {faithful : T → Type 0} {text : T → List ℕ} {failures : T → ℕ} {old new : T} → (s : Steps) (found : Marked A) (r : Result (Marked A) SessionFault) → FindsFront faithful text failures (Ok found) old new
+    → IfOk r (IsChecked s found) → IfErr r (CannotStep s found) → FindsSteps faithful text failures s r old new
+front_checked {faithful = faithful} {text = text} {old = old} s found (Ok checked) finds ok err = record {
+  marks = subst (λ torn. AreFrontMarks (faithful old) (text old) checked.marks.items torn) (sym ok.1) (subst (λ items. AreFrontMarks (faithful old) (text old) items found.torn) (sym ok.0) finds.marks);
   can = ok.2;
   fault = tt;
-  looks = record { same = finds.looks.same; honesty = finds.looks.honesty; no_failure = finds.looks.no_failure; counts = tt };
+  looks = record { same = finds.looks.same; faith = finds.looks.faith; no_failure = finds.looks.no_failure; counts = tt };
 }
-front_checked {honest = honest} {text = text} {failures = failures} {old = old} {new = new} s found (Err e) finds ok err = record {
+front_checked {faithful = faithful} {text = text} {failures = failures} {old = old} {new = new} s found (Err e) finds ok err = record {
   marks = tt;
   can = tt;
-  fault = cannot_stops (honest old) (text old) s found finds.marks e err;
+  fault = cannot_stops (faithful old) (text old) s found finds.marks e err;
   looks = record {
     same = finds.looks.same;
-    honesty = finds.looks.honesty;
+    faith = finds.looks.faith;
     no_failure = tt;
     counts = subst (λ x. FaultCounts x (failures old) 0 (failures new) 0) (sym err.1) (few_counts s.way (length found.marks.items) (failures old) (failures new) finds.looks.no_failure);
   };
 }
 
 -- a redo text with something unfinished isn't stepped over
-pub left_refused : {T A V : Type 0} {honest : T → Type 0} {text : T → List ℕ} {failures : T → ℕ} {v : V} {old now new : T} → (s : Steps) (found : Marked A) (torn : Torn) (line : ℕ) → FindsFront honest text failures (Ok found) old now
-    → IsLeftIn s.way found.torn torn → LooksAt honest text failures (Ok v) now new → (honest now → torn.begins ≤ length (text now) → BeginsLine (text now) torn.begins line)
-    → FindsSteps {A = A} honest text failures s (Err (RedoDamaged line)) old new
-left_refused {honest = honest} {text = text} {failures = failures} {old = old} {now = now} {new = new} s found torn line finds left then begins = record {
+pub left_refused : {T A V : Type 0} {faithful : T → Type 0} {text : T → List ℕ} {failures : T → ℕ} {v : V} {old now new : T} → (s : Steps) (found : Marked A) (torn : Torn) (line : ℕ) → FindsFront faithful text failures (Ok found) old now
+    → IsLeftIn s.way found.torn torn → LooksAt faithful text failures (Ok v) now new → (faithful now → torn.begins ≤ length (text now) → BeginsLine (text now) torn.begins line)
+    → FindsSteps {A = A} faithful text failures s (Err (RedoDamaged line)) old new
+left_refused {faithful = faithful} {text = text} {failures = failures} {old = old} {now = now} {new = new} s found torn line finds left then begins = record {
   marks = tt;
   can = tt;
   fault = (left.0, λ h. inr (left_at h));
   looks = record {
-    same = λ h. then.same (finds.looks.honesty.1 h) ∙ finds.looks.same h;
-    honesty = ((λ h. finds.looks.honesty.0 (then.honesty.0 h)), λ h. then.honesty.1 (finds.looks.honesty.1 h));
+    same = λ h. then.same (finds.looks.faith.1 h) ∙ finds.looks.same h;
+    faith = ((λ h. finds.looks.faith.0 (then.faith.0 h)), λ h. then.faith.1 (finds.looks.faith.1 h));
     no_failure = tt;
     counts = (then.no_failure ∙ finds.looks.no_failure, refl);
   };
 }
   where
-    left_at : honest old → IsLeftAt (text old) line
+    left_at : faithful old → IsLeftAt (text old) line
     left_at h =
         let a = finds.marks in
         let b = subst (StandsBehind (text old) a.front a.entries) left.1 (a.behind h) in
         let at : line ≡ suc (length (split (take torn.begins (text old))).lines) =
-        subst (λ t. BeginsLine t torn.begins line) (finds.looks.same h) (begins (finds.looks.honesty.1 h) (subst (λ t. torn.begins ≤ length t) (sym (finds.looks.same h)) b.4.within)) in
+        subst (λ t. BeginsLine t torn.begins line) (finds.looks.same h) (begins (finds.looks.faith.1 h) (subst (λ t. torn.begins ≤ length t) (sym (finds.looks.same h)) b.4.within)) in
         record {
           reading = record { entries = map entry_in a.entries; stage = b.0 };
           reads = b.1.reads;
@@ -247,38 +247,38 @@ left_refused {honest = honest} {text = text} {failures = failures} {old = old} {
         }
 
 -- its line isn't found where the text can't be read
-pub left_unread : {T A V : Type 0} {honest : T → Type 0} {text : T → List ℕ} {failures : T → ℕ} {old now new : T} → (s : Steps) (found : Marked A) (e : SessionFault) → FindsFront honest text failures (Ok found) old now
-    → LooksAt {R = V} honest text failures (Err e) now new → LacksOrFails e → FindsSteps {A = A} honest text failures s (Err e) old new
-left_unread {honest = honest} {text = text} {failures = failures} {old = old} {now = now} {new = new} s found e finds then lacks = record {
+pub left_unread : {T A V : Type 0} {faithful : T → Type 0} {text : T → List ℕ} {failures : T → ℕ} {old now new : T} → (s : Steps) (found : Marked A) (e : SessionFault) → FindsFront faithful text failures (Ok found) old now
+    → LooksAt {R = V} faithful text failures (Err e) now new → LacksOrFails e → FindsSteps {A = A} faithful text failures s (Err e) old new
+left_unread {faithful = faithful} {text = text} {failures = failures} {old = old} {now = now} {new = new} s found e finds then lacks = record {
   marks = tt;
   can = tt;
-  fault = lacks_stops (honest old) (text old) s e lacks;
+  fault = lacks_stops (faithful old) (text old) s e lacks;
   looks = record {
-    same = λ h. then.same (finds.looks.honesty.1 h) ∙ finds.looks.same h;
-    honesty = ((λ h. finds.looks.honesty.0 (then.honesty.0 h)), λ h. then.honesty.1 (finds.looks.honesty.1 h));
+    same = λ h. then.same (finds.looks.faith.1 h) ∙ finds.looks.same h;
+    faith = ((λ h. finds.looks.faith.0 (then.faith.0 h)), λ h. then.faith.1 (finds.looks.faith.1 h));
     no_failure = tt;
     counts = subst (λ n. FaultCounts e n 0 (failures new) 0) finds.looks.no_failure then.counts;
   };
 }
 
 -- a fault of writing
-pub put_stops : (honest : Type 0) (stored : List ℕ) (s : Steps) (f : ShowFault) → PutFault f → StopsSteps honest stored s f
-put_stops honest stored s (Io (WriteFailed n)) f = tt
-put_stops honest stored s (Io IoMemory) f = f
-put_stops honest stored s (Io ReadFailed) f = f
-put_stops honest stored s (Io InputTooLong) f = f
-put_stops honest stored s (Io SkipPastEnd) f = f
-put_stops honest stored s (Text NoMemory) f = tt
-put_stops honest stored s (Text DeviceFailed) f = tt
-put_stops honest stored s (Text (Damaged line)) f = absurd f
-put_stops honest stored s (Text TooLarge) f = absurd f
-put_stops honest stored s (Text (TooFew have)) f = absurd f
-put_stops honest stored s (Text JournalFull) f = absurd f
-put_stops honest stored s (Text Interrupted) f = absurd f
-put_stops honest stored s (Text Broken) f = absurd f
-put_stops honest stored s (Text (LengthDiffers n)) f = absurd f
-put_stops honest stored s (Text (NothingToRedo have)) f = absurd f
-put_stops honest stored s (Text (RedoDamaged line)) f = absurd f
+pub put_stops : (faithful : Type 0) (stored : List ℕ) (s : Steps) (f : ShowFault) → PutFault f → StopsSteps faithful stored s f
+put_stops faithful stored s (Io (WriteFailed n)) f = tt
+put_stops faithful stored s (Io IoMemory) f = f
+put_stops faithful stored s (Io ReadFailed) f = f
+put_stops faithful stored s (Io InputTooLong) f = f
+put_stops faithful stored s (Io SkipPastEnd) f = f
+put_stops faithful stored s (Text NoMemory) f = tt
+put_stops faithful stored s (Text DeviceFailed) f = tt
+put_stops faithful stored s (Text (Damaged line)) f = absurd f
+put_stops faithful stored s (Text TooLarge) f = absurd f
+put_stops faithful stored s (Text (TooFew have)) f = absurd f
+put_stops faithful stored s (Text JournalFull) f = absurd f
+put_stops faithful stored s (Text Interrupted) f = absurd f
+put_stops faithful stored s (Text Broken) f = absurd f
+put_stops faithful stored s (Text (LengthDiffers n)) f = absurd f
+put_stops faithful stored s (Text (NothingToRedo have)) f = absurd f
+put_stops faithful stored s (Text (RedoDamaged line)) f = absurd f
 
 -- isn't one of the text
 pub put_allows : (f : ShowFault) → PutFault f → RefusesSteps f → ⊥
@@ -301,9 +301,9 @@ front_prefix stored front cs None is = ([], is ∙ sym (append-nil front))
 front_prefix stored front cs (Some torn) is = is.1.front_is
 
 -- the places of all marks lie within the text
-pub front_lie : (honest : Type 0) (stored now : List ℕ) (slice marks : List Mark) (torn : Option Torn) → AreFrontMarks honest stored marks torn → (honest → now ≡ stored) → slice ≡ marks
-    → (len : ℕ) × (honest → len ≤ length now) × All (LiesWithin len) slice
-front_lie honest stored now slice marks torn a same is = (
+pub front_lie : (faithful : Type 0) (stored now : List ℕ) (slice marks : List Mark) (torn : Option Torn) → AreFrontMarks faithful stored marks torn → (faithful → now ≡ stored) → slice ≡ marks
+    → (len : ℕ) × (faithful → len ≤ length now) × All (LiesWithin len) slice
+front_lie faithful stored now slice marks torn a same is = (
   length a.front,
   (λ h. (let p = front_prefix stored a.front a.entries torn (a.behind h) in omega (arith, ap length (same h ∙ p.1), length-append a.front p.0))),
   subst (All (LiesWithin (length a.front))) (sym is) (all_lie a.front a.entries marks a.spelled a.marks_are),
@@ -315,7 +315,7 @@ torn_is torn cs stage count word =
     ap (λ n. codes "# change " ++ decimal n ++ codes ": unfinished, the next command " ++ mark_word torn.mark ++ codes "\n") number
     ∙ ap (λ w. codes "# change " ++ decimal (suc (length cs)) ++ codes ": unfinished, the next command " ++ w ++ codes "\n") word
 
-undo_only : (way : Way) (torn : Torn) → (way ≡ Redo → Some torn ≡ None) → way ≡ Undo
+undo_only : (way : Direction) (torn : Torn) → (way ≡ Redo → Some torn ≡ None) → way ≡ Undo
 undo_only Undo torn none = refl
 undo_only Redo torn none = absurd (let h : Some torn ≡ None = none refl in cc)
 

@@ -22,5 +22,5 @@ pub use show::lines::put_lines;
 pub use show::marks::all_marks;
 pub use show::ranges::put_ranges;
 pub use show::unfinished::{Marked, front_marks, put_torn};
-pub use show::way::{Step, Steps, Way};
+pub use show::way::{Direction, Step, Steps};
 pub use show::writing::{Writing, begin_writing, put};

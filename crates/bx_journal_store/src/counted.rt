@@ -46,7 +46,7 @@ impl<T: TextStore> CountedText<T> {
 impl<T: TextStore> TextStore for CountedText<T> {
     ghost text = { λ c. T.text c.within };
 
-    ghost honest = { λ c. T.honest c.within };
+    ghost faithful = { λ c. T.faithful c.within };
 
     ghost room = { λ c. T.room c.within };
 

@@ -10,7 +10,7 @@ use bx_image::{
 };
 use std::alloc::Allocator;
 
-/// A text in a file, appended at the file's end. It is honest where the file is, counts its failures
+/// A text in a file, appended at the file's end. It is faithful where the file is, counts its failures
 /// from 0 or from a number that is given, and takes no memory but for what `read_all` answers.
 #[derive(Drop)]
 pub struct FileText<F: RandomAccess = SystemFile> {
@@ -25,7 +25,7 @@ impl<F: RandomAccess> FileText<F> {
     pub fn new(file: F) -> Self
         ensures file { text_file result ≡ file }
         ensures text { ⟦<FileText<F> as TextStore>⟧.text result ≡ F.content file }
-        ensures honest { ⟦<FileText<F> as TextStore>⟧.honest result ↔ F.honest file }
+        ensures faithful { ⟦<FileText<F> as TextStore>⟧.faithful result ↔ F.faithful file }
         ensures failures { ⟦<FileText<F> as TextStore>⟧.failures result ≡ 0 }
     {
         FileText { file, failures: 0 }
@@ -35,7 +35,7 @@ impl<F: RandomAccess> FileText<F> {
     pub fn counting_from(file: F, first: u64) -> Self
         ensures file { text_file result ≡ file }
         ensures text { ⟦<FileText<F> as TextStore>⟧.text result ≡ F.content file }
-        ensures honest { ⟦<FileText<F> as TextStore>⟧.honest result ↔ F.honest file }
+        ensures faithful { ⟦<FileText<F> as TextStore>⟧.faithful result ↔ F.faithful file }
         ensures failures { ⟦<FileText<F> as TextStore>⟧.failures result ≡ first }
     {
         FileText {
@@ -47,7 +47,7 @@ impl<F: RandomAccess> FileText<F> {
     /// The file that has the text.
     pub fn file(&self) -> &F
         ensures text { F.content result.now ≡ ⟦<FileText<F> as TextStore>⟧.text self.now }
-        ensures honest { F.honest result.now ↔ ⟦<FileText<F> as TextStore>⟧.honest self.now }
+        ensures faithful { F.faithful result.now ↔ ⟦<FileText<F> as TextStore>⟧.faithful self.now }
     {
         &self.file
     }
@@ -56,7 +56,7 @@ impl<F: RandomAccess> FileText<F> {
     pub fn into_file(self) -> F
         ensures file { result ≡ text_file self }
         ensures text { F.content result ≡ ⟦<FileText<F> as TextStore>⟧.text self }
-        ensures honest { F.honest result ↔ ⟦<FileText<F> as TextStore>⟧.honest self }
+        ensures faithful { F.faithful result ↔ ⟦<FileText<F> as TextStore>⟧.faithful self }
         ensures survives { NoMore (⟦<FileText<F> as TextStore>⟧.survives self) (F.survives result) }
     {
         self.file
@@ -73,12 +73,12 @@ fn read_more<F: RandomAccess, A: Allocator>(
     more: usize,
 ) -> Result<(), TextFault>
     requires sum { vec_len bytes.old + more < 2 ^ 64 }
-    requires range { F.honest file.old → vec_len bytes.old + more ≤ length (F.content file.old) }
+    requires range { F.faithful file.old → vec_len bytes.old + more ≤ length (F.content file.old) }
     ensures len { OnOk result (vec_len bytes.new ≡ vec_len bytes.old + more) }
-    ensures bytes { F.honest file.old → OnOk result (bytes.new.items ≡ bytes.old.items ++ take more (drop (vec_len bytes.old) (F.content file.old))) }
-    ensures content { F.honest file.old → F.content file.new ≡ F.content file.old }
-    ensures survives { F.honest file.old → NoMore (F.survives file.old) (F.survives file.new) }
-    ensures honesty { F.honest file.new ↔ F.honest file.old }
+    ensures bytes { F.faithful file.old → OnOk result (bytes.new.items ≡ bytes.old.items ++ take more (drop (vec_len bytes.old) (F.content file.old))) }
+    ensures content { F.faithful file.old → F.content file.new ≡ F.content file.old }
+    ensures survives { F.faithful file.old → NoMore (F.survives file.old) (F.survives file.new) }
+    ensures faith { F.faithful file.new ↔ F.faithful file.old }
 {
     let from = bytes.len();
     bytes.resize(from + more, 0)?;
@@ -92,10 +92,10 @@ fn read_whole<F: RandomAccess, A: Allocator>(
     file: &mut F,
     alloc: A,
 ) -> Result<Vec<u8, A>, TextFault>
-    ensures bytes { F.honest file.old → IfOk result (λ bytes. bytes.items ≡ F.content file.old) }
-    ensures content { F.honest file.old → F.content file.new ≡ F.content file.old }
-    ensures survives { F.honest file.old → NoMore (F.survives file.old) (F.survives file.new) }
-    ensures honesty { F.honest file.new ↔ F.honest file.old }
+    ensures bytes { F.faithful file.old → IfOk result (λ bytes. bytes.items ≡ F.content file.old) }
+    ensures content { F.faithful file.old → F.content file.new ≡ F.content file.old }
+    ensures survives { F.faithful file.old → NoMore (F.survives file.old) (F.survives file.new) }
+    ensures faith { F.faithful file.new ↔ F.faithful file.old }
 {
     let len = size_of(file)? as usize;
     let mut bytes = Vec::with_capacity(alloc, len)?;
@@ -108,11 +108,11 @@ fn read_whole<F: RandomAccess, A: Allocator>(
 
 // Adds bytes at the end of a file.
 fn append_to<F: RandomAccess>(file: &mut F, bytes: &[u8]) -> Result<(), DeviceFailed>
-    requires { F.honest file.old → length (F.content file.old) + length bytes.now < 2 ^ 64 }
-    ensures ok { F.honest file.old → OnOk result (F.content file.new ≡ F.content file.old ++ bytes.now) }
-    ensures failed { F.honest file.old → OnErr result (IsPartlyAppended bytes.now (F.content file.old) (F.content file.new)) }
-    ensures fades { F.honest file.old → FadesBehind (F.content file.old) bytes.now (F.survives file.old) (F.survives file.new) }
-    ensures honesty { F.honest file.new ↔ F.honest file.old }
+    requires { F.faithful file.old → length (F.content file.old) + length bytes.now < 2 ^ 64 }
+    ensures ok { F.faithful file.old → OnOk result (F.content file.new ≡ F.content file.old ++ bytes.now) }
+    ensures failed { F.faithful file.old → OnErr result (IsPartlyAppended bytes.now (F.content file.old) (F.content file.new)) }
+    ensures fades { F.faithful file.old → FadesBehind (F.content file.old) bytes.now (F.survives file.old) (F.survives file.new) }
+    ensures faith { F.faithful file.new ↔ F.faithful file.old }
 {
     let end = size_of(file)?;
     if bytes.len() as u64 > u64::MAX - end {
@@ -124,7 +124,7 @@ fn append_to<F: RandomAccess>(file: &mut F, bytes: &[u8]) -> Result<(), DeviceFa
 impl<F: RandomAccess> TextStore for FileText<F> {
     ghost text = { λ f. F.content f.file };
 
-    ghost honest = { λ f. F.honest f.file };
+    ghost faithful = { λ f. F.faithful f.file };
 
     ghost room = { λ _. 2 ^ 64 - 1 };
 
@@ -174,9 +174,9 @@ impl<F: RandomAccess> TextStore for FileText<F> {
         ensures ok { OnOk result (n ≤ 2 ^ 64 - 1) }
         ensures limit { OnOk result (n ≤ 2 ^ 62) }
         ensures err { OnErr result ((2 ^ 64 - 1) ≡ (2 ^ 64 - 1)) }
-        ensures text { F.honest self.old.file → F.content self.new.file ≡ F.content self.old.file }
-        ensures survives { F.honest self.old.file → NoMore (F.survives self.old.file) (F.survives self.new.file) }
-        ensures goes_on { GoesOn (λ f. F.honest f.file) (λ _. 2 ^ 64 - 1) (λ f. f.failures) false self.old self.new }
+        ensures text { F.faithful self.old.file → F.content self.new.file ≡ F.content self.old.file }
+        ensures survives { F.faithful self.old.file → NoMore (F.survives self.old.file) (F.survives self.new.file) }
+        ensures goes_on { GoesOn (λ f. F.faithful f.file) (λ _. 2 ^ 64 - 1) (λ f. f.failures) false self.old self.new }
     {
         if n > MOST { Err(NoMemory) } else { Ok(()) }
     }

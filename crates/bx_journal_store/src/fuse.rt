@@ -24,11 +24,11 @@ fn failed(failures: &mut u64) -> DeviceFailed
 // An append that takes effect only in part.
 fn append_partly<T: TextStore>(store: &mut T, bytes: &[u8], part: Part) -> Result<(), DeviceFailed>
     requires countable { T.failures store.old < u64.MAX }
-    requires fits { T.honest store.old → length (T.text store.old) + length bytes.now ≤ T.room store.old }
-    ensures part { T.honest store.old → OnOk result (T.text store.new ≡ T.text store.old ++ take (part_of part (length bytes.now)) bytes.now) }
-    ensures fades { T.honest store.old → FadesBehind (T.text store.old) bytes.now (T.survives store.old) (T.survives store.new) }
-    ensures appended { T.honest store.old → IsPartlyAppended bytes.now (T.text store.old) (T.text store.new) }
-    ensures goes_on { GoesOn T.honest T.room T.failures (is_err result) store.old store.new }
+    requires fits { T.faithful store.old → length (T.text store.old) + length bytes.now ≤ T.room store.old }
+    ensures part { T.faithful store.old → OnOk result (T.text store.new ≡ T.text store.old ++ take (part_of part (length bytes.now)) bytes.now) }
+    ensures fades { T.faithful store.old → FadesBehind (T.text store.old) bytes.now (T.survives store.old) (T.survives store.new) }
+    ensures appended { T.faithful store.old → IsPartlyAppended bytes.now (T.text store.old) (T.text store.new) }
+    ensures goes_on { GoesOn T.faithful T.room T.failures (is_err result) store.old store.new }
 {
     match part {
         Part::Nothing => Ok(()),
@@ -40,11 +40,11 @@ fn append_partly<T: TextStore>(store: &mut T, bytes: &[u8], part: Part) -> Resul
 // A cut that goes only half the way.
 fn cut_half<T: TextStore>(store: &mut T, n: u64) -> Result<(), DeviceFailed>
     requires countable { T.failures store.old < u64.MAX }
-    requires within { T.honest store.old → n ≤ length (T.text store.old) }
-    ensures part { T.honest store.old → OnOk result (T.text store.new ≡ take (reached Half (length (T.text store.old)) n) (T.text store.old)) }
-    ensures fades { T.honest store.old → FadesFrom n (T.survives store.old) (T.survives store.new) }
-    ensures cut { T.honest store.old → IsCutInPart n (T.text store.old) (T.text store.new) }
-    ensures goes_on { GoesOn T.honest T.room T.failures (is_err result) store.old store.new }
+    requires within { T.faithful store.old → n ≤ length (T.text store.old) }
+    ensures part { T.faithful store.old → OnOk result (T.text store.new ≡ take (reached Half (length (T.text store.old)) n) (T.text store.old)) }
+    ensures fades { T.faithful store.old → FadesFrom n (T.survives store.old) (T.survives store.new) }
+    ensures cut { T.faithful store.old → IsCutInPart n (T.text store.old) (T.text store.new) }
+    ensures goes_on { GoesOn T.faithful T.room T.failures (is_err result) store.old store.new }
 {
     let len = store.len()?;
     if n < len {
@@ -57,11 +57,11 @@ fn cut_half<T: TextStore>(store: &mut T, n: u64) -> Result<(), DeviceFailed>
 // A cut that goes only a part of the way.
 fn cut_partly<T: TextStore>(store: &mut T, n: u64, part: Part) -> Result<(), DeviceFailed>
     requires countable { T.failures store.old < u64.MAX }
-    requires within { T.honest store.old → n ≤ length (T.text store.old) }
-    ensures part { T.honest store.old → OnOk result (T.text store.new ≡ take (reached part (length (T.text store.old)) n) (T.text store.old)) }
-    ensures fades { T.honest store.old → FadesFrom n (T.survives store.old) (T.survives store.new) }
-    ensures cut { T.honest store.old → IsCutInPart n (T.text store.old) (T.text store.new) }
-    ensures goes_on { GoesOn T.honest T.room T.failures (is_err result) store.old store.new }
+    requires within { T.faithful store.old → n ≤ length (T.text store.old) }
+    ensures part { T.faithful store.old → OnOk result (T.text store.new ≡ take (reached part (length (T.text store.old)) n) (T.text store.old)) }
+    ensures fades { T.faithful store.old → FadesFrom n (T.survives store.old) (T.survives store.new) }
+    ensures cut { T.faithful store.old → IsCutInPart n (T.text store.old) (T.text store.new) }
+    ensures goes_on { GoesOn T.faithful T.room T.failures (is_err result) store.old store.new }
 {
     match part {
         Part::Nothing => Ok(()),
@@ -70,7 +70,7 @@ fn cut_partly<T: TextStore>(store: &mut T, n: u64, part: Part) -> Result<(), Dev
     }
 }
 
-/// A text store on which some calls fail on purpose. It is honest where the store within is, and
+/// A text store on which some calls fail on purpose. It is faithful where the store within is, and
 /// `faults` counts its own failed calls from 0.
 #[derive(Drop)]
 pub struct FuseText<T: TextStore> {
@@ -102,7 +102,7 @@ impl<T: TextStore> FuseText<T> {
         ensures reads { result.reads ≡ Never }
         ensures part { result.part ≡ part }
         ensures text { ⟦<FuseText<T> as TextStore>⟧.text result ≡ T.text store }
-        ensures honest { ⟦<FuseText<T> as TextStore>⟧.honest result ↔ T.honest store }
+        ensures faithful { ⟦<FuseText<T> as TextStore>⟧.faithful result ↔ T.faithful store }
         ensures room { ⟦<FuseText<T> as TextStore>⟧.room result ≡ T.room store }
         ensures failures { ⟦<FuseText<T> as TextStore>⟧.failures result ≡ 0 }
     {
@@ -122,7 +122,7 @@ impl<T: TextStore> FuseText<T> {
         ensures writes { result.writes ≡ Never }
         ensures reads { result.reads ≡ After pass }
         ensures text { ⟦<FuseText<T> as TextStore>⟧.text result ≡ T.text store }
-        ensures honest { ⟦<FuseText<T> as TextStore>⟧.honest result ↔ T.honest store }
+        ensures faithful { ⟦<FuseText<T> as TextStore>⟧.faithful result ↔ T.faithful store }
         ensures room { ⟦<FuseText<T> as TextStore>⟧.room result ≡ T.room store }
         ensures failures { ⟦<FuseText<T> as TextStore>⟧.failures result ≡ 0 }
     {
@@ -139,7 +139,7 @@ impl<T: TextStore> FuseText<T> {
     pub fn into_inner(self) -> T
         ensures within { result ≡ self.within }
         ensures text { T.text result ≡ ⟦<FuseText<T> as TextStore>⟧.text self }
-        ensures honest { T.honest result ↔ ⟦<FuseText<T> as TextStore>⟧.honest self }
+        ensures faithful { T.faithful result ↔ ⟦<FuseText<T> as TextStore>⟧.faithful self }
         ensures room { T.room result ≡ ⟦<FuseText<T> as TextStore>⟧.room self }
     {
         let FuseText { store: inner, .. } = self;
@@ -150,7 +150,7 @@ impl<T: TextStore> FuseText<T> {
 impl<T: TextStore> TextStore for FuseText<T> {
     ghost text = { λ f. T.text f.within };
 
-    ghost honest = { λ f. T.honest f.within };
+    ghost faithful = { λ f. T.faithful f.within };
 
     ghost room = { λ f. T.room f.within };
 

@@ -4,7 +4,7 @@ ghost use Rattle.std.specs.Prelude.{◌≡◌, [], vec_capacity, refl};
 use crate::{DeviceFailed, MOST, NoMemory, TextFault, TextStore};
 use std::alloc::{Allocator, Global};
 
-/// A text in memory, in one vector. It is always honest and never fails.
+/// A text in memory, in one vector. It is always faithful and never fails.
 #[derive(Drop)]
 pub struct MemText<A: Allocator = Global> {
     bytes: Vec<u8, A>,
@@ -47,7 +47,7 @@ impl<A: Allocator> MemText<A> {
 impl<A: Allocator> TextStore for MemText<A> {
     ghost text = { λ m. m.bytes.items };
 
-    ghost honest = { λ _. Unit {0} };
+    ghost faithful = { λ _. Unit {0} };
 
     ghost room = { λ m. vec_capacity m.bytes };
 

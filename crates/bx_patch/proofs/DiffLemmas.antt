@@ -130,22 +130,22 @@ ended_is extent head x y old new e f h =
     ap (λ head. with_end (headed head (patch_lines extent x y))) (h ∙ ap (λ n. length_text n new ++ codes "\n") e ∙ ap (λ n. length_text (length x) n ++ codes "\n") f)
 
 -- a device that was only read, and once more
-pub reads_on : {D : Type 0} (honest : D → Type 0) (image : D → List ℕ) (room failures : D → ℕ) (survives : D → List ℕ → Type 0) (failed : Bool) (first mid now : D) →
-    OnlyReads honest image room failures survives false first mid → OnlyReads honest image room failures survives failed mid now →
-    OnlyReads honest image room failures survives failed first now
-reads_on honest image room failures survives failed first mid now a b =
+pub reads_on : {D : Type 0} (faithful : D → Type 0) (image : D → List ℕ) (room failures : D → ℕ) (survives : D → List ℕ → Type 0) (failed : Bool) (first mid now : D) →
+    OnlyReads faithful image room failures survives false first mid → OnlyReads faithful image room failures survives failed mid now →
+    OnlyReads faithful image room failures survives failed first now
+reads_on faithful image room failures survives failed first mid now a b =
     record {
-      stays = λ h. b.stays (a.goes_on.honesty.1 h) ∙ a.stays h;
-      no_more = λ h x now. a.no_more h x (b.no_more (a.goes_on.honesty.1 h) x now);
+      stays = λ h. b.stays (a.goes_on.faith.1 h) ∙ a.stays h;
+      no_more = λ h x now. a.no_more h x (b.no_more (a.goes_on.faith.1 h) x now);
       goes_on = record {
-        honesty = (λ h. a.goes_on.honesty.0 (b.goes_on.honesty.0 h), λ h. b.goes_on.honesty.1 (a.goes_on.honesty.1 h));
+        faith = (λ h. a.goes_on.faith.0 (b.goes_on.faith.0 h), λ h. b.goes_on.faith.1 (a.goes_on.faith.1 h));
         no_less_room = omega (arith, a.goes_on.no_less_room, b.goes_on.no_less_room);
         counted = b.goes_on.counted ∙ ap (λ n. cond failed (n + 1) n) a.goes_on.counted;
       };
     }
 
 -- a device that wasn't called
-pub reads_none : {D : Type 0} (honest : D → Type 0) (image : D → List ℕ) (room failures : D → ℕ) (survives : D → List ℕ → Type 0) (now : D) →
-    OnlyReads honest image room failures survives false now now
-reads_none honest image room failures survives now =
-    record { stays = λ h. refl; no_more = λ h x now. now; goes_on = record { honesty = (λ h. h, λ h. h); no_less_room = omega arith; counted = refl } }
+pub reads_none : {D : Type 0} (faithful : D → Type 0) (image : D → List ℕ) (room failures : D → ℕ) (survives : D → List ℕ → Type 0) (now : D) →
+    OnlyReads faithful image room failures survives false now now
+reads_none faithful image room failures survives now =
+    record { stays = λ h. refl; no_more = λ h x now. now; goes_on = record { faith = (λ h. h, λ h. h); no_less_room = omega arith; counted = refl } }

@@ -98,8 +98,8 @@ has_more x now bytes rest at done same is behind before more j below = elim (cas
 ]
 
 -- a cache of an image that is the same as before
-pub cache_again : (honest now_honest : Type 0) (image now page : List ℕ) (c : Cached) → (now_honest → honest) → (now_honest → now ≡ image) → IsImagePage honest image page c → IsImagePage now_honest now page c
-cache_again honest now_honest image now page c still same cache = record {
+pub cache_again : (faithful now_faithful : Type 0) (image now page : List ℕ) (c : Cached) → (now_faithful → faithful) → (now_faithful → now ≡ image) → IsImagePage faithful image page c → IsImagePage now_faithful now page c
+cache_again faithful now_faithful image now page c still same cache = record {
   long = λ h. cache.long (still h) ∙ sym (ap length (same h));
   are = λ h. cache.are (still h) ∙ ap (λ im. take c.count (drop c.at im)) (sym (same h));
   inside = cache.inside;

@@ -8,11 +8,11 @@ use Rattle.bx_patch.specs.declared.diff.fault.DiffFault.{DiffFault}
 use Rattle.bx_patch.specs.declared.diff.fault.DiffFault.TheVariants.{NoMemory, TooLarge, OldFailed, NewFailed, WriteFailed}
 
 -- A device is only read: its image stays, no more may be found of it after a loss of power, and it counts this failure if there is one.
-pub record OnlyReads {D : Type 0} (honest : D → Type 0) (image : D → List ℕ) (room failures : D → ℕ) (survives : D → List ℕ → Type 0)
+pub record OnlyReads {D : Type 0} (faithful : D → Type 0) (image : D → List ℕ) (room failures : D → ℕ) (survives : D → List ℕ → Type 0)
     (failed : Bool) (old new : D) : Type 0 where
-  pub stays : honest old → image new ≡ image old
-  pub no_more : honest old → NoMore (survives old) (survives new)
-  pub goes_on : GoesOn honest room failures failed old new
+  pub stays : faithful old → image new ≡ image old
+  pub no_more : faithful old → NoMore (survives old) (survives new)
+  pub goes_on : GoesOn faithful room failures failed old new
 
 -- whether the first device failed
 abbrev pub of_old : DiffFault → Bool

@@ -42,17 +42,17 @@ pub fn write_patch<D: Device, E: Device, W: Write, S: Alike, A: Allocator + Clon
     requires old_countable { D.failures old.old < u64.MAX }
     requires new_countable { E.failures new.old < u64.MAX }
     // Where it succeeds, exactly the text was written, if the two images are as is known of them.
-    ensures text { D.honest old.old → E.honest new.old → S.AreAlike alike.now (D.image old.old) (E.image new.old)
+    ensures text { D.faithful old.old → E.faithful new.old → S.AreAlike alike.now (D.image old.old) (E.image new.old)
         → OnOk result (Appends (W.contents out.old) (W.contents out.new) (patch_text extent (D.image old.old) (E.image new.old))) }
     // After a fault a prefix of it was that isn't all of it, and a failed write tells how long that is.
-    ensures part { D.honest old.old → E.honest new.old → S.AreAlike alike.now (D.image old.old) (E.image new.old)
+    ensures part { D.faithful old.old → E.faithful new.old → S.AreAlike alike.now (D.image old.old) (E.image new.old)
         → IfErr result (WritesPrefix (W.contents out.old) (W.contents out.new) (patch_text extent (D.image old.old) (E.image new.old))) }
     // It is too large exactly where one of the two is, unless a length couldn't be read.
-    ensures fault { D.honest old.old → E.honest new.old
+    ensures fault { D.faithful old.old → E.faithful new.old
         → MatchResult result (λ _. AreShort (D.image old.old) (E.image new.old)) (IsFaultFor (D.image old.old) (E.image new.old)) }
     // Each of the two counts a failure exactly where the fault says that it failed.
-    ensures old { OnlyReads D.honest D.image D.room D.failures D.survives (fails of_old result) old.old old.new }
-    ensures new { OnlyReads E.honest E.image E.room E.failures E.survives (fails of_new result) new.old new.new }
+    ensures old { OnlyReads D.faithful D.image D.room D.failures D.survives (fails of_old result) old.old old.new }
+    ensures new { OnlyReads E.faithful E.image E.room E.failures E.survives (fails of_new result) new.old new.new }
 {
     let lengths = match lengths_of(old, new) {
         Ok(lengths) => lengths,

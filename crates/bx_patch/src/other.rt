@@ -35,9 +35,9 @@ fn other_among<D: Device, A: Allocator>(
     pieces: &[Piece<A>],
 ) -> Result<Option<u64>, DeviceFailed>
     requires countable { D.failures device.old < u64.MAX }
-    requires len { D.honest device.old → len ≡ length (D.image device.old) }
-    ensures found { D.honest device.old → IfOk result (FindsAmong (D.image device.old) (contents pieces.now)) }
-    ensures reads { OnlyReads D.honest D.image D.room D.failures D.survives (is_err result) device.old device.new }
+    requires len { D.faithful device.old → len ≡ length (D.image device.old) }
+    ensures found { D.faithful device.old → IfOk result (FindsAmong (D.image device.old) (contents pieces.now)) }
+    ensures reads { OnlyReads D.faithful D.image D.room D.failures D.survives (is_err result) device.old device.new }
 {
     let mut page = [0u8; PAGE];
     let mut kept = Cached {
@@ -64,8 +64,8 @@ fn other_among<D: Device, A: Allocator>(
 /// The length of an image, which is only read.
 fn length_of<D: Device>(device: &mut D) -> Result<u64, DeviceFailed>
     requires countable { D.failures device.old < u64.MAX }
-    ensures len { D.honest device.old → IfOk result (λ len. len ≡ length (D.image device.old)) }
-    ensures reads { OnlyReads D.honest D.image D.room D.failures D.survives (is_err result) device.old device.new }
+    ensures len { D.faithful device.old → IfOk result (λ len. len ≡ length (D.image device.old)) }
+    ensures reads { OnlyReads D.faithful D.image D.room D.failures D.survives (is_err result) device.old device.new }
 {
     device.len()
 }
@@ -103,8 +103,8 @@ pub fn find_other<D: Device, A: Allocator>(
 ) -> Result<Option<Other>, DeviceFailed>
     requires countable { D.failures device.old < u64.MAX }
     // Nothing is found exactly where the image agrees, by `other_disagrees`.
-    ensures found { D.honest device.old → IfOk result (FindsOther (asked_of patch.now) (D.image device.old)) }
-    ensures reads { OnlyReads D.honest D.image D.room D.failures D.survives (is_err result) device.old device.new }
+    ensures found { D.faithful device.old → IfOk result (FindsOther (asked_of patch.now) (D.image device.old)) }
+    ensures reads { OnlyReads D.faithful D.image D.room D.failures D.survives (is_err result) device.old device.new }
 {
     let len = match length_of(device) {
         Ok(len) => len,

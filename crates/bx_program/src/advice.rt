@@ -3,7 +3,7 @@
 use crate::files::names::{names_of, world_of};
 use bx_cli::Target;
 use bx_hints::Since;
-use bx_journal::Way;
+use bx_journal::Direction;
 use bx_journal_image::{
     ImageLine, LINE, Standing, Verdict, is_changed, is_older, is_redo_refused, is_undo_refused,
     judge_unfinished, others_after, read_line, stand,
@@ -59,11 +59,11 @@ impl Advice {
     }
 
     /// Whether an undo or a redo of `count` changes is refused.
-    fn refuses(&self, way: Way, count: u32) -> bool {
+    fn refuses(&self, way: Direction, count: u32) -> bool {
         match (&self.known, way) {
             (Known::Nothing | Known::Unfinished(_), _) => false,
-            (Known::AtRest(line, now), Way::Undo) => is_undo_refused(line, now, count),
-            (Known::AtRest(line, now), Way::Redo) => is_redo_refused(line, now, count),
+            (Known::AtRest(line, now), Direction::Undo) => is_undo_refused(line, now, count),
+            (Known::AtRest(line, now), Direction::Redo) => is_redo_refused(line, now, count),
         }
     }
 
@@ -84,13 +84,13 @@ impl Advice {
     }
 
     /// What tells an undo or a redo that is refused that the image is another one.
-    pub fn since(&self, way: Way) -> Since {
+    pub fn since(&self, way: Direction) -> Since {
         if self.is_behind() {
             return Since::Behind;
         }
         let is_other = match way {
-            Way::Undo => self.is_changed(),
-            Way::Redo => self.refuses(way, 1),
+            Direction::Undo => self.is_changed(),
+            Direction::Redo => self.refuses(way, 1),
         };
         if is_other {
             Since::Changed
@@ -100,7 +100,7 @@ impl Advice {
     }
 
     /// Whether one of `count` changes would, or is refused, as far as there are as many; of none, whether one of one would.
-    pub fn is_shown(&self, way: Way, count: u32) -> bool {
+    pub fn is_shown(&self, way: Direction, count: u32) -> bool {
         self.refuses(way, count.max(1))
     }
 

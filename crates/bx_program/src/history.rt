@@ -8,7 +8,7 @@ use crate::files::look::is_missing;
 use crate::files::names::{guard_to_recover, names_of, world_of};
 use bx_cli::{Fault, Target};
 use bx_hints::Stopped;
-use bx_journal::{Steps, Way};
+use bx_journal::{Direction, Steps};
 use bx_run::{Report, Request, run_request};
 use bx_system::{Progress, is_untouched, lock, open_there};
 use std::fs::{self, File};
@@ -62,7 +62,7 @@ where
     R: Files<File = File> + Print + Eprint + Clock + AllocGlobal,
 {
     let nothing = Report::Show(Steps {
-        way: Way::Undo,
+        way: Direction::Undo,
         count: 0,
         changes: 0,
         compares: false,

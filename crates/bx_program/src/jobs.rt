@@ -9,8 +9,8 @@ mod patch;
 mod previews;
 mod ready;
 mod several;
-mod sights;
 mod single;
+mod states;
 mod steps;
 
 use crate::faults::show_fault;
@@ -24,8 +24,8 @@ use crate::jobs::lay::lay;
 use crate::jobs::looks::look;
 use crate::jobs::previews::{preview_copy, preview_read};
 use crate::jobs::several::{More, dump_as_one, dump_each, more_of};
-use crate::jobs::sights::{look_at_change, look_before, tell_behind};
 use crate::jobs::single::{dump_named, dump_standard};
+use crate::jobs::states::{look_at_change, look_before, tell_behind};
 use crate::jobs::steps::take_steps;
 use crate::progress::{progress_of_input, progress_of_standard};
 use crate::streams::closed::Held;
@@ -38,7 +38,7 @@ use bx_hints::{
     Audience, Remarks, STANDARD_INPUT, Seen, Stopped, Terminals, Watched, asks_for_hints,
 };
 use bx_image::Change;
-use bx_journal::Way;
+use bx_journal::Direction;
 use bx_read::ReadFault;
 use bx_run::Edit;
 use bx_system::{Counted, Noted, Progress, Tally};
@@ -219,8 +219,8 @@ where
         ChangeJob::Revert(job) => uncounted(revert(rt, job, out, remarks)),
         ChangeJob::Patch(job) => uncounted(patch::patch(rt, job, out, remarks)),
         ChangeJob::Forget(job) => uncounted(forget_changes(rt, job, remarks)),
-        ChangeJob::Undo(job) => uncounted(take_steps(rt, Way::Undo, job, remarks)),
-        ChangeJob::Redo(job) => uncounted(take_steps(rt, Way::Redo, job, remarks)),
+        ChangeJob::Undo(job) => uncounted(take_steps(rt, Direction::Undo, job, remarks)),
+        ChangeJob::Redo(job) => uncounted(take_steps(rt, Direction::Redo, job, remarks)),
     }
 }
 

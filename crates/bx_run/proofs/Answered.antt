@@ -6,15 +6,15 @@ use Rattle.bx_journal.specs.Fault.{DeviceFault}
 use Rattle.bx_journal.specs.Images.{Images, redo_of, undo_of}
 use Rattle.bx_journal.specs.Machine.{RedoStep, UndoStep}
 use Rattle.bx_journal.specs.Power.{Found}
-use Rattle.bx_journal.specs.How.{How}
-use Rattle.bx_journal.specs.Way.{Way}
-use Rattle.bx_journal.specs.Way.TheVariants.{Redo as Onward, Undo as Backward}
+use Rattle.bx_journal.specs.RecoveryOutcome.{RecoveryOutcome}
+use Rattle.bx_journal.specs.Direction.{Direction}
+use Rattle.bx_journal.specs.Direction.TheVariants.{Redo as Onward, Undo as Backward}
 use Rattle.bx_journal.specs.SessionFault.{SessionFault}
 use Rattle.bx_journal.specs.SessionFault.TheVariants.{NoMemory, TooLarge, DeviceFailed, Damaged, TooFew, JournalFull, Interrupted, Broken, LengthDiffers, NothingToRedo, RedoDamaged}
-use Rattle.bx_world.specs.World.{Sight}
+use Rattle.bx_world.specs.World.{SystemState}
 use Rattle.bx_world.specs.files.Files.{LeavesFiles}
 use Rattle.bx_world.specs.declared.files.names.Names.{Names}
-use Rattle.bx_world.specs.declared.files.unopened.Unopened.{Unopened}
+use Rattle.bx_world.specs.declared.files.unopened.OpenError.{OpenError}
 use Rattle.bx_cli_commands.specs.Power.{images_of}
 use Rattle.bx_cli_commands.specs.Refusal.{IsWholeRefusal}
 use Rattle.bx_cli_commands.specs.Replies.{stands_by}
@@ -38,20 +38,20 @@ ok_injective : (m n : ℕ) → ◌≡◌ {A = Result ℕ Fault} (Ok m) (Ok n) �
 ok_injective m n is = ap (number_or m) is
 
 -- why a command was refused, whether its files were opened or not
-pub reason : (Why : Type 0) (u : Option Unopened) (reply : Reply) (how : Option How) (old new : Sight)
-    → IfSome u (λ _. NothingDone reply how old new) → (u ≡ None → IsWholeRefusal reply → Why) → IsWholeRefusal reply
-    → ((reply ≡ Refused OpenFailed) × (u ≡ None → ⊥)) ⊎ Why
-reason Why None reply how old new un why whole = inr (why refl whole)
-reason Why (Some x) reply how old new un why whole = inl (un.0, λ e. (let wrong : Some x ≡ None = e in cc))
+pub reason : (OpenFailure : Type 0) (u : Option OpenError) (reply : Reply) (how : Option RecoveryOutcome) (old new : SystemState)
+    → IfSome u (λ _. NothingDone reply how old new) → (u ≡ None → IsWholeRefusal reply → OpenFailure) → IsWholeRefusal reply
+    → ((reply ≡ Refused OpenFailed) × (u ≡ None → ⊥)) ⊎ OpenFailure
+reason OpenFailure None reply how old new un why whole = inr (why refl whole)
+reason OpenFailure (Some x) reply how old new un why whole = inl (un.0, λ e. (let wrong : Some x ≡ None = e in cc))
 
 -- where changes were moved the files were opened
-pub opened_moved : (u : Option Unopened) (reply : Reply) (how : Option How) (old new : Sight) → IfSome u (λ _. NothingDone reply how old new)
+pub opened_moved : (u : Option OpenError) (reply : Reply) (how : Option RecoveryOutcome) (old new : SystemState) → IfSome u (λ _. NothingDone reply how old new)
     → HasMoved (stands_by reply) → u ≡ None
 opened_moved None reply how old new un has = refl
 opened_moved (Some x) reply how old new un has = absurd (subst (λ p. HasMoved (stands_by p)) un.0 has)
 
 -- files that weren't opened
-pub nothing_moved : (u : Option Unopened) (reply : Reply) (how : Option How) (old new : Sight) → IfSome u (λ _. NothingDone reply how old new)
+pub nothing_moved : (u : Option OpenError) (reply : Reply) (how : Option RecoveryOutcome) (old new : SystemState) → IfSome u (λ _. NothingDone reply how old new)
     → IfSome u (λ _. (stands_by reply ≡ Err OpenFailed) × (how ≡ None) × LeavesFiles old new)
 nothing_moved None reply how old new un = tt
 nothing_moved (Some x) reply how old new un = (ap stands_by un.0, un.1, un.2)
@@ -130,22 +130,22 @@ module _ (s : Images) (k : ℕ) (course : Course) (moved : ℕ → Images → Im
     | inr step ↦ call_may e step.1.0 step.0 step.1.1 step.1.2
   ]
 
-  abbrev Reason : Option Unopened → Reply → Type 0
+  abbrev Reason : Option OpenError → Reply → Type 0
   Reason u reply = ((reply ≡ Refused OpenFailed) × (u ≡ None → ⊥)) ⊎ (IsUnopened reply ⊎ ((after : Standing) × Call reply after))
 
-  unopened_told : (u : Option Unopened) → Reason u (Refused OpenFailed) → u ≡ None → ⊥
+  unopened_told : (u : Option OpenError) → Reason u (Refused OpenFailed) → u ≡ None → ⊥
   unopened_told u why = elim why [
     | inl un ↦ un.1
     | inr rest ↦ absurd (may OpenFailed rest)
   ]
 
-  opened_may : (u : Option Unopened) (e : Fault) → (Refused e ≡ Refused OpenFailed → ⊥) → Reason u (Refused e) → MayNotMove k course e
+  opened_may : (u : Option OpenError) (e : Fault) → (Refused e ≡ Refused OpenFailed → ⊥) → Reason u (Refused e) → MayNotMove k course e
   opened_may u e other why = elim why [
     | inl un ↦ absurd (other un.0)
     | inr rest ↦ may e rest
   ]
 
-  pub answers_err : (names : Names) (u : Option Unopened) (old new : Sight) (reply : Reply)
+  pub answers_err : (names : Names) (u : Option OpenError) (old new : SystemState) (reply : Reply)
       → ((IsWholeRefusal reply → ⊥) → (after : Standing) × Call reply after × EndsAt (contents_of names new) after)
       → (IsWholeRefusal reply → LeavesFiles old new) → (IsWholeRefusal reply → Reason u reply)
       → IfErr (stands_by reply) (RefusesMove names k course u old new)
@@ -265,7 +265,7 @@ module _ (s : Images) (k : ℕ) where
       answers_read s k (back s) undo_of Undone (λ s k r t. UndoStep s.stack k r t.stack) (λ i. refl) (λ n. refl) (λ n new step. (step.0, step.1))
       (undo_refuses s k) reply c step
 
-  pub undone_err : (names : Names) (u : Option Unopened) (old new : Sight) (reply : Reply)
+  pub undone_err : (names : Names) (u : Option OpenError) (old new : SystemState) (reply : Reply)
       → ((IsWholeRefusal reply → ⊥) → (after : Standing) × Undoing reply after × EndsAt (contents_of names new) after)
       → (IsWholeRefusal reply → LeavesFiles old new)
       → (IsWholeRefusal reply → ((reply ≡ Refused OpenFailed) × (u ≡ None → ⊥)) ⊎ (IsUnopened reply ⊎ ((after : Standing) × Undoing reply after)))
@@ -301,7 +301,7 @@ module _ (s : Images) (k : ℕ) where
   redone_read reply c step =
       answers_read s k (again s) redo_of Redone RedoStep (λ i. refl) (λ n. refl) (λ n new step. (step.0, step.1)) (redo_refuses s k) reply c step
 
-  pub redone_err : (names : Names) (u : Option Unopened) (old new : Sight) (reply : Reply)
+  pub redone_err : (names : Names) (u : Option OpenError) (old new : SystemState) (reply : Reply)
       → ((IsWholeRefusal reply → ⊥) → (after : Standing) × Redoing reply after × EndsAt (contents_of names new) after)
       → (IsWholeRefusal reply → LeavesFiles old new)
       → (IsWholeRefusal reply → ((reply ≡ Refused OpenFailed) × (u ≡ None → ⊥)) ⊎ (IsUnopened reply ⊎ ((after : Standing) × Redoing reply after)))
@@ -319,7 +319,7 @@ module _ (s : Images) (k : ℕ) where
       image journal redo reply begun finds
 
 -- changes were moved: the command wasn't refused whole
-begun_by : (names : Names) (k : ℕ) (course : Course) (u : Option Unopened) (old new : Sight) (reply : Reply) → HasMoved (stands_by reply)
+begun_by : (names : Names) (k : ℕ) (course : Course) (u : Option OpenError) (old new : SystemState) (reply : Reply) → HasMoved (stands_by reply)
     → IfErr (stands_by reply) (RefusesMove names k course u old new) → IsWholeRefusal reply → ⊥
 begun_by names k course u old new (Changed n) has refuses whole = whole
 begun_by names k course u old new (Copied n counts) has refuses whole = whole
@@ -358,7 +358,7 @@ begun_unfound Interrupted reply is has whole = (subst IsWholeRefusal is whole) r
 begun_unfound e reply is has whole = subst (λ p. HasMoved (stands_by p)) is has
 
 -- a command that was refused, and not stopped in the middle, leaves all files
-pub spares_by : (names : Names) (u : Option Unopened) (how : Option How) (old new : Sight) (reply : Reply)
+pub spares_by : (names : Names) (u : Option OpenError) (how : Option RecoveryOutcome) (old new : SystemState) (reply : Reply)
     → (IsWholeRefusal reply → LeavesRefused names u how old new) → IfErr (stands_by reply) (SparesMove names u how old new)
 spares_by names u how old new (Changed n) leaves = tt
 spares_by names u how old new (Copied n counts) leaves = tt
@@ -367,20 +367,20 @@ spares_by names u how old new (Redone n) leaves = tt
 spares_by names u how old new (Refused e) leaves = λ whole. leaves (λ is. whole (subst IsMidway (sym is) tt))
 
 module _ {R : Type 0} (remaining : R → Option (List ℕ)) where
-  abbrev Steps : Way → Images → ℕ → Reply → Contents → Type 0
+  abbrev Steps : Direction → Images → ℕ → Reply → Contents → Type 0
   Steps way s k reply c = StepsTo remaining s (Run (command_by {R = R} way k)) reply c
 
-  abbrev Refuses : Way → Images → ℕ → Reply → Type 0
+  abbrev Refuses : Direction → Images → ℕ → Reply → Type 0
   Refuses way s k reply = MayRefuse remaining s (Run (command_by {R = R} way k)) reply
 
   -- changes that were moved one way
-  pub moved_ok : (way : Way) (s : Images) (k : ℕ) (reply : Reply) (c : Contents) → ((IsWholeRefusal reply → ⊥) → Steps way s k reply c)
+  pub moved_ok : (way : Direction) (s : Images) (k : ℕ) (reply : Reply) (c : Contents) → ((IsWholeRefusal reply → ⊥) → Steps way s k reply c)
       → IfOk (stands_by reply) (λ left. IsMoved k (stepped way s) left c)
   moved_ok Backward s k reply c steps = undone_ok s k reply c steps
   moved_ok Onward s k reply c steps = redone_ok s k reply c steps
 
   -- and those that were not
-  pub moved_err : (way : Way) (s : Images) (k : ℕ) (names : Names) (u : Option Unopened) (old new : Sight) (reply : Reply)
+  pub moved_err : (way : Direction) (s : Images) (k : ℕ) (names : Names) (u : Option OpenError) (old new : SystemState) (reply : Reply)
       → ((IsWholeRefusal reply → ⊥) → Steps way s k reply (contents_of names new)) → (IsWholeRefusal reply → LeavesFiles old new)
       → (IsWholeRefusal reply → ((reply ≡ Refused OpenFailed) × (u ≡ None → ⊥)) ⊎ Refuses way s k reply)
       → IfErr (stands_by reply) (RefusesMove names k (stepped way s) u old new)
@@ -388,7 +388,7 @@ module _ {R : Type 0} (remaining : R → Option (List ℕ)) where
   moved_err Onward s k names u old new reply steps leaves why = redone_err s k names u old new reply steps leaves why
 
   -- where a loss of power finds them
-  pub moved_survives : (way : Way) (s : Images) (k : ℕ) (names : Names) (u : Option Unopened) (old new : Sight) (image journal redo : List ℕ → Type 0)
+  pub moved_survives : (way : Direction) (s : Images) (k : ℕ) (names : Names) (u : Option OpenError) (old new : SystemState) (image journal redo : List ℕ → Type 0)
       (reply : Reply) → HasMoved (stands_by reply) → IfErr (stands_by reply) (RefusesMove names k (stepped way s) u old new)
       → ((IsWholeRefusal reply → ⊥) → Survives remaining s (Run (command_by {R = R} way k)) reply image journal redo)
       → SurvivesMove k (stepped way s) image journal redo
@@ -398,24 +398,24 @@ module _ {R : Type 0} (remaining : R → Option (List ℕ)) where
       let begun = begun_by names k (again s) u old new reply has refuses in redone_survives s k image journal redo reply begun (finds begun)
 
   -- what is recovered, moved
-  steps_found : (way : Way) (s : Images) (k : ℕ) (reply : Reply) (c : Contents) → Steps way s k reply c
+  steps_found : (way : Direction) (s : Images) (k : ℕ) (reply : Reply) (c : Contents) → Steps way s k reply c
       → MatchResult (stands_by reply) (λ left. IsMoved k (stepped way s) left c) (RefusesRecovered k (stepped way s) c)
   steps_found Backward s k reply c step = undone_found s k reply c step
   steps_found Onward s k reply c step = redone_found s k reply c step
 
-  pub moved_found : (way : Way) (s : Images) (k : ℕ) (how : Option How) (reply : Reply) (c : Contents)
+  pub moved_found : (way : Direction) (s : Images) (k : ℕ) (how : Option RecoveryOutcome) (reply : Reply) (c : Contents)
       → DoesFound remaining s (Run (command_by {R = R} way k)) how reply c → MovedFound k way s how (stands_by reply) c
   moved_found way s k None reply c found = (found.0, ap stands_by found.1, found.2)
   moved_found way s k (Some h) reply c found = steps_found way (recovered_as h s) k reply c found
 
   -- what opening took, moved
-  read_way : (way : Way) (s : Images) (k : ℕ) (reply : Reply) (c : Contents)
+  read_way : (way : Direction) (s : Images) (k : ℕ) (reply : Reply) (c : Contents)
       → ((next : Images) × TaskStep remaining (Standing.Up s) (Run (command_by {R = R} way k)) reply (Standing.Up next) × StandsIn c next)
       → IfOk (stands_by reply) (λ left. (k ≤ (stepped way s).most) × (left ≡ (stepped way s).left k) × StandsIn c ((stepped way s).moved k))
   read_way Backward s k reply c step = undone_read s k reply c step
   read_way Onward s k reply c step = redone_read s k reply c step
 
-  read_steps : (way : Way) (k : ℕ) (h : How) (reply : Reply) (old new : Contents) → StepsRead remaining (Run (command_by {R = R} way k)) h reply old new
+  read_steps : (way : Direction) (k : ℕ) (h : RecoveryOutcome) (reply : Reply) (old new : Contents) → StepsRead remaining (Run (command_by {R = R} way k)) h reply old new
       → IfOk (stands_by reply) (λ left. MovedRead k way h left old new)
   read_steps way k h reply old new steps = map_ok (stands_by reply)
       (λ left. (k ≤ (stepped way steps.before).most) × (left ≡ (stepped way steps.before).left k) × StandsIn new ((stepped way steps.before).moved k))
@@ -423,7 +423,7 @@ module _ {R : Type 0} (remaining : R → Option (List ℕ)) where
       (λ left p. record { before = steps.before; read = steps.read; enough = p.0; left_is = p.1; ends = p.2 })
       (read_way way steps.before k reply new (steps.next, steps.step, steps.ends))
 
-  read_reply : (way : Way) (k : ℕ) (h : How) (reply : Reply) (old new : Contents)
+  read_reply : (way : Direction) (k : ℕ) (h : RecoveryOutcome) (reply : Reply) (old new : Contents)
       → (Unfailed reply → StepsRead remaining (Run (command_by {R = R} way k)) h reply old new)
       → IfOk (stands_by reply) (λ left. MovedRead k way h left old new)
   read_reply way k h (Changed n) old new steps = read_steps way k h (Changed n) old new (steps refl)
@@ -432,14 +432,14 @@ module _ {R : Type 0} (remaining : R → Option (List ℕ)) where
   read_reply way k h (Redone n) old new steps = read_steps way k h (Redone n) old new (steps refl)
   read_reply way k h (Refused e) old new steps = tt
 
-  pub moved_read : (way : Way) (k : ℕ) (how : Option How) (reply : Reply) (old new : Contents)
+  pub moved_read : (way : Direction) (k : ℕ) (how : Option RecoveryOutcome) (reply : Reply) (old new : Contents)
       → (Unfailed reply → IfSome how (λ h. StepsRead remaining (Run (command_by {R = R} way k)) h reply old new))
       → IfSome how (λ h. IfOk (stands_by reply) (λ left. MovedRead k way h left old new))
   moved_read way k None reply old new steps = tt
   moved_read way k (Some h) reply old new steps = read_reply way k h reply old new steps
 
   -- where a loss of power finds it
-  pub found_survives : (way : Way) (s : Images) (k : ℕ) (how : Option How) (c : Contents) (image journal redo : List ℕ → Type 0) (reply : Reply)
+  pub found_survives : (way : Direction) (s : Images) (k : ℕ) (how : Option RecoveryOutcome) (c : Contents) (image journal redo : List ℕ → Type 0) (reply : Reply)
       → HasMoved (stands_by reply) → DoesFound remaining s (Run (command_by {R = R} way k)) how reply c
       → ((IsWholeRefusal reply → ⊥) → SurvivesFound remaining s (Run (command_by {R = R} way k)) how reply image journal redo)
       → SurvivesMoved k way s how image journal redo
@@ -452,7 +452,7 @@ module _ {R : Type 0} (remaining : R → Option (List ℕ)) where
       redone_survives (recovered_as h s) k image journal redo reply begun (finds begun)
 
 -- why files weren't opened, behind what was said of the rest
-pub why_kept : {V : Type 0} (u : Option Unopened) (standing : Result V Fault) (how : Option How) (left : Type 0) (noted told new : ℕ) (W : ℕ → Unopened → Type 0)
+pub why_kept : {V : Type 0} (u : Option OpenError) (standing : Result V Fault) (how : Option RecoveryOutcome) (left : Type 0) (noted told new : ℕ) (W : ℕ → OpenError → Type 0)
     → IfSome u (λ _. (standing ≡ Err OpenFailed) × (how ≡ None) × left) → told ≡ noted → OnErr standing (new ≡ told)
     → IfSome u (W noted) → IfSome u (W new)
 why_kept None standing how left noted told new W un keeps is why = tt

@@ -2,7 +2,7 @@
 use Rattle.std.proofs.Common.{◌≡◌, ◌∙◌, ◌<◌, ℕ, List, Option, Some, None, refl, sym, ap, subst, arith}
 use Rattle.std.specs.Prelude.{Result, Ok, Err, IfOk, OnOk}
 use Rattle.bx_image.specs.Power.{NoMore}
-use Rattle.bx_world.specs.World.{AreOwnFiles, NothingNewFound, ReadFiles, Sight}
+use Rattle.bx_world.specs.World.{AreOwnFiles, NothingNewFound, ReadFiles, SystemState}
 use Rattle.bx_world.specs.files.Reading.{AreOpenToRead, LeadToRead}
 use Rattle.bx_world.specs.declared.files.names.Names.{Names}
 use Rattle.bx_run.specs.forget.Forgetting.{AreLent, IsAlone}
@@ -11,7 +11,7 @@ some_is : {X : Type 0} {x y : X} → Some x ≡ Some y → x ≡ y
 some_is e = grind (arith, e)
 
 -- each of the files is there, and a file of its own
-pub apart : (names : Names) (f : ReadFiles) (w : Sight) → AreOpenToRead names f w
+pub apart : (names : Names) (f : ReadFiles) (w : SystemState) → AreOpenToRead names f w
     → ((name : List ℕ) (n : ℕ) → w.named name ≡ Some n → n < w.there) → AreOwnFiles w.there f
 apart names f w opens within = record {
   image_there = within names.image f.image opens.named.image;
@@ -30,7 +30,7 @@ same_record : (i j k l : ℕ) (r s : Option ℕ) → i ≡ k → j ≡ l → r �
 same_record i j k l r s image journal redo = rw (image, journal, redo) refl
 
 -- names lead to one image and its texts
-pub same_files : (names : Names) (w : Sight) (f g : ReadFiles) → LeadToRead names f w → LeadToRead names g w → f ≡ g
+pub same_files : (names : Names) (w : SystemState) (f g : ReadFiles) → LeadToRead names f w → LeadToRead names g w → f ≡ g
 same_files names w f g p q =
     same_record f.image f.journal g.image g.journal f.redo g.redo (some_is (sym p.image ∙ q.image)) (some_is (sym p.journal ∙ q.journal))
     (sym p.redo ∙ q.redo)
@@ -61,7 +61,7 @@ whole_apart there f g n o p first is redo =
     })
 
 -- Of files that these names lead to, once they are lent.
-module _ {V E : Type 0} (names : Names) (w : Sight) (f : ReadFiles) where
+module _ {V E : Type 0} (names : Names) (w : SystemState) (f : ReadFiles) where
   pub beside_named : (r : Result V E) (o : Option ReadFiles) → LeadToRead names f w → OnOk r (o ≡ Some f)
       → OnOk r ((g : ReadFiles) → LeadToRead names g w → o ≡ Some g)
   beside_named (Ok v) o leads is = λ g there. is ∙ ap Some (same_files names w f g leads there)

@@ -5,7 +5,7 @@ use Rattle.bx_image.specs.Power.{NoMore}
 use Rattle.bx_journal.specs.SessionFault.{SessionFault}
 use Rattle.bx_journal.specs.SessionFault.TheVariants.{NoMemory, TooLarge, DeviceFailed, Damaged, TooFew, JournalFull, Interrupted, Broken, LengthDiffers, NothingToRedo, RedoDamaged}
 use Rattle.bx_cli_commands.specs.declared.fault.Fault.TheVariants.{Session}
-use Rattle.bx_world.specs.World.{NothingNewFound, Sight, Spares, held}
+use Rattle.bx_world.specs.World.{NothingNewFound, SystemState, Spares, held}
 use Rattle.bx_world.specs.declared.files.guard.Guard.{Guard}
 use Rattle.bx_world.specs.declared.files.names.Names.{Names}
 use Rattle.bx_run.specs.forget.Forgetting.{Empties, ForgetsPart, HasForgotten, Held, IsNoTextNamed, KeepsHistory, LeadToTexts, LosesAll, LosesPart, MayForgetNamed, StopsForgetting, SurvivesEmptying, SurvivesForgetting, TextFiles, found_if, held_by_names, held_by_numbers}
@@ -23,11 +23,11 @@ pub failed : {V E : Type 0} (P : E → Type 0) (r : Result V E) (e : E) → r �
 failed P r e is p = rw is at p
 
 -- the name of the image leads to its bytes
-pub image_held : (names : Names) (f : TextFiles) (w : Sight) → LeadToTexts names f w → held w names.image ≡ w.bytes f.image
+pub image_held : (names : Names) (f : TextFiles) (w : SystemState) → LeadToTexts names f w → held w names.image ≡ w.bytes f.image
 image_held names f w leads = rw leads.image refl
 
 -- all is as it was
-pub untouched : (P : ℕ → Type 0) (old new : Sight) → new ≡ old → Spares P old new
+pub untouched : (P : ℕ → Type 0) (old new : SystemState) → new ≡ old → Spares P old new
 untouched P old new same = rw same (record {
   named = λ m. refl;
   is_link = λ m. refl;
@@ -43,7 +43,7 @@ untouched P old new same = rw same (record {
 })
 
 -- what keeps the history stops the dropping, and all is as it was
-pub hidden_stops : (guard : Guard) (note : List ℕ) (names : Names) (counted : Type 0) (old new : Sight) (u : ReportError) → new ≡ old
+pub hidden_stops : (guard : Guard) (note : List ℕ) (names : Names) (counted : Type 0) (old new : SystemState) (u : ReportError) → new ≡ old
     → KeepsHistory guard note (held_by_names names old).image (held_by_names names old).journal (held_by_names names old).redo u
     → StopsForgetting guard note names counted old new u
 hidden_stops guard note names counted old new (Unopened file) same is = absurd is
@@ -53,7 +53,7 @@ hidden_stops guard note names counted old new (Stopped (Session Interrupted)) sa
 hidden_stops guard note names counted old new (Stopped fault) same is = (is, untouched _ old new same)
 
 -- nothing is found that wasn't before
-pub hidden_survives : (names : Names) (old : Sight) (found left : ℕ → List ℕ → Type 0) (u : ReportError) (guard : Guard) (note image journal redo : List ℕ)
+pub hidden_survives : (names : Names) (old : SystemState) (found left : ℕ → List ℕ → Type 0) (u : ReportError) (guard : Guard) (note image journal redo : List ℕ)
     → KeepsHistory guard note image journal redo u → NothingNewFound found left → SurvivesForgetting names (Err u) old found left
 hidden_survives names old found left (Unopened file) guard note image journal redo is none = none
 hidden_survives names old found left Unfinished guard note image journal redo is none = none
@@ -62,7 +62,7 @@ hidden_survives names old found left (Stopped (Session Interrupted)) guard note 
 hidden_survives names old found left (Stopped fault) guard note image journal redo is none = none
 
 -- Of files that these names lead to.
-module _ (names : Names) (f : TextFiles) (old new : Sight) (leads : LeadToTexts names f old) (only : Spares (IsNeither f) old new) where
+module _ (names : Names) (f : TextFiles) (old new : SystemState) (leads : LeadToTexts names f old) (only : Spares (IsNeither f) old new) where
   pub others_named : Spares (IsNoTextNamed names old) old new
   others_named = spares_bytes (IsNeither f) (IsNoTextNamed names old) old new only
       (λ i (no_journal, no_redo). only.bytes i ((λ is. no_journal (leads.journal ∙ is)), (λ is. no_redo (leads.redo ∙ is))))
@@ -74,7 +74,7 @@ module _ (names : Names) (f : TextFiles) (old new : Sight) (leads : LeadToTexts 
     redo = only.named names.redo ∙ leads.redo;
   }
 
-  held_same : (w : Sight) → LeadToTexts names f w → held_by_numbers f w ≡ held_by_names names w
+  held_same : (w : SystemState) → LeadToTexts names f w → held_by_numbers f w ≡ held_by_names names w
   held_same w there = rw (there.image, there.journal, there.redo) refl
 
   as_names : (P : Held → Held → Type 0) → P (held_by_numbers f old) (held_by_numbers f new) → P (held_by_names names old) (held_by_names names new)

@@ -4,7 +4,7 @@ use Rattle.bx_image.specs.declared.device.Device.{Ghosts as DeviceViews}
 use Rattle.bx_journal_store.specs.declared.store.TextStore.{Ghosts as StoreViews}
 use Rattle.bx_journal_model.proofs.Phases.{length-stack_of}
 use Rattle.bx_journal.specs.Devices.{Devices}
-use Rattle.bx_journal.specs.How.TheVariants.{Clean}
+use Rattle.bx_journal.specs.RecoveryOutcome.TheVariants.{Clean}
 use Rattle.bx_journal.specs.Machine.{changes_of}
 use Rattle.bx_journal.specs.Opened.{OpensDevices}
 use Rattle.bx_journal.specs.Recovered.{Recovered}
@@ -19,16 +19,16 @@ pub opened_images : {D T : Type 0} (d : DeviceViews D) (t : StoreViews T) (old :
     → HoldBytes d t image journal redo old → (s : SessionView D T) (found : Recovered) → OpensDevices d t old (Ok (s, found)) → found.how ≡ Clean
     → CountsHeld image journal redo s
 opened_images d t old image journal redo holds s found opens clean =
-    let pair = opens.spares.clean holds.image_honest holds.journal_honest clean in
-    let redo_same = opens.redo.clean_redo holds.redo_honest clean in
-    let accepted = opens.text.accepted holds.journal_honest in
-    let is = opens.found.opened holds.image_honest holds.journal_honest accepted.0 accepted.1 in
+    let pair = opens.spares.clean holds.image_faithful holds.journal_faithful clean in
+    let redo_same = opens.redo.clean_redo holds.redo_faithful clean in
+    let accepted = opens.text.accepted holds.journal_faithful in
+    let is = opens.found.opened holds.image_faithful holds.journal_faithful accepted.0 accepted.1 in
     let below = image_at accepted.0.stage (d.image old.image) in
     let stack : List (List ℕ) = recovered accepted.0 (d.image old.image) in
     let stands : StandsFor journal image stack =
     subst (λ y. StandsFor journal y stack) (pair.1 ∙ holds.image_is) (subst (λ u. StandsFor u (d.image s.image) stack) (pair.0 ∙ holds.journal_is) is.stands) in
     let long : s.count ≡ changes_of stack = omega (arith, opens.found.fresh.0, is.changes_are, length-stack_of accepted.0.entries below) in
-    let some = opens.redo.undone holds.image_honest holds.journal_honest holds.redo_honest in
+    let some = opens.redo.undone holds.image_faithful holds.journal_faithful holds.redo_faithful in
     let undone : IsRedoOf redo image s.count some.0 =
     subst (λ y. IsRedoOf redo y s.count some.0) (pair.1 ∙ holds.image_is)
     (subst (λ u. IsRedoOf u (d.image s.image) s.count some.0) (redo_same ∙ holds.redo_is) some.1.redo) in (

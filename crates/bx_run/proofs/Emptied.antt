@@ -15,7 +15,7 @@ use Rattle.bx_journal.specs.Power.{Found, FoundBefore}
 use Rattle.bx_journal.specs.SessionFault.{SessionFault}
 use Rattle.bx_journal.specs.SessionFault.TheVariants.{NoMemory, TooLarge, DeviceFailed, Damaged, TooFew, JournalFull, Interrupted, Broken, LengthDiffers, NothingToRedo, RedoDamaged}
 use Rattle.bx_journal.proofs.ForgottenLemmas.{found_in_part}
-use Rattle.bx_world.specs.World.{NothingNewSpared, Sight, Spares, bytes_if}
+use Rattle.bx_world.specs.World.{NothingNewSpared, SystemState, Spares, bytes_if}
 use Rattle.bx_run.specs.forget.Forgetting.{Empties, FindsDropped, ForgetsPart, HasForgotten, Held, LosesAll, LosesPart, SurvivesEmptying, TextFiles, found_if, held_by_numbers}
 
 -- what three devices hold
@@ -26,7 +26,7 @@ take_none : (n : ℕ) → ◌≡◌ {A = List ℕ} (take n []) []
 take_none zero = refl
 take_none (suc n) = refl
 
-pub spares_then : (P Q R : ℕ → Type 0) (a b c : Sight) → ((i : ℕ) → R i → P i) → ((i : ℕ) → R i → Q i) → Spares P a b → Spares Q b c → Spares R a c
+pub spares_then : (P Q R : ℕ → Type 0) (a b c : SystemState) → ((i : ℕ) → R i → P i) → ((i : ℕ) → R i → Q i) → Spares P a b → Spares Q b c → Spares R a c
 spares_then P Q R a b c first second p q = record {
   named = λ m. q.named m ∙ p.named m;
   is_link = λ m. q.is_link m ∙ p.is_link m;
@@ -41,7 +41,7 @@ spares_then P Q R a b c first second p q = record {
   errors = q.errors ∙ p.errors;
 }
 
-pub spares_bytes : (P Q : ℕ → Type 0) (old new : Sight) → Spares P old new → ((i : ℕ) → Q i → new.bytes i ≡ old.bytes i) → Spares Q old new
+pub spares_bytes : (P Q : ℕ → Type 0) (old new : SystemState) → Spares P old new → ((i : ℕ) → Q i → new.bytes i ≡ old.bytes i) → Spares Q old new
 spares_bytes P Q old new p bytes = record {
   named = p.named;
   is_link = p.is_link;
@@ -77,7 +77,7 @@ abbrev pub IsNeither : TextFiles → ℕ → Type 0
 IsNeither f n = (f.journal ≡ Some n → ⊥) × (f.redo ≡ Some n → ⊥)
 
 -- Of files that are lent, whose devices `a` were emptied, and are then `b`.
-module _ {D T : Type 0} (d : DeviceViews D) (t : StoreViews T) (f : TextFiles) (old new : Sight) (a b : Devices D T)
+module _ {D T : Type 0} (d : DeviceViews D) (t : StoreViews T) (f : TextFiles) (old new : SystemState) (a b : Devices D T)
     (texts_only : Spares (IsNeither f) old new) (journal_closes : (n : ℕ) → f.journal ≡ Some n → new.bytes n ≡ t.text b.journal)
     (redo_closes : (n : ℕ) → f.redo ≡ Some n → new.bytes n ≡ t.text b.redo)
     (image_is : d.image a.image ≡ old.bytes f.image) (journal_is : t.text a.journal ≡ bytes_if old f.journal)
@@ -154,7 +154,7 @@ none_fades c is = rw is (record {
 })
 
 -- Of what is found after a loss of power: no more of the image and of the texts than of their devices.
-module _ {D T : Type 0} (d : DeviceViews D) (t : StoreViews T) (f : TextFiles) (old : Sight) (a b : Devices D T) (found left : ℕ → List ℕ → Type 0)
+module _ {D T : Type 0} (d : DeviceViews D) (t : StoreViews T) (f : TextFiles) (old : SystemState) (a b : Devices D T) (found left : ℕ → List ℕ → Type 0)
     (image_is : d.image a.image ≡ old.bytes f.image) (journal_is : t.text a.journal ≡ bytes_if old f.journal)
     (redo_is : t.text a.redo ≡ bytes_if old f.redo) (image_left : NoMore (d.survives b.image) (left f.image))
     (journal_left : (n : ℕ) → f.journal ≡ Some n → NoMore (t.survives b.journal) (left n))
@@ -221,7 +221,7 @@ module _ {D T : Type 0} (d : DeviceViews D) (t : StoreViews T) (f : TextFiles) (
   )
 
   -- whatever forgetting answers
-  pub survived : (mid : ℕ → List ℕ → Type 0) (r : Result (Unit {0}) SessionFault) → d.honest a.image → t.honest a.journal → t.honest a.redo
+  pub survived : (mid : ℕ → List ℕ → Type 0) (r : Result (Unit {0}) SessionFault) → d.faithful a.image → t.faithful a.journal → t.faithful a.redo
       → d.image b.image ≡ d.image a.image → OnOk r (AreAlone d t (d.image a.image) b) → IfErr r (λ e. AfterFault e (KeepImage d t a b) (Unit {0}))
       → IfErr r (λ e. AfterFault e (Unit {0}) (FoundBefore d t a b))
       → ((n : ℕ) → f.journal ≡ Some n → NoMore (found n) (t.survives a.journal)) → ((n : ℕ) → f.redo ≡ Some n → NoMore (found n) (t.survives a.redo))

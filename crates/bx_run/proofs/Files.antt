@@ -3,7 +3,7 @@ use Rattle.std.proofs.Common.{◌≡◌, ◌∙◌, ◌<◌, ◌≤◌, ℕ, Boo
 use Rattle.std.specs.Option.{unwrap_or}
 use Rattle.std.proofs.lemmas.Bool.{cases_eq}
 use Rattle.bx_image.specs.Power.{NoMore}
-use Rattle.bx_world.specs.World.{ChangesOnly, NothingNewBelow, NothingNewFound, NothingNewOf, Sight, Trio, held}
+use Rattle.bx_world.specs.World.{ChangesOnly, NothingNewBelow, NothingNewFound, NothingNewOf, SystemState, Trio, held}
 use Rattle.bx_world.specs.files.Files.{AreAllThere, AreOpened, HasMade, IsOneOfMade, IsOpenUnder, LeadsToMade, LeavesFiles, TakesOnly}
 use Rattle.bx_world.specs.declared.files.made.Made.{Made}
 use Rattle.bx_world.specs.declared.files.names.Names.{Names}
@@ -16,20 +16,20 @@ none_is_not_some : (n : ℕ) → None ≡ Some n → ⊥
 none_is_not_some n wrong = cc
 
 -- a name that leads to a file leads to it still, when files were made
-still : (made : ℕ → Type 0) (old new : Sight) (m : List ℕ) (n : ℕ) → HasMade made old new → old.named m ≡ Some n → new.named m ≡ Some n
+still : (made : ℕ → Type 0) (old new : SystemState) (m : List ℕ) (n : ℕ) → HasMade made old new → old.named m ≡ Some n → new.named m ≡ Some n
 still made old new m n has named = elim (has.named m) [
   | inl same ↦ same ∙ named
   | inr is_new ↦ absurd (none_is_not_some n (sym is_new.1 ∙ named))
 ]
 
 -- what a file held under its name, before it was opened: nothing, where it was made
-held_before : (files : ℕ → Type 0) (old new : Sight) (name : List ℕ) (made : Bool) (n : ℕ) → AreAllThere old → HasMade files old new
+held_before : (files : ℕ → Type 0) (old new : SystemState) (name : List ℕ) (made : Bool) (n : ℕ) → AreAllThere old → HasMade files old new
     → IsOpenUnder name made n old new → new.bytes n ≡ held old name
 held_before files old new name true n within has under = let was : old.named name ≡ None = under.was in rw was (under.empty refl)
 held_before files old new name false n within has under =
     let was : old.named name ≡ Some n = under.was in rw was (has.bytes n (within name n was))
 
-module _ (names : Names) (mounted makes : Bool) (t : Trio) (made : Made) (old mid : Sight) (within : AreAllThere old)
+module _ (names : Names) (mounted makes : Bool) (t : Trio) (made : Made) (old mid : SystemState) (within : AreAllThere old)
     (opened : AreOpened names mounted makes t made old mid) where
   -- the three hold when they are open what they held under their names
   pub contents_before : bytes_of_files t mid ≡ contents_of names old
@@ -41,18 +41,18 @@ module _ (names : Names) (mounted makes : Bool) (t : Trio) (made : Made) (old mi
       ) refl
 
   -- the names lead to the three while they are open, and behind the task
-  pub named_behind : (new : Sight) → ChangesOnly t mid new → LeadTo names t new
+  pub named_behind : (new : SystemState) → ChangesOnly t mid new → LeadTo names t new
   named_behind new only = record {
     image = only.named names.image ∙ opened.image.named;
     journal = only.named names.journal ∙ opened.journal.named;
     redo = only.named names.redo ∙ opened.redo.named;
   }
 
-one_file : (name : List ℕ) (m n : ℕ) (v w : Sight) → v.named name ≡ Some m → w.named name ≡ Some n → v ≡ w → m ≡ n
-one_file name m n v w one other same = some_injective (sym one ∙ subst (λ (u : Sight). u.named name ≡ Some n) (sym same) other)
+one_file : (name : List ℕ) (m n : ℕ) (v w : SystemState) → v.named name ≡ Some m → w.named name ≡ Some n → v ≡ w → m ≡ n
+one_file name m n v w one other same = some_injective (sym one ∙ subst (λ (u : SystemState). u.named name ≡ Some n) (sym same) other)
 
 -- names lead to one trio
-pub same_trio : (names : Names) (a b : Trio) (v w : Sight) → LeadTo names a v → LeadTo names b w → v ≡ w
+pub same_trio : (names : Names) (a b : Trio) (v w : SystemState) → LeadTo names a v → LeadTo names b w → v ≡ w
     → (a.image ≡ b.image) × (a.journal ≡ b.journal) × (a.redo ≡ b.redo)
 same_trio names a b v w one other same = (
   one_file names.image _ _ v w one.image other.image same,
@@ -61,10 +61,10 @@ same_trio names a b v w one other same = (
 )
 
 -- what is held under the names is what the files have
-pub contents_named : (names : Names) (t : Trio) (w : Sight) → LeadTo names t w → contents_of names w ≡ bytes_of_files t w
+pub contents_named : (names : Names) (t : Trio) (w : SystemState) → LeadTo names t w → contents_of names w ≡ bytes_of_files t w
 contents_named names t w named = rw (named.image, named.journal, named.redo) refl
 
-held_cleared : (files : ℕ → Type 0) (last new : Sight) (name : List ℕ) (n : ℕ) → last.named name ≡ Some n → TakesOnly files last new
+held_cleared : (files : ℕ → Type 0) (last new : SystemState) (name : List ℕ) (n : ℕ) → last.named name ≡ Some n → TakesOnly files last new
     → held new name ≡ last.bytes n
 held_cleared files last new name n named most = elim (most.named name) [
   | inl same ↦ rw (same ∙ named) (most.bytes n)
@@ -74,7 +74,7 @@ held_cleared files last new name n named most = elim (most.named name) [
 ]
 
 -- what is held under the names is what the files had, also where empty ones were taken away
-pub contents_cleared : (files : ℕ → Type 0) (names : Names) (t : Trio) (last new : Sight) → LeadTo names t last → TakesOnly files last new
+pub contents_cleared : (files : ℕ → Type 0) (names : Names) (t : Trio) (last new : SystemState) → LeadTo names t last → TakesOnly files last new
     → contents_of names new ≡ bytes_of_files t last
 contents_cleared files names t last new named most =
     rw (
@@ -84,7 +84,7 @@ contents_cleared files names t last new named most =
     ) refl
 
 -- where the three hold what they held, so do all files
-same_bytes : (t : Trio) (mid new : Sight) → ChangesOnly t mid new → bytes_of_files t new ≡ bytes_of_files t mid → (i : ℕ) → new.bytes i ≡ mid.bytes i
+same_bytes : (t : Trio) (mid new : SystemState) → ChangesOnly t mid new → bytes_of_files t new ≡ bytes_of_files t mid → (i : ℕ) → new.bytes i ≡ mid.bytes i
 same_bytes t mid new only same i =
     let image : new.bytes t.image ≡ mid.bytes t.image = ap (λ c. c.image) same in
     let journal : new.bytes t.journal ≡ mid.bytes t.journal = ap (λ c. c.journal) same in
@@ -123,18 +123,18 @@ pub before_all : (there : ℕ) (first second third last : ℕ → List ℕ → T
 before_all there first second third last a b c n below x is = a n below x (b n x (c n x is))
 
 -- a file that was made is none of those that were there
-made_apart : (files : ℕ → Type 0) (n : ℕ) (old new : Sight) → HasMade files old new → n < old.there → files n → ⊥
+made_apart : (files : ℕ → Type 0) (n : ℕ) (old new : SystemState) → HasMade files old new → n < old.there → files n → ⊥
 made_apart files n old new has below is = let fresh = (has.fresh n is).0 in omega (arith, fresh, below)
 
 -- nor is one that no name of the three led to
-no_other : (files : ℕ → Type 0) (name : List ℕ) (made : Bool) (n i : ℕ) (old mid : Sight) → HasMade files old mid → IsOpenUnder name made n old mid
+no_other : (files : ℕ → Type 0) (name : List ℕ) (made : Bool) (n i : ℕ) (old mid : SystemState) → HasMade files old mid → IsOpenUnder name made n old mid
     → (made ≡ true → files n) → i < old.there → (old.named name ≡ Some i → ⊥) → i ≡ n → ⊥
 no_other files name true n i old mid has under is_made below unnamed is =
     let fresh = (has.fresh n (is_made refl)).0 in omega (arith, fresh, below, is)
 no_other files name false n i old mid has under is_made below unnamed is =
     let was : old.named name ≡ Some n = under.was in unnamed (was ∙ ap Some (sym is))
 
-module _ (names : Names) (mounted makes : Bool) (t : Trio) (made : Made) (old mid last : Sight) (within : AreAllThere old)
+module _ (names : Names) (mounted makes : Bool) (t : Trio) (made : Made) (old mid last : SystemState) (within : AreAllThere old)
     (opened : AreOpened names mounted makes t made old mid) (only : ChangesOnly t mid last) where
   abbrev IsMade : ℕ → Type 0
   IsMade n = IsOneOfMade made t n
@@ -191,7 +191,7 @@ module _ (names : Names) (mounted makes : Bool) (t : Trio) (made : Made) (old mi
         ]
       ]
 
-  pub others_of : (new : Sight) → TakesOnly (IsOneOfMade made t) last new → LeavesFiles old new ⊎ (new ≡ last) → KeepsOthers names old new
+  pub others_of : (new : SystemState) → TakesOnly (IsOneOfMade made t) last new → LeavesFiles old new ⊎ (new ≡ last) → KeepsOthers names old new
   others_of new most left = record {
     bytes = λ n below no_image no_journal no_redo. most.bytes n ∙ only.bytes n (
       no_other IsMade names.image made.image t.image n old mid opened.files opened.image (λ is. inl (is, refl)) below no_image,
@@ -202,16 +202,16 @@ module _ (names : Names) (mounted makes : Bool) (t : Trio) (made : Made) (old mi
     named = λ m n named. still_behind new most m n named;
     made = λ stuck m. elim left [
       | inl leaves ↦ inl (leaves.named stuck m)
-      | inr is ↦ subst (λ (w : Sight). LeadsToMade (IsNamedBy names w) (old.named m) (w.named m)) (sym is) (led m)
+      | inr is ↦ subst (λ (w : SystemState). LeadsToMade (IsNamedBy names w) (old.named m) (w.named m)) (sym is) (led m)
     ];
     stuck = elim left [
       | inl leaves ↦ leaves.stuck
       | inr is ↦ let same : last.stuck ≡ old.stuck = only.stuck ∙ opened.files.stuck in
-          subst (λ (w : Sight). old.stuck ≤ w.stuck) (sym is) (omega (arith, same))
+          subst (λ (w : SystemState). old.stuck ≤ w.stuck) (sym is) (omega (arith, same))
     ];
   }
     where
-      still_behind : (new : Sight) → TakesOnly (IsOneOfMade made t) last new → (m : List ℕ) (n : ℕ) → old.named m ≡ Some n → new.named m ≡ Some n
+      still_behind : (new : SystemState) → TakesOnly (IsOneOfMade made t) last new → (m : List ℕ) (n : ℕ) → old.named m ≡ Some n → new.named m ≡ Some n
       still_behind new most m n named =
           let stands : last.named m ≡ Some n = only.named m ∙ still IsMade old mid m n opened.files named in
           elim (most.named m) [
@@ -222,7 +222,7 @@ module _ (names : Names) (mounted makes : Bool) (t : Trio) (made : Made) (old mi
           ]
 
 -- of files that are as they were no other is changed
-pub others_left : (names : Names) (old new : Sight) → LeavesFiles old new → KeepsOthers names old new
+pub others_left : (names : Names) (old new : SystemState) → LeavesFiles old new → KeepsOthers names old new
 others_left names old new left = record {
   bytes = λ n below _ _ _. left.bytes n below;
   stat = left.stat;

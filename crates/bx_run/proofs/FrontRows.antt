@@ -207,16 +207,16 @@ front_refused v text w fault = record {
 }
 
 -- which faults stop it
-pub find_stops : (honest : Type 0) (text : List ℕ) (e : SessionFault) → FindFault honest (shown text) e → StopsLog honest text (look.Text e)
-find_stops honest text (Damaged line) p = p
-find_stops honest text e p = p
+pub find_stops : (faithful : Type 0) (text : List ℕ) (e : SessionFault) → FindFault faithful (shown text) e → StopsLog faithful text (look.Text e)
+find_stops faithful text (Damaged line) p = p
+find_stops faithful text e p = p
 
-pub put_stops : (honest : Type 0) (text : List ℕ) (fault : ShowFault) → PutFault fault → StopsLog honest text fault
-put_stops honest text (look.Text (Damaged line)) p = absurd p
-put_stops honest text (look.Text e) p = p
-put_stops honest text (look.Io fault) p = p
+pub put_stops : (faithful : Type 0) (text : List ℕ) (fault : ShowFault) → PutFault fault → StopsLog faithful text fault
+put_stops faithful text (look.Text (Damaged line)) p = absurd p
+put_stops faithful text (look.Text e) p = p
+put_stops faithful text (look.Io fault) p = p
 
-pub front_cut : (honest : Type 0) → honest → (v : Bool) (text : List ℕ) (old new : Option (List ℕ)) (fault : ShowFault) → StopsLog honest text fault
+pub front_cut : (faithful : Type 0) → faithful → (v : Bool) (text : List ℕ) (old new : Option (List ℕ)) (fault : ShowFault) → StopsLog faithful text fault
     → StopsFrontRows v text old new fault → IsFrontCut v text old new (unseen_by fault)
-front_cut honest h v text old new (look.Text e) log stop = (listing_of_bytes honest h text (Session e) log, stop)
-front_cut honest h v text old new (look.Io fault) log stop = (log, stop)
+front_cut faithful h v text old new (look.Text e) log stop = (listing_of_bytes faithful h text (Session e) log, stop)
+front_cut faithful h v text old new (look.Io fault) log stop = (log, stop)

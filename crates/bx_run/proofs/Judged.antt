@@ -76,14 +76,14 @@ module _ {D T : Type 0} (d : DeviceViews D) (t : StoreViews T) (old new : Device
     pub of_texts_may : (note : List ℕ) (guard : Guard) → MayForget guard note image journal redo
     of_texts_may note guard = inr (inl (e, is, stops image journal redo e is (opened_refused d t old image journal redo holds new e opens)))
 
-    pub of_texts_image : d.honest new.image × (d.image new.image ≡ image)
+    pub of_texts_image : d.faithful new.image × (d.image new.image ≡ image)
     of_texts_image = (
-      opens.devices.honesty_err.0.1 holds.image_honest,
-      (of_texts _ _ e is (opens.spares.refused holds.image_honest holds.journal_honest)).1 ∙ holds.image_is,
+      opens.devices.faith_err.0.1 holds.image_faithful,
+      (of_texts _ _ e is (opens.spares.refused holds.image_faithful holds.journal_faithful)).1 ∙ holds.image_is,
     )
 
     pub of_texts_found : NoMore (d.survives old.image) (d.survives new.image)
-    of_texts_found = (of_texts _ _ e is opens.found_before).image_before holds.image_honest
+    of_texts_found = (of_texts _ _ e is opens.found_before).image_before holds.image_faithful
 
 -- a text ends an entry whose last bytes do
 ends_last : (text : List ℕ) (at n : ℕ) → EndsIn (drop at text) n → EndsWithEntry text
@@ -109,14 +109,14 @@ ends_read text tail at (Some n) long is ends some = ends_last text at n (subst (
 
 -- devices that were looked at hold what they held
 pub looked_at : {D T : Type 0} (d : DeviceViews D) (t : StoreViews T) (old : Devices D T) (image journal redo : List ℕ) → HoldBytes d t image journal redo old
-    → (x : D) (j : T) → (d.honest old.image → d.image x ≡ d.image old.image) → (t.honest old.journal → t.text j ≡ t.text old.journal)
-    → (d.honest old.image → d.honest x) → (t.honest old.journal → t.honest j) → HoldBytes d t image journal redo (record { image = x; journal = j; redo = old.redo })
-looked_at d t old image journal redo holds x j same journal_same honesty journal_honesty = record {
-  image_honest = honesty holds.image_honest;
-  journal_honest = journal_honesty holds.journal_honest;
-  redo_honest = holds.redo_honest;
-  image_is = same holds.image_honest ∙ holds.image_is;
-  journal_is = journal_same holds.journal_honest ∙ holds.journal_is;
+    → (x : D) (j : T) → (d.faithful old.image → d.image x ≡ d.image old.image) → (t.faithful old.journal → t.text j ≡ t.text old.journal)
+    → (d.faithful old.image → d.faithful x) → (t.faithful old.journal → t.faithful j) → HoldBytes d t image journal redo (record { image = x; journal = j; redo = old.redo })
+looked_at d t old image journal redo holds x j same journal_same faith journal_faith = record {
+  image_faithful = faith holds.image_faithful;
+  journal_faithful = journal_faith holds.journal_faithful;
+  redo_faithful = holds.redo_faithful;
+  image_is = same holds.image_faithful ∙ holds.image_is;
+  journal_is = journal_same holds.journal_faithful ∙ holds.journal_is;
   redo_is = holds.redo_is;
 }
 

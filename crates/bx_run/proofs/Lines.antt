@@ -4,14 +4,14 @@ use Rattle.std.specs.Prelude.{Result, Ok, Err, OnOk, IfOk, IfErr, IfSome}
 use Rattle.std.specs.Option.{option_map_or}
 use Rattle.std.specs.Result.{MatchResult}
 use Rattle.bx_image.specs.Power.{NoMore}
-use Rattle.bx_world.specs.World.{KeepsFiles, Sight, Trio, held}
+use Rattle.bx_world.specs.World.{KeepsFiles, SystemState, Trio, held}
 use Rattle.bx_world.specs.files.Files.{LeadsToMade, LeavesFiles}
 use Rattle.bx_world.specs.declared.files.names.Names.{Names}
-use Rattle.bx_world.specs.declared.files.unopened.Unopened.{Unopened}
+use Rattle.bx_world.specs.declared.files.unopened.OpenError.{OpenError}
 use Rattle.bx_journal.specs.Calls.{AfterFault}
-use Rattle.bx_journal.specs.How.{How}
+use Rattle.bx_journal.specs.RecoveryOutcome.{RecoveryOutcome}
 use Rattle.bx_journal.specs.Images.{Images}
-use Rattle.bx_journal.specs.Way.{Way}
+use Rattle.bx_journal.specs.Direction.{Direction}
 use Rattle.bx_journal.specs.SessionFault.TheVariants.{Interrupted}
 use Rattle.bx_cli_commands.specs.declared.command.Reply.{Reply}
 use Rattle.bx_cli_commands.specs.declared.fault.Fault.{Fault}
@@ -51,18 +51,18 @@ pub after_first : {V : Type 0} (r : Result V Fault) (before : ℕ) (first second
 after_first (Ok v) before first second old mid new is least more = tt
 after_first (Err e) before first second old mid new is least more = stops_second before first second old mid new e is least more
 
-held_kept : (mid new : Sight) (name : List ℕ) → KeepsFiles mid new → held new name ≡ held mid name
+held_kept : (mid new : SystemState) (name : List ℕ) → KeepsFiles mid new → held new name ≡ held mid name
 held_kept mid new name keeps = at_name (mid.named name) (keeps.named name)
   where
     at_name : (o : Option ℕ) → new.named name ≡ o → held new name ≡ option_map_or mid.bytes o []
     at_name None is = rw is refl
     at_name (Some n) is = rw is (keeps.bytes n)
 
-pub contents_kept : (names : Names) (mid new : Sight) → KeepsFiles mid new → contents_of names new ≡ contents_of names mid
+pub contents_kept : (names : Names) (mid new : SystemState) → KeepsFiles mid new → contents_of names new ≡ contents_of names mid
 contents_kept names mid new keeps =
     rw (held_kept mid new names.image keeps, held_kept mid new names.journal keeps, held_kept mid new names.redo keeps) refl
 
-module _ (names : Names) (k : ℕ) (course : Course) (left : ℕ) (old mid new : Sight) where
+module _ (names : Names) (k : ℕ) (course : Course) (left : ℕ) (old mid new : SystemState) where
   -- the number of changes that were moved is written
   pub written : {V : Type 0} (r : Result V Fault) → IsMoved k course left (contents_of names mid) → KeepsFiles mid new → mid.output ≡ old.output
       → OnOk r (new.output ≡ mid.output ++ number_line left) → OnOk r (Moves names k course old new)
@@ -90,7 +90,7 @@ module _ (names : Names) (k : ℕ) (course : Course) (left : ℕ) (old mid new :
     };
   }
 
-  pub unwritten : {V : Type 0} (u : Option Unopened) (r : Result V Fault) → IsMoved k course left (contents_of names mid) → KeepsFiles mid new → mid.output ≡ old.output
+  pub unwritten : {V : Type 0} (u : Option OpenError) (r : Result V Fault) → IsMoved k course left (contents_of names mid) → KeepsFiles mid new → mid.output ≡ old.output
       → IfErr r (StopsLine (number_line left) mid.output new.output) → IfErr r (StopsMove names k course u old new)
   unwritten u (Ok v) moved keeps silent line = tt
   unwritten u (Err e) moved keeps silent line = inr (lost_line e moved keeps silent line)
@@ -100,20 +100,20 @@ take_none : (n : ℕ) → ◌≡◌ {A = List ℕ} (take n []) []
 take_none zero = refl
 take_none (suc n) = refl
 
-unrecovered_line : (how : Option How) → IsUnrecovered how → recovered_line how ≡ []
+unrecovered_line : (how : Option RecoveryOutcome) → IsUnrecovered how → recovered_line how ≡ []
 unrecovered_line None is = refl
 unrecovered_line (Some h) is = rw is refl
 
-silent_line : (how : Option How) (old new : List ℕ) → IsUnrecovered how → TellsRecovered how old new → new ≡ old
+silent_line : (how : Option RecoveryOutcome) (old new : List ℕ) → IsUnrecovered how → TellsRecovered how old new → new ≡ old
 silent_line how old new is tells =
     tells.1 ∙ ap (λ xs. old ++ take tells.0 xs) (unrecovered_line how is) ∙ ap (λ xs. old ++ xs) (take_none tells.0) ∙ append-nil old
 
 -- what is said, where nothing else is written to standard error
-pub tells_alone : (how : Option How) (old mid told new : List ℕ) → mid ≡ old → TellsRecovered how mid told → new ≡ told → TellsRecovered how old new
+pub tells_alone : (how : Option RecoveryOutcome) (old mid told new : List ℕ) → mid ≡ old → TellsRecovered how mid told → new ≡ told → TellsRecovered how old new
 tells_alone how old mid told new before tells behind = (tells.0, behind ∙ tells.1 ∙ ap (λ xs. xs ++ take tells.0 (recovered_line how)) before)
 
 -- two steps that leave files
-pub keeps_then : (old mid new : Sight) → KeepsFiles old mid → KeepsFiles mid new → KeepsFiles old new
+pub keeps_then : (old mid new : SystemState) → KeepsFiles old mid → KeepsFiles mid new → KeepsFiles old new
 keeps_then old mid new first second = record {
   named = λ m. second.named m ∙ first.named m;
   is_link = λ m. second.is_link m ∙ first.is_link m;
@@ -127,7 +127,7 @@ keeps_then old mid new first second = record {
 }
 
 -- files that were left, and then were kept, and nothing was written
-leaves_kept : (old mid new : Sight) → LeavesFiles old mid → KeepsFiles mid new → new.output ≡ mid.output → new.errors ≡ mid.errors → LeavesFiles old new
+leaves_kept : (old mid new : SystemState) → LeavesFiles old mid → KeepsFiles mid new → new.output ≡ mid.output → new.errors ≡ mid.errors → LeavesFiles old new
 leaves_kept old mid new left keeps output errors = record {
   bytes = λ i below. keeps.bytes i ∙ left.bytes i below;
   stat = λ i below. keeps.stat i ∙ left.stat i below;
@@ -145,7 +145,7 @@ leaves_kept old mid new left keeps output errors = record {
 }
 
 -- a name leads to one of the three still
-led_still : {o : Option ℕ} (names : Names) (m : List ℕ) (mid new : Sight) → KeepsFiles mid new → LeadsToMade (IsNamedBy names mid) o (mid.named m)
+led_still : {o : Option ℕ} (names : Names) (m : List ℕ) (mid new : SystemState) → KeepsFiles mid new → LeadsToMade (IsNamedBy names mid) o (mid.named m)
     → LeadsToMade (IsNamedBy names new) o (new.named m)
 led_still names m mid new keeps made = elim made [
   | inl same ↦ inl (keeps.named m ∙ same)
@@ -162,7 +162,7 @@ led_still names m mid new keeps made = elim made [
     ]
 
 -- no other file was changed, and then all were kept
-pub others_kept : (names : Names) (old mid new : Sight) → KeepsOthers names old mid → KeepsFiles mid new → KeepsOthers names old new
+pub others_kept : (names : Names) (old mid new : SystemState) → KeepsOthers names old mid → KeepsFiles mid new → KeepsOthers names old new
 others_kept names old mid new others keeps = record {
   bytes = λ n below image journal redo. keeps.bytes n ∙ others.bytes n below image journal redo;
   stat = λ n below. keeps.stat n ∙ others.stat n below;
@@ -172,7 +172,7 @@ others_kept names old mid new others keeps = record {
 }
 
 -- files that weren't opened
-pub unopened_kept : {V W : Type 0} (u : Option Unopened) (how : Option How) (standing : Result V Fault) (r : Result W Fault) (old mid told new : Sight)
+pub unopened_kept : {V W : Type 0} (u : Option OpenError) (how : Option RecoveryOutcome) (standing : Result V Fault) (r : Result W Fault) (old mid told new : SystemState)
     → IfSome u (λ _. (standing ≡ Err OpenFailed) × (how ≡ None) × LeavesFiles old mid) → KeepsFiles mid told → told.output ≡ mid.output
     → TellsRecovered how mid.errors told.errors → IfErr standing (λ e. (r ≡ Err e) × (new ≡ told))
     → IfSome u (λ _. (r ≡ Err OpenFailed) × (how ≡ None) × LeavesFiles old new)
@@ -183,7 +183,7 @@ unopened_kept (Some u) how standing r old mid told new none keeps output tells r
     let left = leaves_kept old mid told none.2 keeps output (silent_line how mid.errors told.errors unrecovered tells) in
     (is.0, none.1, subst (λ w. LeavesFiles old w) (sym is.1) left)
 
-module _ (names : Names) (k : ℕ) (course : Course) (old mid told new : Sight) where
+module _ (names : Names) (k : ℕ) (course : Course) (old mid told new : SystemState) where
   -- moved, and the number written behind the line on what was recovered
   pub done_behind : (standing : Result ℕ Fault) (r : Result Unit Fault) → IfOk standing (λ left. IsMoved k course left (contents_of names mid))
       → KeepsFiles mid told → KeepsFiles told new → mid.output ≡ old.output → told.output ≡ mid.output
@@ -194,14 +194,14 @@ module _ (names : Names) (k : ℕ) (course : Course) (old mid told new : Sight) 
       (between ∙ before) line
   done_behind (Err e) r moved first second before between line refused = rw refused.0 tt
 
-  refuses_kept : (u : Option Unopened) (e : Fault) → RefusesMove names k course u old mid e → KeepsFiles mid told → told.output ≡ mid.output
+  refuses_kept : (u : Option OpenError) (e : Fault) → RefusesMove names k course u old mid e → KeepsFiles mid told → told.output ≡ mid.output
       → told.errors ≡ mid.errors → RefusesMove names k course u old told e
   refuses_kept u (Session Interrupted) refuses keeps output errors =
       (refuses.0, refuses.1, subst (λ c. FindsIn c (course.moved refuses.0)) (sym (contents_kept names mid told keeps)) refuses.2)
   refuses_kept u e refuses keeps output errors = (refuses.0, leaves_kept old mid told refuses.1 keeps output errors)
 
   -- stopped
-  pub stopped_behind : (u : Option Unopened) (how : Option How) (standing : Result ℕ Fault) (r : Result Unit Fault) → IsUnrecovered how
+  pub stopped_behind : (u : Option OpenError) (how : Option RecoveryOutcome) (standing : Result ℕ Fault) (r : Result Unit Fault) → IsUnrecovered how
       → IfOk standing (λ left. IsMoved k course left (contents_of names mid)) → IfErr standing (RefusesMove names k course u old mid)
       → KeepsFiles mid told → KeepsFiles told new → mid.output ≡ old.output → told.output ≡ mid.output → TellsRecovered how mid.errors told.errors
       → IfOk standing (λ left. IfErr r (StopsLine (number_line left) told.output new.output)) → IfErr standing (λ e. (r ≡ Err e) × (new ≡ told))
@@ -228,7 +228,7 @@ module _ (names : Names) (k : ℕ) (course : Course) (old mid told new : Sight) 
   found_told (Err e) r moved first second before between line lost refused =
       rw (refused.0, refused.1) (inl (subst (λ c. RefusesRecovered k course c e) (sym (contents_kept names mid told first)) moved, between ∙ before))
 
-pub found_behind : (names : Names) (k : ℕ) (way : Way) (s : Images) (how : Option How) (old mid told new : Sight) (standing : Result ℕ Fault)
+pub found_behind : (names : Names) (k : ℕ) (way : Direction) (s : Images) (how : Option RecoveryOutcome) (old mid told new : SystemState) (standing : Result ℕ Fault)
     (r : Result Unit Fault) → MovedFound k way s how standing (contents_of names mid)
     → KeepsFiles mid told → KeepsFiles told new → mid.output ≡ old.output → told.output ≡ mid.output
     → IfOk standing (λ left. OnOk r (new.output ≡ told.output ++ number_line left))
@@ -240,11 +240,11 @@ found_behind names k way s None old mid told new standing r moved first second b
     let no = subst (λ (o : Result ℕ Fault). IfErr o (λ e. (r ≡ Err e) × (new ≡ told))) moved.1 refused in
     let same : contents_of names new ≡ contents_of names mid = contents_kept names told new second ∙ contents_kept names mid told first in (
       (moved.0, no.0, subst (λ c. AfterFault moved.0 (FoundIn c (record { stack = s.stack; undone = [] })) (FoundIn c s)) (sym same) moved.2),
-      ap (λ (w : Sight). w.output) no.1 ∙ between ∙ before,
+      ap (λ (w : SystemState). w.output) no.1 ∙ between ∙ before,
     )
 
 -- and of what opening took, whatever it held
-read_told : (names : Names) (k : ℕ) (way : Way) (h : How) (old mid told new : Sight) (standing : Result ℕ Fault) (r : Result Unit Fault)
+read_told : (names : Names) (k : ℕ) (way : Direction) (h : RecoveryOutcome) (old mid told new : SystemState) (standing : Result ℕ Fault) (r : Result Unit Fault)
     → IfOk standing (λ left. MovedRead k way h left (contents_of names old) (contents_of names mid))
     → KeepsFiles mid told → KeepsFiles told new → mid.output ≡ old.output → told.output ≡ mid.output
     → IfOk standing (λ left. OnOk r (new.output ≡ told.output ++ number_line left)) → IfErr standing (λ e. (r ≡ Err e) × (new ≡ told))
@@ -260,7 +260,7 @@ read_told names k way h old mid told new (Ok left) (Ok v) moved first second bef
 read_told names k way h old mid told new (Ok left) (Err e) moved first second before between line refused = tt
 read_told names k way h old mid told new (Err e) r moved first second before between line refused = rw refused.0 tt
 
-pub read_behind : (names : Names) (k : ℕ) (way : Way) (how : Option How) (old mid told new : Sight) (standing : Result ℕ Fault) (r : Result Unit Fault)
+pub read_behind : (names : Names) (k : ℕ) (way : Direction) (how : Option RecoveryOutcome) (old mid told new : SystemState) (standing : Result ℕ Fault) (r : Result Unit Fault)
     → IfSome how (λ h. IfOk standing (λ left. MovedRead k way h left (contents_of names old) (contents_of names mid)))
     → KeepsFiles mid told → KeepsFiles told new → mid.output ≡ old.output → told.output ≡ mid.output
     → IfOk standing (λ left. OnOk r (new.output ≡ told.output ++ number_line left)) → IfErr standing (λ e. (r ≡ Err e) × (new ≡ told))
@@ -270,7 +270,7 @@ read_behind names k way (Some h) old mid told new standing r moved first second 
     read_told names k way h old mid told new standing r moved first second before between line refused
 
 -- what is on the disk
-pub settled_kept : (names : Names) (mid new : Sight) (image journal redo now_image now_journal now_redo : List ℕ → Type 0) → KeepsFiles mid new
+pub settled_kept : (names : Names) (mid new : SystemState) (image journal redo now_image now_journal now_redo : List ℕ → Type 0) → KeepsFiles mid new
     → NoMore image now_image → NoMore journal now_journal → NoMore redo now_redo → StayOnDisk (contents_of names mid) image journal redo
     → StayOnDisk (contents_of names new) now_image now_journal now_redo
 settled_kept names mid new image journal redo now_image now_journal now_redo keeps first second third settled =
@@ -281,7 +281,7 @@ settled_kept names mid new image journal redo now_image now_journal now_redo kee
     })
 
 -- what is found after a loss of power
-pub moved_less : (k : ℕ) (way : Way) (s : Images) (how : Option How) (image journal redo now_image now_journal now_redo : List ℕ → Type 0)
+pub moved_less : (k : ℕ) (way : Direction) (s : Images) (how : Option RecoveryOutcome) (image journal redo now_image now_journal now_redo : List ℕ → Type 0)
     → NoMore image now_image → NoMore journal now_journal → NoMore redo now_redo → SurvivesMoved k way s how image journal redo
     → SurvivesMoved k way s how now_image now_journal now_redo
 moved_less k way s (Some h) image journal redo now_image now_journal now_redo first second third survives =
@@ -290,19 +290,19 @@ moved_less k way s None image journal redo now_image now_journal now_redo first 
     λ x text redo_text there text_there redo_there. survives x text redo_text (first x there) (second text text_there) (third redo_text redo_there)
 
 -- files that were left, where nothing was recovered and so nothing is said of it
-pub leaves_silent : (how : Option How) (old mid new : Sight) → IsUnrecovered how → LeavesFiles old mid → KeepsFiles mid new → new.output ≡ mid.output
+pub leaves_silent : (how : Option RecoveryOutcome) (old mid new : SystemState) → IsUnrecovered how → LeavesFiles old mid → KeepsFiles mid new → new.output ≡ mid.output
     → TellsRecovered how mid.errors new.errors → LeavesFiles old new
 leaves_silent how old mid new is left keeps output tells = leaves_kept old mid new left keeps output (silent_line how mid.errors new.errors is tells)
 
 -- and so files of a task that was refused, whatever they hold
-pub refused_kept : (u : Option Unopened) (how : Option How) (names : Names) (old mid new : Sight) → LeavesRefused names u how old mid → KeepsFiles mid new
+pub refused_kept : (u : Option OpenError) (how : Option RecoveryOutcome) (names : Names) (old mid new : SystemState) → LeavesRefused names u how old mid → KeepsFiles mid new
     → new.output ≡ mid.output → TellsRecovered how mid.errors new.errors → LeavesRefused names u how old new
 refused_kept u how names old mid new left keeps output tells = record {
   files = λ is. leaves_silent how old mid new is (left.files is) keeps output tells;
   contents = λ opened. subst (Spared how (contents_of names old)) (sym (contents_kept names mid new keeps)) (left.contents opened);
 }
 
-pub spares_behind : (names : Names) (u : Option Unopened) (how : Option How) (old mid told new : Sight) (standing : Result ℕ Fault) (r : Result Unit Fault)
+pub spares_behind : (names : Names) (u : Option OpenError) (how : Option RecoveryOutcome) (old mid told new : SystemState) (standing : Result ℕ Fault) (r : Result Unit Fault)
     → IfErr standing (SparesMove names u how old mid) → KeepsFiles mid told → told.output ≡ mid.output → TellsRecovered how mid.errors told.errors
     → IfOk standing (λ left. IfErr r (StopsLine (number_line left) told.output new.output)) → IfErr standing (λ e. (r ≡ Err e) × (new ≡ told))
     → IfErr r (SparesMove names u how old new)
@@ -313,7 +313,7 @@ spares_behind names u how old mid told new (Err e) r spares keeps output tells l
     rw (refused.0, refused.1) (λ whole. refused_kept u how names old mid told (spares whole) keeps output tells)
 
 -- files that weren't opened, where nothing is said
-pub nothing_kept : (u : Option Unopened) (reply : Reply) (how : Option How) (old mid new : Sight) → IfSome u (λ _. NothingDone reply how old mid)
+pub nothing_kept : (u : Option OpenError) (reply : Reply) (how : Option RecoveryOutcome) (old mid new : SystemState) → IfSome u (λ _. NothingDone reply how old mid)
     → KeepsFiles mid new → new.output ≡ mid.output → TellsRecovered how mid.errors new.errors → IfSome u (λ _. NothingDone reply how old new)
 nothing_kept None reply how old mid new none keeps output tells = tt
 nothing_kept (Some u) reply how old mid new none keeps output tells =
@@ -321,7 +321,7 @@ nothing_kept (Some u) reply how old mid new none keeps output tells =
     (none.0, none.1, leaves_silent how old mid new unrecovered none.2 keeps output tells)
 
 -- names lead to the files that they led to
-pub leads_back : (names : Names) (t : Trio) (mid new : Sight) → KeepsFiles mid new → LeadTo names t new → LeadTo names t mid
+pub leads_back : (names : Names) (t : Trio) (mid new : SystemState) → KeepsFiles mid new → LeadTo names t new → LeadTo names t mid
 leads_back names t mid new keeps leads = record {
   image = sym (keeps.named names.image) ∙ leads.image;
   journal = sym (keeps.named names.journal) ∙ leads.journal;
@@ -329,27 +329,27 @@ leads_back names t mid new keeps leads = record {
 }
 
 -- changes that were moved before their number was to be written
-pub moved_before : (standing : Result ℕ Fault) (r : Result Unit Fault) (told new : Sight) → IfErr standing (λ e. (r ≡ Err e) × (new ≡ told))
+pub moved_before : (standing : Result ℕ Fault) (r : Result Unit Fault) (told new : SystemState) → IfErr standing (λ e. (r ≡ Err e) × (new ≡ told))
     → HasMoved r → HasMoved standing
 moved_before (Ok left) r told new refused has = tt
 moved_before (Err e) r told new refused has = subst HasMoved refused.0 has
 
 -- and behind that
-pub moved_behind : (standing : Result ℕ Fault) (r : Result Unit Fault) (told new : Sight) (line : ℕ → List ℕ)
+pub moved_behind : (standing : Result ℕ Fault) (r : Result Unit Fault) (told new : SystemState) (line : ℕ → List ℕ)
     → IfOk standing (λ left. IfErr r (StopsLine (line left) told.output new.output)) → IfErr standing (λ e. (r ≡ Err e) × (new ≡ told))
     → HasMoved standing → HasMoved r
 moved_behind (Ok left) (Ok v) told new line lost refused has = tt
 moved_behind (Ok left) (Err e) told new line lost refused has = subst IsMidway (sym lost.fault) tt
 moved_behind (Err e) r told new line lost refused has = rw refused.0 has
 
-some_behind : (standing : Result ℕ Fault) (r : Result Unit Fault) (told new : Sight) (P : Type 0) → IfErr standing (λ e. (r ≡ Err e) × (new ≡ told))
+some_behind : (standing : Result ℕ Fault) (r : Result Unit Fault) (told new : SystemState) (P : Type 0) → IfErr standing (λ e. (r ≡ Err e) × (new ≡ told))
     → OnOk standing P → OnOk r P
 some_behind (Ok left) (Ok v) told new P refused some = some
 some_behind (Ok left) (Err e) told new P refused some = tt
 some_behind (Err e) r told new P refused some = rw refused.0 tt
 
 -- what was unfinished is said, whether the number is written or not
-pub tells_behind : (c : Contents) (how : Option How) (standing : Result ℕ Fault) (r : Result Unit Fault) (told new : Sight)
+pub tells_behind : (c : Contents) (how : Option RecoveryOutcome) (standing : Result ℕ Fault) (r : Result Unit Fault) (told new : SystemState)
     → IfErr standing (λ e. (r ≡ Err e) × (new ≡ told)) → TellsUnfinished c how standing → TellsUnfinished c how r
 tells_behind c how standing r told new refused tells = record {
   told = tells.told;

@@ -19,7 +19,7 @@ use Rattle.bx_journal.specs.SessionFault.{SessionFault}
 use Rattle.bx_journal.specs.SessionFault.TheVariants.{NoMemory, DeviceFailed, Damaged, Interrupted}
 use Rattle.bx_cli_commands.specs.declared.fault.Fault.TheVariants.{Session}
 use Rattle.bx_run.specs.session.Contents.{AreHonest, Contents}
-use Rattle.bx_journal.specs.Way.{Way}
+use Rattle.bx_journal.specs.Direction.{Direction}
 use Rattle.bx_journal_image.specs.declared.advice.Standing.{Standing}
 use Rattle.bx_journal_image.specs.declared.finding.rest.AtRest.{AtRest}
 use Rattle.bx_journal_image.specs.declared.line.form.ImageLine.{ImageLine}
@@ -36,27 +36,27 @@ use Rattle.bx_run.specs.declared.session.terms.Terms.{Terms}
 use Rattle.bx_run.specs.session.Guarded.{EndsLine, IsFoundAtRest, IsJudgedBeside, IsKeptOff, IsLineOn, IsLookedAt, IsReadyBehind, IsSure, LookAt, Spans, is_kept_off}
 
 -- of a text that is accepted a fault of reading is a device's
-pub finds_device : (honest : Type 0) (text : List ℕ) (e : SessionFault) → honest → IsAccepted text → FindFault honest text e → DeviceFault e
-finds_device honest text (Damaged line) h accepted is = absurd (undamaged text line accepted (is h))
-finds_device honest text NoMemory h accepted is = is
-finds_device honest text DeviceFailed h accepted is = is
-finds_device honest text e h accepted is = absurd is
+pub finds_device : (faithful : Type 0) (text : List ℕ) (e : SessionFault) → faithful → IsAccepted text → FindFault faithful text e → DeviceFault e
+finds_device faithful text (Damaged line) h accepted is = absurd (undamaged text line accepted (is h))
+finds_device faithful text NoMemory h accepted is = is
+finds_device faithful text DeviceFailed h accepted is = is
+finds_device faithful text e h accepted is = absurd is
 
 -- behind a fault of reading all is as it was
-pub after_finding : (honest : Type 0) (text : List ℕ) (A B : Type 0) (e : SessionFault) → FindFault honest text e → B → AfterFault e A B
-after_finding honest text A B Interrupted is same = absurd is
-after_finding honest text A B e is same = same
+pub after_finding : (faithful : Type 0) (text : List ℕ) (A B : Type 0) (e : SessionFault) → FindFault faithful text e → B → AfterFault e A B
+after_finding faithful text A B Interrupted is same = absurd is
+after_finding faithful text A B e is same = same
 
-pub finds_whole : (honest : Type 0) (text : List ℕ) (e : SessionFault) → FindFault honest text e → Session e ≡ Session Interrupted → ⊥
-finds_whole honest text Interrupted is same = is
-finds_whole honest text e is same = cc
+pub finds_whole : (faithful : Type 0) (text : List ℕ) (e : SessionFault) → FindFault faithful text e → Session e ≡ Session Interrupted → ⊥
+finds_whole faithful text Interrupted is same = is
+finds_whole faithful text e is same = cc
 
 -- a fault of reading a text that is as it was
-pub finds_back : (honest now : Type 0) (text left : List ℕ) (e : SessionFault) → (honest → now) → (honest → left ≡ text) → FindFault now left e → FindFault honest text e
-finds_back honest now text left (Damaged line) on same is = λ h. subst (λ t. IsDamagedAt t line) (same h) (is (on h))
-finds_back honest now text left NoMemory on same is = is
-finds_back honest now text left DeviceFailed on same is = is
-finds_back honest now text left e on same is = absurd is
+pub finds_back : (faithful now : Type 0) (text left : List ℕ) (e : SessionFault) → (faithful → now) → (faithful → left ≡ text) → FindFault now left e → FindFault faithful text e
+finds_back faithful now text left (Damaged line) on same is = λ h. subst (λ t. IsDamagedAt t line) (same h) (is (on h))
+finds_back faithful now text left NoMemory on same is = is
+finds_back faithful now text left DeviceFailed on same is = is
+finds_back faithful now text left e on same is = absurd is
 
 -- a journal at rest is accepted
 pub rest_accepted : (text x : List ℕ) (stack : List (List ℕ)) → IsAtRest text x stack → IsAccepted (shown text)
@@ -69,18 +69,18 @@ rest_accepted text x stack rest =
 module _ {D T : Type 0} (d : DeviceViews D) (t : StoreViews T) where
   pub look_still : (x : Devices D T) → LookAt d t x x
   look_still x = record {
-    same = λ honest. refl;
-    journal_same = λ honest. refl;
+    same = λ faithful. refl;
+    journal_same = λ faithful. refl;
     before = record { image_before = λ h c there. there; journal_before = λ h c there. there; redo_before = λ h c there. there };
-    honesty = ((λ h. h, λ h. h), (λ h. h, λ h. h), (λ h. h, λ h. h));
+    faith = ((λ h. h, λ h. h), (λ h. h, λ h. h), (λ h. h, λ h. h));
   }
 
-  pub honest_on : (old new : Devices D T) → LookAt d t old new → AreHonest d t old → AreHonest d t new
-  honest_on old new looks honest = (looks.honesty.0.1 honest.0, looks.honesty.1.1 honest.1, looks.honesty.2.1 honest.2)
+  pub faithful_on : (old new : Devices D T) → LookAt d t old new → AreHonest d t old → AreHonest d t new
+  faithful_on old new looks faithful = (looks.faith.0.1 faithful.0, looks.faith.1.1 faithful.1, looks.faith.2.1 faithful.2)
 
 -- the line before one step
 pub line_of_one : (r : Result ImageLine SessionFault) (old : Contents) (found : Option AtRest) (now told : Standing) (others : ℕ) (span : Span)
-    (way : Option Way) → way ≡ None → now ≡ told → IfSome found (λ f. Spans f.standing.length span) → IfOk r (IsSealOf old.image now others span)
+    (way : Option Direction) → way ≡ None → now ≡ told → IfSome found (λ f. Spans f.standing.length span) → IfOk r (IsSealOf old.image now others span)
     → IfOk r (IsLineOn way old found told others)
 line_of_one (Ok line) old found now told others span way one is spans seal =
     rw one (span, spans, subst (λ (s : Standing). IsSealOf old.image s others span line) is seal)

@@ -12,8 +12,8 @@ use Rattle.bx_journal.proofs.CountedLemmas.{left_none}
 use Rattle.bx_journal.specs.Calls.{OpenFault, how_of, rows_of}
 use Rattle.bx_journal.specs.Devices.{Devices}
 use Rattle.bx_journal.specs.Fault.{DeviceFault}
-use Rattle.bx_journal.specs.How.{How}
-use Rattle.bx_journal.specs.How.TheVariants.{Clean}
+use Rattle.bx_journal.specs.RecoveryOutcome.{RecoveryOutcome}
+use Rattle.bx_journal.specs.RecoveryOutcome.TheVariants.{Clean}
 use Rattle.bx_journal.specs.LogRow.{LogRow}
 use Rattle.bx_journal.specs.Opened.{OpensDevices}
 use Rattle.bx_journal.specs.Opening.{left_over}
@@ -28,7 +28,7 @@ use Rattle.bx_journal.specs.Text.{Between, Entry, IsDamagedAt, Reading, Reads}
 use Rattle.bx_journal.specs.Undoing.{AgainFault, HasCount}
 use Rattle.bx_cli_commands.specs.Listing.{log_line}
 use Rattle.bx_cli_commands.specs.declared.fault.Fault.TheVariants.{Io, Read, Behind, Dd, Patch, Disagrees, NotReversible, NothingToWrite, Session, Grows, ChangedSince, Usage, OpenFailed}
-use Rattle.bx_world.specs.World.{ReadFiles, Sight, held}
+use Rattle.bx_world.specs.World.{ReadFiles, SystemState, held}
 use Rattle.bx_world.specs.files.Reading.{LeadToRead}
 use Rattle.bx_world.specs.declared.files.names.Names.{Names}
 use Rattle.bx_run.specs.report.Devices.{HoldBytes, HoldFiles, HoldNumbered, IsDeviceStop, IsOpenedWhole}
@@ -37,7 +37,7 @@ use Rattle.bx_run.specs.declared.report.error.ReportError.{ReportError}
 use Rattle.bx_run.specs.declared.report.error.ReportError.TheVariants.{Unopened, Unfinished, Another, Stopped}
 
 -- where something is recovered, the journal was not finished entries alone
-pub unclean : (text : List ℕ) (how : How) → ((r : Reading) → Reads (shown text) r → how ≡ how_of r (left_over text)) → (how ≡ Clean → ⊥)
+pub unclean : (text : List ℕ) (how : RecoveryOutcome) → ((r : Reading) → Reads (shown text) r → how ≡ how_of r (left_over text)) → (how ≡ Clean → ⊥)
     → IsClean text → ⊥
 unclean text how is other clean =
     let same : shown text ≡ text = clean_shown text clean.0 clean.1 in
@@ -66,19 +66,19 @@ hides_fault image journal redo (NothingToRedo have) kind damaged read redo_at un
 hides_fault image journal redo (RedoDamaged line) kind damaged read redo_at unfinished = redo_at line refl
 
 -- why the log of a session with as many changes as its journal is stopped
-pub log_stops : (honest : Type 0) (text : List ℕ) (count : ℕ) (e : SessionFault) → ((e ≡ Broken → ⊥) → AgainFault honest text count e)
+pub log_stops : (faithful : Type 0) (text : List ℕ) (count : ℕ) (e : SessionFault) → ((e ≡ Broken → ⊥) → AgainFault faithful text count e)
     → (e ≡ Broken → ⊥) → ((n : ℕ) → e ≡ Damaged n → ⊥) → IsDeviceStop (Stopped (Session e))
-log_stops honest text count NoMemory again whole undamaged = tt
-log_stops honest text count TooLarge again whole undamaged = again whole
-log_stops honest text count DeviceFailed again whole undamaged = tt
-log_stops honest text count (Damaged line) again whole undamaged = undamaged line refl
-log_stops honest text count (TooFew have) again whole undamaged = again whole
-log_stops honest text count JournalFull again whole undamaged = again whole
-log_stops honest text count Interrupted again whole undamaged = again whole
-log_stops honest text count Broken again whole undamaged = whole refl
-log_stops honest text count (LengthDiffers expected) again whole undamaged = again whole
-log_stops honest text count (NothingToRedo have) again whole undamaged = again whole
-log_stops honest text count (RedoDamaged line) again whole undamaged = again whole
+log_stops faithful text count NoMemory again whole undamaged = tt
+log_stops faithful text count TooLarge again whole undamaged = again whole
+log_stops faithful text count DeviceFailed again whole undamaged = tt
+log_stops faithful text count (Damaged line) again whole undamaged = undamaged line refl
+log_stops faithful text count (TooFew have) again whole undamaged = again whole
+log_stops faithful text count JournalFull again whole undamaged = again whole
+log_stops faithful text count Interrupted again whole undamaged = again whole
+log_stops faithful text count Broken again whole undamaged = whole refl
+log_stops faithful text count (LengthDiffers expected) again whole undamaged = again whole
+log_stops faithful text count (NothingToRedo have) again whole undamaged = again whole
+log_stops faithful text count (RedoDamaged line) again whole undamaged = again whole
 
 stop_opens : (image journal redo : List ℕ) (e : SessionFault) → DeviceFault e → HidesChanges image journal redo (Stopped (Session e))
 stop_opens image journal redo NoMemory is = tt
@@ -94,7 +94,7 @@ stop_opens image journal redo (NothingToRedo have) is = is
 stop_opens image journal redo (RedoDamaged line) is = absurd is
 
 -- why changes are not seen in files by these names
-pub not_seen : (names : Names) (counted : Type 0) (w : Sight) (u : ReportError)
+pub not_seen : (names : Names) (counted : Type 0) (w : SystemState) (u : ReportError)
     → HidesChanges (held w names.image) (held w names.journal) (held w names.redo) u → MayNotLook names counted w u
 not_seen names counted w (Unopened file) is = absurd is
 not_seen names counted w Unfinished is = is
@@ -125,12 +125,12 @@ stop_hides image journal redo (Stopped Usage) is = is
 stop_hides image journal redo (Stopped OpenFailed) is = is
 
 -- devices that hold the bytes of files hold what their names lead to
-pub held_files : {D T : Type 0} → (d : DeviceViews D) (t : StoreViews T) (names : Names) (f : ReadFiles) (w : Sight) (x : Devices D T)
+pub held_files : {D T : Type 0} → (d : DeviceViews D) (t : StoreViews T) (names : Names) (f : ReadFiles) (w : SystemState) (x : Devices D T)
     → LeadToRead names f w → HoldNumbered d t f w x → HoldFiles d t names w x
 held_files d t names f w x named holds = record {
-  image_honest = holds.image_honest;
-  journal_honest = holds.journal_honest;
-  redo_honest = holds.redo_honest;
+  image_faithful = holds.image_faithful;
+  journal_faithful = holds.journal_faithful;
+  redo_faithful = holds.redo_faithful;
   image_is = holds.image_is ∙ sym (ap (λ o. option_map_or w.bytes o []) named.image);
   journal_is = holds.journal_is ∙ sym (ap (λ o. option_map_or w.bytes o []) named.journal);
   redo_is = holds.redo_is ∙ sym (ap (λ o. option_map_or w.bytes o []) named.redo);
@@ -148,18 +148,18 @@ module _ {D T : Type 0} (d : DeviceViews D) (t : StoreViews T) (old : Devices D 
   pub opened_whole : (s : SessionView D T) (found : Recovered) → OpensDevices d t old (Ok (s, found)) → found.how ≡ Clean
       → IsOpenedWhole d t image journal redo s
   opened_whole s found opens clean =
-      let pair = opens.spares.clean holds.image_honest holds.journal_honest clean in
-      let redo_same = opens.redo.clean_redo holds.redo_honest clean in
+      let pair = opens.spares.clean holds.image_faithful holds.journal_faithful clean in
+      let redo_same = opens.redo.clean_redo holds.redo_faithful clean in
       let counts = opens.devices in
-      let accepted = opens.text.accepted holds.journal_honest in
-      let is = opens.found.opened holds.image_honest holds.journal_honest accepted.0 accepted.1 in
-      let left = opens.found.left holds.journal_honest accepted.0 accepted.1 in
+      let accepted = opens.text.accepted holds.journal_faithful in
+      let is = opens.found.opened holds.image_faithful holds.journal_faithful accepted.0 accepted.1 in
+      let left = opens.found.left holds.journal_faithful accepted.0 accepted.1 in
       let count : s.count ≡ length accepted.0.entries = opens.found.fresh.0 ∙ is.changes_are in
       record {
         devices = record {
-          image_honest = counts.image_honesty.1 holds.image_honest;
-          journal_honest = counts.journal_honesty.1 holds.journal_honest;
-          redo_honest = counts.redo_honesty.1 holds.redo_honest;
+          image_faithful = counts.image_faith.1 holds.image_faithful;
+          journal_faithful = counts.journal_faith.1 holds.journal_faithful;
+          redo_faithful = counts.redo_faith.1 holds.redo_faithful;
           image_is = pair.1 ∙ holds.image_is;
           journal_is = pair.0 ∙ holds.journal_is;
           redo_is = redo_same ∙ holds.redo_is;
@@ -172,16 +172,16 @@ module _ {D T : Type 0} (d : DeviceViews D) (t : StoreViews T) (old : Devices D 
   pub opened_unclean : (s : SessionView D T) (found : Recovered) → OpensDevices d t old (Ok (s, found)) → (found.how ≡ Clean → ⊥)
       → IsClean journal → ⊥
   opened_unclean s found opens other clean =
-      unclean (t.text old.journal) found.how (λ r reads. (opens.found.opened holds.image_honest holds.journal_honest r reads).how_is) other
+      unclean (t.text old.journal) found.how (λ r reads. (opens.found.opened holds.image_faithful holds.journal_faithful r reads).how_is) other
       (subst IsClean (sym holds.journal_is) clean)
 
   -- why an opening is refused
   pub opened_refused : (x : Devices D T) (e : SessionFault) → OpensDevices d t old (Err (x, e)) → HidesChanges image journal redo (unseen_of e)
   opened_refused x e opens =
       let hidden : HidesChanges (d.image old.image) (t.text old.journal) (t.text old.redo) (unseen_of e) =
-      hides_fault (d.image old.image) (t.text old.journal) (t.text old.redo) e opens.fault.kind (opens.text.damaged holds.journal_honest)
-      (opens.fault.faults holds.image_honest holds.journal_honest)
-      (opens.redo_fault.redo_refused holds.image_honest holds.journal_honest holds.redo_honest) (opens.fault.unfinished holds.journal_honest) in
+      hides_fault (d.image old.image) (t.text old.journal) (t.text old.redo) e opens.fault.kind (opens.text.damaged holds.journal_faithful)
+      (opens.fault.faults holds.image_faithful holds.journal_faithful)
+      (opens.redo_fault.redo_refused holds.image_faithful holds.journal_faithful holds.redo_faithful) (opens.fault.unfinished holds.journal_faithful) in
       subst (λ i. HidesChanges i journal redo (unseen_of e)) holds.image_is
       (subst (λ j. HidesChanges (d.image old.image) j redo (unseen_of e)) holds.journal_is
       (subst (λ r. HidesChanges (d.image old.image) (t.text old.journal) r (unseen_of e)) holds.redo_is hidden))

@@ -1,7 +1,7 @@
 -- Files that are lent, as the texts that are emptied: where the redo text stands in the place of the journal, the two change places.
 use Rattle.std.proofs.Common.{◌≡◌, ◌∙◌, ℕ, Bool, true, false, List, Option, Some, refl, sym, ap, subst, arith}
 use Rattle.bx_image.specs.Power.{NoMore}
-use Rattle.bx_world.specs.World.{ClosesTexts, IsNoText, IsNoneRead, NothingNewSpared, ReadFiles, Sight, Spares}
+use Rattle.bx_world.specs.World.{ClosesTexts, IsNoText, IsNoneRead, NothingNewSpared, ReadFiles, SystemState, Spares}
 use Rattle.bx_world.specs.files.Reading.{LeadToRead}
 use Rattle.bx_world.specs.declared.files.names.Names.{Names}
 use Rattle.bx_run.specs.forget.Forgetting.{LeadToTexts, TextFiles, texts_of}
@@ -15,12 +15,12 @@ same_record : (i j : ℕ) (k l r s : Option ℕ) → i ≡ j → k ≡ l → r �
 same_record i j k l r s image journal redo = rw (image, journal, redo) refl
 
 -- names lead to one image and its texts
-pub same_texts : (names : Names) (w : Sight) (f g : TextFiles) → LeadToTexts names f w → LeadToTexts names g w → f ≡ g
+pub same_texts : (names : Names) (w : SystemState) (f g : TextFiles) → LeadToTexts names f w → LeadToTexts names g w → f ≡ g
 same_texts names w f g p q =
     same_record f.image g.image f.journal g.journal f.redo g.redo (some_is (sym p.image ∙ q.image)) (sym p.journal ∙ q.journal) (sym p.redo ∙ q.redo)
 
 -- files that are read are files whose texts are emptied
-pub leads_texts : (names : Names) (f : ReadFiles) (w : Sight) → LeadToRead names f w → LeadToTexts names (texts_of false f) w
+pub leads_texts : (names : Names) (f : ReadFiles) (w : SystemState) → LeadToRead names f w → LeadToTexts names (texts_of false f) w
 leads_texts names f w leads = record { image = leads.image; journal = leads.journal; redo = leads.redo }
 
 -- Of files that are lent.
@@ -39,7 +39,7 @@ module _ (exchanged : Bool) (f : ReadFiles) where
       by false = ((λ is. journal (sym (some_is is))), redo)
       by true = (redo, (λ is. journal (sym (some_is is))))
 
-  pub as_texts : (old new : Sight) → Spares (IsNoText f) old new → Spares (IsNeither (texts_of exchanged f)) old new
+  pub as_texts : (old new : SystemState) → Spares (IsNoText f) old new → Spares (IsNeither (texts_of exchanged f)) old new
   as_texts old new p = spares_bytes (IsNoText f) (IsNeither (texts_of exchanged f)) old new p (λ i q. p.bytes i (no_text i q))
 
   pub lets_texts : (found left : ℕ → List ℕ → Type 0) → NothingNewSpared (IsNoText f) found left
@@ -52,7 +52,7 @@ module _ (exchanged : Bool) (f : ReadFiles) where
 
 -- The text in the place of the journal.
 module _ (f : ReadFiles) where
-  pub placed : (journal redo : List ℕ) (mid new : Sight) → ClosesTexts f journal redo mid new → (n : ℕ) → Some f.journal ≡ Some n
+  pub placed : (journal redo : List ℕ) (mid new : SystemState) → ClosesTexts f journal redo mid new → (n : ℕ) → Some f.journal ≡ Some n
       → new.bytes n ≡ journal
   placed journal redo mid new closed n e = ap new.bytes (sym (some_is e)) ∙ closed.journal_bytes
 

@@ -18,7 +18,7 @@ use Rattle.bx_patch.specs.declared.diff.fault.DiffFault.{DiffFault}
 use Rattle.bx_patch.specs.declared.diff.fault.DiffFault.TheVariants.{NewFailed, NoMemory, TooLarge}
 use Rattle.bx_patch.specs.declared.diff.row.Extent.TheVariants.{Bytes}
 use Rattle.bx_patch.specs.preview.Changed.{FitInTurn, effects}
-use Rattle.bx_world.specs.World.{MayBeRead, Sight, held, stat_named}
+use Rattle.bx_world.specs.World.{MayBeRead, SystemState, held, stat_named}
 use Rattle.bx_run.specs.preview.Previews.{MakesFirst, StopsChange, StopsPreview, WritesChange, WritesPreview, has_fixed_length}
 use Rattle.bx_run.specs.preview.Proposed.{IsCompared, IsFitting, unchanged_for}
 use Rattle.bx_run.specs.declared.edit.Edit.{Edit}
@@ -89,7 +89,7 @@ cut_behind remaining edit keeps x z change counts old new outcome fault same is 
     inr (counts, effect change x, makes, fits.1, two.0, two.1 fits.0)
 
 -- a name that leads to no file holds nothing
-pub held_none : (w : Sight) (name : List ℕ) → stat_named w name ≡ None → [] ≡ held w name
+pub held_none : (w : SystemState) (name : List ℕ) → stat_named w name ≡ None → [] ≡ held w name
 held_none w name missing = nothing (w.named name) missing
   where
     nothing : (n : Option ℕ) → option_map_or (λ n. Some (w.stat n)) n None ≡ None → [] ≡ option_map_or w.bytes n []
@@ -97,11 +97,11 @@ held_none w name missing = nothing (w.named name) missing
     nothing (Some n) e = absurd (let wrong : Some (w.stat n) ≡ None = e in cc)
 
 -- and it may be read
-pub may_none : (w : Sight) (name : List ℕ) → stat_named w name ≡ None → MayBeRead w name
+pub may_none : (w : SystemState) (name : List ℕ) → stat_named w name ≡ None → MayBeRead w name
 may_none w name missing n leads = absurd (let wrong : Some (w.stat n) ≡ None = rw leads at missing in cc)
 
 -- what is said of the bytes of a file is said of its name
-module _ {R : Type 0} (remaining : R → Option (List ℕ)) (name : List ℕ) (edit : Edit R) (counted : Type 0) (w : Sight) (x : List ℕ)
+module _ {R : Type 0} (remaining : R → Option (List ℕ)) (name : List ℕ) (edit : Edit R) (counted : Type 0) (w : SystemState) (x : List ℕ)
     (keeps : Bool) (may : MayBeRead w name) (keeps_is : keeps ≡ has_fixed_length (stat_named w name)) (x_is : x ≡ held w name) (old new : Option (List ℕ)) where
   stopped : (why : PreviewError) → StopsChange remaining edit (has_fixed_length (stat_named w name)) (held w name) old new why
       → StopsPreview remaining name edit counted w old new why

@@ -4,8 +4,8 @@ use Rattle.std.proofs.Common.{◌≡◌, ◌⊎◌, ℕ, Option, Some, None, Lis
 use Rattle.bx_image.specs.Power.{NoMore}
 use Rattle.bx_journal.specs.Calls.{AfterFault}
 use Rattle.bx_journal.specs.Fault.{DeviceFault}
-use Rattle.bx_journal.specs.How.{How}
-use Rattle.bx_journal.specs.How.TheVariants.{Clean, Dropped, Restored}
+use Rattle.bx_journal.specs.RecoveryOutcome.{RecoveryOutcome}
+use Rattle.bx_journal.specs.RecoveryOutcome.TheVariants.{Clean, Dropped, Restored}
 use Rattle.bx_journal.specs.Images.{Images}
 use Rattle.bx_journal.specs.SessionFault.{SessionFault}
 use Rattle.bx_journal.specs.SessionFault.TheVariants.{NoMemory, TooLarge, DeviceFailed, Damaged, TooFew, JournalFull, Interrupted, Broken, LengthDiffers, NothingToRedo, RedoDamaged}
@@ -13,10 +13,10 @@ use Rattle.bx_cli_commands.specs.Refusal.{IsWholeRefusal}
 use Rattle.bx_cli_commands.specs.declared.command.Reply.{Reply}
 use Rattle.bx_cli_commands.specs.declared.command.Reply.TheVariants.{Changed, Copied, Redone, Refused, Undone}
 use Rattle.bx_cli_commands.specs.declared.fault.Fault.TheVariants.{Session}
-use Rattle.bx_world.specs.World.{Sight}
+use Rattle.bx_world.specs.World.{SystemState}
 use Rattle.bx_world.specs.files.Files.{LeavesFiles}
 use Rattle.bx_world.specs.declared.files.names.Names.{Names}
-use Rattle.bx_world.specs.declared.files.unopened.Unopened.{Unopened}
+use Rattle.bx_world.specs.declared.files.unopened.OpenError.{OpenError}
 use Rattle.bx_run.specs.declared.session.task.Task.{Task}
 use Rattle.bx_run.specs.session.Contents.{Contents, Does, IsUnopened, Spared, StepsRead, StepsTo, SurvivesFound}
 use Rattle.bx_run.specs.session.Named.{IsUnrecovered, LeavesRefused, MayRefuse, contents_of}
@@ -77,7 +77,7 @@ module _ {R : Type 0} (remaining : R → Option (List ℕ)) where
   ]
 
   -- where no more is found, what is found of a task that began on what opening found stays so
-  pub endures_less : (s : Images) (c : Task R) (how : Option How) (reply : Reply) (image journal redo now_image now_journal now_redo : List ℕ → Type 0)
+  pub endures_less : (s : Images) (c : Task R) (how : Option RecoveryOutcome) (reply : Reply) (image journal redo now_image now_journal now_redo : List ℕ → Type 0)
       → NoMore image now_image → NoMore journal now_journal → NoMore redo now_redo → SurvivesFound remaining s c how reply image journal redo
       → SurvivesFound remaining s c how reply now_image now_journal now_redo
   endures_less s c (Some h) reply image journal redo now_image now_journal now_redo first second third endures =
@@ -86,21 +86,21 @@ module _ {R : Type 0} (remaining : R → Option (List ℕ)) where
       λ x text redo_text there text_there redo_there. endures x text redo_text (first x there) (second text text_there) (third redo_text redo_there)
 
   -- the same between contents that are equal
-  pub read_between : (c : Task R) (how : Option How) (reply : Reply) (before after old new : Contents) → before ≡ old → new ≡ after
+  pub read_between : (c : Task R) (how : Option RecoveryOutcome) (reply : Reply) (before after old new : Contents) → before ≡ old → new ≡ after
       → IfSome how (λ h. StepsRead remaining c h reply before after) → IfSome how (λ h. StepsRead remaining c h reply old new)
   read_between c how reply before after old new first last steps =
       subst (λ x. IfSome how (λ h. StepsRead remaining c h reply x new)) first
       (subst (λ x. IfSome how (λ h. StepsRead remaining c h reply before x)) (sym last) steps)
 
 -- what was held is left, where nothing was recovered
-pub same_spared : (how : Option How) (old new : Contents) → IsUnrecovered how → Spared how old new → new ≡ old
+pub same_spared : (how : Option RecoveryOutcome) (old new : Contents) → IsUnrecovered how → Spared how old new → new ≡ old
 same_spared None old new is spared = spared
 same_spared (Some Clean) old new is spared = spared
 same_spared (Some Dropped) old new is spared = absurd (let wrong : Dropped ≡ Clean = is in cc)
 same_spared (Some (Restored n)) old new is spared = absurd (let wrong : Restored n ≡ Clean = is in cc)
 
 -- files are taken away where the task was refused and nothing was recovered, or not
-pub is_cleared : (reply : Reply) (how : Option How) → (IsWholeRefusal reply × IsUnrecovered how) ⊎ (IsWholeRefusal reply → IsUnrecovered how → ⊥)
+pub is_cleared : (reply : Reply) (how : Option RecoveryOutcome) → (IsWholeRefusal reply × IsUnrecovered how) ⊎ (IsWholeRefusal reply → IsUnrecovered how → ⊥)
 is_cleared (Changed n) how = inr (λ whole is. whole)
 is_cleared (Copied n counts) how = inr (λ whole is. whole)
 is_cleared (Undone n) how = inr (λ whole is. whole)
@@ -112,7 +112,7 @@ is_cleared (Refused e) (Some Dropped) = inr (λ whole is. (let wrong : Dropped �
 is_cleared (Refused e) (Some (Restored n)) = inr (λ whole is. (let wrong : Restored n ≡ Clean = is in cc))
 
 -- files whose three hold what they held, or what was recovered
-pub left_refused : (u : Option Unopened) (how : Option How) (names : Names) (before after : Contents) (old new : Sight) → before ≡ contents_of names old
+pub left_refused : (u : Option OpenError) (how : Option RecoveryOutcome) (names : Names) (before after : Contents) (old new : SystemState) → before ≡ contents_of names old
     → contents_of names new ≡ after → Spared how before after → (IsUnrecovered how → after ≡ before → LeavesFiles old new)
     → LeavesRefused names u how old new
 left_refused u how names before after old new first last spared leaves = record {

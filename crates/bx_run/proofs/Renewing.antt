@@ -4,7 +4,7 @@ use Rattle.std.specs.Prelude.{true, IfOk, IfSome, OnOk}
 use Rattle.std.specs.Option.{option_map_or}
 use Rattle.bx_journal.specs.Fault.{DeviceFault}
 use Rattle.bx_journal.specs.Forgotten.{only}
-use Rattle.bx_journal.specs.How.{How}
+use Rattle.bx_journal.specs.RecoveryOutcome.{RecoveryOutcome}
 use Rattle.bx_journal.specs.Images.{Images, undo_of}
 use Rattle.bx_journal.specs.Machine.{UndoStep, top}
 use Rattle.bx_journal.specs.Power.{Found}
@@ -21,11 +21,11 @@ use Rattle.bx_cli_commands.specs.declared.command.Reply.{Reply}
 use Rattle.bx_cli_commands.specs.declared.command.Reply.TheVariants.{Changed, Copied, Redone, Refused, Undone}
 use Rattle.bx_cli_commands.specs.declared.fault.Fault.{Fault}
 use Rattle.bx_cli_commands.specs.declared.fault.Fault.TheVariants.{OpenFailed, Session}
-use Rattle.bx_world.specs.World.{Sight, Spares, Trio, held}
+use Rattle.bx_world.specs.World.{SystemState, Spares, Trio, held}
 use Rattle.bx_world.specs.files.Files.{AreAllThere, LeadsToMade}
 use Rattle.bx_world.specs.declared.files.guard.Guard.{Guard}
 use Rattle.bx_world.specs.declared.files.names.Names.{Names}
-use Rattle.bx_world.specs.declared.files.unopened.Unopened.{Unopened}
+use Rattle.bx_world.specs.declared.files.unopened.OpenError.{OpenError}
 use Rattle.bx_run.specs.session.Changes.{Changes, SaysRecovered}
 use Rattle.bx_run.specs.session.Contents.{Contents, DoesFound, EndsAt, FoundIn, Holds, Survives, SurvivesFound, recovered_as}
 use Rattle.bx_run.specs.session.Moves.{TellsRecovered, recovered_line}
@@ -98,40 +98,40 @@ on_ok (Ok n) P p = p
 on_ok (Err e) P p = tt
 
 -- files that were opened by such a reply
-pub all_opened : (u : Option Unopened) (reply : Reply) (how : Option How) (old new : Sight) → IfSome u (λ _. NothingDone reply how old new)
+pub all_opened : (u : Option OpenError) (reply : Reply) (how : Option RecoveryOutcome) (old new : SystemState) → IfSome u (λ _. NothingDone reply how old new)
     → IsDroppable reply → u ≡ None
 all_opened None reply how old new none may = refl
 all_opened (Some u) reply how old new none may = absurd (let wrong : IsDroppable (Refused OpenFailed) = subst IsDroppable none.0 may in wrong)
 
 -- files that were opened, or whose image is another one
-pub were_opened : (answer : Answer) (old new : Sight) → IfSome answer.unopened (λ _. NothingDone answer.reply answer.how old new) → MayDrop answer
+pub were_opened : (answer : Answer) (old new : SystemState) → IfSome answer.unopened (λ _. NothingDone answer.reply answer.how old new) → MayDrop answer
     → WereOpened answer.unopened
 were_opened answer old new none may = elim may [
   | inl drop ↦ rw (all_opened answer.unopened answer.reply answer.how old new none drop) tt
   | inr other ↦ by answer.unopened other
 ]
   where
-    by : (u : Option Unopened) → IsOfAnother u → WereOpened u
+    by : (u : Option OpenError) → IsOfAnother u → WereOpened u
     by None other = tt
     by (Some u) other = other
 
-other_reply : (u : Option Unopened) (reply : Reply) (how : Option How) (old new : Sight) → IfSome u (λ _. NothingDone reply how old new) → IsOfAnother u
+other_reply : (u : Option OpenError) (reply : Reply) (how : Option RecoveryOutcome) (old new : SystemState) → IfSome u (λ _. NothingDone reply how old new) → IsOfAnother u
     → reply ≡ Refused OpenFailed
 other_reply None reply how old new none other = absurd other
 other_reply (Some u) reply how old new none other = none.0
 
 -- an opening isn't refused for another image where the files hold images
-pub never_other : {R : Type 0} (remaining : R → Option (List ℕ)) (guard : Guard) (note : List ℕ) (names : Names) (w : Sight) (answer : Answer) (s : Images)
+pub never_other : {R : Type 0} (remaining : R → Option (List ℕ)) (guard : Guard) (note : List ℕ) (names : Names) (w : SystemState) (answer : Answer) (s : Images)
     → JudgesOpening remaining guard note names w answer → Holds (contents_of names w) s → IsOfAnother answer.unopened → ⊥
 never_other remaining guard note names w answer s judged holds other = none_other (only_told guard) _ note (contents_of names w) answer.unopened answer.how s judged
     holds (by answer.unopened other)
   where
-    by : (u : Option Unopened) → IsOfAnother u → u ≡ Some another
+    by : (u : Option OpenError) → IsOfAnother u → u ≡ Some another
     by None other = absurd other
     by (Some u) other = ap Some other
 
 -- why an opening isn't begun
-pub why_told : {R : Type 0} (remaining : R → Option (List ℕ)) (guard told : Guard) (note : List ℕ) (names : Names) (counted : Type 0) (w : Sight) (u : Option Unopened)
+pub why_told : {R : Type 0} (remaining : R → Option (List ℕ)) (guard told : Guard) (note : List ℕ) (names : Names) (counted : Type 0) (w : SystemState) (u : Option OpenError)
     → told ≡ only_told guard → IfSome u (MayRefuseTask told true note (no_change {R = R}) names counted w) → IfSome u (MayNotOpen remaining guard note names counted w)
 why_told {R = R} remaining guard told note names counted w u is why =
     subst (λ (k : Guard). IfSome u (MayRefuseTask k true note (no_change {R = R}) names counted w)) is why
@@ -159,7 +159,7 @@ module _ {R : Type 0} (remaining : R → Option (List ℕ)) where
   unrefused s (Refused e) why may whole = may
   unrefused s reply why may whole = whole
 
-  module _ (names : Names) (answer : Answer) (old new : Sight) (does : DoesChange remaining names no_change answer old new) (may : MayDrop answer)
+  module _ (names : Names) (answer : Answer) (old new : SystemState) (does : DoesChange remaining names no_change answer old new) (may : MayDrop answer)
       (unopened : IfSome answer.unopened (λ _. NothingDone answer.reply answer.how old new))
       (alone : (s : Images) → Holds (contents_of names old) s → IsOfAnother answer.unopened → ⊥) where
     made_drop : IsDroppable answer.reply → (s : Images) → Holds (contents_of names old) s → IsWholeRefusal answer.reply → ⊥
@@ -194,7 +194,7 @@ module _ {R : Type 0} (remaining : R → Option (List ℕ)) where
         newest (contents_of names new) call.0 holds ∙ ap (λ t. top t.stack) (sym (ap images_of up) ∙ none_moved s (Ok n) after call))
     found_ended s after (Err e) is call ends = rw is tt
 
-    found_by : (s : Images) (how : Option How) → DoesFound remaining s no_change how answer.reply (contents_of names new)
+    found_by : (s : Images) (how : Option RecoveryOutcome) → DoesFound remaining s no_change how answer.reply (contents_of names new)
         → OnOk (stands_by answer.reply) (held new names.image ≡ top s.stack)
     found_by s None found = rw found.1 tt
     found_by s (Some how) found = found_ended (recovered_as how s) found.0 found.1.0 found.1.1 found.1.2 found.2
@@ -207,7 +207,7 @@ module _ {R : Type 0} (remaining : R → Option (List ℕ)) where
     ]
 
   -- the change that is asked for on the image alone
-  pub changes_alone : (names : Names) (image : List ℕ) (task : Task R) (answer : Answer) (dropped new : Sight)
+  pub changes_alone : (names : Names) (image : List ℕ) (task : Task R) (answer : Answer) (dropped new : SystemState)
       → Holds (contents_of names dropped) (only image) → DoesChange remaining names task answer dropped new
       → ChangesAlone remaining names image task answer new
   changes_alone names image task answer dropped new alone does = record {
@@ -218,22 +218,22 @@ module _ {R : Type 0} (remaining : R → Option (List ℕ)) where
   }
 
 -- files whose history was dropped hold the image alone
-pub holds_alone : (names : Names) (old new : Sight) → HasForgotten (held_by_names names old) (held_by_names names new)
+pub holds_alone : (names : Names) (old new : SystemState) → HasForgotten (held_by_names names old) (held_by_names names new)
     → Holds (contents_of names new) (only (held old names.image))
 holds_alone names old new forgotten = (forgotten.rest, forgotten.undone)
 
-held_untouched : (old new : Sight) (name : List ℕ) → IsUntouched old new → held new name ≡ held old name
+held_untouched : (old new : SystemState) (name : List ℕ) → IsUntouched old new → held new name ≡ held old name
 held_untouched old new name keeps = at_name (old.named name) (keeps.named name)
   where
     at_name : (o : Option ℕ) → new.named name ≡ o → held new name ≡ option_map_or old.bytes o []
     at_name None is = rw is refl
     at_name (Some n) is = rw is (keeps.bytes n tt)
 
-untouched : (names : Names) (old new : Sight) → IsUntouched old new → contents_of names new ≡ contents_of names old
+untouched : (names : Names) (old new : SystemState) → IsUntouched old new → contents_of names new ≡ contents_of names old
 untouched names old new keeps =
     rw (held_untouched old new names.image keeps, held_untouched old new names.journal keeps, held_untouched old new names.redo keeps) refl
 
-stops_untouched : (guard : Guard) (note : List ℕ) (names : Names) (counted : Type 0) (old new : Sight) (unseen : ReportError) → StopsForgetting guard note names counted old new unseen
+stops_untouched : (guard : Guard) (note : List ℕ) (names : Names) (counted : Type 0) (old new : SystemState) (unseen : ReportError) → StopsForgetting guard note names counted old new unseen
     → (unseen ≡ Stopped (Session Interrupted) → ⊥) → IsUntouched old new
 stops_untouched guard note names counted old new (UnopenedFile file) stops other = stops.1
 stops_untouched guard note names counted old new Unfinished stops other = stops.1
@@ -242,21 +242,21 @@ stops_untouched guard note names counted old new (Stopped (Session Interrupted))
 stops_untouched guard note names counted old new (Stopped fault) stops other = stops.1
 
 -- files whose history wasn't dropped hold what they held
-pub holds_undropped : (guard : Guard) (note : List ℕ) (names : Names) (counted : Type 0) (old new : Sight) (unseen : ReportError) (s : Images)
+pub holds_undropped : (guard : Guard) (note : List ℕ) (names : Names) (counted : Type 0) (old new : SystemState) (unseen : ReportError) (s : Images)
     → StopsForgetting guard note names counted old new unseen → (unseen ≡ Stopped (Session Interrupted) → ⊥) → Holds (contents_of names old) s
     → Holds (contents_of names new) s
 holds_undropped guard note names counted old new unseen s stops other holds =
     subst (λ c. Holds c s) (sym (untouched names old new (stops_untouched guard note names counted old new unseen stops other))) holds
 
 -- the names lead to the files that they led to before texts were changed
-leads_before : (names : Names) (spared : ℕ → Type 0) (t : Trio) (old new : Sight) → Spares spared old new → LeadTo names t new → LeadTo names t old
+leads_before : (names : Names) (spared : ℕ → Type 0) (t : Trio) (old new : SystemState) → Spares spared old new → LeadTo names t new → LeadTo names t old
 leads_before names spared t old new spares leads = record {
   image = sym (spares.named names.image) ∙ leads.image;
   journal = sym (spares.named names.journal) ∙ leads.journal;
   redo = sym (spares.named names.redo) ∙ leads.redo;
 }
 
-loses_undropped : (names : Names) (unseen : ReportError) (w : Sight) (was left : ℕ → List ℕ → Type 0) (s : Images) (t : Trio) → LeadTo names t w
+loses_undropped : (names : Names) (unseen : ReportError) (w : SystemState) (was left : ℕ → List ℕ → Type 0) (s : Images) (t : Trio) → LeadTo names t w
     → SurvivesForgetting names (Err unseen) w was left
     → ((x text redo_text : List ℕ) → was t.image x → was t.journal text → was t.redo redo_text → Found text x redo_text s)
     → LosesUndropped unseen (held_by_names names w) s (left t.image) (left t.journal) (left t.redo)
@@ -269,7 +269,7 @@ loses_undropped names unseen w was left s t leads survives finds =
 
 -- what is found behind a history that wasn't dropped, where it is known what was to be found when the dropping began
 pub found_undropped : {R : Type 0} (remaining : R → Option (List ℕ)) (names : Names) (unseen : ReportError) (reply : Reply) (spared : ℕ → Type 0)
-    (first new : Sight) (was left : ℕ → List ℕ → Type 0) (s : Images) (t : Trio) → Spares spared first new → LeadTo names t new
+    (first new : SystemState) (was left : ℕ → List ℕ → Type 0) (s : Images) (t : Trio) → Spares spared first new → LeadTo names t new
     → SurvivesForgetting names (Err unseen) first was left
     → (LeadTo names t first → Survives remaining s no_change reply (was t.image) (was t.journal) (was t.redo))
     → LosesUndropped unseen (held_by_names names first) s (left t.image) (left t.journal) (left t.redo)
@@ -281,19 +281,19 @@ found_undropped remaining names unseen reply spared first new was left s t spare
 
 -- the same of what was recovered
 pub recovered_undropped : {R : Type 0} (remaining : R → Option (List ℕ)) (names : Names) (unseen : ReportError) (answer : Answer) (spared : ℕ → Type 0)
-    (first new : Sight) (was left : ℕ → List ℕ → Type 0) (s : Images) (t : Trio) → Spares spared first new → LeadTo names t new
+    (first new : SystemState) (was left : ℕ → List ℕ → Type 0) (s : Images) (t : Trio) → Spares spared first new → LeadTo names t new
     → SurvivesForgetting names (Err unseen) first was left
     → (LeadTo names t first → SurvivesFound remaining s no_change answer.how answer.reply (was t.image) (was t.journal) (was t.redo))
     → IfSome answer.how (λ h. LosesUndropped unseen (held_by_names names first) (recovered_as h s) (left t.image) (left t.journal) (left t.redo))
 recovered_undropped remaining names unseen answer spared first new was left s t spares leads survives finds = at answer.how finds
   where
-    at : (how : Option How) → (LeadTo names t first → SurvivesFound remaining s no_change how answer.reply (was t.image) (was t.journal) (was t.redo))
+    at : (how : Option RecoveryOutcome) → (LeadTo names t first → SurvivesFound remaining s no_change how answer.reply (was t.image) (was t.journal) (was t.redo))
         → IfSome how (λ h. LosesUndropped unseen (held_by_names names first) (recovered_as h s) (left t.image) (left t.journal) (left t.redo))
     at None finds = tt
     at (Some h) finds = found_undropped remaining names unseen answer.reply spared first new was left (recovered_as h s) t spares leads survives finds
 
 -- what no name of the three leads to by now is as it was
-pub keeps_named : (names : Names) (old first second new : Sight) → AreAllThere old → AreAllThere first → KeepsOthers names old first
+pub keeps_named : (names : Names) (old first second new : SystemState) → AreAllThere old → AreAllThere first → KeepsOthers names old first
     → Spares (IsNoTextNamed names first) first second → KeepsOthers names second new → KeepsNamed names old new
 keeps_named names old first second new there first_there a b c = record {
   bytes = λ m n is image journal redo.
@@ -333,7 +333,7 @@ keeps_named names old first second new there first_there a b c = record {
     below m n is = let led = first_there m n (a.named m n is) in let same = b.there in omega (arith, led, same)
 
 -- files that are as they were
-pub keeps_itself : (names : Names) (w : Sight) → KeepsOthers names w w
+pub keeps_itself : (names : Names) (w : SystemState) → KeepsOthers names w w
 keeps_itself names w = record {
   bytes = λ n below image journal redo. refl;
   stat = λ n below. refl;
@@ -343,7 +343,7 @@ keeps_itself names w = record {
 }
 
 -- the same, where one step changed them
-pub keeps_one : (names : Names) (old new : Sight) → AreAllThere old → KeepsOthers names old new → KeepsNamed names old new
+pub keeps_one : (names : Names) (old new : SystemState) → AreAllThere old → KeepsOthers names old new → KeepsNamed names old new
 keeps_one names old new there others = record {
   bytes = λ m n is image journal redo. others.bytes n (there m n is) (λ e. image (others.named names.image n e))
       (λ e. journal (others.named names.journal n e)) (λ e. redo (others.named names.redo n e));
@@ -353,7 +353,7 @@ keeps_one names old new there others = record {
 }
 
 -- texts were dropped, and nothing is written of it
-pub says_dropped : (spared : ℕ → Type 0) (how : Option How) (old first new : Sight) → SaysRecovered how old first → Spares spared first new
+pub says_dropped : (spared : ℕ → Type 0) (how : Option RecoveryOutcome) (old first new : SystemState) → SaysRecovered how old first → Spares spared first new
     → SaysRecovered how old new
 says_dropped spared how old first new says spares = record {
   output = spares.output ∙ says.output;
@@ -365,16 +365,16 @@ take_none : (n : ℕ) → ◌≡◌ {A = List ℕ} (take n []) []
 take_none zero = refl
 take_none (suc n) = refl
 
-unrecovered_line : (how : Option How) → IsUnrecovered how → recovered_line how ≡ []
+unrecovered_line : (how : Option RecoveryOutcome) → IsUnrecovered how → recovered_line how ≡ []
 unrecovered_line None is = refl
 unrecovered_line (Some h) is = rw is refl
 
-silent : (how : Option How) (old new : List ℕ) → IsUnrecovered how → TellsRecovered how old new → new ≡ old
+silent : (how : Option RecoveryOutcome) (old new : List ℕ) → IsUnrecovered how → TellsRecovered how old new → new ≡ old
 silent how old new is tells =
     tells.1 ∙ ap (λ xs. old ++ take tells.0 xs) (unrecovered_line how is) ∙ ap (λ xs. old ++ xs) (take_none tells.0) ∙ append-nil old
 
 -- nor of the change behind it, before which nothing is unfinished
-pub says_changed : (how last : Option How) (old second new : Sight) → SaysRecovered how old second → IsUnrecovered last → SaysRecovered last second new
+pub says_changed : (how last : Option RecoveryOutcome) (old second new : SystemState) → SaysRecovered how old second → IsUnrecovered last → SaysRecovered last second new
     → SaysRecovered how old new
 says_changed how last old second new says is changes = record {
   output = changes.output ∙ says.output;

@@ -21,8 +21,8 @@ use Rattle.bx_journal.specs.Machine.{changes_of, top}
 use Rattle.bx_journal.specs.Stack.{StandsFor, stack_of}
 use Rattle.bx_journal.specs.Text.{Between, Entry, Reading}
 use Rattle.bx_journal.specs.Undoing.{HasCount}
-use Rattle.bx_journal.specs.Way.{Way}
-use Rattle.bx_journal.specs.Way.TheVariants.{Undo, Redo}
+use Rattle.bx_journal.specs.Direction.{Direction}
+use Rattle.bx_journal.specs.Direction.TheVariants.{Undo, Redo}
 use Rattle.bx_journal_read.proofs.OpenLemmas.{some_same}
 use Rattle.bx_journal_model.proofs.Phases.{length-stack_of}
 use Rattle.bx_journal_model.proofs.UndoLoop.{drop_one, kept_next}
@@ -30,12 +30,12 @@ use Rattle.bx_run.specs.report.Stepped.{HoldImages, IsPatchCut, patch_between, s
 use Rattle.bx_run.specs.declared.report.error.ReportError.{ReportError}
 
 -- a patch either way has its last line at least
-pub between_some : (way : Way) (there behind : List ℕ) → 0 < length (patch_between way there behind)
+pub between_some : (way : Direction) (there behind : List ℕ) → 0 < length (patch_between way there behind)
 between_some Undo there behind = text_some Bytes behind there
 between_some Redo there behind = text_some Bytes there behind
 
 -- where there is no image behind the changes nothing of a patch is written
-pub nothing_cut : (way : Way) (there behind : List ℕ) (old : Option (List ℕ)) (fault : DiffFault) (unseen : ReportError)
+pub nothing_cut : (way : Direction) (there behind : List ℕ) (old : Option (List ℕ)) (fault : DiffFault) (unseen : ReportError)
     → (fault ≡ TooLarge) ⊎ (fault ≡ OldFailed) → unseen ≡ stopped_by fault → IsPatchCut (patch_between way there behind) old old unseen
 nothing_cut way there behind old fault unseen (inl is) said =
     (fault, said, ([], patch_between way there behind, refl, between_some way there behind, Appends-nil old, rw is tt))

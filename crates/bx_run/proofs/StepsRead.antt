@@ -39,7 +39,7 @@ kept_each done (e ∷ es) sane bounded = (
 )
 
 -- the runs of what was read end within their lengths
-pub kept_from : {A honest : Type 0} (stored : List ℕ) (len : ℕ) (es : List (EntryRead A)) (count : ℕ) → IsLastFrom honest stored len es count → AllKept MAX_LEN es
+pub kept_from : {A faithful : Type 0} (stored : List ℕ) (len : ℕ) (es : List (EntryRead A)) (count : ℕ) → IsLastFrom faithful stored len es count → AllKept MAX_LEN es
 kept_from stored len es count from =
     let read = from.read in
     let lines = (split from.text).lines in
@@ -47,7 +47,7 @@ kept_from stored len es count from =
     kept_each read.older es (read_sane lines all read.finished.reads.lines).0 (read_bounded lines all read.finished.reads.lines).0
 
 -- the changes that restore the last entries lead down the stack that their text stands for
-pub read_leads : {A honest : Type 0} (stored : List ℕ) (len : ℕ) (es : List (EntryRead A)) (count : ℕ) → honest → IsLastFrom honest stored len es count
+pub read_leads : {A faithful : Type 0} (stored : List ℕ) (len : ℕ) (es : List (EntryRead A)) (count : ℕ) → faithful → IsLastFrom faithful stored len es count
     → (x : List ℕ) (stack : List (List ℕ)) → StandsFor stored x stack → (k : ℕ) (cs : List (Change A))
     → ((older : List Entry) (y : List ℕ) → effects cs y ≡ top (drop k (stack_of (entries_onto older es) y))) → effects cs x ≡ top (drop k stack)
 read_leads stored len es count h read x stack stands k cs made =
@@ -55,10 +55,10 @@ read_leads stored len es count h read x stack stands k cs made =
     made read.read.older x ∙ ap (λ s. top (drop k s)) (sym (stack_read read.text x stack (entries_onto read.read.older es) here read.read.finished))
 
 -- a text of as many finished entries is read, unless memory or a device stops it
-pub read_stops : (honest : Type 0) (text : List ℕ) (count : ℕ) (e : SessionFault) → honest → HasCount text count → AgainFault honest text count e
+pub read_stops : (faithful : Type 0) (text : List ℕ) (count : ℕ) (e : SessionFault) → faithful → HasCount text count → AgainFault faithful text count e
     → IsDeviceStop (Stopped (Session e))
-read_stops honest text count e h has fault =
-    log_stops honest text count e (λ _. fault) (λ is. subst (AgainFault honest text count) is fault) (in_step honest text count e h has fault)
+read_stops faithful text count e h has fault =
+    log_stops faithful text count e (λ _. fault) (λ is. subst (AgainFault faithful text count) is fault) (in_step faithful text count e h has fault)
 
 -- Of three texts that hold images.
 module _ (image journal redo : List ℕ) (s : Images) (holds : HoldImages image journal redo s) where

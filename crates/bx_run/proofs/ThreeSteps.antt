@@ -9,16 +9,16 @@ use Rattle.bx_run.specs.declared.session.named.Answer.{Answer}
 use Rattle.bx_run.specs.declared.session.task.Task.{Task}
 use Rattle.bx_run.specs.declared.report.error.ReportError.{ReportError}
 use Rattle.bx_run.specs.renew.Renewal.{DropsTexts, JudgesOpening, OpensToDrop, Renews, StaysUndropped, TakesSteps}
-use Rattle.bx_run.specs.Scene.{Scene}
+use Rattle.bx_run.specs.RunState.{RunState}
 use Rattle.bx_run.proofs.Renewing.{changes_alone, holds_alone, holds_undropped, newest}
 
 module _ {R : Type 0} (remaining : R → Option (List ℕ)) (names : Names) where
   -- the change is asked for on the newest image alone
-  pub renews : (guard : Guard) (task : Task R) (answer : Answer) (old new : Scene) → TakesSteps remaining names guard task answer old new
+  pub renews : (guard : Guard) (task : Task R) (answer : Answer) (old new : RunState) → TakesSteps remaining names guard task answer old new
       → Renews remaining names guard task answer old new
   renews guard task answer old new steps =
-      let first = steps.first.sight in
-      let second = steps.second.sight in
+      let first = steps.first.state in
+      let second = steps.second.state in
       let image = held first names.image in
       record {
         steps = steps;
@@ -26,12 +26,12 @@ module _ {R : Type 0} (remaining : R → Option (List ℕ)) (names : Names) wher
         newest = λ s holds. newest (contents_of names first) s (steps.opens.same s holds);
         found = steps.opens.found;
         spared = steps.opens.image;
-        alone = changes_alone remaining names image task answer second new.sight (holds_alone names first second steps.drops.does.done) steps.changes;
+        alone = changes_alone remaining names image task answer second new.state (holds_alone names first second steps.drops.does.done) steps.changes;
       }
 
   -- the history was not dropped
-  pub stays : (guard : Guard) (unseen : ReportError) (opened : Answer) (old first new : Scene) → OpensToDrop remaining names opened old.sight first.sight
-      → JudgesOpening remaining guard old.note names old.sight opened
+  pub stays : (guard : Guard) (unseen : ReportError) (opened : Answer) (old first new : RunState) → OpensToDrop remaining names opened old.state first.state
+      → JudgesOpening remaining guard old.note names old.state opened
       → DropsTexts guard names (Err unseen) first new → StaysUndropped remaining names guard unseen old new
   stays guard unseen opened old first new opens judged stops = record {
     opened = opened;
@@ -39,6 +39,6 @@ module _ {R : Type 0} (remaining : R → Option (List ℕ)) (names : Names) wher
     opens = opens;
     judged = judged;
     stops = stops;
-    same = λ s holds other. holds_undropped guard first.note names (first.refusals < new.refusals) first.sight new.sight unseen s stops.does.stopped other
+    same = λ s holds other. holds_undropped guard first.note names (first.refusals < new.refusals) first.state new.state unseen s stops.does.stopped other
         (opens.same s holds);
   }

@@ -1,4 +1,4 @@
-pub mod Scene
+pub mod RunState
 pub mod session
 pub mod Edit
 pub mod dump

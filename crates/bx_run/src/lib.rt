@@ -15,4 +15,4 @@ mod session;
 
 pub use edit::Edit;
 pub use report::{Report, ReportError};
-pub use run::{Cause, Done, Failure, FileRole, Request, Step, Stop, run_request};
+pub use run::{Cause, CommandFile, Done, Failure, Request, Step, Stop, run_request};

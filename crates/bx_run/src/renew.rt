@@ -12,14 +12,14 @@ ghost use Rattle.bx_run.specs.session.Task.{IsNearTask};
 ghost use Rattle.bx_run.specs.preview.Changing.{DoesChange};
 ghost use Rattle.bx_run.specs.run.Outcome.{first_unopened};
 ghost use Rattle.bx_run.specs.renew.Renewal.{DoesRenew, IsDroppable, IsOfAnother, JudgesOpening, KeepsNamed, MayDrop, MayNotOpen, NothingRenewed, OpensToDrop, SurvivesRenewal, TellsOpening, no_change, only_told};
-ghost use Rattle.bx_run.specs.Scene.{scene_beside};
+ghost use Rattle.bx_run.specs.RunState.{run_state_beside};
 
 use crate::forget::forget_files;
 use crate::report::ReportError;
 use crate::session::{Answer, Task, change_files};
 use bx_cli_commands::{Command, Fault, Reply};
 use bx_journal::SessionFault;
-use bx_world::{Guard, Names, Unopened, Which, Why, World};
+use bx_world::{FileRole, Guard, Names, OpenError, OpenFailure, World};
 use std::alloc::Global;
 use std::io::Read;
 
@@ -52,25 +52,25 @@ fn is_droppable(reply: &Reply) -> bool
 }
 
 /// Whether a task wasn't begun as the image is another one.
-fn is_of_another(unopened: Option<Unopened>) -> bool
+fn is_of_another(unopened: Option<OpenError>) -> bool
     ensures { (result ≡ true) ↔ IsOfAnother unopened }
 {
     match unopened {
         Some(
-            Unopened {
-                which: Which::Image,
-                why: Why::Another,
+            OpenError {
+                which: FileRole::Image,
+                why: OpenFailure::Another,
             },
         ) => true,
         Some(
-            Unopened {
-                which: Which::Journal | Which::Redo,
-                why: Why::Another,
+            OpenError {
+                which: FileRole::Journal | FileRole::Redo,
+                why: OpenFailure::Another,
             },
         )
         | Some(
-            Unopened {
-                why: Why::System(_) | Why::Unfit(_) | Why::Alias,
+            OpenError {
+                why: OpenFailure::System(_) | OpenFailure::Unfit(_) | OpenFailure::Alias,
                 ..
             },
         )
@@ -105,26 +105,26 @@ fn open_to_drop<W: World, R: Read + Drop>(
     names: &Names,
     guard: Guard,
 ) -> Answer
-    requires free { W.honest world.old → (W.sight world.old).lent ≡ None }
-    ensures does { W.honest world.old → DoesChange R.remaining names.now no_change result (W.sight world.old) (W.sight world.new) }
-    ensures opens { W.honest world.old → MayDrop result
-        → OpensToDrop R.remaining names.now result (W.sight world.old) (W.sight world.new) }
-    ensures made { W.honest world.old → MayDrop result
-        → (s : Images) → Holds (contents_of names.now (W.sight world.old)) s → IsWholeRefusal result.reply → ⊥ }
-    ensures survives { W.honest world.old
-        → SurvivesTask R.remaining names.now no_change result (W.sight world.old) (W.sight world.new)
+    requires free { W.faithful world.old → (W.state world.old).lent ≡ None }
+    ensures does { W.faithful world.old → DoesChange R.remaining names.now no_change result (W.state world.old) (W.state world.new) }
+    ensures opens { W.faithful world.old → MayDrop result
+        → OpensToDrop R.remaining names.now result (W.state world.old) (W.state world.new) }
+    ensures made { W.faithful world.old → MayDrop result
+        → (s : Images) → Holds (contents_of names.now (W.state world.old)) s → IsWholeRefusal result.reply → ⊥ }
+    ensures survives { W.faithful world.old
+        → SurvivesTask R.remaining names.now no_change result (W.state world.old) (W.state world.new)
         (W.survives world.old) (W.survives world.new) }
-    ensures unopened { W.honest world.old
-        → IfSome result.unopened (λ _. NothingDone result.reply result.how (W.sight world.old) (W.sight world.new)) }
-    ensures why_unopened { W.honest world.old
+    ensures unopened { W.faithful world.old
+        → IfSome result.unopened (λ _. NothingDone result.reply result.how (W.state world.old) (W.state world.new)) }
+    ensures why_unopened { W.faithful world.old
         → IfSome result.unopened (MayNotOpen R.remaining guard (W.note world.old) names.now (W.refusals world.old < W.refusals world.new)
-        (W.sight world.old)) }
-    ensures fit { W.honest world.old → WereOpened result.unopened → AreFit names.now guard.mounted (W.sight world.old) }
-    ensures opened { W.honest world.old → MayDrop result → WereOpened result.unopened }
-    ensures judged { W.honest world.old → JudgesOpening R.remaining guard (W.note world.old) names.now (W.sight world.old) result }
-    ensures others { W.honest world.old → KeepsOthers names.now (W.sight world.old) (W.sight world.new) }
-    ensures streams { W.honest world.old → SaysRecovered result.how (W.sight world.old) (W.sight world.new) }
-    ensures honesty { W.honest world.new ↔ W.honest world.old }
+        (W.state world.old)) }
+    ensures fit { W.faithful world.old → WereOpened result.unopened → AreFit names.now guard.mounted (W.state world.old) }
+    ensures opened { W.faithful world.old → MayDrop result → WereOpened result.unopened }
+    ensures judged { W.faithful world.old → JudgesOpening R.remaining guard (W.note world.old) names.now (W.state world.old) result }
+    ensures others { W.faithful world.old → KeepsOthers names.now (W.state world.old) (W.state world.new) }
+    ensures streams { W.faithful world.old → SaysRecovered result.how (W.state world.old) (W.state world.new) }
+    ensures faith { W.faithful world.new ↔ W.faithful world.old }
 {
     change_files(
         world,
@@ -147,28 +147,28 @@ pub fn renew_files<W: World, R: Read + Drop>(
     task: Task<R>,
 ) -> Renewed
     requires near { IsNearTask task }
-    requires free { W.honest world.old → (W.sight world.old).lent ≡ None }
+    requires free { W.faithful world.old → (W.state world.old).lent ≡ None }
 
     // The change is done on the image alone, so that the history is this change; or the step that was refused leaves all as it was.
-    ensures does { W.honest world.old → (written : Option (List ℕ)) → DoesRenew R.remaining names.now guard task result
-        (scene_beside W.sight W.refusals W.note written world.old) (scene_beside W.sight W.refusals W.note written world.new) }
+    ensures does { W.faithful world.old → (written : Option (List ℕ)) → DoesRenew R.remaining names.now guard task result
+        (run_state_beside W.state W.refusals W.note written world.old) (run_state_beside W.state W.refusals W.note written world.new) }
 
     // So it is behind a loss of power.
-    ensures survives { W.honest world.old
-        → SurvivesRenewal R.remaining names.now task result (W.sight world.old) (W.sight world.new)
+    ensures survives { W.faithful world.old
+        → SurvivesRenewal R.remaining names.now task result (W.state world.old) (W.state world.new)
         (W.survives world.old) (W.survives world.new) }
 
     // Files that are not opened are as they were, and why they are not; others may be changed.
-    ensures unopened { W.honest world.old → IfSome (first_unopened result) (NothingRenewed result (W.sight world.old) (W.sight world.new)) }
-    ensures why_unopened { W.honest world.old → IfSome (first_unopened result)
-        (MayRefuseOpening names.now guard.mounted true (W.refusals world.old < W.refusals world.new) (W.sight world.old)) }
-    ensures fit { W.honest world.old → first_unopened result ≡ None → AreFit names.now guard.mounted (W.sight world.old) }
+    ensures unopened { W.faithful world.old → IfSome (first_unopened result) (NothingRenewed result (W.state world.old) (W.state world.new)) }
+    ensures why_unopened { W.faithful world.old → IfSome (first_unopened result)
+        (MayRefuseOpening names.now guard.mounted true (W.refusals world.old < W.refusals world.new) (W.state world.old)) }
+    ensures fit { W.faithful world.old → first_unopened result ≡ None → AreFit names.now guard.mounted (W.state world.old) }
 
     // No other file is changed, and nothing is written but what was recovered.
-    ensures others { W.honest world.old → KeepsNamed names.now (W.sight world.old) (W.sight world.new) }
-    ensures streams { W.honest world.old → TellsOpening result (W.sight world.old) (W.sight world.new) }
-    ensures free { W.honest world.old → (W.sight world.new).lent ≡ None }
-    ensures honesty { W.honest world.new ↔ W.honest world.old }
+    ensures others { W.faithful world.old → KeepsNamed names.now (W.state world.old) (W.state world.new) }
+    ensures streams { W.faithful world.old → TellsOpening result (W.state world.old) (W.state world.new) }
+    ensures free { W.faithful world.old → (W.state world.new).lent ≡ None }
+    ensures faith { W.faithful world.new ↔ W.faithful world.old }
 {
     let opened = open_to_drop::<W, R>(world, alloc, names, guard);
     if !may_drop(&opened) {

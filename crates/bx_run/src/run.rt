@@ -8,7 +8,7 @@ ghost use Rattle.std.specs.Prelude.{◌≡◌, ◌↔◌, ◌<◌, Option, None,
 ghost use Rattle.bx_world.specs.declared.world.Outgrown.{Outgrown};
 ghost use Rattle.bx_run.specs.run.Commands.{Answers, Fulfills, LeavesOthers, MayOpen, HasRun, StandsAs, StopsUnopened, SurvivesLoss, WereJudged, Writes};
 ghost use Rattle.bx_run.specs.run.Outcome.{unopened_by};
-ghost use Rattle.bx_run.specs.Scene.{scene};
+ghost use Rattle.bx_run.specs.RunState.{run_state};
 ghost use Rattle.bx_run.specs.declared.run.outcome.Outcome.{Outcome};
 
 use crate::dump::{dump_file, dump_input};
@@ -20,7 +20,7 @@ use crate::report::write_report;
 use crate::run::answered::answer_of;
 use crate::run::outcome::Outcome;
 use crate::session::{Task, change_files, move_changes};
-pub use answer::{Cause, Done, Failure, FileRole, Step, Stop};
+pub use answer::{Cause, CommandFile, Done, Failure, Step, Stop};
 use bx_cli_commands::Command;
 use bx_world::World;
 pub use request::Request;
@@ -34,22 +34,22 @@ fn run_command<W: World, R: Read + Drop, O: Write>(
     request: Request<'_, R>,
     out: &mut O,
 ) -> Outcome
-    requires free { W.honest world.old → (W.sight world.old).lent ≡ None }
+    requires free { W.faithful world.old → (W.state world.old).lent ≡ None }
     ensures answers { Answers request.entry result }
-    ensures does { W.honest world.old → Fulfills R.remaining request.entry result
-        (scene W.sight W.refusals W.note O.contents world.old out.old) (scene W.sight W.refusals W.note O.contents world.new out.new) }
-    ensures judged { W.honest world.old → WereJudged request.entry result
-        (scene W.sight W.refusals W.note O.contents world.old out.old) }
-    ensures survives { W.honest world.old → SurvivesLoss R.remaining request.entry result
-        (W.sight world.old) (W.sight world.new) (W.survives world.old) (W.survives world.new) }
-    ensures others { W.honest world.old → LeavesOthers request.entry (W.sight world.old) (W.sight world.new) }
-    ensures fit { W.honest world.old → unopened_by result ≡ None → MayOpen request.entry (W.sight world.old) }
-    ensures unopened { W.honest world.old → IfSome (unopened_by result) (StopsUnopened request.entry result
-        (scene W.sight W.refusals W.note O.contents world.old out.old) (scene W.sight W.refusals W.note O.contents world.new out.new)) }
-    ensures streams { W.honest world.old → Writes request.entry result
-        (scene W.sight W.refusals W.note O.contents world.old out.old) (scene W.sight W.refusals W.note O.contents world.new out.new) }
-    ensures free { W.honest world.old → (W.sight world.new).lent ≡ None }
-    ensures honesty { W.honest world.new ↔ W.honest world.old }
+    ensures does { W.faithful world.old → Fulfills R.remaining request.entry result
+        (run_state W.state W.refusals W.note O.contents world.old out.old) (run_state W.state W.refusals W.note O.contents world.new out.new) }
+    ensures judged { W.faithful world.old → WereJudged request.entry result
+        (run_state W.state W.refusals W.note O.contents world.old out.old) }
+    ensures survives { W.faithful world.old → SurvivesLoss R.remaining request.entry result
+        (W.state world.old) (W.state world.new) (W.survives world.old) (W.survives world.new) }
+    ensures others { W.faithful world.old → LeavesOthers request.entry (W.state world.old) (W.state world.new) }
+    ensures fit { W.faithful world.old → unopened_by result ≡ None → MayOpen request.entry (W.state world.old) }
+    ensures unopened { W.faithful world.old → IfSome (unopened_by result) (StopsUnopened request.entry result
+        (run_state W.state W.refusals W.note O.contents world.old out.old) (run_state W.state W.refusals W.note O.contents world.new out.new)) }
+    ensures streams { W.faithful world.old → Writes request.entry result
+        (run_state W.state W.refusals W.note O.contents world.old out.old) (run_state W.state W.refusals W.note O.contents world.new out.new) }
+    ensures free { W.faithful world.old → (W.state world.new).lent ≡ None }
+    ensures faith { W.faithful world.new ↔ W.faithful world.old }
 {
     match request {
         Request::Move {
@@ -100,19 +100,19 @@ pub fn run_request<W: World, R: Read + Drop, O: Write>(
     request: Request<'_, R>,
     out: &mut O,
 ) -> Result<Done, Failure>
-    requires free { W.honest world.old → (W.sight world.old).lent ≡ None }
+    requires free { W.faithful world.old → (W.state world.old).lent ≡ None }
 
     // The answer stands for how the command ended, fault for fault: it did what it is to, or it was refused or stopped, and says why; after
     // a crash it did so on what is recovered, and after a loss of power opening finds an end of it, or the images behind some of its steps.
-    ensures runs { (outcome : Outcome) × (outgrown : Option Outgrown) × StandsAs request.entry outcome outgrown result × (W.honest world.old
+    ensures runs { (outcome : Outcome) × (outgrown : Option Outgrown) × StandsAs request.entry outcome outgrown result × (W.faithful world.old
         → IfSome outgrown (λ o. o.has < o.wanted)
-        × HasRun R.remaining request.entry outcome (scene W.sight W.refusals W.note O.contents world.old out.old)
-        (scene W.sight W.refusals W.note O.contents world.new out.new) (W.survives world.old) (W.survives world.new)) }
+        × HasRun R.remaining request.entry outcome (run_state W.state W.refusals W.note O.contents world.old out.old)
+        (run_state W.state W.refusals W.note O.contents world.new out.new) (W.survives world.old) (W.survives world.new)) }
 
     // Whatever becomes of it, no file is changed but the three of an undo, a redo or a change, and the texts of a history that is dropped.
-    ensures others { W.honest world.old → LeavesOthers request.entry (W.sight world.old) (W.sight world.new) }
-    ensures free { W.honest world.old → (W.sight world.new).lent ≡ None }
-    ensures honesty { W.honest world.new ↔ W.honest world.old }
+    ensures others { W.faithful world.old → LeavesOthers request.entry (W.state world.old) (W.state world.new) }
+    ensures free { W.faithful world.old → (W.state world.new).lent ≡ None }
+    ensures faith { W.faithful world.new ↔ W.faithful world.old }
 {
     let outcome = run_command(world, alloc, request, out);
     answer_of(&outcome, world.outgrown())

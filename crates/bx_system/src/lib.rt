@@ -1,6 +1,6 @@
 //! The system as the world that the program runs in: its files by name, and the standard streams. An inner part of `bx_program`.
 //!
-//! No proof takes it for honest: `docs/DECISIONS.md` says how to look at it ("How that trust is looked at").
+//! No proof takes it for faithful: `docs/DECISIONS.md` says how to look at it ("How that trust is looked at").
 #![tactic(auto)]
 
 mod facts;

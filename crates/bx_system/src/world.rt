@@ -50,8 +50,8 @@ struct Folder {
     inode: u64,
 }
 
-/// The system as a world: each call is the system's own. That it does what the trait says of an honest world is trusted, so it
-/// never counts as honest here, and what is proved of it is what is said of every world.
+/// The system as a world: each call is the system's own. That it does what the trait says of a faithful world is trusted, so it
+/// never counts as faithful here, and what is proved of it is what is said of every world.
 #[derive(Drop)]
 pub struct SystemWorld<'p, 'r, R> {
     rt: &'r R,
@@ -288,9 +288,9 @@ where
     type Input = Noted<Counted<'p, 'r, File, R>>;
 
     // No proof knows what a real file holds, so nothing is claimed: `docs/DECISIONS.md`, "The program and runs of commands".
-    ghost honest = { λ _. ⊥ };
+    ghost faithful = { λ _. ⊥ };
 
-    ghost sight = { λ _. unseen };
+    ghost state = { λ _. unseen };
 
     ghost survives = { λ _ _ _. ⊥ };
 
@@ -304,9 +304,9 @@ where
 
     ghost note_survives = { λ _ _. ⊥ };
 
-    ghost begun = { λ _ honest. absurd honest };
+    ghost begun = { λ _ faithful. absurd faithful };
 
-    ghost within = { λ _ _ _ honest _. absurd honest };
+    ghost within = { λ _ _ _ faithful _. absurd faithful };
 
     fn look(&mut self, name: &str) -> Result<Look, Refusal> {
         look(self.rt, name)
@@ -455,7 +455,7 @@ where
         }
     }
 
-    fn lend(
+    fn into_devices(
         &mut self,
         image: OpenFile<'p, 'r, R>,
         journal: OpenFile<'p, 'r, R>,
@@ -475,7 +475,7 @@ where
         )
     }
 
-    fn give_back(
+    fn into_files(
         &mut self,
         image: Self::Image,
         journal: Self::Text,

@@ -1,7 +1,7 @@
 -- Why files are not opened.
 use Rattle.std.proofs.Common.{Result, Ok, Err, ◌≡◌, ◌⊎◌, ◌∙◌, ◌<◌, ◌≤◌, ℕ, Bool, true, false, cond, Option, Some, None, List, refl, sym, ap, subst, inl, inr, arith}
 use Rattle.std.specs.Option.{option_map_or}
-use Rattle.bx_world.specs.World.{CountsRefusal, Sight}
+use Rattle.bx_world.specs.World.{CountsRefusal, SystemState}
 use Rattle.bx_world.specs.declared.rule.Unfit.{Unfit}
 use Rattle.bx_world.specs.declared.stat.Stat.{Stat}
 use Rattle.bx_world.specs.declared.world.Refusal.{Refusal}
@@ -10,11 +10,11 @@ use Rattle.bx_world.specs.files.Files.{AreAllThere, HasMade, IsImageOpened, IsMa
 use Rattle.bx_world.specs.files.Fit.{IsFitImage, found_unfit}
 use Rattle.bx_world.specs.files.Reasons.{IsReason, IsReasonBeside, IsRefusedFile, IsRefusedFor, IsUnfitBeside, IsUnfitImage, IsUnfitOrRefused, IsUnfitText, IsUnmade, LeadsToOther, MayLeadToOne, MayRefuseOpening, MayRefuseWhich, NoneUnfit}
 use Rattle.bx_world.specs.declared.files.names.Names.{Names}
-use Rattle.bx_world.specs.declared.files.unopened.Unopened.{Unopened}
-use Rattle.bx_world.specs.declared.files.unopened.Which.{Which}
-use Rattle.bx_world.specs.declared.files.unopened.Which.TheVariants.{Image, Journal, Redo}
-use Rattle.bx_world.specs.declared.files.unopened.Why.{Why}
-use Rattle.bx_world.specs.declared.files.unopened.Why.TheVariants.{System, Unfit as NotFit, Alias, Another}
+use Rattle.bx_world.specs.declared.files.unopened.OpenError.{OpenError}
+use Rattle.bx_world.specs.declared.files.unopened.FileRole.{FileRole}
+use Rattle.bx_world.specs.declared.files.unopened.FileRole.TheVariants.{Image, Journal, Redo}
+use Rattle.bx_world.specs.declared.files.unopened.OpenFailure.{OpenFailure}
+use Rattle.bx_world.specs.declared.files.unopened.OpenFailure.TheVariants.{System, Unfit as NotFit, Alias, Another}
 use Rattle.bx_world.proofs.Making.{made_still, made_then, none_some, some_one}
 
 pub refused_weaker : (P Q C D : Type 0) (e : Refusal) → (P → Q) → (C → D) → IsRefusedFor P C e → IsRefusedFor Q D e
@@ -50,7 +50,7 @@ counted_least (Err Moved) old new counted = omega (arith, counted)
 counted_least (Err (Other n)) old new counted = omega (arith, counted)
 
 -- a file refused for fewer reasons
-pub reason_weaker : (P Q A B C D : Type 0) (U V : Unfit → Type 0) (why : Why) → (P → Q) → ((u : Unfit) → U u → V u) → (A → B) → (C → D)
+pub reason_weaker : (P Q A B C D : Type 0) (U V : Unfit → Type 0) (why : OpenFailure) → (P → Q) → ((u : Unfit) → U u → V u) → (A → B) → (C → D)
     → IsReason P U A C why → IsReason Q V B D why
 reason_weaker P Q A B C D U V (System e) missing unfit alias more is = refused_weaker P Q C D e missing more is
 reason_weaker P Q A B C D U V (NotFit u) missing unfit alias more is = unfit u is
@@ -65,42 +65,42 @@ pub refused_missing : (Q C : Type 0) (e : Refusal) → IsRefusedFor ⊥ C e → 
 refused_missing Q C e is = refused_weaker ⊥ Q C C e (never Q) (λ more. more) is
 
 -- a file that may be opened is refused for another reason
-pub fit_reason : (which : Which) (C : Type 0) (o : Option Unfit) (u : Unopened) → o ≡ None
+pub fit_reason : (which : FileRole) (C : Type 0) (o : Option Unfit) (u : OpenError) → o ≡ None
     → IsRefusedFile which ⊥ (λ unfit. o ≡ Some unfit) ⊥ C u → IsReason ⊥ NoneUnfit ⊥ C u.why
 fit_reason which C o u fit is =
     reason_weaker ⊥ ⊥ ⊥ ⊥ C C (λ unfit. o ≡ Some unfit) NoneUnfit u.why (λ wrong. wrong)
     (λ unfit some. let wrong : None ≡ Some unfit = sym fit ∙ some in cc) (λ wrong. wrong) (λ more. more) is.1
 
 -- a file that is no other one is refused for another reason
-pub other_reason : (A C : Type 0) (why : Why) → IsReason ⊥ NoneUnfit ⊥ C why → IsReason ⊥ NoneUnfit A C why
+pub other_reason : (A C : Type 0) (why : OpenFailure) → IsReason ⊥ NoneUnfit ⊥ C why → IsReason ⊥ NoneUnfit A C why
 other_reason A C why is = reason_weaker ⊥ ⊥ ⊥ A C C NoneUnfit NoneUnfit why (λ wrong. wrong) (λ unfit wrong. wrong) (never A) (λ more. more) is
 
 -- a redo text that is made where it is missing is refused for another reason
-pub redo_refused : (A C M : Type 0) (u : Unopened) → IsRefusedFile Redo M NoneUnfit ⊥ C u → (M → ⊥) → IsReason ⊥ NoneUnfit A C u.why
+pub redo_refused : (A C M : Type 0) (u : OpenError) → IsRefusedFile Redo M NoneUnfit ⊥ C u → (M → ⊥) → IsReason ⊥ NoneUnfit A C u.why
 redo_refused A C M u is none =
     reason_weaker M ⊥ ⊥ A C C NoneUnfit NoneUnfit u.why none (λ unfit wrong. wrong) (never A) (λ more. more) is.1
 
-module _ (names : Names) (image : Stat) (C : Type 0) (w : Sight) (u : Unopened) where
+module _ (names : Names) (image : Stat) (C : Type 0) (w : SystemState) (u : OpenError) where
   pub image_beside : IsRefusedFile Image ⊥ NoneUnfit ⊥ C u → IsUnfitOrRefused names image C w u
-  image_beside is = subst (λ (which : Which). IsReasonBeside names image C w which u.why) (sym is.0) is.1
+  image_beside is = subst (λ (which : FileRole). IsReasonBeside names image C w which u.why) (sym is.0) is.1
 
   pub journal_beside : IsRefusedFile Journal ⊥ (IsUnfitBeside (Some image) w names.journal) ⊥ C u → IsUnfitOrRefused names image C w u
-  journal_beside is = subst (λ (which : Which). IsReasonBeside names image C w which u.why) (sym is.0) is.1
+  journal_beside is = subst (λ (which : FileRole). IsReasonBeside names image C w which u.why) (sym is.0) is.1
 
   pub redo_beside : IsRefusedFile Redo ⊥ (IsUnfitBeside (Some image) w names.redo) ⊥ C u → IsUnfitOrRefused names image C w u
-  redo_beside is = subst (λ (which : Which). IsReasonBeside names image C w which u.why) (sym is.0) is.1
+  redo_beside is = subst (λ (which : FileRole). IsReasonBeside names image C w which u.why) (sym is.0) is.1
 
 pub none_is_fit : (V : Unfit → Type 0) (u : Unfit) → NoneUnfit u → V u
 none_is_fit V u wrong = absurd wrong
 
-none_found : (w : Sight) (led : Option ℕ) → option_map_or (λ n. Some (w.stat n)) led None ≡ None → led ≡ None
+none_found : (w : SystemState) (led : Option ℕ) → option_map_or (λ n. Some (w.stat n)) led None ≡ None → led ≡ None
 none_found w None is = refl
 none_found w (Some n) is = absurd (let wrong : Some (w.stat n) ≡ None = is in cc)
 
-module _ (names : Names) (mounted makes : Bool) (C : Type 0) (w : Sight) where
-  pub image_may : (U : Unfit → Type 0) (D : Type 0) (u : Unopened) → ((unfit : Unfit) → U unfit → IsUnfitImage mounted w names.image unfit) → (D → C)
+module _ (names : Names) (mounted makes : Bool) (C : Type 0) (w : SystemState) where
+  pub image_may : (U : Unfit → Type 0) (D : Type 0) (u : OpenError) → ((unfit : Unfit) → U unfit → IsUnfitImage mounted w names.image unfit) → (D → C)
       → IsRefusedFile Image (IsUnmade makes w names.image) U ⊥ D u → MayRefuseOpening names mounted makes C w u
-  image_may U D u unfit more is = subst (λ (which : Which). MayRefuseWhich names mounted makes C w which u.why) (sym is.0)
+  image_may U D u unfit more is = subst (λ (which : FileRole). MayRefuseWhich names mounted makes C w which u.why) (sym is.0)
       (reason_weaker _ _ _ _ _ _ _ _ u.why (λ missing. missing) unfit (never _) more is.1)
 
   unfit_looked : (name : List ℕ) (image : Option Stat) → IsFitImage names.image mounted makes image w → (unfit : Unfit) → IsUnfitBeside image w name unfit
@@ -108,30 +108,30 @@ module _ (names : Names) (mounted makes : Bool) (C : Type 0) (w : Sight) where
   unfit_looked name (Some image) fit unfit is = inl (image, fit.found, is)
   unfit_looked name None fit unfit is = inr (fit.asked refl, none_found w (w.named names.image) fit.found, inl is)
 
-  pub journal_looked : (image : Option Stat) (D : Type 0) (u : Unopened) → IsFitImage names.image mounted makes image w → (D → C)
+  pub journal_looked : (image : Option Stat) (D : Type 0) (u : OpenError) → IsFitImage names.image mounted makes image w → (D → C)
       → IsRefusedFile Journal ⊥ (IsUnfitBeside image w names.journal) ⊥ D u → MayRefuseOpening names mounted makes C w u
-  journal_looked image D u fit more is = subst (λ (which : Which). MayRefuseWhich names mounted makes C w which u.why) (sym is.0)
+  journal_looked image D u fit more is = subst (λ (which : FileRole). MayRefuseWhich names mounted makes C w which u.why) (sym is.0)
       (reason_weaker _ _ _ _ _ _ _ _ u.why (never _) (unfit_looked names.journal image fit) (never _) more is.1)
 
-  pub redo_looked : (image : Option Stat) (D : Type 0) (u : Unopened) → IsFitImage names.image mounted makes image w → (D → C)
+  pub redo_looked : (image : Option Stat) (D : Type 0) (u : OpenError) → IsFitImage names.image mounted makes image w → (D → C)
       → IsRefusedFile Redo ⊥ (IsUnfitBeside image w names.redo) ⊥ D u → MayRefuseOpening names mounted makes C w u
-  redo_looked image D u fit more is = subst (λ (which : Which). MayRefuseWhich names mounted makes C w which u.why) (sym is.0)
+  redo_looked image D u fit more is = subst (λ (which : FileRole). MayRefuseWhich names mounted makes C w which u.why) (sym is.0)
       (reason_weaker _ _ _ _ _ _ _ _ u.why (never _) (unfit_looked names.redo image fit) (never _) more is.1)
 
   -- where more calls are counted
-  pub opening_more : (D : Type 0) (u : Unopened) → (D → C) → MayRefuseOpening names mounted makes D w u → MayRefuseOpening names mounted makes C w u
+  pub opening_more : (D : Type 0) (u : OpenError) → (D → C) → MayRefuseOpening names mounted makes D w u → MayRefuseOpening names mounted makes C w u
   opening_more D u more = by u.which u.why
     where
-      by : (which : Which) (why : Why) → MayRefuseWhich names mounted makes D w which why → MayRefuseWhich names mounted makes C w which why
+      by : (which : FileRole) (why : OpenFailure) → MayRefuseWhich names mounted makes D w which why → MayRefuseWhich names mounted makes C w which why
       by Image why is = reason_weaker _ _ _ _ _ _ _ _ why (λ missing. missing) (λ unfit same. same) (λ same. same) more is
       by Journal why is = reason_weaker _ _ _ _ _ _ _ _ why (λ missing. missing) (λ unfit same. same) (λ same. same) more is
       by Redo why is = reason_weaker _ _ _ _ _ _ _ _ why (λ missing. missing) (λ unfit same. same) (λ same. same) more is
 
-  pub missing_may : makes ≡ false → w.named names.journal ≡ None → (u : Unopened) → u ≡ record { which = Journal; why = System Missing }
+  pub missing_may : makes ≡ false → w.named names.journal ≡ None → (u : OpenError) → u ≡ record { which = Journal; why = System Missing }
       → MayRefuseOpening names mounted makes C w u
   missing_may unasked missing u is = subst (MayRefuseOpening names mounted makes C w) (sym is) (unasked, missing)
 
-  module _ (made : Bool) (image : ℕ) (mid : Sight) (within : AreAllThere w) (opened : IsImageOpened names.image mounted makes made image w mid) where
+  module _ (made : Bool) (image : ℕ) (mid : SystemState) (within : AreAllThere w) (opened : IsImageOpened names.image mounted makes made image w mid) where
     beside_before : (name : List ℕ) (unfit : Unfit) → made ≡ true
         → IsUnfitBeside (Some (mid.stat image)) mid name unfit → IsUnfitText makes names.image w name unfit
     beside_before name unfit is_made is =
@@ -167,21 +167,21 @@ module _ (names : Names) (mounted makes : Bool) (C : Type 0) (w : Sight) where
         led_none None named = named
         led_none (Some k) named = absurd (none_some k (sym is.1 ∙ made_still _ w mid name k opened.file.files named))
 
-    pub beside_may : (D : Type 0) (u : Unopened) → made ≡ true → (D → C)
+    pub beside_may : (D : Type 0) (u : OpenError) → made ≡ true → (D → C)
         → IsUnfitOrRefused names (mid.stat image) D mid u → MayRefuseOpening names mounted makes C w u
     beside_may D u is_made more = by u.which u.why
       where
-        by : (which : Which) (why : Why) → IsReasonBeside names (mid.stat image) D mid which why → MayRefuseWhich names mounted makes C w which why
+        by : (which : FileRole) (why : OpenFailure) → IsReasonBeside names (mid.stat image) D mid which why → MayRefuseWhich names mounted makes C w which why
         by Image why is = reason_weaker _ _ _ _ _ _ _ _ why (never _) (none_is_fit _) (λ wrong. wrong) more is
         by Journal why is = reason_weaker _ _ _ _ _ _ _ _ why (never _) (λ unfit. beside_before names.journal unfit is_made) (never _) more is
         by Redo why is = reason_weaker _ _ _ _ _ _ _ _ why (never _) (λ unfit. beside_before names.redo unfit is_made) (never _) more is
 
-    pub journal_may : (D : Type 0) (u : Unopened) → (D → C) → IsRefusedFile Journal (IsUnmade makes mid names.journal) NoneUnfit ⊥ D u
+    pub journal_may : (D : Type 0) (u : OpenError) → (D → C) → IsRefusedFile Journal (IsUnmade makes mid names.journal) NoneUnfit ⊥ D u
         → MayRefuseOpening names mounted makes C w u
-    journal_may D u more is = subst (λ (which : Which). MayRefuseWhich names mounted makes C w which u.why) (sym is.0)
+    journal_may D u more is = subst (λ (which : FileRole). MayRefuseWhich names mounted makes C w which u.why) (sym is.0)
         (reason_weaker _ _ _ _ _ _ _ _ u.why (unmade_before names.journal) (none_is_fit _) (never _) more is.1)
 
-    one_place : (P : ℕ → Type 0) (new : Sight) (a b : List ℕ) (n : ℕ) → HasMade P w new → ((k : ℕ) → P k → makes ≡ true) → new.named a ≡ Some n
+    one_place : (P : ℕ → Type 0) (new : SystemState) (a b : List ℕ) (n : ℕ) → HasMade P w new → ((k : ℕ) → P k → makes ≡ true) → new.named a ≡ Some n
         → new.named b ≡ Some n → MayLeadToOne makes w a b
     one_place P new a b n has asked led_a led_b = elim (has.named a) [
       | inl same ↦ elim (has.named b) [
@@ -202,7 +202,7 @@ module _ (names : Names) (mounted makes : Bool) (C : Type 0) (w : Sight) where
       ]
     ]
 
-    module _ (journal : ℕ) (journal_made : Bool) (new : Sight) (text : IsTextOpened names.journal image journal makes journal_made mid new) where
+    module _ (journal : ℕ) (journal_made : Bool) (new : SystemState) (text : IsTextOpened names.journal image journal makes journal_made mid new) where
       both : HasMade (λ n. IsMadeFile made image n ⊎ IsMadeFile journal_made journal n) w new
       both = made_then _ _ w mid new opened.file.files text.file.files
 
@@ -212,11 +212,11 @@ module _ (names : Names) (mounted makes : Bool) (C : Type 0) (w : Sight) where
       image_named : new.named names.image ≡ Some image
       image_named = made_still _ mid new names.image image text.file.files opened.file.under.named
 
-      pub redo_may : (D : Type 0) (u : Unopened) → (D → C) → IsReason ⊥ NoneUnfit (LeadsToOther names image journal new u.which) D u.why
+      pub redo_may : (D : Type 0) (u : OpenError) → (D → C) → IsReason ⊥ NoneUnfit (LeadsToOther names image journal new u.which) D u.why
           → MayRefuseOpening names mounted makes C w u
       redo_may D u more = by u.which u.why
         where
-          by : (which : Which) (why : Why) → IsReason ⊥ NoneUnfit (LeadsToOther names image journal new which) D why
+          by : (which : FileRole) (why : OpenFailure) → IsReason ⊥ NoneUnfit (LeadsToOther names image journal new which) D why
               → MayRefuseWhich names mounted makes C w which why
           by Image why is = reason_weaker _ _ _ _ _ _ _ _ why (never _) (none_is_fit _) (λ wrong. wrong) more is
           by Journal why is = reason_weaker _ _ _ _ _ _ _ _ why (never _) (none_is_fit _)

@@ -1,7 +1,7 @@
 -- Files that a run made.
 use Rattle.std.proofs.Common.{◌≡◌, ◌⊎◌, ◌∙◌, ◌<◌, ◌≤◌, ℕ, Bool, true, false, cond, List, [], Option, Some, None, refl, sym, ap, subst, inl, inr, arith}
 use Rattle.std.specs.Option.{unwrap_or}
-use Rattle.bx_world.specs.World.{KeepsStreams, Makes, Sight}
+use Rattle.bx_world.specs.World.{KeepsStreams, Makes, SystemState}
 use Rattle.bx_world.specs.files.Files.{HasMade, IsFileOpened, IsOpenUnder, IsThere, LeadsToMade}
 
 pub some_one : {m n : ℕ} → Some m ≡ Some n → m ≡ n
@@ -14,7 +14,7 @@ pub false_true : false ≡ true → ⊥
 false_true wrong = cc
 
 -- nothing is written by two calls that write nothing
-pub streams_then : (a b c : Sight) → KeepsStreams a b → KeepsStreams b c → KeepsStreams a c
+pub streams_then : (a b c : SystemState) → KeepsStreams a b → KeepsStreams b c → KeepsStreams a c
 streams_then a b c one two = record {
   is_link = λ m. two.is_link m ∙ one.is_link m;
   caller = two.caller ∙ one.caller;
@@ -24,7 +24,7 @@ streams_then a b c one two = record {
   lent = two.lent ∙ one.lent;
 }
 
-pub streams_same : (w : Sight) → KeepsStreams w w
+pub streams_same : (w : SystemState) → KeepsStreams w w
 streams_same w = record {
   is_link = λ m. refl;
   caller = refl;
@@ -35,7 +35,7 @@ streams_same w = record {
 }
 
 -- where nothing happened nothing was made
-pub made_none : (P : ℕ → Type 0) (w : Sight) → ((n : ℕ) → P n → ⊥) → HasMade P w w
+pub made_none : (P : ℕ → Type 0) (w : SystemState) → ((n : ℕ) → P n → ⊥) → HasMade P w w
 made_none P w none = record {
   named = λ m. inl refl;
   bytes = λ i below. refl;
@@ -59,7 +59,7 @@ leads_then P Q a b c one two = elim two [
 ]
 
 -- what was made by two calls
-pub made_then : (P Q : ℕ → Type 0) (a b c : Sight) → HasMade P a b → HasMade Q b c → HasMade (λ n. P n ⊎ Q n) a c
+pub made_then : (P Q : ℕ → Type 0) (a b c : SystemState) → HasMade P a b → HasMade Q b c → HasMade (λ n. P n ⊎ Q n) a c
 made_then P Q a b c one two =
     let least = one.there in
     let more = two.there in
@@ -83,14 +83,14 @@ made_then P Q a b c one two =
     }
 
 -- a name that leads to a file leads to it still, when files were made
-pub made_still : (P : ℕ → Type 0) (old new : Sight) (m : List ℕ) (n : ℕ) → HasMade P old new → old.named m ≡ Some n → new.named m ≡ Some n
+pub made_still : (P : ℕ → Type 0) (old new : SystemState) (m : List ℕ) (n : ℕ) → HasMade P old new → old.named m ≡ Some n → new.named m ≡ Some n
 made_still P old new m n has named = elim (has.named m) [
   | inl same ↦ same ∙ named
   | inr is_new ↦ absurd (none_some n (sym is_new.1 ∙ named))
 ]
 
 -- a file that was there is open
-pub opened_there : (name : List ℕ) (makes : Bool) (n : ℕ) (w : Sight) → IsThere name n w → IsFileOpened name makes false n w w
+pub opened_there : (name : List ℕ) (makes : Bool) (n : ℕ) (w : SystemState) → IsThere name n w → IsFileOpened name makes false n w w
 opened_there name makes n w there = record {
   files = made_none _ w (λ m is. false_true is.0);
   under = record { was = there.named; named = there.named; empty = λ wrong. absurd (false_true wrong) };
@@ -99,7 +99,7 @@ opened_there name makes n w there = record {
 }
 
 -- a file that was made is open
-pub opened_made : (old new : Sight) (name : List ℕ) (n : ℕ) → Makes old new name n → IsFileOpened name true true n old new
+pub opened_made : (old new : SystemState) (name : List ℕ) (n : ℕ) → Makes old new name n → IsFileOpened name true true n old new
 opened_made old new name n made =
     let number = made.number in
     let there = made.there in
@@ -123,16 +123,16 @@ opened_made old new name n made =
     }
 
 -- a file that was made is a later one
-pub made_later : (old new : Sight) (name : List ℕ) (n : ℕ) → Makes old new name n → old.before ≤ old.there → new.before ≤ n
+pub made_later : (old new : SystemState) (name : List ℕ) (n : ℕ) → Makes old new name n → old.before ≤ old.there → new.before ≤ n
 made_later old new name n m begun = let number = m.number in let before = m.streams.before in grind (arith, number, before, begun)
 
 -- a file that was made since then is a later one, of whatever was made
-pub fresh_later : (P : ℕ → Type 0) (n : ℕ) (old new : Sight) → HasMade P old new → P n → old.before ≤ old.there → new.before ≤ n
+pub fresh_later : (P : ℕ → Type 0) (n : ℕ) (old new : SystemState) → HasMade P old new → P n → old.before ≤ old.there → new.before ≤ n
 fresh_later P n old new has is begun =
     let fresh = (has.fresh n is).0 in let before = has.streams.before in grind (arith, fresh, before, begun)
 
 -- a file that is open is so still, when more files were made
-pub under_later : (P : ℕ → Type 0) (name : List ℕ) (made : Bool) (n : ℕ) (a b c : Sight) → IsOpenUnder name made n a b → n < b.there
+pub under_later : (P : ℕ → Type 0) (name : List ℕ) (made : Bool) (n : ℕ) (a b c : SystemState) → IsOpenUnder name made n a b → n < b.there
     → HasMade P b c → IsOpenUnder name made n a c
 under_later P name made n a b c under there has = record {
   was = under.was;
@@ -152,7 +152,7 @@ was_before P false n a b leads is apart = elim leads [
 ]
 
 -- a name that led to a file when it was opened led to it before other files were made
-pub under_earlier : (P : ℕ → Type 0) (name : List ℕ) (made : Bool) (n : ℕ) (a b c : Sight) → HasMade P a b → IsOpenUnder name made n b c
+pub under_earlier : (P : ℕ → Type 0) (name : List ℕ) (made : Bool) (n : ℕ) (a b c : SystemState) → HasMade P a b → IsOpenUnder name made n b c
     → (P n → ⊥) → IsOpenUnder name made n a c
 under_earlier P name made n a b c has under apart = record {
   was = was_before P made n (a.named name) (b.named name) (has.named name) under.was apart;

@@ -1,13 +1,13 @@
 -- Files that a run made, and takes away again.
 use Rattle.std.proofs.Common.{◌≡◌, ◌⊎◌, ◌∙◌, ◌<◌, ◌≤◌, ℕ, Bool, true, false, List, [], Option, Some, refl, sym, ap, subst, inl, inr, arith}
 use Rattle.std.proofs.lemmas.Bool.{cases_eq}
-use Rattle.bx_world.specs.World.{IsStuck, Sight, TakesAtMost, TakesAway, Trio}
+use Rattle.bx_world.specs.World.{IsStuck, SystemState, TakesAtMost, TakesAway, Trio}
 use Rattle.bx_world.specs.files.Files.{AreAllThere, HasMade, IsMadeFile, IsOneOfMade, LeadsToMade, LeadsToNoneOf, LeavesFiles, LeavesMade, TakesOnly}
 use Rattle.bx_world.specs.declared.files.made.Made.{Made}
 use Rattle.bx_world.proofs.Making.{false_true, made_still, none_some, some_one, streams_same, streams_then}
 
 -- what was made is left
-pub made_left : (P : ℕ → Type 0) (old new : Sight) → HasMade P old new → LeavesMade P old new
+pub made_left : (P : ℕ → Type 0) (old new : SystemState) → HasMade P old new → LeavesMade P old new
 made_left P old new has =
     let stuck = has.stuck in
     record {
@@ -21,7 +21,7 @@ made_left P old new has =
     }
 
 -- what was made is left, when later ones were taken away
-pub left_then : (P : ℕ → Type 0) (a b c : Sight) → HasMade P a b → LeavesFiles b c → LeavesMade P a c
+pub left_then : (P : ℕ → Type 0) (a b c : SystemState) → HasMade P a b → LeavesFiles b c → LeavesMade P a c
 left_then P a b c has left =
     let least = has.there in
     let same = has.stuck in
@@ -37,7 +37,7 @@ left_then P a b c has left =
     }
 
 -- files are as they were where none was made
-pub left_none : (P : ℕ → Type 0) (old new : Sight) → ((n : ℕ) → P n → ⊥) → LeavesMade P old new → LeavesFiles old new
+pub left_none : (P : ℕ → Type 0) (old new : SystemState) → ((n : ℕ) → P n → ⊥) → LeavesMade P old new → LeavesFiles old new
 left_none P old new none left = record {
   bytes = left.bytes;
   stat = left.stat;
@@ -50,7 +50,7 @@ left_none P old new none left = record {
   streams = left.streams;
 }
 
-module _ (P Q : ℕ → Type 0) (n : ℕ) (first old new : Sight) (within : AreAllThere first) (left : LeavesMade P first old)
+module _ (P Q : ℕ → Type 0) (n : ℕ) (first old new : SystemState) (within : AreAllThere first) (left : LeavesMade P first old)
     (kept : (k : ℕ) → Q k → P k) (is_made : P n) (rest : (k : ℕ) → P k → (k ≡ n) ⊎ Q k) where
   fresh : first.there ≤ n
   fresh = (left.fresh n is_made).0
@@ -99,7 +99,7 @@ module _ (P Q : ℕ → Type 0) (n : ℕ) (first old new : Sight) (within : AreA
       }
 
 -- the front of what was made was taken away, if it was made
-pub left_less : (Q : ℕ → Type 0) (made : Bool) (n : ℕ) (first old new : Sight) → AreAllThere first
+pub left_less : (Q : ℕ → Type 0) (made : Bool) (n : ℕ) (first old new : SystemState) → AreAllThere first
     → LeavesMade (λ k. IsMadeFile made n k ⊎ Q k) first old
     → (made ≡ true → old.bytes n ≡ [] → TakesAway old new n ⊎ IsStuck old new) → (made ≡ false → new ≡ old) → LeavesMade Q first new
 left_less Q true n first old new within left taken stays =
@@ -127,7 +127,7 @@ left_less Q false n first old new within left taken stays = subst (LeavesMade Q 
 })
 
 -- the order in which files were made is no matter
-pub left_turned : (P Q : ℕ → Type 0) (old new : Sight) → ((n : ℕ) → P n → Q n) → ((n : ℕ) → Q n → P n) → LeavesMade P old new → LeavesMade Q old new
+pub left_turned : (P Q : ℕ → Type 0) (old new : SystemState) → ((n : ℕ) → P n → Q n) → ((n : ℕ) → Q n → P n) → LeavesMade P old new → LeavesMade Q old new
 left_turned P Q old new to back left = record {
   bytes = left.bytes;
   stat = left.stat;
@@ -142,7 +142,7 @@ left_turned P Q old new to back left = record {
 }
 
 -- one file that was made was taken away
-pub left_one : (made : Bool) (n : ℕ) (first old new : Sight) → AreAllThere first → LeavesMade (IsMadeFile made n) first old
+pub left_one : (made : Bool) (n : ℕ) (first old new : SystemState) → AreAllThere first → LeavesMade (IsMadeFile made n) first old
     → (made ≡ true → old.bytes n ≡ [] → TakesAway old new n ⊎ IsStuck old new) → (made ≡ false → new ≡ old) → LeavesFiles first new
 left_one made n first old new within left taken stays =
     left_none (λ k. ⊥) first new (λ k wrong. wrong) (left_less (λ k. ⊥) made n first old new within
@@ -150,7 +150,7 @@ left_one made n first old new within left taken stays =
     (λ k is. elim is [ inl one ↦ one | inr wrong ↦ absurd wrong ]) left) taken stays)
 
 -- a call that takes at most one file away takes only this
-pub takes_one : (made : Bool) (n : ℕ) (old new : Sight) → TakesAtMost old new n → (made ≡ false → new ≡ old) → TakesOnly (IsMadeFile made n) old new
+pub takes_one : (made : Bool) (n : ℕ) (old new : SystemState) → TakesAtMost old new n → (made ≡ false → new ≡ old) → TakesOnly (IsMadeFile made n) old new
 takes_one true n old new most stays = record {
   named = λ m. elim (most.named m) [
     | inl same ↦ inl same
@@ -183,7 +183,7 @@ gone_then P Q before mid a b c same one two = elim two [
 ]
 
 -- two calls take only what either takes
-pub takes_then : (P Q : ℕ → Type 0) (a b c : Sight) → TakesOnly P a b → TakesOnly Q b c → TakesOnly (λ n. P n ⊎ Q n) a c
+pub takes_then : (P Q : ℕ → Type 0) (a b c : SystemState) → TakesOnly P a b → TakesOnly Q b c → TakesOnly (λ n. P n ⊎ Q n) a c
 takes_then P Q a b c one two = record {
   named = λ m. gone_then P Q a.bytes b.bytes (a.named m) (b.named m) (c.named m) one.bytes (one.named m) (two.named m);
   bytes = λ i. two.bytes i ∙ one.bytes i;
@@ -193,7 +193,7 @@ takes_then P Q a b c one two = record {
 }
 
 -- what may be taken may be named otherwise
-pub takes_turned : (P Q : ℕ → Type 0) (old new : Sight) → ((n : ℕ) → P n → Q n) → TakesOnly P old new → TakesOnly Q old new
+pub takes_turned : (P Q : ℕ → Type 0) (old new : SystemState) → ((n : ℕ) → P n → Q n) → TakesOnly P old new → TakesOnly Q old new
 takes_turned P Q old new to takes = record {
   named = λ m. elim (takes.named m) [
     | inl same ↦ inl same
@@ -206,7 +206,7 @@ takes_turned P Q old new to takes = record {
 }
 
 -- a name that leads to another file leads to it still
-pub named_kept : (m : List ℕ) (n k : ℕ) (old new : Sight) → TakesAtMost old new n → (k ≡ n → ⊥) → old.named m ≡ Some k → new.named m ≡ Some k
+pub named_kept : (m : List ℕ) (n k : ℕ) (old new : SystemState) → TakesAtMost old new n → (k ≡ n → ⊥) → old.named m ≡ Some k → new.named m ≡ Some k
 named_kept m n k old new most apart named = elim (most.named m) [
   | inl same ↦ same ∙ named
   | inr gone ↦ absurd (apart (some_one (sym named ∙ gone.0)))
@@ -214,7 +214,7 @@ named_kept m n k old new most apart named = elim (most.named m) [
 
 module _ (made : Made) (t : Trio) where
   -- all that was made was taken away, the latest first
-  pub all_left : (first a b c d : Sight) → AreAllThere first → HasMade (IsOneOfMade made t) first a
+  pub all_left : (first a b c d : SystemState) → AreAllThere first → HasMade (IsOneOfMade made t) first a
       → (made.redo ≡ true → a.bytes t.redo ≡ [] → TakesAway a b t.redo ⊎ IsStuck a b) → (made.redo ≡ false → b ≡ a)
       → (made.journal ≡ true → b.bytes t.journal ≡ [] → TakesAway b c t.journal ⊎ IsStuck b c) → (made.journal ≡ false → c ≡ b)
       → (made.image ≡ true → c.bytes t.image ≡ [] → TakesAway c d t.image ⊎ IsStuck c d) → (made.image ≡ false → d ≡ c)
@@ -238,7 +238,7 @@ module _ (made : Made) (t : Trio) where
       left_one made.image t.image first c d within then_one three three_stays
 
   -- nothing else was
-  pub all_taken : (a b c d : Sight) → TakesAtMost a b t.redo → (made.redo ≡ false → b ≡ a) → TakesAtMost b c t.journal → (made.journal ≡ false → c ≡ b)
+  pub all_taken : (a b c d : SystemState) → TakesAtMost a b t.redo → (made.redo ≡ false → b ≡ a) → TakesAtMost b c t.journal → (made.journal ≡ false → c ≡ b)
       → TakesAtMost c d t.image → (made.image ≡ false → d ≡ c) → TakesOnly (IsOneOfMade made t) a d
   all_taken a b c d one one_stays two two_stays three three_stays =
       takes_turned _ (IsOneOfMade made t) a d

@@ -2,7 +2,7 @@
 use Rattle.std.proofs.Common.{◌≡◌, ◌∙◌, ◌<◌, ℕ, Bool, true, false, List, Option, Some, None, refl, sym, ap, subst, inl, inr, arith}
 use Rattle.std.specs.Option.{option_map_or}
 use Rattle.bx_world.specs.Rule.{image_unfit, text_unfit}
-use Rattle.bx_world.specs.World.{AreThreeFiles, MayBeText, Sight, Trio, stat_named}
+use Rattle.bx_world.specs.World.{AreThreeFiles, MayBeText, SystemState, Trio, stat_named}
 use Rattle.bx_world.specs.declared.rule.Unfit.{Unfit}
 use Rattle.bx_world.specs.declared.rule.Unfit.TheVariants.{Link}
 use Rattle.bx_world.specs.declared.stat.Stat.{Stat}
@@ -11,16 +11,16 @@ use Rattle.bx_world.specs.files.Fit.{AreFit, AreFitBeside, IsFitImage, found_unf
 use Rattle.bx_world.specs.files.Reasons.{AreFitFiles, IsOneOf, LeadsToOther}
 use Rattle.bx_world.specs.declared.files.made.Made.{Made}
 use Rattle.bx_world.specs.declared.files.names.Names.{Names}
-use Rattle.bx_world.specs.declared.files.unopened.Which.{Which}
-use Rattle.bx_world.specs.declared.files.unopened.Which.TheVariants.{Image, Journal, Redo}
+use Rattle.bx_world.specs.declared.files.unopened.FileRole.{FileRole}
+use Rattle.bx_world.specs.declared.files.unopened.FileRole.TheVariants.{Image, Journal, Redo}
 use Rattle.bx_world.proofs.Making.{made_then, some_one, under_earlier, under_later}
 
 -- what a name leads to is judged so
-abbrev pub Judged : ℕ → Sight → List ℕ → Option ℕ → Option Unfit → Type 0
+abbrev pub Judged : ℕ → SystemState → List ℕ → Option ℕ → Option Unfit → Type 0
 Judged image w name led unfit = found_unfit w.caller (Some (w.stat image)) (w.is_link name) (option_map_or (λ k. Some (w.stat k)) led None) ≡ unfit
 
 -- what may stand beside an image may be opened as its text
-pub may_be_text : (image : ℕ) (name : List ℕ) (w : Sight) → unfit_beside (Some (w.stat image)) w name ≡ None → MayBeText image w name
+pub may_be_text : (image : ℕ) (name : List ℕ) (w : SystemState) → unfit_beside (Some (w.stat image)) w name ≡ None → MayBeText image w name
 may_be_text image name w fit n named = subst (λ (led : Option ℕ). Judged image w name led None) named fit
 
 no_link : (caller : ℕ) (image : Option Stat) (is_link : Bool) → found_unfit caller image is_link None ≡ None → is_link ≡ false
@@ -34,12 +34,12 @@ unlinked_fit caller image true text e = absurd (let wrong : Some Link ≡ None =
 unlinked_fit caller image false text e = e
 
 -- a text that was opened may be one of the image, by its number
-pub text_fit : (name : List ℕ) (image n : ℕ) (makes made : Bool) (old new : Sight) → IsTextOpened name image n makes made old new
+pub text_fit : (name : List ℕ) (image n : ℕ) (makes made : Bool) (old new : SystemState) → IsTextOpened name image n makes made old new
     → text_unfit new.caller (new.stat image) false (new.stat n) ≡ None
 text_fit name image n makes made old new opened = unlinked_fit new.caller (new.stat image) (new.is_link name) (new.stat n) opened.own
 
 -- what may stand beside an image may be opened as its text, when another one was opened or made
-pub text_later : (journal name : List ℕ) (image n : ℕ) (makes made : Bool) (old new : Sight) → AreAllThere old → image < old.there
+pub text_later : (journal name : List ℕ) (image n : ℕ) (makes made : Bool) (old new : SystemState) → AreAllThere old → image < old.there
     → unfit_beside (Some (old.stat image)) old name ≡ None → IsTextOpened journal image n makes made old new → MayBeText image new name
 text_later journal name image n makes made old new within there fit opened k named =
     let has = opened.file.files in
@@ -55,12 +55,12 @@ text_later journal name image n makes made old new within there fit opened k nam
           rw (has.streams.is_link name, no, is) (unlinked_fit new.caller (new.stat image) (new.is_link journal) (new.stat n) opened.own)
     ]
 
-own_later : (P : ℕ → Type 0) (name : List ℕ) (image n : ℕ) (a b : Sight) → HasMade P a b → image < a.there → n < a.there → IsOwn name image n a
+own_later : (P : ℕ → Type 0) (name : List ℕ) (image n : ℕ) (a b : SystemState) → HasMade P a b → image < a.there → n < a.there → IsOwn name image n a
     → IsOwn name image n b
 own_later P name image n a b has one two own = rw (has.streams.caller, has.stat image one, has.streams.is_link name, has.stat n two) own
 
 -- the texts were opened, one after another
-pub texts_opened : (names : Names) (makes : Bool) (t : Trio) (made : Made) (a b c : Sight) → t.image < a.there
+pub texts_opened : (names : Names) (makes : Bool) (t : Trio) (made : Made) (a b c : SystemState) → t.image < a.there
     → IsTextOpened names.journal t.image t.journal makes made.journal a b → IsTextOpened names.redo t.image t.redo true made.redo b c
     → AreThreeFiles c.there t → AreTextsOpened names makes t made a c
 texts_opened names makes t made a b c there journal redo apart =
@@ -76,7 +76,7 @@ texts_opened names makes t made a b c there journal redo apart =
     }
 
 -- the image was opened, and then the texts
-pub all_opened : (names : Names) (mounted makes : Bool) (t : Trio) (made : Made) (a b c : Sight)
+pub all_opened : (names : Names) (mounted makes : Bool) (t : Trio) (made : Made) (a b c : SystemState)
     → IsImageOpened names.image mounted makes made.image t.image a b → AreTextsOpened names makes t made b c → AreFit names mounted a
     → AreOpened names mounted makes t made a c
 all_opened names mounted makes t made a b c image texts fit = record {
@@ -94,14 +94,14 @@ all_opened names mounted makes t made a b c image texts fit = record {
 }
 
 -- texts that were looked at beside an image that was there may be opened beside it, once it is open
-pub fit_there : (names : Names) (mounted made : Bool) (image : ℕ) (a b : Sight) → AreFit names mounted a → IsOpenUnder names.image made image a b
+pub fit_there : (names : Names) (mounted made : Bool) (image : ℕ) (a b : SystemState) → AreFit names mounted a → IsOpenUnder names.image made image a b
     → (made ≡ false → b ≡ a) → made ≡ false → AreFitBeside names (b.stat image) b
 fit_there names mounted true image a b fit under stays wrong = absurd (let no : true ≡ false = wrong in cc)
 fit_there names mounted false image a b fit under stays is =
-    subst (λ (w : Sight). AreFitBeside names (w.stat image) w) (sym (stays is)) (fit.texts image under.was)
+    subst (λ (w : SystemState). AreFitBeside names (w.stat image) w) (sym (stays is)) (fit.texts image under.was)
 
 -- three files that may be changed may be so when the last was opened or made
-pub files_fit : (name : List ℕ) (mounted makes made : Bool) (t : Trio) (old new : Sight) → t.image < old.there → t.journal < old.there
+pub files_fit : (name : List ℕ) (mounted makes made : Bool) (t : Trio) (old new : SystemState) → t.image < old.there → t.journal < old.there
     → image_unfit mounted (old.stat t.image) ≡ None → text_unfit old.caller (old.stat t.image) false (old.stat t.journal) ≡ None
     → IsTextOpened name t.image t.redo makes made old new → AreFitFiles mounted t new
 files_fit name mounted makes made t old new one two image journal redo =
@@ -112,15 +112,15 @@ files_fit name mounted makes made t old new one two image journal redo =
       redo = unlinked_fit new.caller (new.stat t.image) (new.is_link name) (new.stat t.redo) redo.own;
     }
 
-one_before : (name : List ℕ) (image n other : ℕ) (makes made : Bool) (old new : Sight) → other < old.there
+one_before : (name : List ℕ) (image n other : ℕ) (makes made : Bool) (old new : SystemState) → other < old.there
     → IsTextOpened name image n makes made old new → n ≡ other → old.named name ≡ Some other
 one_before name image n other makes true old new there opened is =
     let fresh = (opened.file.files.fresh n (refl, refl)).0 in absurd (omega (arith, there, fresh, is))
 one_before name image n other makes false old new there opened is = opened.file.under.was ∙ ap Some is
 
 -- a redo text that is another file was led to before
-pub other_before : (names : Names) (makes made : Bool) (t : Trio) (old new : Sight) → t.image < old.there → t.journal < old.there
-    → IsTextOpened names.redo t.image t.redo makes made old new → (which : Which) → IsOneOf t which → LeadsToOther names t.image t.journal old which
+pub other_before : (names : Names) (makes made : Bool) (t : Trio) (old new : SystemState) → t.image < old.there → t.journal < old.there
+    → IsTextOpened names.redo t.image t.redo makes made old new → (which : FileRole) → IsOneOf t which → LeadsToOther names t.image t.journal old which
 other_before names makes made t old new one two redo Image is = is
 other_before names makes made t old new one two redo Journal is = is
 other_before names makes made t old new one two redo Redo is = elim is [
@@ -129,7 +129,7 @@ other_before names makes made t old new one two redo Redo is = elim is [
 ]
 
 -- what was looked at may be opened
-pub looked_fit : (names : Names) (mounted makes : Bool) (image : Option Stat) (w : Sight) → IsFitImage names.image mounted makes image w
+pub looked_fit : (names : Names) (mounted makes : Bool) (image : Option Stat) (w : SystemState) → IsFitImage names.image mounted makes image w
     → unfit_beside image w names.journal ≡ None → unfit_beside image w names.redo ≡ None → AreFit names mounted w
 looked_fit names mounted makes image w fit journal redo = record {
   image = fit.fit;

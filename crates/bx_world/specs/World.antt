@@ -33,7 +33,7 @@ pub record Trio : Type 0 where
 -- What a person can see: which file a name leads to, links followed, and whether the name is a link; the bytes of each file, by its number,
 -- and what the system tells of it; who runs the program; and what was written. Numbers are given in order: `there` files are there, and
 -- `before` were when the run began. `stuck` counts the files that the system refused to take away.
-pub record Sight : Type 0 where
+pub record SystemState : Type 0 where
   pub named : List ℕ → Option ℕ
   pub is_link : List ℕ → Bool
   pub bytes : ℕ → List ℕ
@@ -60,7 +60,7 @@ pub record AreThreeFiles (there : ℕ) (t : Trio) : Type 0 where
   pub redo_of_journal : t.redo ≡ t.journal → ⊥
 
 -- which names are links and who runs the program is as it was, nothing was written, and no file is lent that wasn't
-pub record KeepsStreams (old new : Sight) : Type 0 where
+pub record KeepsStreams (old new : SystemState) : Type 0 where
   pub is_link : (m : List ℕ) → new.is_link m ≡ old.is_link m
   pub caller : new.caller ≡ old.caller
   pub output : new.output ≡ old.output
@@ -69,15 +69,15 @@ pub record KeepsStreams (old new : Sight) : Type 0 where
   pub lent : new.lent ≡ old.lent
 
 -- the file may hold a text of an image
-abbrev pub IsOwnText : Sight → ℕ → ℕ → Type 0
+abbrev pub IsOwnText : SystemState → ℕ → ℕ → Type 0
 IsOwnText w image n = text_unfit w.caller (w.stat image) false (w.stat n) ≡ None
 
 -- the file may be an image that is changed, whether mounted devices may be or not
-abbrev pub IsAlwaysFit : Sight → ℕ → Type 0
+abbrev pub IsAlwaysFit : SystemState → ℕ → Type 0
 IsAlwaysFit w n = (mounted : Bool) → image_unfit mounted (w.stat n) ≡ None
 
 -- An empty file was made: the name leads to it, and so may names that were links to a missing file
-pub record Makes (old new : Sight) (name : List ℕ) (n : ℕ) : Type 0 where
+pub record Makes (old new : SystemState) (name : List ℕ) (n : ℕ) : Type 0 where
   pub missing : old.named name ≡ None
   pub named : new.named name ≡ Some n
   pub others : (m : List ℕ) → (new.named m ≡ old.named m) ⊎ ((old.named m ≡ None) × (new.named m ≡ Some n))
@@ -90,7 +90,7 @@ pub record Makes (old new : Sight) (name : List ℕ) (n : ℕ) : Type 0 where
   pub streams : KeepsStreams old new
 
 -- A file was taken away: no name leads to it any more
-pub record TakesAway (old new : Sight) (n : ℕ) : Type 0 where
+pub record TakesAway (old new : SystemState) (n : ℕ) : Type 0 where
   pub gone : (m : List ℕ) → old.named m ≡ Some n → new.named m ≡ None
   pub others : (m : List ℕ) → (old.named m ≡ Some n → ⊥) → new.named m ≡ old.named m
   pub bytes : (i : ℕ) → new.bytes i ≡ old.bytes i
@@ -100,7 +100,7 @@ pub record TakesAway (old new : Sight) (n : ℕ) : Type 0 where
   pub streams : KeepsStreams old new
 
 -- All bytes are as they were, and no name leads elsewhere but that those of one empty file may be gone
-pub record TakesAtMost (old new : Sight) (n : ℕ) : Type 0 where
+pub record TakesAtMost (old new : SystemState) (n : ℕ) : Type 0 where
   pub named : (m : List ℕ) → (new.named m ≡ old.named m) ⊎ ((old.named m ≡ Some n) × (old.bytes n ≡ []) × (new.named m ≡ None))
   pub bytes : (i : ℕ) → new.bytes i ≡ old.bytes i
   pub stat : (i : ℕ) → (i ≡ n → ⊥) → new.stat i ≡ old.stat i
@@ -108,11 +108,11 @@ pub record TakesAtMost (old new : Sight) (n : ℕ) : Type 0 where
   pub streams : KeepsStreams old new
 
 -- the file is empty, and the name leads to it
-abbrev pub IsEmptyUnder : Sight → List ℕ → ℕ → Type 0
+abbrev pub IsEmptyUnder : SystemState → List ℕ → ℕ → Type 0
 IsEmptyUnder w name n = (w.bytes n ≡ []) × (w.named name ≡ Some n)
 
 -- The system refused to take a file away, and nothing changed
-pub record IsStuck (old new : Sight) : Type 0 where
+pub record IsStuck (old new : SystemState) : Type 0 where
   pub named : (m : List ℕ) → new.named m ≡ old.named m
   pub bytes : (i : ℕ) → new.bytes i ≡ old.bytes i
   pub stat : (i : ℕ) → new.stat i ≡ old.stat i
@@ -121,7 +121,7 @@ pub record IsStuck (old new : Sight) : Type 0 where
   pub streams : KeepsStreams old new
 
 -- Of all files only these three may hold other bytes; names, counts and streams are as they were
-pub record ChangesOnly (t : Trio) (old new : Sight) : Type 0 where
+pub record ChangesOnly (t : Trio) (old new : SystemState) : Type 0 where
   pub named : (m : List ℕ) → new.named m ≡ old.named m
   pub is_link : (m : List ℕ) → new.is_link m ≡ old.is_link m
   pub bytes : (i : ℕ) → IsNoneOf t i → new.bytes i ≡ old.bytes i
@@ -134,12 +134,12 @@ pub record ChangesOnly (t : Trio) (old new : Sight) : Type 0 where
   pub errors : new.errors ≡ old.errors
 
 -- three files are lent
-pub record Lends (t : Trio) (old new : Sight) : Type 0 where
+pub record Lends (t : Trio) (old new : SystemState) : Type 0 where
   pub only : ChangesOnly t old new
   pub lent : new.lent ≡ Some t
 
 -- the three files that were lent hold these bytes, and are lent no more
-pub record GivesBack (t : Trio) (image journal redo : List ℕ) (old new : Sight) : Type 0 where
+pub record GivesBack (t : Trio) (image journal redo : List ℕ) (old new : SystemState) : Type 0 where
   pub only : ChangesOnly t old new
   pub lent : new.lent ≡ None
   pub image_bytes : new.bytes t.image ≡ image
@@ -147,7 +147,7 @@ pub record GivesBack (t : Trio) (image journal redo : List ℕ) (old new : Sight
   pub redo_bytes : new.bytes t.redo ≡ redo
 
 -- Files and names are as they were
-pub record KeepsFiles (old new : Sight) : Type 0 where
+pub record KeepsFiles (old new : SystemState) : Type 0 where
   pub named : (m : List ℕ) → new.named m ≡ old.named m
   pub is_link : (m : List ℕ) → new.is_link m ≡ old.is_link m
   pub bytes : (i : ℕ) → new.bytes i ≡ old.bytes i
@@ -167,19 +167,19 @@ pub record AddsFront (count : ℕ) (old new bytes : List ℕ) : Type 0 where
   pub output : new ≡ old ++ front
 
 -- what the system tells of a name's file; none where it leads to none
-abbrev pub stat_named : Sight → List ℕ → Option Stat
+abbrev pub stat_named : SystemState → List ℕ → Option Stat
 stat_named w name = option_map_or (λ n. Some (w.stat n)) (w.named name) None
 
 -- a name that leads to a file leads to one that may be an image that is changed
-abbrev pub MayBeImage : Bool → Sight → List ℕ → Type 0
+abbrev pub MayBeImage : Bool → SystemState → List ℕ → Type 0
 MayBeImage mounted w name = (n : ℕ) → w.named name ≡ Some n → image_unfit mounted (w.stat n) ≡ None
 
 -- a name that leads to a file leads to one that may be an image that is read
-abbrev pub MayBeRead : Sight → List ℕ → Type 0
+abbrev pub MayBeRead : SystemState → List ℕ → Type 0
 MayBeRead w name = (n : ℕ) → w.named name ≡ Some n → read_unfit (w.stat n) ≡ None
 
 -- a name that leads to a file is no link, and leads to one that may hold a text of the image
-abbrev pub MayBeText : ℕ → Sight → List ℕ → Type 0
+abbrev pub MayBeText : ℕ → SystemState → List ℕ → Type 0
 MayBeText image w name = (n : ℕ) → w.named name ≡ Some n → text_unfit w.caller (w.stat image) (w.is_link name) (w.stat n) ≡ None
 
 -- a call that the system refused is counted; that a file is missing is no refusal
@@ -189,7 +189,7 @@ CountsRefusal (Err Missing) old new = new ≡ old
 CountsRefusal (Err e) old new = new ≡ old + 1
 
 -- what a file holds that may be missing; one that is holds nothing
-abbrev pub bytes_if : Sight → Option ℕ → List ℕ
+abbrev pub bytes_if : SystemState → Option ℕ → List ℕ
 bytes_if w n = option_map_or w.bytes n []
 
 -- the number of a file that may be missing
@@ -197,7 +197,7 @@ abbrev pub number_if : {F : Type 0} → (F → ℕ) → Option F → Option ℕ
 number_if number file = option_map_or (λ f. Some (number f)) file None
 
 -- what a name's file holds; a file that is missing holds nothing
-abbrev pub held : Sight → List ℕ → List ℕ
+abbrev pub held : SystemState → List ℕ → List ℕ
 held w name = option_map_or w.bytes (w.named name) []
 
 -- whatever is found of any file was found before
@@ -241,7 +241,7 @@ abbrev pub IsNoneRead : ReadFiles → ℕ → Type 0
 IsNoneRead f n = (n ≡ f.image → ⊥) × IsNoText f n
 
 -- Of all files only those that are not spared may hold other bytes; names, counts and streams are as they were
-pub record Spares (spared : ℕ → Type 0) (old new : Sight) : Type 0 where
+pub record Spares (spared : ℕ → Type 0) (old new : SystemState) : Type 0 where
   pub named : (m : List ℕ) → new.named m ≡ old.named m
   pub is_link : (m : List ℕ) → new.is_link m ≡ old.is_link m
   pub bytes : (i : ℕ) → spared i → new.bytes i ≡ old.bytes i
@@ -255,7 +255,7 @@ pub record Spares (spared : ℕ → Type 0) (old new : Sight) : Type 0 where
   pub errors : new.errors ≡ old.errors
 
 -- The texts beside an image hold these bytes, and all else is as it was
-pub record ClosesTexts (f : ReadFiles) (journal redo : List ℕ) (old new : Sight) : Type 0 where
+pub record ClosesTexts (f : ReadFiles) (journal redo : List ℕ) (old new : SystemState) : Type 0 where
   pub only : Spares (IsNoText f) old new
   pub journal_bytes : new.bytes f.journal ≡ journal
   pub redo_bytes : (n : ℕ) → f.redo ≡ Some n → new.bytes n ≡ redo

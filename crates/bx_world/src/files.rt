@@ -16,4 +16,4 @@ pub use made::{Files, Made, unmake_all};
 pub use names::Names;
 pub use open::open_image_files;
 pub use reading::{Looked, open_redo_to_forget, open_to_forget, open_to_look};
-pub use unopened::{Unopened, Which, Why};
+pub use unopened::{FileRole, OpenError, OpenFailure};

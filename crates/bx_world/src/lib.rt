@@ -11,8 +11,8 @@ mod stat;
 mod world;
 
 pub use files::{
-    Files, Guard, Looked, Made, Names, Unopened, Which, Why, close_alone, lend_alone, look_alone,
-    open_image_files, open_redo_to_forget, open_to_forget, open_to_look, unmake_all,
+    FileRole, Files, Guard, Looked, Made, Names, OpenError, OpenFailure, close_alone, lend_alone,
+    look_alone, open_image_files, open_redo_to_forget, open_to_forget, open_to_look, unmake_all,
 };
 pub use laws::readers_and_writers;
 pub use rule::{Unfit, image_unfit, read_unfit, text_unfit};

@@ -2,7 +2,7 @@
 ghost use Rattle.std.specs.Prelude.{◌≡◌, ◌↔◌, ◌⊎◌, ◌+◌, ◌<◌, ◌≤◌, ◌^◌, ◌++◌, ℕ, List, [], Option, true, false, Err, None, Some, IfOk, IfErr, IfSome, OnOk, OnErr, drop, length, take};
 ghost use Rattle.bx_world.specs.declared.world.Noted.TheVariants.{Put};
 ghost use Rattle.bx_world.specs.declared.world.Refusal.TheVariants.{Locked, Missing};
-ghost use Rattle.bx_world.specs.World.{AreThreeFiles, ChangesOnly, CountsRefusal, GivesBack, IsAlwaysFit, IsEmptyUnder, IsOwnText, IsStuck, KeepsFiles, LeavesTrio, Lends, Makes, MayBeImage, MayBeText, NothingNewFound, NothingNewBelow, NothingNewOf, Sight, TakesAtMost, TakesAway, Trio, AddsFront, stat_named};
+ghost use Rattle.bx_world.specs.World.{AreThreeFiles, ChangesOnly, CountsRefusal, GivesBack, IsAlwaysFit, IsEmptyUnder, IsOwnText, IsStuck, KeepsFiles, LeavesTrio, Lends, Makes, MayBeImage, MayBeText, NothingNewFound, NothingNewBelow, NothingNewOf, SystemState, TakesAtMost, TakesAway, Trio, AddsFront, stat_named};
 ghost use Rattle.bx_world.specs.World.{AreOwnFiles, ClosesTexts, IsFrontRead, IsNoText, IsNoneRead, MayBeRead, NothingNewSpared, ReadFiles, Spares, TextsLeft, bytes_if, noted};
 ghost use Rattle.bx_image.specs.Power.{NoMore, Only};
 
@@ -55,8 +55,8 @@ pub enum Noted {
 
 /// All that a program asks of the system: files by name, a note beside a journal, and the standard streams.
 ///
-/// A world is honest if nobody else changes its files and names, and its calls do what they answer. What is said of files is
-/// said of honest worlds. The three files of a session are lent as devices and given back: what a session wrote is then theirs.
+/// A world is faithful if nobody else changes its files and names, and its calls do what they answer. What is said of files is
+/// said of faithful worlds. The three files of a session are lent as devices and given back: what a session wrote is then theirs.
 /// The journal's failures count from 0 and those of the redo text from 2^32, so that none is taken for the other.
 pub trait World {
     /// An image that is lent.
@@ -72,10 +72,10 @@ pub trait World {
     type Input: Read + Drop;
 
     /// Nobody else changes files and names, and each call does what it answers.
-    ghost honest: { Self → Type 0 };
+    ghost faithful: { Self → Type 0 };
 
     /// What a person can see.
-    ghost sight: { Self → Sight };
+    ghost state: { Self → SystemState };
 
     /// What may be found of a file after a loss of power.
     ghost survives: { Self → ℕ → List ℕ → Type 0 };
@@ -98,306 +98,306 @@ pub trait World {
 
     /// Looks at what stands under a name, before it is opened.
     fn look(&mut self, name: &str) -> Result<Look, Refusal>
-        ensures is_link { honest self.old → IfOk result (λ l. l.is_link ≡ (sight self.old).is_link name.now) }
-        ensures found { honest self.old → IfOk result (λ l. l.found ≡ stat_named (sight self.old) name.now) }
-        ensures there { honest self.old → result ≡ Err Missing → ⊥ }
-        ensures same { honest self.old → sight self.new ≡ sight self.old }
-        ensures counted { honest self.old → CountsRefusal result (refusals self.old) (refusals self.new) }
-        ensures survives { honest self.old → NothingNewFound (survives self.old) (survives self.new) }
-        ensures note { honest self.old → note self.new ≡ note self.old }
-        ensures honesty { honest self.new ↔ honest self.old };
+        ensures is_link { faithful self.old → IfOk result (λ l. l.is_link ≡ (state self.old).is_link name.now) }
+        ensures found { faithful self.old → IfOk result (λ l. l.found ≡ stat_named (state self.old) name.now) }
+        ensures there { faithful self.old → result ≡ Err Missing → ⊥ }
+        ensures same { faithful self.old → state self.new ≡ state self.old }
+        ensures counted { faithful self.old → CountsRefusal result (refusals self.old) (refusals self.new) }
+        ensures survives { faithful self.old → NothingNewFound (survives self.old) (survives self.new) }
+        ensures note { faithful self.old → note self.new ≡ note self.old }
+        ensures faith { faithful self.new ↔ faithful self.old };
 
     /// The user who runs the program.
     fn caller(&self) -> u32
-        ensures { honest self.now → result ≡ (sight self.now).caller };
+        ensures { faithful self.now → result ≡ (state self.now).caller };
 
     /// The length that the image that was lent last was refused, as one that can't grow so far; none where it was refused none.
     fn outgrown(&self) -> Option<Outgrown>
-        ensures { honest self.now → IfSome result (λ o. o.has < o.wanted) };
+        ensures { faithful self.now → IfSome result (λ o. o.has < o.wanted) };
 
     /// Opens an image that is there, to read and to change it. `mounted` says whether it may be a device that is mounted.
     fn open_image(&mut self, name: &str, mounted: bool) -> Result<Self::File, Refusal>
-        requires may { honest self.old → MayBeImage mounted (sight self.old) name.now }
-        ensures named { honest self.old → IfOk result (λ f. (sight self.old).named name.now ≡ Some (number f)) }
-        ensures there { honest self.old → IfOk result (λ f. number f < (sight self.old).there) }
-        ensures missing { honest self.old → result ≡ Err Missing → (sight self.old).named name.now ≡ None }
-        ensures same { honest self.old → sight self.new ≡ sight self.old }
-        ensures counted { honest self.old → CountsRefusal result (refusals self.old) (refusals self.new) }
-        ensures survives { honest self.old → NothingNewFound (survives self.old) (survives self.new) }
-        ensures note { honest self.old → note self.new ≡ note self.old }
-        ensures honesty { honest self.new ↔ honest self.old };
+        requires may { faithful self.old → MayBeImage mounted (state self.old) name.now }
+        ensures named { faithful self.old → IfOk result (λ f. (state self.old).named name.now ≡ Some (number f)) }
+        ensures there { faithful self.old → IfOk result (λ f. number f < (state self.old).there) }
+        ensures missing { faithful self.old → result ≡ Err Missing → (state self.old).named name.now ≡ None }
+        ensures same { faithful self.old → state self.new ≡ state self.old }
+        ensures counted { faithful self.old → CountsRefusal result (refusals self.old) (refusals self.new) }
+        ensures survives { faithful self.old → NothingNewFound (survives self.old) (survives self.new) }
+        ensures note { faithful self.old → note self.new ≡ note self.old }
+        ensures faith { faithful self.new ↔ faithful self.old };
 
     /// Opens a journal or a redo text that is there, beside its image.
     fn open_text(&mut self, name: &str, image: &Self::File) -> Result<Self::File, Refusal>
-        requires may { honest self.old → MayBeText (number image.now) (sight self.old) name.now }
-        ensures named { honest self.old → IfOk result (λ f. (sight self.old).named name.now ≡ Some (number f)) }
-        ensures there { honest self.old → IfOk result (λ f. number f < (sight self.old).there) }
-        ensures missing { honest self.old → result ≡ Err Missing → (sight self.old).named name.now ≡ None }
-        ensures same { honest self.old → sight self.new ≡ sight self.old }
-        ensures counted { honest self.old → CountsRefusal result (refusals self.old) (refusals self.new) }
-        ensures survives { honest self.old → NothingNewFound (survives self.old) (survives self.new) }
-        ensures note { honest self.old → note self.new ≡ note self.old }
-        ensures honesty { honest self.new ↔ honest self.old };
+        requires may { faithful self.old → MayBeText (number image.now) (state self.old) name.now }
+        ensures named { faithful self.old → IfOk result (λ f. (state self.old).named name.now ≡ Some (number f)) }
+        ensures there { faithful self.old → IfOk result (λ f. number f < (state self.old).there) }
+        ensures missing { faithful self.old → result ≡ Err Missing → (state self.old).named name.now ≡ None }
+        ensures same { faithful self.old → state self.new ≡ state self.old }
+        ensures counted { faithful self.old → CountsRefusal result (refusals self.old) (refusals self.new) }
+        ensures survives { faithful self.old → NothingNewFound (survives self.old) (survives self.new) }
+        ensures note { faithful self.old → note self.new ≡ note self.old }
+        ensures faith { faithful self.new ↔ faithful self.old };
 
     /// Makes an empty journal or redo text beside an image, and opens it. It may be read and written by nobody who may not read
     /// and write the image.
     fn make_text(&mut self, name: &str, image: &Self::File) -> Result<Self::File, Refusal>
-        requires there { honest self.old → number image.now < (sight self.old).there }
-        ensures made { honest self.old → IfOk result (λ f. Makes (sight self.old) (sight self.new) name.now (number f)) }
-        ensures no_link { honest self.old → OnOk result ((sight self.old).is_link name.now ≡ false) }
-        ensures own { honest self.old → IfOk result (λ f. IsOwnText (sight self.new) (number image.now) (number f)) }
-        ensures same { honest self.old → OnErr result (sight self.new ≡ sight self.old) }
-        ensures missing { honest self.old → result ≡ Err Missing → ⊥ }
-        ensures counted { honest self.old → CountsRefusal result (refusals self.old) (refusals self.new) }
-        ensures survives { honest self.old → NothingNewBelow (sight self.old).there (survives self.old) (survives self.new) }
-        ensures note { honest self.old → note self.new ≡ note self.old }
-        ensures honesty { honest self.new ↔ honest self.old };
+        requires there { faithful self.old → number image.now < (state self.old).there }
+        ensures made { faithful self.old → IfOk result (λ f. Makes (state self.old) (state self.new) name.now (number f)) }
+        ensures no_link { faithful self.old → OnOk result ((state self.old).is_link name.now ≡ false) }
+        ensures own { faithful self.old → IfOk result (λ f. IsOwnText (state self.new) (number image.now) (number f)) }
+        ensures same { faithful self.old → OnErr result (state self.new ≡ state self.old) }
+        ensures missing { faithful self.old → result ≡ Err Missing → ⊥ }
+        ensures counted { faithful self.old → CountsRefusal result (refusals self.old) (refusals self.new) }
+        ensures survives { faithful self.old → NothingNewBelow (state self.old).there (survives self.old) (survives self.new) }
+        ensures note { faithful self.old → note self.new ≡ note self.old }
+        ensures faith { faithful self.new ↔ faithful self.old };
 
     /// Makes an empty image, and opens it: a regular file, which a link may lead to.
     fn make_image(&mut self, name: &str) -> Result<Self::File, Refusal>
-        ensures made { honest self.old → IfOk result (λ f. Makes (sight self.old) (sight self.new) name.now (number f)) }
-        ensures fit { honest self.old → IfOk result (λ f. IsAlwaysFit (sight self.new) (number f)) }
-        ensures same { honest self.old → OnErr result (sight self.new ≡ sight self.old) }
-        ensures missing { honest self.old → result ≡ Err Missing → ⊥ }
-        ensures counted { honest self.old → CountsRefusal result (refusals self.old) (refusals self.new) }
-        ensures survives { honest self.old → NothingNewBelow (sight self.old).there (survives self.old) (survives self.new) }
-        ensures note { honest self.old → note self.new ≡ note self.old }
-        ensures honesty { honest self.new ↔ honest self.old };
+        ensures made { faithful self.old → IfOk result (λ f. Makes (state self.old) (state self.new) name.now (number f)) }
+        ensures fit { faithful self.old → IfOk result (λ f. IsAlwaysFit (state self.new) (number f)) }
+        ensures same { faithful self.old → OnErr result (state self.new ≡ state self.old) }
+        ensures missing { faithful self.old → result ≡ Err Missing → ⊥ }
+        ensures counted { faithful self.old → CountsRefusal result (refusals self.old) (refusals self.new) }
+        ensures survives { faithful self.old → NothingNewBelow (state self.old).there (survives self.old) (survives self.new) }
+        ensures note { faithful self.old → note self.new ≡ note self.old }
+        ensures faith { faithful self.new ↔ faithful self.old };
 
     /// Opens a file of any kind to read it alone.
     fn open_input(&mut self, name: &str) -> Result<Self::File, Refusal>
-        ensures named { honest self.old → IfOk result (λ f. (sight self.old).named name.now ≡ Some (number f)) }
-        ensures there { honest self.old → IfOk result (λ f. number f < (sight self.old).there) }
-        ensures missing { honest self.old → result ≡ Err Missing → (sight self.old).named name.now ≡ None }
-        ensures same { honest self.old → sight self.new ≡ sight self.old }
-        ensures counted { honest self.old → CountsRefusal result (refusals self.old) (refusals self.new) }
-        ensures survives { honest self.old → NothingNewFound (survives self.old) (survives self.new) }
-        ensures note { honest self.old → note self.new ≡ note self.old }
-        ensures honesty { honest self.new ↔ honest self.old };
+        ensures named { faithful self.old → IfOk result (λ f. (state self.old).named name.now ≡ Some (number f)) }
+        ensures there { faithful self.old → IfOk result (λ f. number f < (state self.old).there) }
+        ensures missing { faithful self.old → result ≡ Err Missing → (state self.old).named name.now ≡ None }
+        ensures same { faithful self.old → state self.new ≡ state self.old }
+        ensures counted { faithful self.old → CountsRefusal result (refusals self.old) (refusals self.new) }
+        ensures survives { faithful self.old → NothingNewFound (survives self.old) (survives self.new) }
+        ensures note { faithful self.old → note self.new ≡ note self.old }
+        ensures faith { faithful self.new ↔ faithful self.old };
 
     /// How many bytes an open file has that has a place for each of them; none of another one, as a pipe, and where it doesn't
     /// tell.
     fn length(&mut self, file: &Self::File) -> Option<u64>
-        ensures told { honest self.old → IfSome result (λ n. n ≡ length ((sight self.old).bytes (number file.now))) }
-        ensures same { honest self.old → sight self.new ≡ sight self.old }
-        ensures counted { honest self.old → refusals self.new ≡ refusals self.old }
-        ensures survives { honest self.old → NothingNewFound (survives self.old) (survives self.new) }
-        ensures note { honest self.old → note self.new ≡ note self.old }
-        ensures honesty { honest self.new ↔ honest self.old };
+        ensures told { faithful self.old → IfSome result (λ n. n ≡ length ((state self.old).bytes (number file.now))) }
+        ensures same { faithful self.old → state self.new ≡ state self.old }
+        ensures counted { faithful self.old → refusals self.new ≡ refusals self.old }
+        ensures survives { faithful self.old → NothingNewFound (survives self.old) (survives self.new) }
+        ensures note { faithful self.old → note self.new ≡ note self.old }
+        ensures faith { faithful self.new ↔ faithful self.old };
 
     /// Lends an open file as an input, behind `passed` of its bytes; where any are passed, it has a place for each.
     fn lend_input(&mut self, file: Self::File, passed: u64) -> Result<Self::Input, Refusal>
-        requires within { honest self.old → passed ≤ length ((sight self.old).bytes (number file)) }
-        ensures input { honest self.old
-            → IfOk result (λ r. Self.Input.remaining r ≡ Some (drop passed ((sight self.old).bytes (number file)))) }
-        ensures missing { honest self.old → result ≡ Err Missing → ⊥ }
-        ensures same { honest self.old → sight self.new ≡ sight self.old }
-        ensures counted { honest self.old → CountsRefusal result (refusals self.old) (refusals self.new) }
-        ensures survives { honest self.old → NothingNewFound (survives self.old) (survives self.new) }
-        ensures note { honest self.old → note self.new ≡ note self.old }
-        ensures honesty { honest self.new ↔ honest self.old };
+        requires within { faithful self.old → passed ≤ length ((state self.old).bytes (number file)) }
+        ensures input { faithful self.old
+            → IfOk result (λ r. Self.Input.remaining r ≡ Some (drop passed ((state self.old).bytes (number file)))) }
+        ensures missing { faithful self.old → result ≡ Err Missing → ⊥ }
+        ensures same { faithful self.old → state self.new ≡ state self.old }
+        ensures counted { faithful self.old → CountsRefusal result (refusals self.old) (refusals self.new) }
+        ensures survives { faithful self.old → NothingNewFound (survives self.old) (survives self.new) }
+        ensures note { faithful self.old → note self.new ≡ note self.old }
+        ensures faith { faithful self.new ↔ faithful self.old };
 
     /// Takes an input back, which is closed.
     fn close_input(&mut self, input: Self::Input)
-        ensures same { honest self.old → sight self.new ≡ sight self.old }
-        ensures counted { honest self.old → refusals self.new ≡ refusals self.old }
-        ensures survives { honest self.old → NothingNewFound (survives self.old) (survives self.new) }
-        ensures note { honest self.old → note self.new ≡ note self.old }
-        ensures honesty { honest self.new ↔ honest self.old };
+        ensures same { faithful self.old → state self.new ≡ state self.old }
+        ensures counted { faithful self.old → refusals self.new ≡ refusals self.old }
+        ensures survives { faithful self.old → NothingNewFound (survives self.old) (survives self.new) }
+        ensures note { faithful self.old → note self.new ≡ note self.old }
+        ensures faith { faithful self.new ↔ faithful self.old };
 
     /// What the system tells of an open file.
     fn stat(&mut self, file: &Self::File) -> Result<Stat, Refusal>
-        ensures told { honest self.old → IfOk result (λ s. s ≡ (sight self.old).stat (number file.now)) }
-        ensures missing { honest self.old → result ≡ Err Missing → ⊥ }
-        ensures same { honest self.old → sight self.new ≡ sight self.old }
-        ensures counted { honest self.old → CountsRefusal result (refusals self.old) (refusals self.new) }
-        ensures survives { honest self.old → NothingNewFound (survives self.old) (survives self.new) }
-        ensures note { honest self.old → note self.new ≡ note self.old }
-        ensures honesty { honest self.new ↔ honest self.old };
+        ensures told { faithful self.old → IfOk result (λ s. s ≡ (state self.old).stat (number file.now)) }
+        ensures missing { faithful self.old → result ≡ Err Missing → ⊥ }
+        ensures same { faithful self.old → state self.new ≡ state self.old }
+        ensures counted { faithful self.old → CountsRefusal result (refusals self.old) (refusals self.new) }
+        ensures survives { faithful self.old → NothingNewFound (survives self.old) (survives self.new) }
+        ensures note { faithful self.old → note self.new ≡ note self.old }
+        ensures faith { faithful self.new ↔ faithful self.old };
 
     /// Locks a file up to its closing, which has to have its name still. One that another program has locked is refused; nobody
     /// has a file locked that this run made.
     fn lock(&mut self, name: &str, file: &Self::File) -> Result<(), Refusal>
-        ensures locked { honest self.old → result ≡ Err Locked → number file.now < (sight self.old).before }
-        ensures missing { honest self.old → result ≡ Err Missing → ⊥ }
-        ensures same { honest self.old → sight self.new ≡ sight self.old }
-        ensures counted { honest self.old → CountsRefusal result (refusals self.old) (refusals self.new) }
-        ensures survives { honest self.old → NothingNewFound (survives self.old) (survives self.new) }
-        ensures note { honest self.old → note self.new ≡ note self.old }
-        ensures honesty { honest self.new ↔ honest self.old };
+        ensures locked { faithful self.old → result ≡ Err Locked → number file.now < (state self.old).before }
+        ensures missing { faithful self.old → result ≡ Err Missing → ⊥ }
+        ensures same { faithful self.old → state self.new ≡ state self.old }
+        ensures counted { faithful self.old → CountsRefusal result (refusals self.old) (refusals self.new) }
+        ensures survives { faithful self.old → NothingNewFound (survives self.old) (survives self.new) }
+        ensures note { faithful self.old → note self.new ≡ note self.old }
+        ensures faith { faithful self.new ↔ faithful self.old };
 
     /// Whether both are one file.
     fn is_same(&mut self, a: &Self::File, b: &Self::File) -> Result<bool, Refusal>
-        ensures answer { honest self.old → IfOk result (λ is. (is ≡ true) ↔ (number a.now ≡ number b.now)) }
-        ensures missing { honest self.old → result ≡ Err Missing → ⊥ }
-        ensures same { honest self.old → sight self.new ≡ sight self.old }
-        ensures counted { honest self.old → CountsRefusal result (refusals self.old) (refusals self.new) }
-        ensures survives { honest self.old → NothingNewFound (survives self.old) (survives self.new) }
-        ensures note { honest self.old → note self.new ≡ note self.old }
-        ensures honesty { honest self.new ↔ honest self.old };
+        ensures answer { faithful self.old → IfOk result (λ is. (is ≡ true) ↔ (number a.now ≡ number b.now)) }
+        ensures missing { faithful self.old → result ≡ Err Missing → ⊥ }
+        ensures same { faithful self.old → state self.new ≡ state self.old }
+        ensures counted { faithful self.old → CountsRefusal result (refusals self.old) (refusals self.new) }
+        ensures survives { faithful self.old → NothingNewFound (survives self.old) (survives self.new) }
+        ensures note { faithful self.old → note self.new ≡ note self.old }
+        ensures faith { faithful self.new ↔ faithful self.old };
 
     /// Takes a file away that this run made, if it is empty and has the name.
     fn take_away(&mut self, name: &str, file: &Self::File)
-        requires made { honest self.old → (sight self.old).before ≤ number file.now }
-        ensures taken { honest self.old → IsEmptyUnder (sight self.old) name.now (number file.now)
-            → TakesAway (sight self.old) (sight self.new) (number file.now) ⊎ IsStuck (sight self.old) (sight self.new) }
-        ensures most { honest self.old → TakesAtMost (sight self.old) (sight self.new) (number file.now) }
-        ensures counted { honest self.old → refusals self.new ≡ refusals self.old }
-        ensures survives { honest self.old → NothingNewFound (survives self.old) (survives self.new) }
-        ensures note { honest self.old → note self.new ≡ note self.old }
-        ensures honesty { honest self.new ↔ honest self.old };
+        requires made { faithful self.old → (state self.old).before ≤ number file.now }
+        ensures taken { faithful self.old → IsEmptyUnder (state self.old) name.now (number file.now)
+            → TakesAway (state self.old) (state self.new) (number file.now) ⊎ IsStuck (state self.old) (state self.new) }
+        ensures most { faithful self.old → TakesAtMost (state self.old) (state self.new) (number file.now) }
+        ensures counted { faithful self.old → refusals self.new ≡ refusals self.old }
+        ensures survives { faithful self.old → NothingNewFound (survives self.old) (survives self.new) }
+        ensures note { faithful self.old → note self.new ≡ note self.old }
+        ensures faith { faithful self.new ↔ faithful self.old };
 
     /// Puts the name of a file on the disk.
     fn keep_name(&mut self, name: &str) -> Result<(), Refusal>
-        ensures missing { honest self.old → result ≡ Err Missing → ⊥ }
-        ensures counted { honest self.old → CountsRefusal result (refusals self.old) (refusals self.new) }
-        ensures same { honest self.old → sight self.new ≡ sight self.old }
-        ensures survives { honest self.old → NothingNewFound (survives self.old) (survives self.new) }
-        ensures note { honest self.old → note self.new ≡ note self.old }
-        ensures honesty { honest self.new ↔ honest self.old };
+        ensures missing { faithful self.old → result ≡ Err Missing → ⊥ }
+        ensures counted { faithful self.old → CountsRefusal result (refusals self.old) (refusals self.new) }
+        ensures same { faithful self.old → state self.new ≡ state self.old }
+        ensures survives { faithful self.old → NothingNewFound (survives self.old) (survives self.new) }
+        ensures note { faithful self.old → note self.new ≡ note self.old }
+        ensures faith { faithful self.new ↔ faithful self.old };
 
     /// Lends the three files of a session.
-    fn lend(
+    fn into_devices(
         &mut self,
         image: Self::File,
         journal: Self::File,
         redo: Self::File,
     ) -> (Self::Image, Self::Text, Self::Text)
-        requires free { honest self.old → (sight self.old).lent ≡ None }
-        requires apart { honest self.old → AreThreeFiles (sight self.old).there (record { image = number image; journal = number journal; redo = number redo }) }
+        requires free { faithful self.old → (state self.old).lent ≡ None }
+        requires apart { faithful self.old → AreThreeFiles (state self.old).there (record { image = number image; journal = number journal; redo = number redo }) }
         ensures failures { (Self.Image.failures result.0 ≡ 0) × (Self.Text.failures result.1 ≡ 0) × (Self.Text.failures result.2 ≡ 2 ^ 32) }
-        ensures image { honest self.old → Self.Image.honest result.0 × (Self.Image.image result.0 ≡ (sight self.old).bytes (number image)) }
-        ensures journal { honest self.old → Self.Text.honest result.1 × (Self.Text.text result.1 ≡ (sight self.old).bytes (number journal)) }
-        ensures redo { honest self.old → Self.Text.honest result.2 × (Self.Text.text result.2 ≡ (sight self.old).bytes (number redo)) }
-        ensures lent { honest self.old → Lends (record { image = number image; journal = number journal; redo = number redo }) (sight self.old) (sight self.new) }
-        ensures counted { honest self.old → refusals self.new ≡ refusals self.old }
-        ensures survives { honest self.old → NothingNewOf (record { image = number image; journal = number journal; redo = number redo })
+        ensures image { faithful self.old → Self.Image.faithful result.0 × (Self.Image.image result.0 ≡ (state self.old).bytes (number image)) }
+        ensures journal { faithful self.old → Self.Text.faithful result.1 × (Self.Text.text result.1 ≡ (state self.old).bytes (number journal)) }
+        ensures redo { faithful self.old → Self.Text.faithful result.2 × (Self.Text.text result.2 ≡ (state self.old).bytes (number redo)) }
+        ensures lent { faithful self.old → Lends (record { image = number image; journal = number journal; redo = number redo }) (state self.old) (state self.new) }
+        ensures counted { faithful self.old → refusals self.new ≡ refusals self.old }
+        ensures survives { faithful self.old → NothingNewOf (record { image = number image; journal = number journal; redo = number redo })
             (survives self.old) (survives self.new) }
-        ensures image_survives { honest self.old → NoMore (survives self.old (number image)) (Self.Image.survives result.0) }
-        ensures journal_survives { honest self.old → NoMore (survives self.old (number journal)) (Self.Text.survives result.1) }
-        ensures redo_survives { honest self.old → NoMore (survives self.old (number redo)) (Self.Text.survives result.2) }
-        ensures note { honest self.old → note self.new ≡ note self.old }
-        ensures honesty { honest self.new ↔ honest self.old };
+        ensures image_survives { faithful self.old → NoMore (survives self.old (number image)) (Self.Image.survives result.0) }
+        ensures journal_survives { faithful self.old → NoMore (survives self.old (number journal)) (Self.Text.survives result.1) }
+        ensures redo_survives { faithful self.old → NoMore (survives self.old (number redo)) (Self.Text.survives result.2) }
+        ensures note { faithful self.old → note self.new ≡ note self.old }
+        ensures faith { faithful self.new ↔ faithful self.old };
 
     /// Takes the three devices back; the files have then what the devices have.
-    fn give_back(
+    fn into_files(
         &mut self,
         image: Self::Image,
         journal: Self::Text,
         redo: Self::Text,
     ) -> (Self::File, Self::File, Self::File)
         requires order { (Self.Text.failures journal < 2 ^ 32) × (2 ^ 32 ≤ Self.Text.failures redo) }
-        requires devices { honest self.old → Self.Image.honest image × Self.Text.honest journal × Self.Text.honest redo }
-        ensures given { honest self.old → (t : Trio) → (sight self.old).lent ≡ Some t
-            → GivesBack t (Self.Image.image image) (Self.Text.text journal) (Self.Text.text redo) (sight self.old) (sight self.new) }
-        ensures files { honest self.old → (t : Trio) → (sight self.old).lent ≡ Some t
+        requires devices { faithful self.old → Self.Image.faithful image × Self.Text.faithful journal × Self.Text.faithful redo }
+        ensures given { faithful self.old → (t : Trio) → (state self.old).lent ≡ Some t
+            → GivesBack t (Self.Image.image image) (Self.Text.text journal) (Self.Text.text redo) (state self.old) (state self.new) }
+        ensures files { faithful self.old → (t : Trio) → (state self.old).lent ≡ Some t
             → (number result.0 ≡ t.image) × (number result.1 ≡ t.journal) × (number result.2 ≡ t.redo) }
-        ensures survives { honest self.old → (t : Trio) → (sight self.old).lent ≡ Some t
+        ensures survives { faithful self.old → (t : Trio) → (state self.old).lent ≡ Some t
             → LeavesTrio t (Self.Image.survives image) (Self.Text.survives journal) (Self.Text.survives redo) (survives self.new) }
-        ensures others { honest self.old → (t : Trio) → (sight self.old).lent ≡ Some t → NothingNewOf t (survives self.old) (survives self.new) }
-        ensures counted { honest self.old → refusals self.new ≡ refusals self.old }
-        ensures note { honest self.old → note self.new ≡ note self.old }
-        ensures honesty { honest self.new ↔ honest self.old };
+        ensures others { faithful self.old → (t : Trio) → (state self.old).lent ≡ Some t → NothingNewOf t (survives self.old) (survives self.new) }
+        ensures counted { faithful self.old → refusals self.new ≡ refusals self.old }
+        ensures note { faithful self.old → note self.new ≡ note self.old }
+        ensures faith { faithful self.new ↔ faithful self.old };
 
     /// Writes to standard output. What a fault leaves is a front of the bytes, with no fewer than it tells.
     fn print(&mut self, bytes: &[u8]) -> Result<(), Unwritten>
         ensures few { IfErr result (λ e. e.written ≤ length bytes.now) }
-        ensures ok { honest self.old → OnOk result ((sight self.new).output ≡ (sight self.old).output ++ bytes.now) }
-        ensures err { honest self.old
-            → IfErr result (λ e. AddsFront e.written (sight self.old).output (sight self.new).output bytes.now) }
-        ensures errors { honest self.old → (sight self.new).errors ≡ (sight self.old).errors }
-        ensures files { honest self.old → KeepsFiles (sight self.old) (sight self.new) }
-        ensures counted { honest self.old → refusals self.new ≡ refusals self.old }
-        ensures survives { honest self.old → NothingNewFound (survives self.old) (survives self.new) }
-        ensures note { honest self.old → note self.new ≡ note self.old }
-        ensures honesty { honest self.new ↔ honest self.old };
+        ensures ok { faithful self.old → OnOk result ((state self.new).output ≡ (state self.old).output ++ bytes.now) }
+        ensures err { faithful self.old
+            → IfErr result (λ e. AddsFront e.written (state self.old).output (state self.new).output bytes.now) }
+        ensures errors { faithful self.old → (state self.new).errors ≡ (state self.old).errors }
+        ensures files { faithful self.old → KeepsFiles (state self.old) (state self.new) }
+        ensures counted { faithful self.old → refusals self.new ≡ refusals self.old }
+        ensures survives { faithful self.old → NothingNewFound (survives self.old) (survives self.new) }
+        ensures note { faithful self.old → note self.new ≡ note self.old }
+        ensures faith { faithful self.new ↔ faithful self.old };
 
     /// Writes to standard error; how much of it arrives isn't known.
     fn complain(&mut self, bytes: &[u8])
-        ensures errors { honest self.old → (n : ℕ) × (sight self.new).errors ≡ (sight self.old).errors ++ take n bytes.now }
-        ensures output { honest self.old → (sight self.new).output ≡ (sight self.old).output }
-        ensures files { honest self.old → KeepsFiles (sight self.old) (sight self.new) }
-        ensures counted { honest self.old → refusals self.new ≡ refusals self.old }
-        ensures survives { honest self.old → NothingNewFound (survives self.old) (survives self.new) }
-        ensures note { honest self.old → note self.new ≡ note self.old }
-        ensures honesty { honest self.new ↔ honest self.old };
+        ensures errors { faithful self.old → (n : ℕ) × (state self.new).errors ≡ (state self.old).errors ++ take n bytes.now }
+        ensures output { faithful self.old → (state self.new).output ≡ (state self.old).output }
+        ensures files { faithful self.old → KeepsFiles (state self.old) (state self.new) }
+        ensures counted { faithful self.old → refusals self.new ≡ refusals self.old }
+        ensures survives { faithful self.old → NothingNewFound (survives self.old) (survives self.new) }
+        ensures note { faithful self.old → note self.new ≡ note self.old }
+        ensures faith { faithful self.new ↔ faithful self.old };
 
     /// Opens an image that is there, to read it alone. It may be a device that is mounted.
     fn open_image_to_read(&mut self, name: &str) -> Result<Self::File, Refusal>
-        requires may { honest self.old → MayBeRead (sight self.old) name.now }
-        ensures named { honest self.old → IfOk result (λ f. (sight self.old).named name.now ≡ Some (number f)) }
-        ensures missing { honest self.old → result ≡ Err Missing → (sight self.old).named name.now ≡ None }
-        ensures same { honest self.old → sight self.new ≡ sight self.old }
-        ensures counted { honest self.old → CountsRefusal result (refusals self.old) (refusals self.new) }
-        ensures survives { honest self.old → NothingNewFound (survives self.old) (survives self.new) }
-        ensures note { honest self.old → note self.new ≡ note self.old }
-        ensures honesty { honest self.new ↔ honest self.old };
+        requires may { faithful self.old → MayBeRead (state self.old) name.now }
+        ensures named { faithful self.old → IfOk result (λ f. (state self.old).named name.now ≡ Some (number f)) }
+        ensures missing { faithful self.old → result ≡ Err Missing → (state self.old).named name.now ≡ None }
+        ensures same { faithful self.old → state self.new ≡ state self.old }
+        ensures counted { faithful self.old → CountsRefusal result (refusals self.old) (refusals self.new) }
+        ensures survives { faithful self.old → NothingNewFound (survives self.old) (survives self.new) }
+        ensures note { faithful self.old → note self.new ≡ note self.old }
+        ensures faith { faithful self.new ↔ faithful self.old };
 
     /// Opens a journal or a redo text that is there, beside its image, to read it alone.
     fn open_text_to_read(&mut self, name: &str, image: &Self::File) -> Result<Self::File, Refusal>
-        requires may { honest self.old → MayBeText (number image.now) (sight self.old) name.now }
-        ensures named { honest self.old → IfOk result (λ f. (sight self.old).named name.now ≡ Some (number f)) }
-        ensures missing { honest self.old → result ≡ Err Missing → (sight self.old).named name.now ≡ None }
-        ensures same { honest self.old → sight self.new ≡ sight self.old }
-        ensures counted { honest self.old → CountsRefusal result (refusals self.old) (refusals self.new) }
-        ensures survives { honest self.old → NothingNewFound (survives self.old) (survives self.new) }
-        ensures note { honest self.old → note self.new ≡ note self.old }
-        ensures honesty { honest self.new ↔ honest self.old };
+        requires may { faithful self.old → MayBeText (number image.now) (state self.old) name.now }
+        ensures named { faithful self.old → IfOk result (λ f. (state self.old).named name.now ≡ Some (number f)) }
+        ensures missing { faithful self.old → result ≡ Err Missing → (state self.old).named name.now ≡ None }
+        ensures same { faithful self.old → state self.new ≡ state self.old }
+        ensures counted { faithful self.old → CountsRefusal result (refusals self.old) (refusals self.new) }
+        ensures survives { faithful self.old → NothingNewFound (survives self.old) (survives self.new) }
+        ensures note { faithful self.old → note self.new ≡ note self.old }
+        ensures faith { faithful self.new ↔ faithful self.old };
 
     /// Locks a file that is only read up to its closing, beside others that lock it so. It has to have its name still. One that
     /// another program has locked to change it is refused.
     fn lock_shared(&mut self, name: &str, file: &Self::File) -> Result<(), Refusal>
-        ensures locked { honest self.old → result ≡ Err Locked → number file.now < (sight self.old).before }
-        ensures missing { honest self.old → result ≡ Err Missing → ⊥ }
-        ensures same { honest self.old → sight self.new ≡ sight self.old }
-        ensures counted { honest self.old → CountsRefusal result (refusals self.old) (refusals self.new) }
-        ensures survives { honest self.old → NothingNewFound (survives self.old) (survives self.new) }
-        ensures note { honest self.old → note self.new ≡ note self.old }
-        ensures honesty { honest self.new ↔ honest self.old };
+        ensures locked { faithful self.old → result ≡ Err Locked → number file.now < (state self.old).before }
+        ensures missing { faithful self.old → result ≡ Err Missing → ⊥ }
+        ensures same { faithful self.old → state self.new ≡ state self.old }
+        ensures counted { faithful self.old → CountsRefusal result (refusals self.old) (refusals self.new) }
+        ensures survives { faithful self.old → NothingNewFound (survives self.old) (survives self.new) }
+        ensures note { faithful self.old → note self.new ≡ note self.old }
+        ensures faith { faithful self.new ↔ faithful self.old };
 
     /// Lends an open image to be read. The device refuses each write, cut and sync, so the file stays whatever is done with it.
     fn lend_image_to_read(&mut self, image: Self::File) -> Result<Self::Image, Refusal>
         ensures failures { IfOk result (λ d. Self.Image.failures d ≡ 0) }
-        ensures faithful { honest self.old → IfOk result (λ d. Self.Image.honest d) }
-        ensures image { honest self.old → IfOk result (λ d. Self.Image.image d ≡ (sight self.old).bytes (number image)) }
-        ensures missing { honest self.old → result ≡ Err Missing → ⊥ }
-        ensures same { honest self.old → sight self.new ≡ sight self.old }
-        ensures counted { honest self.old → CountsRefusal result (refusals self.old) (refusals self.new) }
-        ensures survives { honest self.old → NothingNewFound (survives self.old) (survives self.new) }
-        ensures note { honest self.old → note self.new ≡ note self.old }
-        ensures honesty { honest self.new ↔ honest self.old };
+        ensures faithful { faithful self.old → IfOk result (λ d. Self.Image.faithful d) }
+        ensures image { faithful self.old → IfOk result (λ d. Self.Image.image d ≡ (state self.old).bytes (number image)) }
+        ensures missing { faithful self.old → result ≡ Err Missing → ⊥ }
+        ensures same { faithful self.old → state self.new ≡ state self.old }
+        ensures counted { faithful self.old → CountsRefusal result (refusals self.old) (refusals self.new) }
+        ensures survives { faithful self.old → NothingNewFound (survives self.old) (survives self.new) }
+        ensures note { faithful self.old → note self.new ≡ note self.old }
+        ensures faith { faithful self.new ↔ faithful self.old };
 
     /// Lends an open journal or redo text to be read. The device refuses each write, cut and sync.
     fn lend_text_to_read(&mut self, text: Self::File) -> Result<Self::Text, Refusal>
         ensures failures { IfOk result (λ t. Self.Text.failures t ≡ 0) }
-        ensures faithful { honest self.old → IfOk result (λ t. Self.Text.honest t) }
-        ensures text { honest self.old → IfOk result (λ t. Self.Text.text t ≡ (sight self.old).bytes (number text)) }
-        ensures missing { honest self.old → result ≡ Err Missing → ⊥ }
-        ensures same { honest self.old → sight self.new ≡ sight self.old }
-        ensures counted { honest self.old → CountsRefusal result (refusals self.old) (refusals self.new) }
-        ensures survives { honest self.old → NothingNewFound (survives self.old) (survives self.new) }
-        ensures note { honest self.old → note self.new ≡ note self.old }
-        ensures honesty { honest self.new ↔ honest self.old };
+        ensures faithful { faithful self.old → IfOk result (λ t. Self.Text.faithful t) }
+        ensures text { faithful self.old → IfOk result (λ t. Self.Text.text t ≡ (state self.old).bytes (number text)) }
+        ensures missing { faithful self.old → result ≡ Err Missing → ⊥ }
+        ensures same { faithful self.old → state self.new ≡ state self.old }
+        ensures counted { faithful self.old → CountsRefusal result (refusals self.old) (refusals self.new) }
+        ensures survives { faithful self.old → NothingNewFound (survives self.old) (survives self.new) }
+        ensures note { faithful self.old → note self.new ≡ note self.old }
+        ensures faith { faithful self.new ↔ faithful self.old };
 
     /// Lends a redo text that is missing to be read: it has no bytes, and refuses each write.
     fn lend_no_text(&mut self) -> Self::Text
-        ensures beside { honest self.old → beside self.new ≡ beside self.old }
+        ensures beside { faithful self.old → beside self.new ≡ beside self.old }
         ensures failures { Self.Text.failures result ≡ 0 }
-        ensures faithful { honest self.old → Self.Text.honest result }
-        ensures text { honest self.old → Self.Text.text result ≡ [] }
-        ensures same { honest self.old → sight self.new ≡ sight self.old }
-        ensures counted { honest self.old → refusals self.new ≡ refusals self.old }
-        ensures survives { honest self.old → NothingNewFound (survives self.old) (survives self.new) }
-        ensures note { honest self.old → note self.new ≡ note self.old }
-        ensures honesty { honest self.new ↔ honest self.old };
+        ensures faithful { faithful self.old → Self.Text.faithful result }
+        ensures text { faithful self.old → Self.Text.text result ≡ [] }
+        ensures same { faithful self.old → state self.new ≡ state self.old }
+        ensures counted { faithful self.old → refusals self.new ≡ refusals self.old }
+        ensures survives { faithful self.old → NothingNewFound (survives self.old) (survives self.new) }
+        ensures note { faithful self.old → note self.new ≡ note self.old }
+        ensures faith { faithful self.new ↔ faithful self.old };
 
     /// Takes devices back that were lent to be read; their files are closed.
     fn close_read(&mut self, image: Self::Image, journal: Self::Text, redo: Self::Text)
-        ensures same { honest self.old → sight self.new ≡ sight self.old }
-        ensures counted { honest self.old → refusals self.new ≡ refusals self.old }
-        ensures survives { honest self.old → NothingNewFound (survives self.old) (survives self.new) }
-        ensures note { honest self.old → note self.new ≡ note self.old }
-        ensures honesty { honest self.new ↔ honest self.old };
+        ensures same { faithful self.old → state self.new ≡ state self.old }
+        ensures counted { faithful self.old → refusals self.new ≡ refusals self.old }
+        ensures survives { faithful self.old → NothingNewFound (survives self.old) (survives self.new) }
+        ensures note { faithful self.old → note self.new ≡ note self.old }
+        ensures faith { faithful self.new ↔ faithful self.old };
 
     /// Lends an image that is open to be read, and its journal, which is open to be changed. Both are lent to be read: the devices
     /// refuse each write and cut, so the files stay whatever is done with them. A sync puts the image on the disk.
@@ -406,104 +406,104 @@ pub trait World {
         image: Self::File,
         journal: Self::File,
     ) -> Result<(Self::Image, Self::Text), Refusal>
-        requires apart { honest self.old → AreOwnFiles (sight self.old).there (record { image = number image; journal = number journal; redo = None }) }
+        requires apart { faithful self.old → AreOwnFiles (state self.old).there (record { image = number image; journal = number journal; redo = None }) }
         ensures failures { IfOk result (λ d. (Self.Image.failures d.0 ≡ 0) × (Self.Text.failures d.1 ≡ 0)) }
-        ensures image { honest self.old
-            → IfOk result (λ d. Self.Image.honest d.0 × (Self.Image.image d.0 ≡ (sight self.old).bytes (number image))) }
-        ensures journal { honest self.old
-            → IfOk result (λ d. Self.Text.honest d.1 × (Self.Text.text d.1 ≡ (sight self.old).bytes (number journal))) }
-        ensures beside { honest self.old
+        ensures image { faithful self.old
+            → IfOk result (λ d. Self.Image.faithful d.0 × (Self.Image.image d.0 ≡ (state self.old).bytes (number image))) }
+        ensures journal { faithful self.old
+            → IfOk result (λ d. Self.Text.faithful d.1 × (Self.Text.text d.1 ≡ (state self.old).bytes (number journal))) }
+        ensures beside { faithful self.old
             → OnOk result (beside self.new ≡ Some (record { image = number image; journal = number journal; redo = None })) }
-        ensures image_survives { honest self.old → IfOk result (λ d. NoMore (survives self.old (number image)) (Self.Image.survives d.0)) }
-        ensures missing { honest self.old → result ≡ Err Missing → ⊥ }
-        ensures same { honest self.old → sight self.new ≡ sight self.old }
-        ensures counted { honest self.old → CountsRefusal result (refusals self.old) (refusals self.new) }
-        ensures survives { honest self.old → NothingNewFound (survives self.old) (survives self.new) }
-        ensures note { honest self.old → note self.new ≡ note self.old }
-        ensures honesty { honest self.new ↔ honest self.old };
+        ensures image_survives { faithful self.old → IfOk result (λ d. NoMore (survives self.old (number image)) (Self.Image.survives d.0)) }
+        ensures missing { faithful self.old → result ≡ Err Missing → ⊥ }
+        ensures same { faithful self.old → state self.new ≡ state self.old }
+        ensures counted { faithful self.old → CountsRefusal result (refusals self.old) (refusals self.new) }
+        ensures survives { faithful self.old → NothingNewFound (survives self.old) (survives self.new) }
+        ensures note { faithful self.old → note self.new ≡ note self.old }
+        ensures faith { faithful self.new ↔ faithful self.old };
 
     /// Lends a redo text that is open to be changed, beside the image and the journal that are lent, to be read like the journal.
     fn lend_redo_beside(&mut self, redo: Self::File) -> Result<Self::Text, Refusal>
-        requires apart { honest self.old → (f : ReadFiles) → beside self.old ≡ Some f
-            → AreOwnFiles (sight self.old).there (record { image = f.image; journal = f.journal; redo = Some (number redo) }) }
+        requires apart { faithful self.old → (f : ReadFiles) → beside self.old ≡ Some f
+            → AreOwnFiles (state self.old).there (record { image = f.image; journal = f.journal; redo = Some (number redo) }) }
         ensures failures { IfOk result (λ t. Self.Text.failures t ≡ 0) }
-        ensures redo { honest self.old
-            → IfOk result (λ t. Self.Text.honest t × (Self.Text.text t ≡ (sight self.old).bytes (number redo))) }
-        ensures beside { honest self.old → OnOk result ((f : ReadFiles) → beside self.old ≡ Some f
+        ensures redo { faithful self.old
+            → IfOk result (λ t. Self.Text.faithful t × (Self.Text.text t ≡ (state self.old).bytes (number redo))) }
+        ensures beside { faithful self.old → OnOk result ((f : ReadFiles) → beside self.old ≡ Some f
             → beside self.new ≡ Some (record { image = f.image; journal = f.journal; redo = Some (number redo) })) }
-        ensures missing { honest self.old → result ≡ Err Missing → ⊥ }
-        ensures same { honest self.old → sight self.new ≡ sight self.old }
-        ensures counted { honest self.old → CountsRefusal result (refusals self.old) (refusals self.new) }
-        ensures survives { honest self.old → NothingNewFound (survives self.old) (survives self.new) }
-        ensures note { honest self.old → note self.new ≡ note self.old }
-        ensures honesty { honest self.new ↔ honest self.old };
+        ensures missing { faithful self.old → result ≡ Err Missing → ⊥ }
+        ensures same { faithful self.old → state self.new ≡ state self.old }
+        ensures counted { faithful self.old → CountsRefusal result (refusals self.old) (refusals self.new) }
+        ensures survives { faithful self.old → NothingNewFound (survives self.old) (survives self.new) }
+        ensures note { faithful self.old → note self.new ≡ note self.old }
+        ensures faith { faithful self.new ↔ faithful self.old };
 
     /// Lends the texts that are lent beside an image to be changed. Whatever was done with their devices before, they hold what the
     /// files do; what is done with a redo text that is missing goes nowhere.
     fn let_change(&mut self, journal: Self::Text, redo: Self::Text) -> (Self::Text, Self::Text)
         ensures failures { (Self.Text.failures result.0 ≡ 0) × (Self.Text.failures result.1 ≡ 2 ^ 32) }
-        ensures journal { honest self.old → (f : ReadFiles) → beside self.old ≡ Some f
-            → Self.Text.honest result.0 × (Self.Text.text result.0 ≡ (sight self.old).bytes f.journal) }
-        ensures redo { honest self.old → (f : ReadFiles) → beside self.old ≡ Some f
-            → Self.Text.honest result.1 × (Self.Text.text result.1 ≡ bytes_if (sight self.old) f.redo) }
-        ensures only { honest self.old → (f : ReadFiles) → beside self.old ≡ Some f → Spares (IsNoText f) (sight self.old) (sight self.new) }
-        ensures beside { honest self.old → beside self.new ≡ beside self.old }
-        ensures survives { honest self.old → (f : ReadFiles) → beside self.old ≡ Some f
+        ensures journal { faithful self.old → (f : ReadFiles) → beside self.old ≡ Some f
+            → Self.Text.faithful result.0 × (Self.Text.text result.0 ≡ (state self.old).bytes f.journal) }
+        ensures redo { faithful self.old → (f : ReadFiles) → beside self.old ≡ Some f
+            → Self.Text.faithful result.1 × (Self.Text.text result.1 ≡ bytes_if (state self.old) f.redo) }
+        ensures only { faithful self.old → (f : ReadFiles) → beside self.old ≡ Some f → Spares (IsNoText f) (state self.old) (state self.new) }
+        ensures beside { faithful self.old → beside self.new ≡ beside self.old }
+        ensures survives { faithful self.old → (f : ReadFiles) → beside self.old ≡ Some f
             → NothingNewSpared (IsNoText f) (survives self.old) (survives self.new) }
-        ensures journal_survives { honest self.old → (f : ReadFiles) → beside self.old ≡ Some f
+        ensures journal_survives { faithful self.old → (f : ReadFiles) → beside self.old ≡ Some f
             → NoMore (survives self.old f.journal) (Self.Text.survives result.0) }
-        ensures redo_survives { honest self.old → (f : ReadFiles) → beside self.old ≡ Some f
+        ensures redo_survives { faithful self.old → (f : ReadFiles) → beside self.old ≡ Some f
             → (n : ℕ) → f.redo ≡ Some n → NoMore (survives self.old n) (Self.Text.survives result.1) }
-        ensures counted { honest self.old → refusals self.new ≡ refusals self.old }
-        ensures note { honest self.old → note self.new ≡ note self.old }
-        ensures honesty { honest self.new ↔ honest self.old };
+        ensures counted { faithful self.old → refusals self.new ≡ refusals self.old }
+        ensures note { faithful self.old → note self.new ≡ note self.old }
+        ensures faith { faithful self.new ↔ faithful self.old };
 
     /// Takes an image and its texts back, which may have been changed; their files are closed. The texts have then what the devices
     /// have, and the image has what it had.
     fn close_beside(&mut self, image: Self::Image, journal: Self::Text, redo: Self::Text)
         requires order { (Self.Text.failures journal < 2 ^ 32) × (2 ^ 32 ≤ Self.Text.failures redo) }
-        requires devices { honest self.old → Self.Image.honest image × Self.Text.honest journal × Self.Text.honest redo }
-        ensures closed { honest self.old → (f : ReadFiles) → beside self.old ≡ Some f
-            → ClosesTexts f (Self.Text.text journal) (Self.Text.text redo) (sight self.old) (sight self.new) }
-        ensures texts_survive { honest self.old → (f : ReadFiles) → beside self.old ≡ Some f
+        requires devices { faithful self.old → Self.Image.faithful image × Self.Text.faithful journal × Self.Text.faithful redo }
+        ensures closed { faithful self.old → (f : ReadFiles) → beside self.old ≡ Some f
+            → ClosesTexts f (Self.Text.text journal) (Self.Text.text redo) (state self.old) (state self.new) }
+        ensures texts_survive { faithful self.old → (f : ReadFiles) → beside self.old ≡ Some f
             → TextsLeft f (Self.Text.survives journal) (Self.Text.survives redo) (survives self.new) }
-        ensures image_survives { honest self.old → (f : ReadFiles) → beside self.old ≡ Some f
-            → Self.Image.image image ≡ (sight self.old).bytes f.image → NoMore (Self.Image.survives image) (survives self.new f.image) }
-        ensures others { honest self.old → (f : ReadFiles) → beside self.old ≡ Some f
+        ensures image_survives { faithful self.old → (f : ReadFiles) → beside self.old ≡ Some f
+            → Self.Image.image image ≡ (state self.old).bytes f.image → NoMore (Self.Image.survives image) (survives self.new f.image) }
+        ensures others { faithful self.old → (f : ReadFiles) → beside self.old ≡ Some f
             → NothingNewSpared (IsNoneRead f) (survives self.old) (survives self.new) }
-        ensures beside { honest self.old → beside self.new ≡ None }
-        ensures counted { honest self.old → refusals self.new ≡ refusals self.old }
-        ensures note { honest self.old → note self.new ≡ note self.old }
-        ensures honesty { honest self.new ↔ honest self.old };
+        ensures beside { faithful self.old → beside self.new ≡ None }
+        ensures counted { faithful self.old → refusals self.new ≡ refusals self.old }
+        ensures note { faithful self.old → note self.new ≡ note self.old }
+        ensures faith { faithful self.new ↔ faithful self.old };
 
     /// Reads the first bytes of the note into a buffer, and says how many there are up to its length. A note that is missing has none;
     /// one that can't be read is no refusal that is counted.
     fn read_note(&mut self, buf: &mut [u8]) -> Result<usize, Refusal>
         ensures within { length buf.new ≡ length buf.old }
         ensures few { IfOk result (λ n. n ≤ length buf.old) }
-        ensures read { honest self.old → IfOk result (λ n. IsFrontRead n (length buf.old) buf.new (note self.old)) }
-        ensures same { honest self.old → sight self.new ≡ sight self.old }
-        ensures beside { honest self.old → beside self.new ≡ beside self.old }
-        ensures counted { honest self.old → refusals self.new ≡ refusals self.old }
-        ensures survives { honest self.old → NothingNewFound (survives self.old) (survives self.new) }
-        ensures note { honest self.old → note self.new ≡ note self.old }
-        ensures found { honest self.old → NoMore (note_survives self.old) (note_survives self.new) }
-        ensures honesty { honest self.new ↔ honest self.old };
+        ensures read { faithful self.old → IfOk result (λ n. IsFrontRead n (length buf.old) buf.new (note self.old)) }
+        ensures same { faithful self.old → state self.new ≡ state self.old }
+        ensures beside { faithful self.old → beside self.new ≡ beside self.old }
+        ensures counted { faithful self.old → refusals self.new ≡ refusals self.old }
+        ensures survives { faithful self.old → NothingNewFound (survives self.old) (survives self.new) }
+        ensures note { faithful self.old → note self.new ≡ note self.old }
+        ensures found { faithful self.old → NoMore (note_survives self.old) (note_survives self.new) }
+        ensures faith { faithful self.new ↔ faithful self.old };
 
     /// Puts these bytes in place of the note, and says what stands then; `synced` says whether they are put on the disk too. No file
     /// that has a name in this world is changed by it, nor one that is lent. No bytes take the note away.
     fn put_note(&mut self, bytes: &[u8], synced: bool) -> Noted
-        ensures note { honest self.old → note self.new ≡ noted result bytes.now (note self.old) }
-        ensures settled { honest self.old → result ≡ Put → synced ≡ true → Only bytes.now (note_survives self.new) }
-        ensures same { honest self.old → sight self.new ≡ sight self.old }
-        ensures beside { honest self.old → beside self.new ≡ beside self.old }
-        ensures counted { honest self.old → refusals self.new ≡ refusals self.old }
-        ensures survives { honest self.old → NothingNewFound (survives self.old) (survives self.new) }
-        ensures honesty { honest self.new ↔ honest self.old };
+        ensures note { faithful self.old → note self.new ≡ noted result bytes.now (note self.old) }
+        ensures settled { faithful self.old → result ≡ Put → synced ≡ true → Only bytes.now (note_survives self.new) }
+        ensures same { faithful self.old → state self.new ≡ state self.old }
+        ensures beside { faithful self.old → beside self.new ≡ beside self.old }
+        ensures counted { faithful self.old → refusals self.new ≡ refusals self.old }
+        ensures survives { faithful self.old → NothingNewFound (survives self.old) (survives self.new) }
+        ensures faith { faithful self.new ↔ faithful self.old };
 
     /// No fewer files are there than were when the run began.
-    ghost begun: { (w : Self) → honest w → (sight w).before ≤ (sight w).there };
+    ghost begun: { (w : Self) → faithful w → (state w).before ≤ (state w).there };
 
-    /// Each name of an honest world leads to a file that is there.
-    ghost within: { (w : Self) (name : List ℕ) (n : ℕ) → honest w → (sight w).named name ≡ Some n → n < (sight w).there };
+    /// Each name of a faithful world leads to a file that is there.
+    ghost within: { (w : Self) (name : List ℕ) (n : ℕ) → faithful w → (state w).named name ≡ Some n → n < (state w).there };
 }

@@ -33,7 +33,7 @@ impl<A: Allocator> Chip<A> {
 impl<A: Allocator> Device for Chip<A> {
     ghost image = { λ c. c.bytes.items };
 
-    ghost honest = { λ _. Unit {0} };
+    ghost faithful = { λ _. Unit {0} };
 
     ghost room = { λ c. c.size };
 

@@ -29,7 +29,7 @@ fn there_and_back<D: Device, A: Allocator + Clone>(
     change: &Change<A>,
 ) -> Result<(), ImageFault>
     requires { D.failures device.old + 4 < u64.MAX }
-    ensures { D.honest device.old → OnOk result (D.image device.new ≡ D.image device.old) }
+    ensures { D.faithful device.old → OnOk result (D.image device.new ≡ D.image device.old) }
 {
     let len = check(change, device.len()?).map_err(|_| ImageFault::TooLarge)?;
     let saved = save(alloc, device, change)?;

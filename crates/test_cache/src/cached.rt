@@ -10,7 +10,7 @@ use crate::unsynced::Unsynced;
 use bx_image::{RandomAccess, Stop};
 use std::alloc::{AllocError, Global};
 
-/// A file in memory behind a write-back cache. It is always honest, and fails for want of memory alone: then it did nothing.
+/// A file in memory behind a write-back cache. It is always faithful, and fails for want of memory alone: then it did nothing.
 ///
 /// What was changed since the last sync may be lost: in whole, in part, and at its end with zeros.
 #[derive(Drop)]
@@ -119,7 +119,7 @@ impl RandomAccess for CachedFile {
 
     ghost content = { held };
 
-    ghost honest = { λ _. Unit {0} };
+    ghost faithful = { λ _. Unit {0} };
 
     ghost survives = { found };
 

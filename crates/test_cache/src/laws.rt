@@ -1,4 +1,4 @@
-//! That a loss of power may take from an honest device, and from an honest store, what was written.
+//! That a loss of power may take from a faithful device, and from a faithful store, what was written.
 ghost use Rattle.std.specs.Prelude.{◌≡◌, ◌+◌, ◌^◌, ◌<◌, ◌++◌, List, ℕ, length, IfSome};
 ghost use Rattle.bx_image.specs.Image.{place};
 ghost use Rattle.bx_image.specs.Power.{NoMore};
@@ -10,7 +10,7 @@ use bx_image::{Device, FileImage, RandomAccess, Stop};
 use bx_journal_store::{FileText, TextStore};
 use std::alloc::Global;
 
-/// An image to which bytes were written, without a sync: it is honest, and both what it had and what it has may be found.
+/// An image to which bytes were written, without a sync: it is faithful, and both what it had and what it has may be found.
 pub fn written_image(
     alloc: Global,
     old: &[u8],
@@ -18,7 +18,7 @@ pub fn written_image(
     bytes: &[u8],
 ) -> Option<FileImage<CachedFile>>
     requires { at + length bytes.now < 2 ^ 64 }
-    ensures honest { IfSome result (λ d. ⟦<FileImage<CachedFile> as Device>⟧.honest d) }
+    ensures faithful { IfSome result (λ d. ⟦<FileImage<CachedFile> as Device>⟧.faithful d) }
     ensures image { IfSome result (λ d. ⟦<FileImage<CachedFile> as Device>⟧.image d ≡ place old.now at bytes.now) }
     ensures kept { IfSome result (λ d. ⟦<FileImage<CachedFile> as Device>⟧.survives d (place old.now at bytes.now)) }
     ensures lost { IfSome result (λ d. ⟦<FileImage<CachedFile> as Device>⟧.survives d old.now) }
@@ -28,10 +28,10 @@ pub fn written_image(
     Some(FileImage::new(file))
 }
 
-/// A text to which bytes were added, without a sync: it is honest, and both what it had and what it has may be found.
+/// A text to which bytes were added, without a sync: it is faithful, and both what it had and what it has may be found.
 pub fn appended_text(alloc: Global, old: &[u8], bytes: &[u8]) -> Option<FileText<CachedFile>>
     requires { length old.now + length bytes.now < 2 ^ 64 }
-    ensures honest { IfSome result (λ t. ⟦<FileText<CachedFile> as TextStore>⟧.honest t) }
+    ensures faithful { IfSome result (λ t. ⟦<FileText<CachedFile> as TextStore>⟧.faithful t) }
     ensures text { IfSome result (λ t. ⟦<FileText<CachedFile> as TextStore>⟧.text t ≡ old.now ++ bytes.now) }
     ensures kept { IfSome result (λ t. ⟦<FileText<CachedFile> as TextStore>⟧.survives t (old.now ++ bytes.now)) }
     ensures lost { IfSome result (λ t. ⟦<FileText<CachedFile> as TextStore>⟧.survives t old.now) }
@@ -42,14 +42,14 @@ pub fn appended_text(alloc: Global, old: &[u8], bytes: &[u8]) -> Option<FileText
 }
 
 /// Writes to a file. Where it had no more to be found than a file behind a cache of the same content, it has no more now than
-/// that one behind the same write: so no honest file loses more.
+/// that one behind the same write: so no faithful file loses more.
 pub fn write_loses_no_more<F: RandomAccess>(
     file: &mut F,
     at: u64,
     bytes: &[u8],
 ) -> Result<usize, Stop>
     requires { at + length bytes.now < 2 ^ 64 }
-    ensures { F.honest file.old → (synced : List ℕ) (earlier : List Unsynced) → NoMore (MayBeFound synced earlier) (F.survives file.old)
+    ensures { F.faithful file.old → (synced : List ℕ) (earlier : List Unsynced) → NoMore (MayBeFound synced earlier) (F.survives file.old)
         → NoMore (MayBeWritten at bytes.now (F.content file.old) (MayBeFound synced earlier)) (F.survives file.new) }
 {
     file.write_some(at, bytes)
@@ -57,7 +57,7 @@ pub fn write_loses_no_more<F: RandomAccess>(
 
 /// Gives a file a length. What is said of a write holds of this too.
 pub fn resize_loses_no_more<F: RandomAccess>(file: &mut F, n: u64) -> Result<(), Stop>
-    ensures { F.honest file.old → (synced : List ℕ) (earlier : List Unsynced) → NoMore (MayBeFound synced earlier) (F.survives file.old)
+    ensures { F.faithful file.old → (synced : List ℕ) (earlier : List Unsynced) → NoMore (MayBeFound synced earlier) (F.survives file.old)
         → NoMore (MayBeResized n (F.content file.old) (MayBeFound synced earlier)) (F.survives file.new) }
 {
     file.resize(n)

@@ -1,7 +1,7 @@
-//! A file in memory behind a write-back cache: an honest file that a loss of power takes bytes from.
+//! A file in memory behind a write-back cache: a faithful file that a loss of power takes bytes from.
 //!
 //! What may be found of it after a loss of power is defined by its changes since the last sync, as all that the clauses of
-//! `RandomAccess` allow: no honest file loses more (`laws`). An image in it (`FileImage`) is a device and a text in it
+//! `RandomAccess` allow: no faithful file loses more (`laws`). An image in it (`FileImage`) is a device and a text in it
 //! (`FileText`) a store that lose as much.
 //!
 //! `docs/DECISIONS.md` says why it is there ("Devices and files").

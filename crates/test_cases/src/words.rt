@@ -119,7 +119,7 @@ fn whole(alloc: Global, run: RunOf<'_>, each: usize) -> Result<u32, Wrong> {
 /// Runs the job on what stands behind the bytes that a seek passes, where there are some and the case doesn't give that itself.
 fn behind(alloc: Global, run: RunOf<'_>) -> Result<u32, Wrong> {
     let length = run.input.len() as u64;
-    let passed = run.job.skip().passable(length);
+    let passed = run.job.skip().seekable(length);
     if run.length > 0 || passed == 0 {
         return Ok(0);
     }

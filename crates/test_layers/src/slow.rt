@@ -44,13 +44,13 @@ impl Slow {
 impl RandomAccess for Slow {
     ghost content = { λ _. [] };
 
-    ghost honest = { λ _. ⊥ };
+    ghost faithful = { λ _. ⊥ };
 
     ghost survives = { λ _ _. ⊥ };
 
-    ghost within = { λ f honest. absurd honest };
+    ghost within = { λ f faithful. absurd faithful };
 
-    ghost present = { λ f honest. absurd honest };
+    ghost present = { λ f faithful. absurd faithful };
 
     fn size(&mut self) -> Result<u64, Stop> {
         self.stop()?;

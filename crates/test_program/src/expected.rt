@@ -21,7 +21,7 @@ pub fn run_line<R: Read, W: Write>(
     to: &mut W,
 ) -> Result<Done, Fault> {
     match plan_words(alloc, &words(alloc, line)?)? {
-        Job::Dump(job) => run_dump(alloc, &job, job.skip().passable(0), from, to),
+        Job::Dump(job) => run_dump(alloc, &job, job.skip().seekable(0), from, to),
         Job::Lay(_) | Job::Change(_) | Job::Look(_) | Job::Diff(_) | Job::Help { .. } => {
             Err(Fault::Usage)
         }

@@ -3,9 +3,9 @@ use Rattle.std.proofs.Common.{◌≡◌, ◌⊎◌, ◌∙◌, ◌<◌, ℕ, Boo
 use Rattle.std.specs.Prelude.{IfSome, ◌==◌}
 use Rattle.std.proofs.lemmas.Bool.Decides.{Decides-eqb}
 use Rattle.bx_image.specs.Power.{NoMore}
-use Rattle.test_world.specs.Memory.{HasOtherBytes, TakesContents, found_of, sight_of}
+use Rattle.test_world.specs.Memory.{HasOtherBytes, TakesContents, found_of, state_of}
 use Rattle.test_world.specs.MemoryFiles.{IsConsistent, bytes_at, file_named, follow, is_gone_at, lent_beside, lent_trio, read_files, synced_at, unless_gone}
-use Rattle.bx_world.specs.World.{AreOwnFiles, ClosesTexts, IsNoText, IsNoneRead, ReadFiles, Sight, Spares, TextsLeft}
+use Rattle.bx_world.specs.World.{AreOwnFiles, ClosesTexts, IsNoText, IsNoneRead, ReadFiles, SystemState, Spares, TextsLeft}
 use Rattle.test_world.specs.declared.memory.MemoryWorld.{MemoryWorld}
 use Rattle.test_world.specs.declared.memory.Run.{Run}
 use Rattle.test_world.specs.declared.memory.files.Contents.{Contents}
@@ -33,7 +33,7 @@ named_same old new gone same m = rw same (there (follow old.entries.items 40 m))
     there (Some n) = rw (gone n) refl
 
 spares_by : (P : ℕ → Type 0) (n : ℕ) (old new : MemoryWorld) → HasOtherBytes n old new
-    → ((i : ℕ) → P i → bytes_at new.files.items i ≡ bytes_at old.files.items i) → Spares P (sight_of old) (sight_of new)
+    → ((i : ℕ) → P i → bytes_at new.files.items i ≡ bytes_at old.files.items i) → Spares P (state_of old) (state_of new)
 spares_by P n old new p bytes = record {
   named = named_same old new p.gone p.entries;
   is_link = λ m. rw p.entries refl;
@@ -48,7 +48,7 @@ spares_by P n old new p bytes = record {
   errors = ap (λ (r : Run). r.errors.items) p.run;
 }
 
-spares_all : (P : ℕ → Type 0) (w : Sight) → Spares P w w
+spares_all : (P : ℕ → Type 0) (w : SystemState) → Spares P w w
 spares_all P w = record {
   named = λ m. refl;
   is_link = λ m. refl;
@@ -63,7 +63,7 @@ spares_all P w = record {
   errors = refl;
 }
 
-spares_then : (P Q R : ℕ → Type 0) (a b c : Sight) → ((i : ℕ) → R i → P i) → ((i : ℕ) → R i → Q i) → Spares P a b → Spares Q b c → Spares R a c
+spares_then : (P Q R : ℕ → Type 0) (a b c : SystemState) → ((i : ℕ) → R i → P i) → ((i : ℕ) → R i → Q i) → Spares P a b → Spares Q b c → Spares R a c
 spares_then P Q R a b c first second p q = record {
   named = λ m. q.named m ∙ p.named m;
   is_link = λ m. q.is_link m ∙ p.is_link m;
@@ -80,11 +80,11 @@ spares_then P Q R a b c first second p q = record {
 
 -- a step on a file that may be missing: then nothing is done
 module _ (P : ℕ → Type 0) (r : Option ℕ) (old new : MemoryWorld) (step : (n : ℕ) → P n → HasOtherBytes n old new) where
-  spares_if : IfSome r P → (r ≡ None → new ≡ old) → Spares (λ i. r ≡ Some i → ⊥) (sight_of old) (sight_of new)
+  spares_if : IfSome r P → (r ≡ None → new ≡ old) → Spares (λ i. r ≡ Some i → ⊥) (state_of old) (state_of new)
   spares_if some none = at r refl some
     where
-      at : (o : Option ℕ) → r ≡ o → IfSome o P → Spares (λ i. r ≡ Some i → ⊥) (sight_of old) (sight_of new)
-      at None is holds = rw (none is) (spares_all _ (sight_of old))
+      at : (o : Option ℕ) → r ≡ o → IfSome o P → Spares (λ i. r ≡ Some i → ⊥) (state_of old) (state_of new)
+      at None is holds = rw (none is) (spares_all _ (state_of old))
       at (Some n) is holds = spares_by _ n old new (step n holds) (λ i other. (step n holds).others i (λ same. other (is ∙ ap Some (sym same))))
 
   disk_if : IfSome r P → (r ≡ None → new ≡ old) → (i : ℕ) → (r ≡ Some i → ⊥) → synced_at new.files.items i ≡ synced_at old.files.items i
@@ -97,7 +97,7 @@ module _ (P : ℕ → Type 0) (r : Option ℕ) (old new : MemoryWorld) (step : (
 -- the contents of both texts were taken out, or put there
 pub spares_texts : (P : ℕ → Type 0) (l : LentBeside) (old mid new : MemoryWorld) → HasOtherBytes l.journal old mid
     → ((n : ℕ) → P n → HasOtherBytes n mid new) → IfSome l.redo P → (l.redo ≡ None → new ≡ mid)
-    → Spares (IsNoText (read_files l)) (sight_of old) (sight_of new)
+    → Spares (IsNoText (read_files l)) (state_of old) (state_of new)
 spares_texts P l old mid new first step some none =
     spares_then (λ i. i ≡ l.journal → ⊥) (λ i. l.redo ≡ Some i → ⊥) (IsNoText (read_files l)) _ _ _ (λ i p. p.0) (λ i p. p.1)
     (spares_by _ l.journal old mid first first.others) (spares_if P l.redo mid new step some none)
@@ -133,7 +133,7 @@ module _ (l : LentBeside) (of_journal of_redo : Contents) (old a b new : MemoryW
 
   pub closes : bytes_at a.files.items l.image ≡ bytes_at old.files.items l.image
       → (l.journal < length a.files.items → bytes_at b.files.items l.journal ≡ of_journal.bytes.items)
-      → ClosesTexts (read_files l) of_journal.bytes.items of_redo.bytes.items (sight_of old) (sight_of new)
+      → ClosesTexts (read_files l) of_journal.bytes.items of_redo.bytes.items (state_of old) (state_of new)
   closes same put = record {
     only = spares_then (λ i. Unit {0}) (IsNoText (read_files l)) (IsNoText (read_files l)) _ _ _ (λ i p. tt) (λ i p. p)
         (spares_by _ l.image old a image (λ i p. same_bytes l.image old a image same i))

@@ -5,7 +5,7 @@ use Rattle.std.specs.Option.{unwrap_or}
 use Rattle.std.specs.Str.{bytes_eq}
 use Rattle.std.proofs.lemmas.Bool.Decides.{Decides-eqb}
 use Rattle.std.proofs.lemmas.Slice.Eq.{bytes_eq-Decides}
-use Rattle.test_world.specs.Memory.{AddsFile, IsNoted, sight_of, stat_beside}
+use Rattle.test_world.specs.Memory.{AddsFile, IsNoted, state_of, stat_beside}
 use Rattle.test_world.specs.MemoryFiles.{entry_named, file_named, follow, free_end, is_gone_at, is_link_of, is_link_to, is_taken, lent_trio, stat_of, synced_at, unless_gone}
 use Rattle.bx_world.specs.Rule.{text_unfit}
 use Rattle.bx_world.specs.World.{IsOwnText, Makes, no_stat}
@@ -74,7 +74,7 @@ own_beside caller b =
 -- a file was added under a name that was free, and another name, or the same, led to that one: a file was made of that name
 pub made_file : (old new : MemoryWorld) (place name : List ℕ) (stat : Stat) → AddsFile place stat old new → is_taken old.files.items old.entries.items place ≡ false
     → file_named old.files.items old.entries.items name ≡ None → follow new.entries.items 40 name ≡ Some (length old.files.items)
-    → Makes (sight_of old) (sight_of new) name (length old.files.items)
+    → Makes (state_of old) (state_of new) name (length old.files.items)
 made_file old new place name stat p free missing leads = record {
   missing = missing;
   named = rw (leads, p.files) (there_at_end old.files.items p.added p.there);
@@ -106,7 +106,7 @@ made_file old new place name stat p free missing leads = record {
 
 -- a file was made of the name that it was added under
 pub made_text : (old new : MemoryWorld) (name : List ℕ) (stat : Stat) (n : ℕ) → n ≡ length old.files.items → AddsFile name stat old new
-    → is_taken old.files.items old.entries.items name ≡ false → Makes (sight_of old) (sight_of new) name n
+    → is_taken old.files.items old.entries.items name ≡ false → Makes (state_of old) (state_of new) name n
 made_text old new name stat n is p free =
     let missing = follow_free old.files.items old.entries.items name (length old.files.items) free 40 in
     let leads : follow new.entries.items 40 name ≡ Some (length old.files.items) =
@@ -115,7 +115,7 @@ made_text old new name stat n is p free =
 
 -- a file was made of a name that leads to the one that it was added under
 pub made_image : (old new : MemoryWorld) (place name : List ℕ) (stat : Stat) (n : ℕ) → n ≡ length old.files.items → AddsFile place stat old new
-    → free_end old.files.items old.entries.items 40 name ≡ Some place → Makes (sight_of old) (sight_of new) name n
+    → free_end old.files.items old.entries.items 40 name ≡ Some place → Makes (state_of old) (state_of new) name n
 made_image old new place name stat n is p end =
     let free = end_free old.files.items old.entries.items place (length old.files.items) 40 name end in
     let missing = end_none old.files.items old.entries.items place (length old.files.items) 40 name end in
@@ -124,20 +124,20 @@ made_image old new place name stat n is p end =
     rw is (made_file old new place name stat p free missing leads)
 
 -- a call that was noted leaves all that is seen
-pub sight_passes : (refused : Bool) (old new : MemoryWorld) → IsNoted refused old new → sight_of new ≡ sight_of old
-sight_passes refused old new p = rw (p.files, p.entries, p.caller, p.before, p.lent, p.output, p.errors, p.stuck) refl
+pub state_passes : (refused : Bool) (old new : MemoryWorld) → IsNoted refused old new → state_of new ≡ state_of old
+state_passes refused old new p = rw (p.files, p.entries, p.caller, p.before, p.lent, p.output, p.errors, p.stuck) refl
 
 -- what the system says of a file that was added
 pub told_added : (old new : MemoryWorld) (place : List ℕ) (stat : Stat) (n : ℕ) → n ≡ length old.files.items → AddsFile place stat old new
-    → (sight_of new).stat n ≡ stat
+    → (state_of new).stat n ≡ stat
 told_added old new place stat n is p = rw (is, p.files, get_end old.files.items p.added) p.told
 
 -- a file with the image's group and classes that was added beside it is one of the image's own
 pub own_made : (old new : MemoryWorld) (name : List ℕ) (image n : ℕ) (b : Stat) → n ≡ length old.files.items → image < length old.files.items
-    → unwrap_or (stat_of old.files.items image) no_stat ≡ b → AddsFile name (stat_beside old.run.caller b) old new → IsOwnText (sight_of new) image n
+    → unwrap_or (stat_of old.files.items image) no_stat ≡ b → AddsFile name (stat_beside old.run.caller b) old new → IsOwnText (state_of new) image n
 own_made old new name image n b is below of_image p =
-    let told : (sight_of new).stat n ≡ stat_beside old.run.caller b = told_added old new name (stat_beside old.run.caller b) n is p in
-    let image_told : (sight_of new).stat image ≡ b = rw (p.files, get_before old.files.items p.added image below) of_image in
+    let told : (state_of new).stat n ≡ stat_beside old.run.caller b = told_added old new name (stat_beside old.run.caller b) n is p in
+    let image_told : (state_of new).stat image ≡ b = rw (p.files, get_before old.files.items p.added image below) of_image in
     let caller : new.run.caller ≡ old.run.caller = ap (λ (r : Run). r.caller) p.run in
     rw (told, image_told, caller) (own_beside old.run.caller b)
 

@@ -1,7 +1,7 @@
 -- What a world in memory has.
 use Rattle.std.specs.Prelude.{◌≡◌, ◌⊎◌, ◌+◌, ◌<◌, ℕ, Bool, true, false, cond, List, [], ◌∷◌, ◌++◌, length}
 use Rattle.std.specs.Option.{unwrap_or}
-use Rattle.bx_world.specs.World.{Sight, no_stat, noted}
+use Rattle.bx_world.specs.World.{SystemState, no_stat, noted}
 use Rattle.test_world.specs.MemoryFiles.{bytes_at, file_named, is_gone_at, is_link_of, lent_trio, stat_of, synced_at}
 use Rattle.test_world.specs.declared.memory.MemoryWorld.{MemoryWorld}
 use Rattle.test_world.specs.declared.memory.Run.{Run}
@@ -28,8 +28,8 @@ stat_beside caller image = record {
 }
 
 -- what a person can see of files with their names, beside a run
-abbrev pub sight_in : List Stored → List Entry → Run → Sight
-sight_in files entries run = record {
+abbrev pub state_in : List Stored → List Entry → Run → SystemState
+state_in files entries run = record {
   named = file_named files entries;
   is_link = is_link_of entries;
   bytes = bytes_at files;
@@ -44,8 +44,8 @@ sight_in files entries run = record {
 }
 
 -- what a person can see of a world in memory
-abbrev pub sight_of : MemoryWorld → Sight
-sight_of w = sight_in w.files.items w.entries.items w.run
+abbrev pub state_of : MemoryWorld → SystemState
+state_of w = state_in w.files.items w.entries.items w.run
 
 -- how many of its calls were refused
 abbrev pub refusals_of : MemoryWorld → ℕ

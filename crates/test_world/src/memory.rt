@@ -144,12 +144,12 @@ impl MemoryWorld {
     ghost use Rattle.bx_world.specs.declared.world.Refusal.TheVariants.{Missing};
     ghost use Rattle.bx_world.specs.World.{CountsRefusal, IsAlwaysFit, IsOwnText, Makes};
     ghost use Rattle.test_world.specs.MemoryFiles.{file_named, free_end, is_taken};
-    ghost use Rattle.test_world.specs.Memory.{AddsFile, BuriesEmpty, BuriesOrSticks, HasOtherBytes, LendsContents, NamesFile, NamesNothing, TakesContents, IsNoted, note_of, refusals_of, sight_of, stat_beside};
+    ghost use Rattle.test_world.specs.Memory.{AddsFile, BuriesEmpty, BuriesOrSticks, HasOtherBytes, LendsContents, NamesFile, NamesNothing, TakesContents, IsNoted, note_of, refusals_of, state_of, stat_beside};
 
     /// A world without files, which this user runs a program in.
     pub fn new(alloc: Global, caller: u32) -> Self
-        ensures honest { ⟦<MemoryWorld as World>⟧.honest result }
-        ensures names { (m : List ℕ) → (⟦<MemoryWorld as World>⟧.sight result).named m ≡ None }
+        ensures faithful { ⟦<MemoryWorld as World>⟧.faithful result }
+        ensures names { (m : List ℕ) → (⟦<MemoryWorld as World>⟧.state result).named m ≡ None }
     {
         MemoryWorld {
             alloc,
@@ -213,7 +213,7 @@ impl MemoryWorld {
         ensures there { IfOk result (λ f. f.number < length self.old.files.items) }
         ensures missing { result ≡ Err Missing → file_named self.old.files.items self.old.entries.items name.now ≡ None }
         ensures files { self.new.files ≡ self.old.files }
-        ensures same { sight_of self.new ≡ sight_of self.old }
+        ensures same { state_of self.new ≡ state_of self.old }
         ensures counted { CountsRefusal result (refusals_of self.old) (refusals_of self.new) }
         ensures note { note_of self.new ≡ note_of self.old }
     {
@@ -231,7 +231,7 @@ impl MemoryWorld {
         requires free { is_taken self.old.files.items self.old.entries.items name.now ≡ false }
         ensures number { IfOk result (λ f. f.number ≡ length self.old.files.items) }
         ensures ok { OnOk result (AddsFile name.now stat self.old self.new) }
-        ensures err { OnErr result (sight_of self.new ≡ sight_of self.old) }
+        ensures err { OnErr result (state_of self.new ≡ state_of self.old) }
         ensures synced { (n : ℕ) → n < length self.old.files.items
             → synced_at self.new.files.items n ≡ synced_at self.old.files.items n }
         ensures counted { refusals_of self.new ≡ refusals_of self.old }
@@ -256,9 +256,9 @@ impl MemoryWorld {
     fn add_text(&mut self, name: &str, image: usize) -> Result<OpenFile, Refusal>
         requires free { is_taken self.old.files.items self.old.entries.items name.now ≡ false }
         requires there { image < length self.old.files.items }
-        ensures ok { IfOk result (λ f. Makes (sight_of self.old) (sight_of self.new) name.now f.number) }
-        ensures own { IfOk result (λ f. IsOwnText (sight_of self.new) image f.number) }
-        ensures err { OnErr result (sight_of self.new ≡ sight_of self.old) }
+        ensures ok { IfOk result (λ f. Makes (state_of self.old) (state_of self.new) name.now f.number) }
+        ensures own { IfOk result (λ f. IsOwnText (state_of self.new) image f.number) }
+        ensures err { OnErr result (state_of self.new ≡ state_of self.old) }
         ensures synced { (n : ℕ) → n < length self.old.files.items
             → synced_at self.new.files.items n ≡ synced_at self.old.files.items n }
         ensures counted { refusals_of self.new ≡ refusals_of self.old }
@@ -311,9 +311,9 @@ impl MemoryWorld {
 
     /// Makes an empty image of a name, or of the one that links lead to.
     fn add_image(&mut self, name: &str) -> Result<OpenFile, Refusal>
-        ensures ok { IfOk result (λ f. Makes (sight_of self.old) (sight_of self.new) name.now f.number) }
-        ensures fit { IfOk result (λ f. IsAlwaysFit (sight_of self.new) f.number) }
-        ensures err { OnErr result (sight_of self.new ≡ sight_of self.old) }
+        ensures ok { IfOk result (λ f. Makes (state_of self.old) (state_of self.new) name.now f.number) }
+        ensures fit { IfOk result (λ f. IsAlwaysFit (state_of self.new) f.number) }
+        ensures err { OnErr result (state_of self.new ≡ state_of self.old) }
         ensures synced { (n : ℕ) → n < length self.old.files.items
             → synced_at self.new.files.items n ≡ synced_at self.old.files.items n }
         ensures counted { refusals_of self.new ≡ refusals_of self.old }
@@ -449,7 +449,7 @@ impl MemoryWorld {
 }
 
 impl World for MemoryWorld {
-    ghost use Rattle.test_world.specs.Memory.{found_of, note_found_of, note_of, refusals_of, sight_of};
+    ghost use Rattle.test_world.specs.Memory.{found_of, note_found_of, note_of, refusals_of, state_of};
     ghost use Rattle.test_world.specs.MemoryFiles.{file_within, lent_beside};
 
     type Image = FuseImage<LentImage>;
@@ -460,9 +460,9 @@ impl World for MemoryWorld {
 
     type Input = LentInput;
 
-    ghost honest = { λ _. Unit {0} };
+    ghost faithful = { λ _. Unit {0} };
 
-    ghost sight = { sight_of };
+    ghost state = { state_of };
 
     ghost survives = { found_of };
 
@@ -593,7 +593,7 @@ impl World for MemoryWorld {
         Ok(())
     }
 
-    fn lend(
+    fn into_devices(
         &mut self,
         image: OpenFile,
         journal: OpenFile,
@@ -615,7 +615,7 @@ impl World for MemoryWorld {
         )
     }
 
-    fn give_back(
+    fn into_files(
         &mut self,
         image: Self::Image,
         journal: Self::Text,

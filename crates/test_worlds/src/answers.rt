@@ -1,8 +1,8 @@
 //! What the one call answers, in the words of the cases.
 use bx_cli_commands::{Fault, Reply};
-use bx_journal::How;
-use bx_run::{Cause, Done, Failure, FileRole};
-use bx_world::{Unopened, Which};
+use bx_journal::RecoveryOutcome;
+use bx_run::{Cause, CommandFile, Done, Failure};
+use bx_world::{FileRole, OpenError};
 
 /// How a command ended.
 #[derive(Clone, Copy)]
@@ -10,25 +10,25 @@ pub struct Ended {
     /// The reply to a change; none of a move, which writes what it has to tell. Or the fault that stopped it.
     pub outcome: Result<Option<Reply>, Fault>,
     /// Why the files were not opened; none where they were.
-    pub unopened: Option<Unopened>,
+    pub unopened: Option<OpenError>,
     /// What opening found unfinished; none where it was refused, and where the files were not opened.
-    pub how: Option<How>,
+    pub how: Option<RecoveryOutcome>,
 }
 
 /// Which of two or three files it is that has a part in a command.
-pub fn which_of(file: FileRole) -> Which {
+pub fn which_of(file: CommandFile) -> FileRole {
     match file {
-        FileRole::Image | FileRole::Old => Which::Image,
-        FileRole::Journal | FileRole::New => Which::Journal,
-        FileRole::Redo => Which::Redo,
+        CommandFile::Image | CommandFile::Old => FileRole::Image,
+        CommandFile::Journal | CommandFile::New => FileRole::Journal,
+        CommandFile::Redo => FileRole::Redo,
     }
 }
 
 /// The file that was not opened, where one wasn't.
-fn unopened_by(failure: Failure) -> Option<Unopened> {
+fn unopened_by(failure: Failure) -> Option<OpenError> {
     let stop = failure.stop?;
     match stop.cause {
-        Cause::Unopened(why) => Some(Unopened {
+        Cause::Unopened(why) => Some(OpenError {
             which: which_of(stop.file),
             why,
         }),

@@ -7,9 +7,9 @@ use crate::report::Wrong;
 use crate::setting::{Held, There, has_other, held_by, there_in, world_of};
 use bx_cli_commands::{Fault, Reply};
 use bx_dd::DdFault;
-use bx_journal::{How, SessionFault, Way};
+use bx_journal::{Direction, RecoveryOutcome, SessionFault};
 use bx_text::IoFault;
-use bx_world::Why;
+use bx_world::OpenFailure;
 use test_world::{MemoryWorld, Plan};
 
 /// What fails in a play, as far as it decides which faults may be.
@@ -121,20 +121,24 @@ fn has_answer(play: &Play<'_>, world: &MemoryWorld, reply: Option<Reply>) -> Res
 }
 
 /// What is said of a recovery.
-fn recovered_text(play: &Play<'_>, how: How) -> Result<String, Wrong> {
+fn recovered_text(play: &Play<'_>, how: RecoveryOutcome) -> Result<String, Wrong> {
     match how {
-        How::Clean => Ok(String::new(play.alloc)),
-        How::Dropped => {
+        RecoveryOutcome::Clean => Ok(String::new(play.alloc)),
+        RecoveryOutcome::Dropped => {
             Ok(format!(in play.alloc; "bx: recovered: an unfinished entry was dropped\n")?)
         }
-        How::Restored { number } => {
+        RecoveryOutcome::Restored { number } => {
             Ok(format!(in play.alloc; "bx: recovered: change {number} was taken back\n")?)
         }
     }
 }
 
 /// What was recovered is what the case tells, and is said; where the files weren't opened nothing is.
-fn has_recovered(play: &Play<'_>, world: &MemoryWorld, how: Option<How>) -> Result<(), Wrong> {
+fn has_recovered(
+    play: &Play<'_>,
+    world: &MemoryWorld,
+    how: Option<RecoveryOutcome>,
+) -> Result<(), Wrong> {
     let Some(how) = how else {
         return same(world.errors().is_empty(), Wrong::Streams);
     };
@@ -172,8 +176,10 @@ fn is_refused(
     same(is_due(play, cause, ended, fault)?, Wrong::Outcome)?;
     same(world.output().is_empty(), Wrong::Streams)?;
     match ended.how {
-        None | Some(How::Clean) => are_kept(play, world)?,
-        Some(How::Dropped | How::Restored { .. }) => are_recovered(play, world)?,
+        None | Some(RecoveryOutcome::Clean) => are_kept(play, world)?,
+        Some(RecoveryOutcome::Dropped | RecoveryOutcome::Restored { .. }) => are_recovered(
+            play, world,
+        )?,
     }
     Ok(exactly(0))
 }
@@ -235,7 +241,7 @@ fn ended_so(
 fn is_another(ended: &Ended) -> bool {
     ended
         .unopened
-        .is_some_and(|unopened| unopened.why == Why::Another)
+        .is_some_and(|unopened| unopened.why == OpenFailure::Another)
 }
 
 /// A command ended as it may, and left what it may. Tells what may be found behind it.
@@ -279,7 +285,14 @@ fn is_behind(play: &Play<'_>, world: &MemoryWorld, steps: u32) -> Result<bool, W
 
 /// Opens what is left in a world, by an undo of no change, which finds an image that it may.
 fn finds_in(play: &Play<'_>, world: &mut MemoryWorld, reach: Reach) -> Result<(), Wrong> {
-    let moved = move_in(world, play.alloc, &play.names, Plan::NOTHING, Way::Undo, 0);
+    let moved = move_in(
+        world,
+        play.alloc,
+        &play.names,
+        Plan::NOTHING,
+        Direction::Undo,
+        0,
+    );
     same(moved.is_ok(), Wrong::Found)?;
     for steps in reach.least..reach.most.saturating_add(1) {
         if is_behind(play, world, steps)? {

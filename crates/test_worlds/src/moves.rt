@@ -1,7 +1,7 @@
 //! Undos and redos, as a case asks for them.
 use crate::report::Wrong;
 use crate::setting::CAREFUL;
-use bx_journal::Way;
+use bx_journal::Direction;
 use bx_run::{Done, Failure, Request, run_request};
 use bx_world::Names;
 use std::alloc::Global;
@@ -10,10 +10,10 @@ use test_case_files::{Ask, Row};
 use test_world::{MemoryWorld, Plan};
 
 /// Which way a line moves changes; none where it is no move.
-pub fn way_of(row: &Row) -> Option<Way> {
+pub fn way_of(row: &Row) -> Option<Direction> {
     match &row.ask {
-        Ask::Undo(_) => Some(Way::Undo),
-        Ask::Redo(_) => Some(Way::Redo),
+        Ask::Undo(_) => Some(Direction::Undo),
+        Ask::Redo(_) => Some(Direction::Redo),
         Ask::Revert { .. }
         | Ask::Plain { .. }
         | Ask::Dd { .. }
@@ -37,7 +37,7 @@ pub fn count_of(row: &Row) -> u32 {
 }
 
 /// How many changes these lines move, all of them this way.
-pub fn count_of_all(rows: &[Row], way: Way) -> Result<u32, Wrong> {
+pub fn count_of_all(rows: &[Row], way: Direction) -> Result<u32, Wrong> {
     let mut count = 0u32;
     for row in rows {
         if way_of(row) != Some(way) {
@@ -66,7 +66,7 @@ pub fn move_in(
     alloc: Global,
     names: &Names,
     plan: Plan,
-    way: Way,
+    way: Direction,
     count: u32,
 ) -> Result<Done, Failure> {
     world.begin(plan);

@@ -8,7 +8,7 @@ use crate::setting::{Kept, There, has_other, held_by, there_in};
 use crate::sweeps::MOST_CALLS;
 use bx_cli_commands::Fault;
 use bx_image::Fuse;
-use bx_world::Unopened;
+use bx_world::OpenError;
 use test_world::{MemoryWorld, Plan};
 
 /// The calls of the world up to the one that makes an image: three looks, an opening that finds none, and that one.
@@ -17,7 +17,7 @@ const CALLS_UP_TO_MAKING: u64 = 5;
 /// Whether the command was refused for the odd file, or for a call that the world refused.
 fn is_due(world: &MemoryWorld, odd: &Odd, call: u64, ended: &Ended) -> bool {
     let (_, which, _, why) = *odd;
-    let due = Unopened { which, why };
+    let due = OpenError { which, why };
     let is_refused = match ended.outcome {
         Err(Fault::OpenFailed) => true,
         Ok(_) | Err(_) => false,

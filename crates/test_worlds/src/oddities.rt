@@ -3,7 +3,7 @@ use crate::setting::{
     CALLER, ELSEWHERE, Held, IMAGE, JOURNAL, LINK, OTHER, OTHER_BYTES, REDO, STAT, There, names_of,
 };
 use bx_text::NoMemory;
-use bx_world::{Kind, Names, Refusal, Stat, Unfit, Which, Why};
+use bx_world::{FileRole, Kind, Names, OpenFailure, Refusal, Stat, Unfit};
 use std::alloc::{AllocError, Global};
 use test_world::MemoryWorld;
 
@@ -29,129 +29,129 @@ pub enum Oddity {
 }
 
 /// A file that may not be opened: what it is called, which one it is, what is odd about it, and why it is refused.
-pub type Odd = (&'static str, Which, Oddity, Why);
+pub type Odd = (&'static str, FileRole, Oddity, OpenFailure);
 
 /// Those that are played where all three are there.
 pub static ODDS: [Odd; 20] = [
     (
         "an image that is missing",
-        Which::Image,
+        FileRole::Image,
         Oddity::Missing,
-        Why::System(Refusal::Missing),
+        OpenFailure::System(Refusal::Missing),
     ),
     (
         "an image that is a folder",
-        Which::Image,
+        FileRole::Image,
         Oddity::Folder,
-        Why::Unfit(Unfit::Kind),
+        OpenFailure::Unfit(Unfit::Kind),
     ),
     (
         "an image that is mounted",
-        Which::Image,
+        FileRole::Image,
         Oddity::Mounted,
-        Why::Unfit(Unfit::Mounted),
+        OpenFailure::Unfit(Unfit::Mounted),
     ),
     (
         "an image that is read-only",
-        Which::Image,
+        FileRole::Image,
         Oddity::ReadOnly,
-        Why::Unfit(Unfit::ReadOnly),
+        OpenFailure::Unfit(Unfit::ReadOnly),
     ),
     (
         "a journal that is missing",
-        Which::Journal,
+        FileRole::Journal,
         Oddity::Missing,
-        Why::System(Refusal::Missing),
+        OpenFailure::System(Refusal::Missing),
     ),
     (
         "a journal that is a link",
-        Which::Journal,
+        FileRole::Journal,
         Oddity::Link,
-        Why::Unfit(Unfit::Link),
+        OpenFailure::Unfit(Unfit::Link),
     ),
     (
         "a journal that is a folder",
-        Which::Journal,
+        FileRole::Journal,
         Oddity::Folder,
-        Why::Unfit(Unfit::Kind),
+        OpenFailure::Unfit(Unfit::Kind),
     ),
     (
         "a journal with a second name",
-        Which::Journal,
+        FileRole::Journal,
         Oddity::SecondName,
-        Why::Unfit(Unfit::Names),
+        OpenFailure::Unfit(Unfit::Names),
     ),
     (
         "a journal of a third person",
-        Which::Journal,
+        FileRole::Journal,
         Oddity::Third,
-        Why::Unfit(Unfit::Owner),
+        OpenFailure::Unfit(Unfit::Owner),
     ),
     (
         "a journal that others read",
-        Which::Journal,
+        FileRole::Journal,
         Oddity::Readers,
-        Why::Unfit(Unfit::Readers),
+        OpenFailure::Unfit(Unfit::Readers),
     ),
     (
         "a journal that others write",
-        Which::Journal,
+        FileRole::Journal,
         Oddity::Writers,
-        Why::Unfit(Unfit::Writers),
+        OpenFailure::Unfit(Unfit::Writers),
     ),
     (
         "a journal that is the image",
-        Which::Journal,
+        FileRole::Journal,
         Oddity::Image,
-        Why::Alias,
+        OpenFailure::Alias,
     ),
     (
         "a redo text that is a link",
-        Which::Redo,
+        FileRole::Redo,
         Oddity::Link,
-        Why::Unfit(Unfit::Link),
+        OpenFailure::Unfit(Unfit::Link),
     ),
     (
         "a redo text that is a link to nothing",
-        Which::Redo,
+        FileRole::Redo,
         Oddity::DeadLink,
-        Why::Unfit(Unfit::Link),
+        OpenFailure::Unfit(Unfit::Link),
     ),
     (
         "a redo text with a second name",
-        Which::Redo,
+        FileRole::Redo,
         Oddity::SecondName,
-        Why::Unfit(Unfit::Names),
+        OpenFailure::Unfit(Unfit::Names),
     ),
     (
         "a redo text of a third person",
-        Which::Redo,
+        FileRole::Redo,
         Oddity::Third,
-        Why::Unfit(Unfit::Owner),
+        OpenFailure::Unfit(Unfit::Owner),
     ),
     (
         "a redo text that others read",
-        Which::Redo,
+        FileRole::Redo,
         Oddity::Readers,
-        Why::Unfit(Unfit::Readers),
+        OpenFailure::Unfit(Unfit::Readers),
     ),
     (
         "a redo text that others write",
-        Which::Redo,
+        FileRole::Redo,
         Oddity::Writers,
-        Why::Unfit(Unfit::Writers),
+        OpenFailure::Unfit(Unfit::Writers),
     ),
     (
         "a redo text that is the image",
-        Which::Redo,
+        FileRole::Redo,
         Oddity::Image,
-        Why::Alias,
+        OpenFailure::Alias,
     ),
     (
         "a redo text that is the journal",
-        Which::Redo,
+        FileRole::Redo,
         Oddity::Journal,
-        Why::Alias,
+        OpenFailure::Alias,
     ),
 ];
 
@@ -160,99 +160,99 @@ pub static ODDS: [Odd; 20] = [
 pub static ODDS_OF_MADE: [Odd; 16] = [
     (
         "an image by a link to itself",
-        Which::Image,
+        FileRole::Image,
         Oddity::Itself,
-        Why::System(Refusal::Other(None)),
+        OpenFailure::System(Refusal::Other(None)),
     ),
     (
         "a journal that is a link",
-        Which::Journal,
+        FileRole::Journal,
         Oddity::Link,
-        Why::Unfit(Unfit::Link),
+        OpenFailure::Unfit(Unfit::Link),
     ),
     (
         "a journal that is a link to nothing",
-        Which::Journal,
+        FileRole::Journal,
         Oddity::DeadLink,
-        Why::Unfit(Unfit::Link),
+        OpenFailure::Unfit(Unfit::Link),
     ),
     (
         "a journal that is a folder",
-        Which::Journal,
+        FileRole::Journal,
         Oddity::Folder,
-        Why::Unfit(Unfit::Kind),
+        OpenFailure::Unfit(Unfit::Kind),
     ),
     (
         "a journal with a second name",
-        Which::Journal,
+        FileRole::Journal,
         Oddity::SecondName,
-        Why::Unfit(Unfit::Names),
+        OpenFailure::Unfit(Unfit::Names),
     ),
     (
         "a journal of a third person",
-        Which::Journal,
+        FileRole::Journal,
         Oddity::Third,
-        Why::Unfit(Unfit::Owner),
+        OpenFailure::Unfit(Unfit::Owner),
     ),
     (
         "a journal that others write",
-        Which::Journal,
+        FileRole::Journal,
         Oddity::Writers,
-        Why::Unfit(Unfit::Writers),
+        OpenFailure::Unfit(Unfit::Writers),
     ),
     (
         "a redo text that is a link",
-        Which::Redo,
+        FileRole::Redo,
         Oddity::Link,
-        Why::Unfit(Unfit::Link),
+        OpenFailure::Unfit(Unfit::Link),
     ),
     (
         "a redo text that is a link to nothing",
-        Which::Redo,
+        FileRole::Redo,
         Oddity::DeadLink,
-        Why::Unfit(Unfit::Link),
+        OpenFailure::Unfit(Unfit::Link),
     ),
     (
         "a redo text that is a folder",
-        Which::Redo,
+        FileRole::Redo,
         Oddity::Folder,
-        Why::Unfit(Unfit::Kind),
+        OpenFailure::Unfit(Unfit::Kind),
     ),
     (
         "a redo text with a second name",
-        Which::Redo,
+        FileRole::Redo,
         Oddity::SecondName,
-        Why::Unfit(Unfit::Names),
+        OpenFailure::Unfit(Unfit::Names),
     ),
     (
         "a redo text of a third person",
-        Which::Redo,
+        FileRole::Redo,
         Oddity::Third,
-        Why::Unfit(Unfit::Owner),
+        OpenFailure::Unfit(Unfit::Owner),
     ),
     (
         "a redo text that others write",
-        Which::Redo,
+        FileRole::Redo,
         Oddity::Writers,
-        Why::Unfit(Unfit::Writers),
+        OpenFailure::Unfit(Unfit::Writers),
     ),
     (
         "a journal of the image's name",
-        Which::Journal,
+        FileRole::Journal,
         Oddity::Image,
-        Why::Alias,
+        OpenFailure::Alias,
     ),
     (
         "a redo text of the image's name",
-        Which::Redo,
+        FileRole::Redo,
         Oddity::Image,
-        Why::Alias,
+        OpenFailure::Alias,
     ),
     (
         "a redo text of the journal's name",
-        Which::Redo,
+        FileRole::Redo,
         Oddity::Journal,
-        Why::Alias,
+        OpenFailure::Alias,
     ),
 ];
 
@@ -314,14 +314,14 @@ fn put_odd(
 fn put(
     world: &mut MemoryWorld,
     odd: &Odd,
-    which: Which,
+    which: FileRole,
     is_there: bool,
     bytes: &[u8],
 ) -> Result<(), NoMemory> {
     let name = match which {
-        Which::Image => IMAGE,
-        Which::Journal => JOURNAL,
-        Which::Redo => REDO,
+        FileRole::Image => IMAGE,
+        FileRole::Journal => JOURNAL,
+        FileRole::Redo => REDO,
     };
     let (_, is_odd, oddity, _) = *odd;
     if is_odd == which {
@@ -342,9 +342,15 @@ pub fn world_of_odd(
 ) -> Result<MemoryWorld, NoMemory> {
     let mut world = MemoryWorld::new(alloc, CALLER);
     world.put_link(LINK, IMAGE)?;
-    put(&mut world, odd, Which::Image, there.image, held.image)?;
-    put(&mut world, odd, Which::Journal, there.journal, held.journal)?;
-    put(&mut world, odd, Which::Redo, there.redo, held.redo)?;
+    put(&mut world, odd, FileRole::Image, there.image, held.image)?;
+    put(
+        &mut world,
+        odd,
+        FileRole::Journal,
+        there.journal,
+        held.journal,
+    )?;
+    put(&mut world, odd, FileRole::Redo, there.redo, held.redo)?;
     world.put_file(OTHER, OTHER_BYTES, STAT)?;
     Ok(world)
 }
@@ -368,8 +374,8 @@ pub fn names_of_odd(alloc: Global, odd: &Odd) -> Result<Names, AllocError> {
         | Oddity::ReadOnly => None,
     };
     match (which, of_other) {
-        (Which::Journal, Some(name)) => names_of(alloc, LINK, name, REDO),
-        (Which::Redo, Some(name)) => names_of(alloc, LINK, JOURNAL, name),
-        (Which::Image, Some(_)) | (_, None) => names_of(alloc, LINK, JOURNAL, REDO),
+        (FileRole::Journal, Some(name)) => names_of(alloc, LINK, name, REDO),
+        (FileRole::Redo, Some(name)) => names_of(alloc, LINK, JOURNAL, name),
+        (FileRole::Image, Some(_)) | (_, None) => names_of(alloc, LINK, JOURNAL, REDO),
     }
 }

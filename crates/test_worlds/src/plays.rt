@@ -4,7 +4,7 @@ use crate::changes::{change, edit_of, is_asked};
 use crate::moves::{count_of_all, image_behind, move_in, way_of};
 use crate::report::Wrong;
 use crate::setting::{Held, There, names, world_with};
-use bx_journal::{How, Way};
+use bx_journal::{Direction, RecoveryOutcome};
 use bx_world::Names;
 use std::alloc::Global;
 use test_case_files::{Answer, Ask, CommandsCase, Opening, Row};
@@ -17,7 +17,7 @@ const LONGER: &str = "the image would get longer";
 #[derive(Clone, Copy, Debug, PartialEq, Eq)]
 pub enum Asked {
     /// As many changes are moved one way.
-    Moves { way: Way, count: u32 },
+    Moves { way: Direction, count: u32 },
     /// A change is made.
     Change,
 }
@@ -97,7 +97,7 @@ fn asked_of(alloc: Global, case: &CommandsCase) -> Result<Option<Asked>, Wrong> 
         let count = count_of_all(case.rows.as_slice(), way)?;
         return Ok(Some(Asked::Moves { way, count }));
     }
-    if count_of_all(all_but_last(case.rows.as_slice()), Way::Undo)? != 0 {
+    if count_of_all(all_but_last(case.rows.as_slice()), Direction::Undo)? != 0 {
         return Err(Wrong::Unknown);
     }
     let is_asked = is_asked(alloc, &last.ask);
@@ -218,11 +218,11 @@ impl<'a> Play<'a> {
     }
 
     /// What opening finds unfinished.
-    pub fn how(&self) -> How {
+    pub fn how(&self) -> RecoveryOutcome {
         match self.case.opening {
-            Opening::Clean { .. } => How::Clean,
-            Opening::Dropped { .. } => How::Dropped,
-            Opening::Restored { number, .. } => How::Restored { number },
+            Opening::Clean { .. } => RecoveryOutcome::Clean,
+            Opening::Dropped { .. } => RecoveryOutcome::Dropped,
+            Opening::Restored { number, .. } => RecoveryOutcome::Restored { number },
         }
     }
 
@@ -265,10 +265,15 @@ impl<'a> Play<'a> {
     /// How many changes stand behind the first `steps` of them.
     pub fn standing_behind(&self, steps: u32) -> u32 {
         match self.asked {
-            Asked::Moves { way: Way::Undo, .. } => self.standing.saturating_sub(steps),
-            Asked::Moves { way: Way::Redo, .. } | Asked::Change => {
-                self.standing.saturating_add(steps)
+            Asked::Moves {
+                way: Direction::Undo,
+                ..
+            } => self.standing.saturating_sub(steps),
+            Asked::Moves {
+                way: Direction::Redo,
+                ..
             }
+            | Asked::Change => { self.standing.saturating_add(steps) }
         }
     }
 

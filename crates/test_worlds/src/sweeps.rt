@@ -5,7 +5,7 @@ use crate::plays::Play;
 use crate::report::{Failure, Wrong};
 use crate::setting::{Held, Kept, held_by};
 use bx_image::{Fuse, Part};
-use bx_journal::How;
+use bx_journal::RecoveryOutcome;
 use test_world::{Fails, MemoryWorld, Plan};
 
 /// More calls than a case makes.
@@ -160,8 +160,8 @@ fn lose(play: &Play<'_>, world: &mut MemoryWorld, reach: Reach) -> Result<(), Wr
 /// Whether a command was refused for a call that failed, and nothing is left of it.
 fn is_undone(play: &Play<'_>, ended: &Ended, reach: Reach) -> bool {
     let is_clean = match ended.how {
-        None | Some(How::Clean) => true,
-        Some(How::Dropped | How::Restored { .. }) => false,
+        None | Some(RecoveryOutcome::Clean) => true,
+        Some(RecoveryOutcome::Dropped | RecoveryOutcome::Restored { .. }) => false,
     };
     is_clean && reach.most == 0 && play.fault().is_none()
 }

@@ -28,9 +28,9 @@ skip_of (Dd job) = plan_skip job.plan
 
 -- How many of the bytes can be passed in an input of this length. Of bytes to skip as many as the input has, but for the last of them,
 -- which is read: an input that is shorter by then ends there; and addresses from a first one on stay in their range. Of blocks whole ones.
-abbrev pub passable : Skip → ℕ → ℕ
-passable (Bytes count first) length = min (min count length - 1) (2 ^ 62 - first)
-passable (Blocks count size) length = min count (length / size) * size
+abbrev pub seekable : Skip → ℕ → ℕ
+seekable (Bytes count first) length = min (min count length - 1) (2 ^ 62 - first)
+seekable (Blocks count size) length = min count (length / size) * size
 
 -- n bytes are among those to skip, of blocks whole ones, and addresses stay in their range
 abbrev pub CanPass : ℕ → Skip → Type 0

@@ -30,7 +30,7 @@ pub enum Done {
 }
 
 /// Dumps or copies what the reader gives as the job asks, where it gives what stands behind the first `passed` bytes of the
-/// input, and the job skips those: as many as `Skip::passable` says, which are none where there is no seek. Addresses count
+/// input, and the job skips those: as many as `Skip::seekable` says, which are none where there is no seek. Addresses count
 /// from the input's first byte, and limits what is read. Where dd seeks, nothing is read.
 pub fn run_dump<R: Read, W: Write, A: Allocator + Clone>(
     alloc: A,

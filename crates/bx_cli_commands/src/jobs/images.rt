@@ -4,7 +4,7 @@ ghost use Rattle.bx_dd.specs.Parsing.{IsPlanOf};
 
 use crate::{Skip, Target};
 use bx_dd::Plan;
-use bx_journal::Way;
+use bx_journal::Direction;
 use bx_text::{Name, Words};
 
 /// `dd` with `of=`: what its operands ask for, the operands themselves, and the image that `of=` names.
@@ -108,7 +108,7 @@ pub struct LogJob {
 #[derive(Drop)]
 pub struct ShowJob {
     /// Which of the two.
-    pub way: Way,
+    pub way: Direction,
     /// How many changes are shown, at most 65,535.
     pub count: u32,
     /// Whether what the image has stands beside each saved line.

@@ -12,12 +12,12 @@ pub enum Skip {
 }
 
 impl Skip {
-    ghost use Rattle.bx_cli_commands.specs.jobs.Passing.{CanPass, passable};
+    ghost use Rattle.bx_cli_commands.specs.jobs.Passing.{CanPass, seekable};
 
     /// How many of the bytes a seek can pass, in an input with `length` bytes left: all but the last, as far as the input and
     /// addresses go, or whole blocks. They are none where there is no byte, or no seek. `run_dump` takes them.
-    pub fn passable(self, length: u64) -> u64
-        ensures value { result ≡ passable self length }
+    pub fn seekable(self, length: u64) -> u64
+        ensures value { result ≡ seekable self length }
         ensures allowed { CanPass result self }
         ensures within { result ≤ length }
     {

@@ -28,7 +28,7 @@ fn text_between<E: Device, F: Device, A: Allocator + Clone>(
 ) -> Option<Vec<u8, A>>
     requires old_countable { E.failures old.old < u64.MAX }
     requires new_countable { F.failures new.old < u64.MAX }
-    ensures { E.honest old.old → F.honest new.old → IfSome result (λ text. AreShort (E.image old.old) (F.image new.old)
+    ensures { E.faithful old.old → F.faithful new.old → IfSome result (λ text. AreShort (E.image old.old) (F.image new.old)
         × (text.items ≡ patch_text extent (E.image old.old) (F.image new.old))) }
 {
     let memory = match alloc.clone() {
@@ -103,7 +103,7 @@ pub fn diff_and_patch<
     requires old_countable { E.failures old.old < u64.MAX }
     requires new_countable { F.failures new.old < u64.MAX }
     requires countable { AreBelow D.Device T.TextStore u64.MAX devices }
-    ensures { E.honest old.old → F.honest new.old → All (λ b. b < 256) (E.image old.old) → All (λ b. b < 256) (F.image new.old)
+    ensures { E.faithful old.old → F.faithful new.old → All (λ b. b < 256) (E.image old.old) → All (λ b. b < 256) (F.image new.old)
         → OfAll D.Device T.TextStore devices (IfSome result (λ r.
         DiffsAndPatches D.Device T.TextStore (E.image old.old) (F.image new.old) reverse devices r.0 r.1)) }
 {

@@ -2,7 +2,7 @@
 use crate::text::commands::operands_of;
 use crate::text::quoted::quoted;
 use bx_cli_commands::{ChangeJob, Job, StepsJob, Target};
-use bx_journal::Way;
+use bx_journal::Direction;
 use std::alloc::{AllocError, Global};
 
 /// The last entry of a text.
@@ -53,7 +53,7 @@ impl Standing {
 pub fn tell_of_begun<R: Eprint + AllocGlobal>(
     rt: &R,
     standing: &Standing,
-    way: Way,
+    way: Direction,
     job: &StepsJob,
 ) {
     let Tail::Begun(number) = standing.journal else {
@@ -68,16 +68,21 @@ pub fn tell_of_begun<R: Eprint + AllocGlobal>(
 }
 
 /// What is said of it.
-fn begun_text(alloc: Global, target: &Target, way: Way, number: u32) -> Result<String, AllocError> {
+fn begun_text(
+    alloc: Global,
+    target: &Target,
+    way: Direction,
+    number: u32,
+) -> Result<String, AllocError> {
     let name = quoted(alloc, target.image.as_str())?;
     match way {
-        Way::Undo => {
+        Direction::Undo => {
             let operands = operands_of(alloc, target)?;
             format!(in alloc;
                 "{name}: change {number} is unfinished and is taken back first, and then the undo is made too; where it was an undo that was stopped, bx undo -k 0{operands} would have finished it alone"
             )
         }
-        Way::Redo => {
+        Direction::Redo => {
             format!(in alloc;
                 "{name}: change {number} is unfinished and is taken back first, and then nothing can be made again"
             )
@@ -86,7 +91,7 @@ fn begun_text(alloc: Global, target: &Target, way: Way, number: u32) -> Result<S
 }
 
 /// Says which changes were taken back or made again, and how many are left.
-pub fn tell_of_steps<R>(rt: &R, name: &str, way: Way, job: &StepsJob, now: &Standing)
+pub fn tell_of_steps<R>(rt: &R, name: &str, way: Direction, job: &StepsJob, now: &Standing)
 where
     R: Eprint + AllocGlobal,
 {
@@ -97,8 +102,8 @@ where
         return;
     }
     let text = match way {
-        Way::Undo => undone_text(rt.alloc(), changes, job.count),
-        Way::Redo => redone_text(rt.alloc(), changes, job.count, undone),
+        Direction::Undo => undone_text(rt.alloc(), changes, job.count),
+        Direction::Redo => redone_text(rt.alloc(), changes, job.count, undone),
     };
     if let Ok(text) = text {
         let _ = eprintln!(rt; "hint: {name}: {text}");
@@ -140,21 +145,26 @@ pub fn tell_of_dropped<R: Eprint>(rt: &R, name: &str, standing: &Standing) {
 /// None of another job.
 pub fn stopped_text(alloc: Global, job: &Job, number: u32) -> Result<Option<String>, AllocError> {
     let (way, target) = match job {
-        Job::Change(ChangeJob::Undo(job)) => (Way::Undo, &job.target),
-        Job::Change(ChangeJob::Redo(job)) => (Way::Redo, &job.target),
+        Job::Change(ChangeJob::Undo(job)) => (Direction::Undo, &job.target),
+        Job::Change(ChangeJob::Redo(job)) => (Direction::Redo, &job.target),
         _ => return Ok(None),
     };
     Ok(Some(stopped_at(alloc, target, way, number)?))
 }
 
 /// What is said of one that was stopped at this change.
-fn stopped_at(alloc: Global, target: &Target, way: Way, number: u32) -> Result<String, AllocError> {
+fn stopped_at(
+    alloc: Global,
+    target: &Target,
+    way: Direction,
+    number: u32,
+) -> Result<String, AllocError> {
     let operands = operands_of(alloc, target)?;
     match way {
-        Way::Undo => format!(in alloc;
+        Direction::Undo => format!(in alloc;
             "the undo of change {number} was stopped, and the next command of any kind but bx show finishes it; a second bx undo then takes back one change more, and bx undo -k 0{operands} none"
         ),
-        Way::Redo => format!(in alloc;
+        Direction::Redo => format!(in alloc;
             "the redo of change {number} was stopped, and the next command of any kind but bx show takes it back and gives up what was undone; look by bx show{operands}, which writes nothing"
         ),
     }

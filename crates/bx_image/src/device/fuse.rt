@@ -85,10 +85,10 @@ fn write_partly<D: Device>(
 ) -> Result<(), DeviceFailed>
     requires countable { D.failures device.old < u64.MAX }
     requires room { at + length bytes.now ≤ D.room device.old }
-    ensures part { D.honest device.old → OnOk result (D.image device.new ≡ place (D.image device.old) at (take (part_of part (length bytes.now)) bytes.now)) }
-    ensures written { D.honest device.old → IsPartlyWritten at (length bytes.now) (D.image device.old) (D.image device.new) }
-    ensures survives { D.honest device.old → Follows (KeepsOutside at (length bytes.now)) (D.survives device.old) (D.survives device.new) }
-    ensures goes_on { GoesOn D.honest D.room D.failures (is_err result) device.old device.new }
+    ensures part { D.faithful device.old → OnOk result (D.image device.new ≡ place (D.image device.old) at (take (part_of part (length bytes.now)) bytes.now)) }
+    ensures written { D.faithful device.old → IsPartlyWritten at (length bytes.now) (D.image device.old) (D.image device.new) }
+    ensures survives { D.faithful device.old → Follows (KeepsOutside at (length bytes.now)) (D.survives device.old) (D.survives device.new) }
+    ensures goes_on { GoesOn D.faithful D.room D.failures (is_err result) device.old device.new }
 {
     match part {
         Part::Nothing => Ok(()),
@@ -114,10 +114,10 @@ fn half_way(from: u64, to: u64) -> u64
 fn cut_half<D: Device>(device: &mut D, n: u64) -> Result<(), DeviceFailed>
     requires countable { D.failures device.old < u64.MAX }
     requires room { n ≤ D.room device.old }
-    ensures part { D.honest device.old → OnOk result (D.image device.new ≡ cut (D.image device.old) (reached Part.Half (length (D.image device.old)) n)) }
-    ensures cut { D.honest device.old → IsPartlyCut n (D.image device.old) (D.image device.new) }
-    ensures survives { D.honest device.old → Follows (KeepsBelow (min n (length (D.image device.old)))) (D.survives device.old) (D.survives device.new) }
-    ensures goes_on { GoesOn D.honest D.room D.failures (is_err result) device.old device.new }
+    ensures part { D.faithful device.old → OnOk result (D.image device.new ≡ cut (D.image device.old) (reached Part.Half (length (D.image device.old)) n)) }
+    ensures cut { D.faithful device.old → IsPartlyCut n (D.image device.old) (D.image device.new) }
+    ensures survives { D.faithful device.old → Follows (KeepsBelow (min n (length (D.image device.old)))) (D.survives device.old) (D.survives device.new) }
+    ensures goes_on { GoesOn D.faithful D.room D.failures (is_err result) device.old device.new }
 {
     let len = device.len()?;
     let target = half_way(len, n).min(device.reserved());
@@ -128,10 +128,10 @@ fn cut_half<D: Device>(device: &mut D, n: u64) -> Result<(), DeviceFailed>
 fn cut_partly<D: Device>(device: &mut D, n: u64, part: Part) -> Result<(), DeviceFailed>
     requires countable { D.failures device.old < u64.MAX }
     requires room { n ≤ D.room device.old }
-    ensures part { D.honest device.old → OnOk result (D.image device.new ≡ cut (D.image device.old) (reached part (length (D.image device.old)) n)) }
-    ensures cut { D.honest device.old → IsPartlyCut n (D.image device.old) (D.image device.new) }
-    ensures survives { D.honest device.old → Follows (KeepsBelow (min n (length (D.image device.old)))) (D.survives device.old) (D.survives device.new) }
-    ensures goes_on { GoesOn D.honest D.room D.failures (is_err result) device.old device.new }
+    ensures part { D.faithful device.old → OnOk result (D.image device.new ≡ cut (D.image device.old) (reached part (length (D.image device.old)) n)) }
+    ensures cut { D.faithful device.old → IsPartlyCut n (D.image device.old) (D.image device.new) }
+    ensures survives { D.faithful device.old → Follows (KeepsBelow (min n (length (D.image device.old)))) (D.survives device.old) (D.survives device.new) }
+    ensures goes_on { GoesOn D.faithful D.room D.failures (is_err result) device.old device.new }
 {
     match part {
         Part::Nothing => Ok(()),
@@ -140,7 +140,7 @@ fn cut_partly<D: Device>(device: &mut D, n: u64, part: Part) -> Result<(), Devic
     }
 }
 
-/// A device on which some calls fail on purpose. It is honest where the device within is, and
+/// A device on which some calls fail on purpose. It is faithful where the device within is, and
 /// `faults` counts its own failed calls from 0.
 #[derive(Drop)]
 pub struct FuseImage<D: Device> {
@@ -172,7 +172,7 @@ impl<D: Device> FuseImage<D> {
         ensures reads { result.reads ≡ Fuse.Never }
         ensures part { result.part ≡ part }
         ensures image { ⟦<FuseImage<D> as Device>⟧.image result ≡ D.image device }
-        ensures honest { ⟦<FuseImage<D> as Device>⟧.honest result ↔ D.honest device }
+        ensures faithful { ⟦<FuseImage<D> as Device>⟧.faithful result ↔ D.faithful device }
         ensures room { ⟦<FuseImage<D> as Device>⟧.room result ≡ D.room device }
         ensures failures { ⟦<FuseImage<D> as Device>⟧.failures result ≡ 0 }
     {
@@ -192,7 +192,7 @@ impl<D: Device> FuseImage<D> {
         ensures writes { result.writes ≡ Fuse.Never }
         ensures reads { result.reads ≡ Fuse.After pass }
         ensures image { ⟦<FuseImage<D> as Device>⟧.image result ≡ D.image device }
-        ensures honest { ⟦<FuseImage<D> as Device>⟧.honest result ↔ D.honest device }
+        ensures faithful { ⟦<FuseImage<D> as Device>⟧.faithful result ↔ D.faithful device }
         ensures room { ⟦<FuseImage<D> as Device>⟧.room result ≡ D.room device }
         ensures failures { ⟦<FuseImage<D> as Device>⟧.failures result ≡ 0 }
     {
@@ -209,7 +209,7 @@ impl<D: Device> FuseImage<D> {
     pub fn into_inner(self) -> D
         ensures within { result ≡ self.within }
         ensures image { D.image result ≡ ⟦<FuseImage<D> as Device>⟧.image self }
-        ensures honest { D.honest result ↔ ⟦<FuseImage<D> as Device>⟧.honest self }
+        ensures faithful { D.faithful result ↔ ⟦<FuseImage<D> as Device>⟧.faithful self }
         ensures room { D.room result ≡ ⟦<FuseImage<D> as Device>⟧.room self }
     {
         let FuseImage { device: inner, .. } = self;
@@ -220,7 +220,7 @@ impl<D: Device> FuseImage<D> {
 impl<D: Device> Device for FuseImage<D> {
     ghost image = { λ f. D.image f.within };
 
-    ghost honest = { λ f. D.honest f.within };
+    ghost faithful = { λ f. D.faithful f.within };
 
     ghost room = { λ f. D.room f.within };
 

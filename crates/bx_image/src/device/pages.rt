@@ -156,7 +156,7 @@ fn add_pages<A: Allocator + Clone>(
 const MOST: u64 = 1 << 62;
 
 /// An image in memory, in pages of 4,096 bytes that never move: a growth takes pages and copies no
-/// bytes. It is always honest and never fails.
+/// bytes. It is always faithful and never fails.
 #[derive(Drop)]
 pub struct PagedImage<A: Allocator + Clone = Global> {
     pages: Vec<Page<A>, A>,
@@ -181,7 +181,7 @@ impl<A: Allocator + Clone> PagedImage<A> {
 impl<A: Allocator + Clone> Device for PagedImage<A> {
     ghost image = { λ m. image_of m.len (byte_at m.pages.items (λ p. p.value)) };
 
-    ghost honest = { λ _. Unit {0} };
+    ghost faithful = { λ _. Unit {0} };
 
     ghost room = { λ m. 4096 * vec_len m.pages };
 

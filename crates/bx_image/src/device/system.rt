@@ -91,17 +91,17 @@ impl SystemFile {
 }
 
 /// Its length is where a seek to its end comes to, and bringing it to the length that it has does nothing: so a block device
-/// serves, which has no other length. What a file gives back is known to no proof, so it never counts as honest here.
+/// serves, which has no other length. What a file gives back is known to no proof, so it never counts as faithful here.
 impl RandomAccess for SystemFile {
     ghost content = { λ _. [] };
 
-    ghost honest = { λ _. ⊥ };
+    ghost faithful = { λ _. ⊥ };
 
     ghost survives = { λ _ _. ⊥ };
 
-    ghost within = { λ f honest. absurd honest };
+    ghost within = { λ f faithful. absurd faithful };
 
-    ghost present = { λ f honest. absurd honest };
+    ghost present = { λ f faithful. absurd faithful };
 
     fn size(&mut self) -> Result<u64, Stop> {
         let outcome = self.file.seek(SeekFrom::End(0));

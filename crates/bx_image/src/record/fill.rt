@@ -130,16 +130,16 @@ impl<A: Allocator> Saved<A> {
     /// have their addresses and lengths; what bytes they have then isn't said.
     pub fn fill<D: Device>(&mut self, device: &mut D) -> Result<(), DeviceFailed>
         requires countable { D.failures device.old < u64.MAX }
-        requires range { D.honest device.old → LieBelow (length (D.image device.old)) self.old.runs }
+        requires range { D.faithful device.old → LieBelow (length (D.image device.old)) self.old.runs }
         ensures len { self.new.len ≡ self.old.len }
         ensures shape { HaveShape self.old.runs self.new.runs }
         ensures bytes { OnOk result (HaveBytes self.new.runs) }
-        ensures read { D.honest device.old → OnOk result (AreRunsOf (D.image device.old) self.new.runs) }
-        ensures kept { D.honest device.old → self.old.len ≡ length (D.image device.old) → OnOk result (IsOf self.new (D.image device.old)) }
-        ensures saved { D.honest device.old → OnOk result (IsSavedAnew self.old self.new (D.image device.old)) }
-        ensures image { D.honest device.old → D.image device.new ≡ D.image device.old }
-        ensures survives { D.honest device.old → NoMore (D.survives device.old) (D.survives device.new) }
-        ensures goes_on { GoesOn D.honest D.room D.failures (is_err result) device.old device.new }
+        ensures read { D.faithful device.old → OnOk result (AreRunsOf (D.image device.old) self.new.runs) }
+        ensures kept { D.faithful device.old → self.old.len ≡ length (D.image device.old) → OnOk result (IsOf self.new (D.image device.old)) }
+        ensures saved { D.faithful device.old → OnOk result (IsSavedAnew self.old self.new (D.image device.old)) }
+        ensures image { D.faithful device.old → D.image device.new ≡ D.image device.old }
+        ensures survives { D.faithful device.old → NoMore (D.survives device.old) (D.survives device.new) }
+        ensures goes_on { GoesOn D.faithful D.room D.failures (is_err result) device.old device.new }
     {
         fill_runs(device, self.runs.as_mut_slice())
     }
@@ -152,13 +152,13 @@ fn fill_runs<D: Device, A: Allocator>(
     runs: &mut [Piece<A>],
 ) -> Result<(), DeviceFailed>
     requires countable { D.failures device.old < u64.MAX }
-    requires range { D.honest device.old → LieBelow (length (D.image device.old)) runs.old }
+    requires range { D.faithful device.old → LieBelow (length (D.image device.old)) runs.old }
     ensures shape { HaveShape runs.old runs.new }
     ensures bytes { OnOk result (HaveBytes runs.new) }
-    ensures read { D.honest device.old → OnOk result (AreRunsOf (D.image device.old) runs.new) }
-    ensures image { D.honest device.old → D.image device.new ≡ D.image device.old }
-    ensures survives { D.honest device.old → NoMore (D.survives device.old) (D.survives device.new) }
-    ensures goes_on { GoesOn D.honest D.room D.failures (is_err result) device.old device.new }
+    ensures read { D.faithful device.old → OnOk result (AreRunsOf (D.image device.old) runs.new) }
+    ensures image { D.faithful device.old → D.image device.new ≡ D.image device.old }
+    ensures survives { D.faithful device.old → NoMore (D.survives device.old) (D.survives device.new) }
+    ensures goes_on { GoesOn D.faithful D.room D.failures (is_err result) device.old device.new }
 {
     for run in runs.iter_mut() {
         fill_run(device, run)?;
@@ -168,14 +168,14 @@ fn fill_runs<D: Device, A: Allocator>(
 
 fn fill_run<D: Device, A: Allocator>(device: &mut D, run: &mut Piece<A>) -> Result<(), DeviceFailed>
     requires countable { D.failures device.old < u64.MAX }
-    requires range { D.honest device.old → run.old.at + length run.old.bytes ≤ length (D.image device.old) }
+    requires range { D.faithful device.old → run.old.at + length run.old.bytes ≤ length (D.image device.old) }
     ensures at { run.new.at ≡ run.old.at }
     ensures len { length run.new.bytes ≡ length run.old.bytes }
     ensures bytes { AreBytes run.new.bytes }
-    ensures read { D.honest device.old → OnOk result (IsRunOf (D.image device.old) run.new) }
-    ensures image { D.honest device.old → D.image device.new ≡ D.image device.old }
-    ensures survives { D.honest device.old → NoMore (D.survives device.old) (D.survives device.new) }
-    ensures goes_on { GoesOn D.honest D.room D.failures (is_err result) device.old device.new }
+    ensures read { D.faithful device.old → OnOk result (IsRunOf (D.image device.old) run.new) }
+    ensures image { D.faithful device.old → D.image device.new ≡ D.image device.old }
+    ensures survives { D.faithful device.old → NoMore (D.survives device.old) (D.survives device.new) }
+    ensures goes_on { GoesOn D.faithful D.room D.failures (is_err result) device.old device.new }
 {
     let result = device.read_at(run.at, run.bytes.as_mut_slice());
     are_bytes(run.bytes.as_slice());

@@ -28,16 +28,16 @@ pub fn save<D: Device, A: Allocator + Clone>(
     change: &Change<A>,
 ) -> Result<Saved<A>, ImageFault>
     requires countable { D.failures device.old < u64.MAX }
-    ensures saved { D.honest device.old → IfOk result (λ s. s ≡ saved change.now (D.image device.old)) }
-    ensures kept { D.honest device.old → IfOk result (λ s. IsOf s (D.image device.old)) }
+    ensures saved { D.faithful device.old → IfOk result (λ s. s ≡ saved change.now (D.image device.old)) }
+    ensures kept { D.faithful device.old → IfOk result (λ s. IsOf s (D.image device.old)) }
     ensures within { IfOk result (λ s. AllWithin s.len s.runs) }
     ensures bytes { IfOk result (λ s. HaveBytes s.runs) }
     ensures some { IfOk result (λ s. AreNonEmpty s.runs) }
     ensures gaps { IfOk result (λ s. HaveGaps s.runs) }
-    ensures image { D.honest device.old → D.image device.new ≡ D.image device.old }
-    ensures survives { D.honest device.old → NoMore (D.survives device.old) (D.survives device.new) }
+    ensures image { D.faithful device.old → D.image device.new ≡ D.image device.old }
+    ensures survives { D.faithful device.old → NoMore (D.survives device.old) (D.survives device.new) }
     ensures never_too_large { IsErrOf result ImageFault.TooLarge → ⊥ }
-    ensures goes_on { GoesOn D.honest D.room D.failures (has_failed result) device.old device.new }
+    ensures goes_on { GoesOn D.faithful D.room D.failures (has_failed result) device.old device.new }
 {
     let len = device.len()?;
     let writes = change.writes.as_slice();
@@ -58,14 +58,14 @@ fn read_runs<D: Device, A: Allocator + Clone>(
 ) -> Result<Vec<Piece<A>, A>, ImageFault>
     requires countable { D.failures device.old < u64.MAX }
     requires order { All (λ s. s.at ≤ s.end) spans.now }
-    requires range { D.honest device.old → LieWithin (length (D.image device.old)) spans.now }
+    requires range { D.faithful device.old → LieWithin (length (D.image device.old)) spans.now }
     ensures over { IfOk result (λ runs. StandOver spans.now runs.items) }
     ensures bytes { IfOk result (λ runs. HaveBytes runs.items) }
-    ensures runs { D.honest device.old → IfOk result (λ runs. AreRunsOf (D.image device.old) runs.items) }
-    ensures image { D.honest device.old → D.image device.new ≡ D.image device.old }
-    ensures survives { D.honest device.old → NoMore (D.survives device.old) (D.survives device.new) }
+    ensures runs { D.faithful device.old → IfOk result (λ runs. AreRunsOf (D.image device.old) runs.items) }
+    ensures image { D.faithful device.old → D.image device.new ≡ D.image device.old }
+    ensures survives { D.faithful device.old → NoMore (D.survives device.old) (D.survives device.new) }
     ensures never_too_large { IsErrOf result ImageFault.TooLarge → ⊥ }
-    ensures goes_on { GoesOn D.honest D.room D.failures (has_failed result) device.old device.new }
+    ensures goes_on { GoesOn D.faithful D.room D.failures (has_failed result) device.old device.new }
 {
     let mut runs = Vec::with_capacity(alloc.clone()?, spans.len())?;
     for span in spans {
@@ -86,13 +86,13 @@ fn read_more<D: Device, A: Allocator>(
 ) -> Result<(), ImageFault>
     requires countable { D.failures device.old < u64.MAX }
     requires sum { at + vec_len bytes.old + more < 2 ^ 64 }
-    requires range { D.honest device.old → at + vec_len bytes.old + more ≤ length (D.image device.old) }
+    requires range { D.faithful device.old → at + vec_len bytes.old + more ≤ length (D.image device.old) }
     ensures len { OnOk result (vec_len bytes.new ≡ vec_len bytes.old + more) }
-    ensures read { D.honest device.old → OnOk result (bytes.new.items ≡ bytes.old.items ++ take more (drop (at + vec_len bytes.old) (D.image device.old))) }
-    ensures image { D.honest device.old → D.image device.new ≡ D.image device.old }
-    ensures survives { D.honest device.old → NoMore (D.survives device.old) (D.survives device.new) }
+    ensures read { D.faithful device.old → OnOk result (bytes.new.items ≡ bytes.old.items ++ take more (drop (at + vec_len bytes.old) (D.image device.old))) }
+    ensures image { D.faithful device.old → D.image device.new ≡ D.image device.old }
+    ensures survives { D.faithful device.old → NoMore (D.survives device.old) (D.survives device.new) }
     ensures never_too_large { IsErrOf result ImageFault.TooLarge → ⊥ }
-    ensures goes_on { GoesOn D.honest D.room D.failures (has_failed result) device.old device.new }
+    ensures goes_on { GoesOn D.faithful D.room D.failures (has_failed result) device.old device.new }
 {
     let from = bytes.len();
     bytes.resize(from + more, 0)?;
@@ -109,15 +109,15 @@ fn read_run<D: Device, A: Allocator>(
 ) -> Result<Piece<A>, ImageFault>
     requires countable { D.failures device.old < u64.MAX }
     requires order { at ≤ end }
-    requires range { D.honest device.old → end ≤ length (D.image device.old) }
+    requires range { D.faithful device.old → end ≤ length (D.image device.old) }
     ensures at { IfOk result (λ run. run.at ≡ at) }
     ensures end { IfOk result (λ run. run.at + length run.bytes ≡ end) }
     ensures bytes { IfOk result (λ run. AreBytes run.bytes) }
-    ensures run { D.honest device.old → IfOk result (λ run. IsRunOf (D.image device.old) run) }
-    ensures image { D.honest device.old → D.image device.new ≡ D.image device.old }
-    ensures survives { D.honest device.old → NoMore (D.survives device.old) (D.survives device.new) }
+    ensures run { D.faithful device.old → IfOk result (λ run. IsRunOf (D.image device.old) run) }
+    ensures image { D.faithful device.old → D.image device.new ≡ D.image device.old }
+    ensures survives { D.faithful device.old → NoMore (D.survives device.old) (D.survives device.new) }
     ensures never_too_large { IsErrOf result ImageFault.TooLarge → ⊥ }
-    ensures goes_on { GoesOn D.honest D.room D.failures (has_failed result) device.old device.new }
+    ensures goes_on { GoesOn D.faithful D.room D.failures (has_failed result) device.old device.new }
 {
     let len = (end - at) as usize;
     let mut bytes = Vec::with_capacity(alloc, len)?;

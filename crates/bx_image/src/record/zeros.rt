@@ -29,14 +29,14 @@ pub fn touched_but_zeros<D: Device, A: Allocator + Clone>(
     len: u64,
 ) -> Result<Vec<Span, A>, ImageFault>
     requires countable { D.failures device.old < u64.MAX }
-    requires long { D.honest device.old → len ≡ length (D.image device.old) }
-    ensures zeros { D.honest device.old → IfOk result (λ spans. (change : ChangeOf A) → Restores change kept.now
+    requires long { D.faithful device.old → len ≡ length (D.image device.old) }
+    ensures zeros { D.faithful device.old → IfOk result (λ spans. (change : ChangeOf A) → Restores change kept.now
         → LeavesZerosOut kept.now.len (saved change (D.image device.old)) (saved_over {A = A} (D.image device.old) spans.items)) }
     ensures within { IfOk result (λ spans. LieWithin len spans.items) }
-    ensures image { D.honest device.old → D.image device.new ≡ D.image device.old }
-    ensures survives { D.honest device.old → NoMore (D.survives device.old) (D.survives device.new) }
+    ensures image { D.faithful device.old → D.image device.new ≡ D.image device.old }
+    ensures survives { D.faithful device.old → NoMore (D.survives device.old) (D.survives device.new) }
     ensures never_too_large { IsErrOf result ImageFault.TooLarge → ⊥ }
-    ensures goes_on { GoesOn D.honest D.room D.failures (has_failed result) device.old device.new }
+    ensures goes_on { GoesOn D.faithful D.room D.failures (has_failed result) device.old device.new }
 {
     let base = kept.len;
     let mut spans = touched(
@@ -68,13 +68,13 @@ fn has_zeros<D: Device>(
 ) -> Result<bool, ImageFault>
     requires countable { D.failures device.old < u64.MAX }
     requires few { count ≤ length window.old }
-    requires range { D.honest device.old → at + count ≤ length (D.image device.old) }
-    ensures zeros { D.honest device.old → IfOk result (λ zeros. zeros ≡ true → (i : ℕ) → at ≤ i → i < at + count → slice_index (D.image device.old) i ≡ 0) }
+    requires range { D.faithful device.old → at + count ≤ length (D.image device.old) }
+    ensures zeros { D.faithful device.old → IfOk result (λ zeros. zeros ≡ true → (i : ℕ) → at ≤ i → i < at + count → slice_index (D.image device.old) i ≡ 0) }
     ensures window { length window.new ≡ length window.old }
-    ensures image { D.honest device.old → D.image device.new ≡ D.image device.old }
-    ensures survives { D.honest device.old → NoMore (D.survives device.old) (D.survives device.new) }
+    ensures image { D.faithful device.old → D.image device.new ≡ D.image device.old }
+    ensures survives { D.faithful device.old → NoMore (D.survives device.old) (D.survives device.new) }
     ensures never_too_large { IsErrOf result ImageFault.TooLarge → ⊥ }
-    ensures goes_on { GoesOn D.honest D.room D.failures (has_failed result) device.old device.new }
+    ensures goes_on { GoesOn D.faithful D.room D.failures (has_failed result) device.old device.new }
 {
     let (part, _) = window.split_at_mut(count as usize);
     device.read_at(at, part)?;
@@ -108,14 +108,14 @@ fn push_blocks<D: Device, A: Allocator>(
 ) -> Result<(), ImageFault>
     requires countable { D.failures device.old < u64.MAX }
     requires block { 4096 ≤ length window.old }
-    requires long { D.honest device.old → len ≡ length (D.image device.old) }
+    requires long { D.faithful device.old → len ≡ length (D.image device.old) }
     requires within { LieWithin len spans.old.items }
-    ensures over { D.honest device.old → OnOk result (AddAllButZeros (D.image device.old) base len spans.old.items spans.new.items) }
+    ensures over { D.faithful device.old → OnOk result (AddAllButZeros (D.image device.old) base len spans.old.items spans.new.items) }
     ensures within { OnOk result (LieWithin len spans.new.items) }
-    ensures image { D.honest device.old → D.image device.new ≡ D.image device.old }
-    ensures survives { D.honest device.old → NoMore (D.survives device.old) (D.survives device.new) }
+    ensures image { D.faithful device.old → D.image device.new ≡ D.image device.old }
+    ensures survives { D.faithful device.old → NoMore (D.survives device.old) (D.survives device.new) }
     ensures never_too_large { IsErrOf result ImageFault.TooLarge → ⊥ }
-    ensures goes_on { GoesOn D.honest D.room D.failures (has_failed result) device.old device.new }
+    ensures goes_on { GoesOn D.faithful D.room D.failures (has_failed result) device.old device.new }
 {
     let mut from = take_before(spans, base)?;
     let mut at = base;

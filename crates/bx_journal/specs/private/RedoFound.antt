@@ -21,15 +21,15 @@ IsFewFound changes (Counted c) = changes + c.counted.count ≤ 65535
 IsFewFound changes (Unfit line) = Unit {0}
 IsFewFound changes (Text bytes) = Unit {0}
 
--- what was found is of the store's text, where that is honest
-pub record IsRedoIn {A : Type 0} (honest : Type 0) (stored : List ℕ) (changes : ℕ) (redo : RedoFound A) : Type 0 where
-  pub found : honest → IsRedoFound stored changes redo
+-- what was found is of the store's text, where that is faithful
+pub record IsRedoIn {A : Type 0} (faithful : Type 0) (stored : List ℕ) (changes : ℕ) (redo : RedoFound A) : Type 0 where
+  pub found : faithful → IsRedoFound stored changes redo
   pub few : IsFewFound changes redo
 
--- a text was counted as a redo text beside `changes` changes: the store's, where that is honest
-pub record IsRedoCountedIn (honest : Type 0) (stored : List ℕ) (changes : ℕ) (c : CountedText) : Type 0 where
+-- a text was counted as a redo text beside `changes` changes: the store's, where that is faithful
+pub record IsRedoCountedIn (faithful : Type 0) (stored : List ℕ) (changes : ℕ) (c : CountedText) : Type 0 where
   pub text : List ℕ
-  pub is : honest → stored ≡ text
+  pub is : faithful → stored ≡ text
   pub counted : IsRedoCounted text changes c.counted.count c.counted.told
   pub many : c.lines ≡ length (split text).lines
 

@@ -34,10 +34,10 @@ pub record IsListedIn (window : List ℕ) (from : Summed) (old new : List LogRow
   pub leads : (front : List ℕ) → IsListed front from old → IsListed (front ++ take l.taken window) l.sums new
   pub within : l.taken ≤ length window
 
--- the rows of `count` finished entries alone: the store's, where that is honest
-pub record AreRowsOf (honest : Type 0) (stored : List ℕ) (rows : List LogRow) (count : ℕ) : Type 0 where
+-- the rows of `count` finished entries alone: the store's, where that is faithful
+pub record AreRowsOf (faithful : Type 0) (stored : List ℕ) (rows : List LogRow) (count : ℕ) : Type 0 where
   pub text : List ℕ
-  pub is : honest → stored ≡ text
+  pub is : faithful → stored ≡ text
   pub entries : List Entry
   pub finished : IsFinished text entries
   pub counted : length entries ≡ count
@@ -45,7 +45,7 @@ pub record AreRowsOf (honest : Type 0) (stored : List ℕ) (rows : List LogRow) 
 
 -- A call that looks for the rows of `count` finished entries alone: it answers them, or why the text isn't that
 pub record FindsRows {T A : Type 0} (t : StoreViews T) (count : ℕ) (result : Result (Vec LogRow A) SessionFault) (old new : T) : Type 0 where
-  pub rows : IfOk result (λ rows. AreRowsOf (t.honest old) (t.text old) rows.items count)
-  pub fault : IfErr result (AgainFault (t.honest old) (t.text old) count)
-  pub looks : LooksAt t.honest t.text t.failures result old new
-  pub found_before : t.honest old → NoMore (t.survives old) (t.survives new)
+  pub rows : IfOk result (λ rows. AreRowsOf (t.faithful old) (t.text old) rows.items count)
+  pub fault : IfErr result (AgainFault (t.faithful old) (t.text old) count)
+  pub looks : LooksAt t.faithful t.text t.failures result old new
+  pub found_before : t.faithful old → NoMore (t.survives old) (t.survives new)

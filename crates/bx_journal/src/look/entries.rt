@@ -51,14 +51,14 @@ fn put_places<T: TextStore, A: Allocator + Clone, W: Write>(
     out: &mut W,
 ) -> Result<u64, ShowFault>
     requires countable { T.failures journal.old < u64.MAX }
-    requires within { T.honest journal.old → mark.to ≤ length (T.text journal.old) }
+    requires within { T.faithful journal.old → mark.to ≤ length (T.text journal.old) }
     requires order { mark.from ≤ mark.to }
-    ensures put { T.honest journal.old → OnOk result (Appends (W.contents out.old) (W.contents out.new) (places_at (T.text journal.old) mark)) }
-    ensures counted { T.honest journal.old → IfOk result (CountsBytes written (places_at (T.text journal.old) mark)) }
-    ensures stops { T.honest journal.old → IfErr result
+    ensures put { T.faithful journal.old → OnOk result (Appends (W.contents out.old) (W.contents out.new) (places_at (T.text journal.old) mark)) }
+    ensures counted { T.faithful journal.old → IfOk result (CountsBytes written (places_at (T.text journal.old) mark)) }
+    ensures stops { T.faithful journal.old → IfErr result
         (StopsPrefix written (places_at (T.text journal.old) mark) (W.contents out.old) (W.contents out.new)) }
     ensures kind { IfErr result PutFault }
-    ensures stays { Stays T.honest T.text T.failures result journal.old journal.new }
+    ensures stays { Stays T.faithful T.text T.failures result journal.old journal.new }
     ensures counts { IfErr result (λ f. LookCounts f (T.failures journal.old) 0 (T.failures journal.new) 0) }
 {
     if mark.saved == 0 {
@@ -84,15 +84,15 @@ fn put_row<T: TextStore, A: Allocator + Clone, W: Write>(
     out: &mut W,
 ) -> Result<u64, ShowFault>
     requires countable { T.failures journal.old < u64.MAX }
-    requires within { T.honest journal.old → change.mark.to ≤ length (T.text journal.old) }
+    requires within { T.faithful journal.old → change.mark.to ≤ length (T.text journal.old) }
     requires order { change.mark.from ≤ change.mark.to }
-    ensures row { T.honest journal.old → OnOk result
+    ensures row { T.faithful journal.old → OnOk result
         (Appends (W.contents out.old) (W.contents out.new) (mark_row (T.text journal.old) change.number change.mark)) }
-    ensures counted { T.honest journal.old → IfOk result (CountsBytes written (mark_row (T.text journal.old) change.number change.mark)) }
-    ensures stops { T.honest journal.old → IfErr result
+    ensures counted { T.faithful journal.old → IfOk result (CountsBytes written (mark_row (T.text journal.old) change.number change.mark)) }
+    ensures stops { T.faithful journal.old → IfErr result
         (StopsPrefix written (mark_row (T.text journal.old) change.number change.mark) (W.contents out.old) (W.contents out.new)) }
     ensures kind { IfErr result PutFault }
-    ensures stays { Stays T.honest T.text T.failures result journal.old journal.new }
+    ensures stays { Stays T.faithful T.text T.failures result journal.old journal.new }
     ensures counts { IfErr result (λ f. LookCounts f (T.failures journal.old) 0 (T.failures journal.new) 0) }
 {
     let front = put_front(alloc, change.number, change.mark, written, out)?;
@@ -108,12 +108,12 @@ pub fn put_rows<T: TextStore, A: Allocator + Clone, W: Write>(
     out: &mut W,
 ) -> Result<(), ShowFault>
     requires countable { T.failures journal.old < u64.MAX }
-    requires lie { (len : ℕ) × (T.honest journal.old → len ≤ length (T.text journal.old)) × All (LiesWithin len) marks.now }
-    ensures rows { T.honest journal.old → OnOk result (Appends (W.contents out.old) (W.contents out.new) (mark_rows (T.text journal.old) 1 marks.now)) }
-    ensures stops { T.honest journal.old → IfErr result
+    requires lie { (len : ℕ) × (T.faithful journal.old → len ≤ length (T.text journal.old)) × All (LiesWithin len) marks.now }
+    ensures rows { T.faithful journal.old → OnOk result (Appends (W.contents out.old) (W.contents out.new) (mark_rows (T.text journal.old) 1 marks.now)) }
+    ensures stops { T.faithful journal.old → IfErr result
         (StopsPrefix 0 (mark_rows (T.text journal.old) 1 marks.now) (W.contents out.old) (W.contents out.new)) }
     ensures kind { IfErr result PutFault }
-    ensures stays { Stays T.honest T.text T.failures result journal.old journal.new }
+    ensures stays { Stays T.faithful T.text T.failures result journal.old journal.new }
     ensures counts { IfErr result (λ f. LookCounts f (T.failures journal.old) 0 (T.failures journal.new) 0) }
 {
     let mut window = vec![in alloc.clone()?; 0u8; WINDOW as usize]?;

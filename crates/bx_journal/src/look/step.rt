@@ -9,7 +9,7 @@ ghost use Rattle.bx_journal.specs.ShownText.{last_line};
 use bx_image::Device;
 use bx_journal_format::Mark;
 use bx_journal_read::{
-    ShowFault, Step, Steps, Way, Writing, put, put_differences, put_heading, put_lines,
+    Direction, ShowFault, Step, Steps, Writing, put, put_differences, put_heading, put_lines,
 };
 use bx_journal_store::TextStore;
 use std::alloc::Allocator;
@@ -21,8 +21,8 @@ fn step_number(steps: Steps, entries: usize, i: u32) -> u64
     ensures { result ≡ number_at steps.way (first_number steps.way steps.changes entries) i }
 {
     match steps.way {
-        Way::Undo => entries as u64 - i as u64,
-        Way::Redo => steps.changes as u64 + 1 + i as u64,
+        Direction::Undo => entries as u64 - i as u64,
+        Direction::Redo => steps.changes as u64 + 1 + i as u64,
     }
 }
 
@@ -37,13 +37,13 @@ fn put_saved<D: Device, T: TextStore, A: Allocator + Clone, W: Write>(
 ) -> Result<(), ShowFault>
     requires countable { D.failures image.old < u64.MAX }
     requires also_countable { T.failures journal.old < u64.MAX }
-    requires within { T.honest journal.old → mark.to ≤ length (T.text journal.old) }
+    requires within { T.faithful journal.old → mark.to ≤ length (T.text journal.old) }
     requires order { mark.from ≤ mark.to }
-    ensures put { T.honest journal.old → (IsTrue compares → D.honest image.old) → OnOk result
+    ensures put { T.faithful journal.old → (IsTrue compares → D.faithful image.old) → OnOk result
         (Appends (W.contents out.old) (W.contents out.new) (saved_lines_at compares (D.image image.old) (T.text journal.old) mark)) }
-    ensures counted { T.honest journal.old → (IsTrue compares → D.honest image.old) → OnOk result (CountsBytes writing.old.written
+    ensures counted { T.faithful journal.old → (IsTrue compares → D.faithful image.old) → OnOk result (CountsBytes writing.old.written
         (saved_lines_at compares (D.image image.old) (T.text journal.old) mark) writing.new.written) }
-    ensures stops { T.honest journal.old → (IsTrue compares → D.honest image.old) → IfErr result (StopsPrefix writing.old.written
+    ensures stops { T.faithful journal.old → (IsTrue compares → D.faithful image.old) → IfErr result (StopsPrefix writing.old.written
         (saved_lines_at compares (D.image image.old) (T.text journal.old) mark) (W.contents out.old) (W.contents out.new)) }
     ensures puts { WritesBeside D.Device T.TextStore result image.old image.new journal.old journal.new }
 {
@@ -63,13 +63,13 @@ fn put_step<D: Device, T: TextStore, A: Allocator + Clone, W: Write>(
 ) -> Result<(), ShowFault>
     requires countable { D.failures image.old < u64.MAX }
     requires also_countable { T.failures journal.old < u64.MAX }
-    requires within { T.honest journal.old → step.mark.to ≤ length (T.text journal.old) }
+    requires within { T.faithful journal.old → step.mark.to ≤ length (T.text journal.old) }
     requires order { step.mark.from ≤ step.mark.to }
-    ensures step { T.honest journal.old → (IsTrue step.steps.compares → D.honest image.old) → OnOk result
+    ensures step { T.faithful journal.old → (IsTrue step.steps.compares → D.faithful image.old) → OnOk result
         (Appends (W.contents out.old) (W.contents out.new) (mark_step step.steps (D.image image.old) (T.text journal.old) step.number step.mark)) }
-    ensures counted { T.honest journal.old → (IsTrue step.steps.compares → D.honest image.old) → OnOk result (CountsBytes writing.old.written
+    ensures counted { T.faithful journal.old → (IsTrue step.steps.compares → D.faithful image.old) → OnOk result (CountsBytes writing.old.written
         (mark_step step.steps (D.image image.old) (T.text journal.old) step.number step.mark) writing.new.written) }
-    ensures stops { T.honest journal.old → (IsTrue step.steps.compares → D.honest image.old) → IfErr result (StopsPrefix writing.old.written
+    ensures stops { T.faithful journal.old → (IsTrue step.steps.compares → D.faithful image.old) → IfErr result (StopsPrefix writing.old.written
         (mark_step step.steps (D.image image.old) (T.text journal.old) step.number step.mark) (W.contents out.old) (W.contents out.new)) }
     ensures puts { WritesBeside D.Device T.TextStore result image.old image.new journal.old journal.new }
 {
@@ -91,12 +91,12 @@ pub fn put_steps<D: Device, T: TextStore, A: Allocator + Clone, W: Write>(
     requires countable { D.failures image.old < u64.MAX }
     requires also_countable { T.failures journal.old < u64.MAX }
     requires enough { steps.count ≤ length marks.now }
-    requires lie { (len : ℕ) × (T.honest journal.old → len ≤ length (T.text journal.old)) × All (LiesWithin len) marks.now }
-    ensures steps { T.honest journal.old → (IsTrue steps.compares → D.honest image.old) → OnOk result
+    requires lie { (len : ℕ) × (T.faithful journal.old → len ≤ length (T.text journal.old)) × All (LiesWithin len) marks.now }
+    ensures steps { T.faithful journal.old → (IsTrue steps.compares → D.faithful image.old) → OnOk result
         (AreStepsPut steps (D.image image.old) (T.text journal.old) steps.count marks.now (W.contents out.old) (W.contents out.new)) }
-    ensures counted { T.honest journal.old → (IsTrue steps.compares → D.honest image.old) → OnOk result (CountsBytes writing.old.written
+    ensures counted { T.faithful journal.old → (IsTrue steps.compares → D.faithful image.old) → OnOk result (CountsBytes writing.old.written
         (newest_steps steps (D.image image.old) (T.text journal.old) steps.count marks.now) writing.new.written) }
-    ensures stops { T.honest journal.old → (IsTrue steps.compares → D.honest image.old) → IfErr result (StopsPrefix writing.old.written
+    ensures stops { T.faithful journal.old → (IsTrue steps.compares → D.faithful image.old) → IfErr result (StopsPrefix writing.old.written
         (newest_steps steps (D.image image.old) (T.text journal.old) steps.count marks.now) (W.contents out.old) (W.contents out.new)) }
     ensures puts { WritesBeside D.Device T.TextStore result image.old image.new journal.old journal.new }
 {

@@ -12,7 +12,7 @@ use crate::recovery::length::check_length;
 use crate::recovery::redo::{RedoFound, judge_redo};
 use bx_image::Device;
 use bx_journal_format::{Counted, MOST_CHANGES};
-use bx_journal_model::{How, Recovered, SessionFault, of_text};
+use bx_journal_model::{Recovered, RecoveryOutcome, SessionFault, of_text};
 use bx_journal_read::{CountedText, count_text, text_damage, unfit_line};
 use bx_journal_store::TextStore;
 use std::alloc::Allocator;
@@ -25,10 +25,10 @@ fn count_redo<T: TextStore, A: Allocator + Clone>(
 ) -> Result<Option<CountedText>, SessionFault>
     requires countable { T.failures redo.old < u64.MAX }
     requires few { changes ≤ 65535 }
-    ensures counted { IfOk result (λ found. IfSome found (IsRedoCountedIn (T.honest redo.old) (T.text redo.old) changes)) }
+    ensures counted { IfOk result (λ found. IfSome found (IsRedoCountedIn (T.faithful redo.old) (T.text redo.old) changes)) }
     ensures fault { IfErr result LacksOrFails }
-    ensures looks { LooksAt T.honest T.text T.failures result redo.old redo.new }
-    ensures found_before { T.honest redo.old → NoMore (T.survives redo.old) (T.survives redo.new) }
+    ensures looks { LooksAt T.faithful T.text T.failures result redo.old redo.new }
+    ensures found_before { T.faithful redo.old → NoMore (T.survives redo.old) (T.survives redo.new) }
 {
     let found = match count_text(alloc, redo, true) {
         Ok(found) => found,
@@ -51,10 +51,10 @@ fn find_unfit_line<T: TextStore, A: Allocator + Clone>(
 ) -> Result<Option<u64>, SessionFault>
     requires countable { T.failures redo.old < u64.MAX }
     requires few { changes ≤ 65535 }
-    ensures line { IfOk result (λ found. IfSome found (IsUnfitIn (T.honest redo.old) (T.text redo.old) changes)) }
+    ensures line { IfOk result (λ found. IfSome found (IsUnfitIn (T.faithful redo.old) (T.text redo.old) changes)) }
     ensures fault { IfErr result LacksOrFails }
-    ensures looks { LooksAt T.honest T.text T.failures result redo.old redo.new }
-    ensures found_before { T.honest redo.old → NoMore (T.survives redo.old) (T.survives redo.new) }
+    ensures looks { LooksAt T.faithful T.text T.failures result redo.old redo.new }
+    ensures found_before { T.faithful redo.old → NoMore (T.survives redo.old) (T.survives redo.new) }
 {
     let damage = match text_damage(alloc, redo, false) {
         Ok(damage) => damage,
@@ -75,10 +75,10 @@ fn read_redo<T: TextStore, A: Allocator + Clone>(
 ) -> Result<RedoFound<A>, SessionFault>
     requires countable { T.failures redo.old < u64.MAX }
     requires few { changes ≤ 65535 }
-    ensures found { IfOk result (IsRedoIn (T.honest redo.old) (T.text redo.old) changes) }
+    ensures found { IfOk result (IsRedoIn (T.faithful redo.old) (T.text redo.old) changes) }
     ensures fault { IfErr result LacksOrFails }
-    ensures looks { LooksAt T.honest T.text T.failures result redo.old redo.new }
-    ensures found_before { T.honest redo.old → NoMore (T.survives redo.old) (T.survives redo.new) }
+    ensures looks { LooksAt T.faithful T.text T.failures result redo.old redo.new }
+    ensures found_before { T.faithful redo.old → NoMore (T.survives redo.old) (T.survives redo.new) }
 {
     let unfit = match find_unfit_line(alloc, redo, changes) {
         Ok(unfit) => unfit,
@@ -102,10 +102,10 @@ fn find_redo<T: TextStore, A: Allocator + Clone>(
 ) -> Result<RedoFound<A>, SessionFault>
     requires countable { T.failures redo.old < u64.MAX }
     requires few { changes ≤ 65535 }
-    ensures found { IfOk result (IsRedoIn (T.honest redo.old) (T.text redo.old) changes) }
+    ensures found { IfOk result (IsRedoIn (T.faithful redo.old) (T.text redo.old) changes) }
     ensures fault { IfErr result LacksOrFails }
-    ensures looks { LooksAt T.honest T.text T.failures result redo.old redo.new }
-    ensures found_before { T.honest redo.old → NoMore (T.survives redo.old) (T.survives redo.new) }
+    ensures looks { LooksAt T.faithful T.text T.failures result redo.old redo.new }
+    ensures found_before { T.faithful redo.old → NoMore (T.survives redo.old) (T.survives redo.new) }
 {
     let counted = match count_redo(alloc, redo, changes) {
         Ok(counted) => counted,
@@ -128,21 +128,21 @@ pub fn open_finished<D: Device, T: TextStore, A: Allocator + Clone>(
     requires image_countable { D.failures image.old < u64.MAX }
     requires redo_countable { T.failures redo.old < u64.MAX }
     requires few { found.count ≤ 65535 }
-    ensures clean { IfOk result (λ o. (o.how ≡ How.Clean) × (o.changes ≡ found.count)) }
-    ensures same_length { D.honest image.old → OnOk result (HasToldLength found.told (D.image image.old)) }
-    ensures undone { D.honest image.old → T.honest redo.old → TellsCount (T.text redo.old) (D.image image.old) found.count result }
+    ensures clean { IfOk result (λ o. (o.how ≡ RecoveryOutcome.Clean) × (o.changes ≡ found.count)) }
+    ensures same_length { D.faithful image.old → OnOk result (HasToldLength found.told (D.image image.old)) }
+    ensures undone { D.faithful image.old → T.faithful redo.old → TellsCount (T.text redo.old) (D.image image.old) found.count result }
     ensures sum { IfOk result (λ o. o.changes + o.undone ≤ 65535) }
-    ensures fault { IfErr result (FaultBeside (D.honest image.old) (T.honest redo.old)
+    ensures fault { IfErr result (FaultBeside (D.faithful image.old) (T.faithful redo.old)
         (T.text redo.old) (D.image image.old) found.count found.told) }
-    ensures differs { D.honest image.old → (n : ℕ) → HasOtherLength found.told (D.image image.old) n → MatchResult result (λ _. ⊥) (RefusesLength n) }
-    ensures unfit { D.honest image.old → T.honest redo.old
+    ensures differs { D.faithful image.old → (n : ℕ) → HasOtherLength found.told (D.image image.old) n → MatchResult result (λ _. ⊥) (RefusesLength n) }
+    ensures unfit { D.faithful image.old → T.faithful redo.old
         → RefusesBeside (T.text redo.old) (D.image image.old) found.count found.told result }
-    ensures image { D.honest image.old → D.image image.new ≡ D.image image.old }
-    ensures redo_same { T.honest redo.old → T.text redo.new ≡ T.text redo.old }
-    ensures image_before { D.honest image.old → NoMore (D.survives image.old) (D.survives image.new) }
-    ensures redo_before { T.honest redo.old → NoMore (T.survives redo.old) (T.survives redo.new) }
-    ensures image_honesty { D.honest image.new ↔ D.honest image.old }
-    ensures redo_honesty { T.honest redo.new ↔ T.honest redo.old }
+    ensures image { D.faithful image.old → D.image image.new ≡ D.image image.old }
+    ensures redo_same { T.faithful redo.old → T.text redo.new ≡ T.text redo.old }
+    ensures image_before { D.faithful image.old → NoMore (D.survives image.old) (D.survives image.new) }
+    ensures redo_before { T.faithful redo.old → NoMore (T.survives redo.old) (T.survives redo.new) }
+    ensures image_faith { D.faithful image.new ↔ D.faithful image.old }
+    ensures redo_faith { T.faithful redo.new ↔ T.faithful redo.old }
     ensures no_failure { OnOk result ((D.failures image.new ≡ D.failures image.old) × (T.failures redo.new ≡ T.failures redo.old)) }
     ensures counts { IfErr result (λ e. FaultCounts e (D.failures image.old) (T.failures redo.old) (D.failures image.new) (T.failures redo.new)) }
 {
@@ -158,7 +158,7 @@ pub fn open_finished<D: Device, T: TextStore, A: Allocator + Clone>(
         Err(fault) => return Err(fault),
     };
     Ok(Recovered {
-        how: How::Clean,
+        how: RecoveryOutcome::Clean,
         changes: found.count,
         undone,
     })

@@ -10,10 +10,10 @@ use bx_journal_model::SessionFault;
 /// Whether the image has the length that the last entry tells, if it tells one.
 pub fn check_length<D: Device>(image: &mut D, told: Option<u64>) -> Result<(), SessionFault>
     requires { D.failures image.old < u64.MAX }
-    ensures same_length { D.honest image.old → OnOk result (IfSome told (λ n. length (D.image image.old) ≡ n)) }
-    ensures fault { IfErr result (LengthFault (D.honest image.old) told (D.image image.old)) }
-    ensures looks { LooksAt D.honest D.image D.failures result image.old image.new }
-    ensures found_before { D.honest image.old → NoMore (D.survives image.old) (D.survives image.new) }
+    ensures same_length { D.faithful image.old → OnOk result (IfSome told (λ n. length (D.image image.old) ≡ n)) }
+    ensures fault { IfErr result (LengthFault (D.faithful image.old) told (D.image image.old)) }
+    ensures looks { LooksAt D.faithful D.image D.failures result image.old image.new }
+    ensures found_before { D.faithful image.old → NoMore (D.survives image.old) (D.survives image.new) }
 {
     let Some(expected) = told else { return Ok(()) };
     let len = image.len()?;

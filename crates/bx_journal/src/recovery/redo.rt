@@ -160,10 +160,10 @@ pub fn check_redo_length<D: Device>(
     told: Option<u64>,
 ) -> Result<(), SessionFault>
     requires { D.failures image.old < u64.MAX }
-    ensures same_length { D.honest image.old → OnOk result (IfSome told (λ n. length (D.image image.old) ≡ n)) }
-    ensures fault { IfErr result (LastLineFault (D.honest image.old) lines told (D.image image.old)) }
-    ensures looks { LooksAt D.honest D.image D.failures result image.old image.new }
-    ensures found_before { D.honest image.old → NoMore (D.survives image.old) (D.survives image.new) }
+    ensures same_length { D.faithful image.old → OnOk result (IfSome told (λ n. length (D.image image.old) ≡ n)) }
+    ensures fault { IfErr result (LastLineFault (D.faithful image.old) lines told (D.image image.old)) }
+    ensures looks { LooksAt D.faithful D.image D.failures result image.old image.new }
+    ensures found_before { D.faithful image.old → NoMore (D.survives image.old) (D.survives image.new) }
 {
     let Some(expected) = told else { return Ok(()) };
     let len = image.len()?;
@@ -183,13 +183,13 @@ pub fn judge_redo<D: Device, A: Allocator + Clone>(
 ) -> Result<u32, SessionFault>
     requires countable { D.failures image.old < u64.MAX }
     requires few { changes ≤ 65535 }
-    ensures undone { D.honest image.old → (text : List ℕ) → IsRedoFound text changes found → IfOk result (HasUndoneCount text (D.image image.old) changes) }
+    ensures undone { D.faithful image.old → (text : List ℕ) → IsRedoFound text changes found → IfOk result (HasUndoneCount text (D.image image.old) changes) }
     ensures sum { IsFewFound changes found → IfOk result (λ n. changes + n ≤ 65535) }
-    ensures fault { (text : List ℕ) → IfErr result (JudgeFault (D.honest image.old × IsRedoFound text changes found) text (D.image image.old) changes) }
-    ensures unfit { D.honest image.old → RefusesFound found changes (D.image image.old) result }
-    ensures kept { D.honest image.old → AcceptsFound found changes (D.image image.old) result }
-    ensures looks { LooksAt D.honest D.image D.failures result image.old image.new }
-    ensures found_before { D.honest image.old → NoMore (D.survives image.old) (D.survives image.new) }
+    ensures fault { (text : List ℕ) → IfErr result (JudgeFault (D.faithful image.old × IsRedoFound text changes found) text (D.image image.old) changes) }
+    ensures unfit { D.faithful image.old → RefusesFound found changes (D.image image.old) result }
+    ensures kept { D.faithful image.old → AcceptsFound found changes (D.image image.old) result }
+    ensures looks { LooksAt D.faithful D.image D.failures result image.old image.new }
+    ensures found_before { D.faithful image.old → NoMore (D.survives image.old) (D.survives image.new) }
 {
     let counted = match count_found(alloc, found, changes) {
         Ok(counted) => counted,

@@ -17,7 +17,7 @@ ghost use Rattle.bx_journal_format.specs.Text.{Reading};
 
 use crate::recovery::length::check_length;
 use bx_image::{Device, DeviceFailed};
-use bx_journal_model::{Devices, How, Mark, Recovered, SessionFault};
+use bx_journal_model::{Devices, Mark, Recovered, RecoveryOutcome, SessionFault};
 use bx_journal_protocol::{Buffers, buffers_of, cut_redo, drop_tail, settle, take_back};
 use bx_journal_read::Torn;
 use bx_journal_store::TextStore;
@@ -27,13 +27,13 @@ use std::alloc::Allocator;
 /// restored, whose length the unfinished entry records.
 fn prepare<D: Device>(image: &mut D, torn: Torn) -> Result<(), SessionFault>
     requires { D.failures image.old < u64.MAX }
-    ensures lengths { D.honest image.old → (text : List ℕ) (r : Reading) → IsTorn text r torn
+    ensures lengths { D.faithful image.old → (text : List ℕ) (r : Reading) → IsTorn text r torn
         → OnOk result (HaveLengths r.entries (image_at r.stage (D.image image.old))) }
     ensures fault { FaultsOfTorn D.Device image.old torn result }
     ensures kind { IfErr result (LookFault ⊥ [] []) }
     ensures room { OnOk result (HasRoomToRestore torn.mark (D.room image.new)) }
-    ensures looks { LooksAt D.honest D.image D.failures result image.old image.new }
-    ensures found_before { D.honest image.old → NoMore (D.survives image.old) (D.survives image.new) }
+    ensures looks { LooksAt D.faithful D.image D.failures result image.old image.new }
+    ensures found_before { D.faithful image.old → NoMore (D.survives image.old) (D.survives image.new) }
 {
     match torn.mark {
         None => check_length(image, torn.told),
@@ -53,21 +53,21 @@ fn cut_unfinished<D: Device, T: TextStore, A: Allocator>(
 ) -> Result<Recovered, DeviceFailed>
     requires image_countable { D.failures image.old < u64.MAX }
     requires journal_countable { T.failures journal.old < u64.MAX }
-    requires found { IsUnfinishedIn (T.honest journal.old) (T.text journal.old) torn }
+    requires found { IsUnfinishedIn (T.faithful journal.old) (T.text journal.old) torn }
     requires room { HasRoomToRestore torn.mark (D.room image.old) }
     requires buffers { HasBuffersFor torn.mark buffers.old }
     ensures opened { OpensRead D.Device T.TextStore image.old journal.old image.new journal.new result }
     ensures left { LeavesRead T.TextStore journal.old journal.new result }
-    ensures unclean { IfOk result (λ o. (o.how ≡ How.Clean → ⊥) × (o.undone ≡ 0)) }
-    ensures keeps { D.honest image.old → T.honest journal.old
+    ensures unclean { IfOk result (λ o. (o.how ≡ RecoveryOutcome.Clean → ⊥) × (o.undone ≡ 0)) }
+    ensures keeps { D.faithful image.old → T.faithful journal.old
         → KeepsStack result (T.text journal.old) (D.image image.old) (T.text journal.new) (D.image image.new) }
     ensures survives { WherePairSettled D.Device T.TextStore image.old journal.old
         (PairSurvives (T.text journal.old) (D.image image.old) (D.survives image.new) (T.survives journal.new)) }
-    ensures settled { D.honest image.old → T.honest journal.old → Only (D.image image.old) (D.survives image.old)
+    ensures settled { D.faithful image.old → T.faithful journal.old → Only (D.image image.old) (D.survives image.old)
         → OnOk result (Only (D.image image.new) (D.survives image.new) × Only (T.text journal.new) (T.survives journal.new)) }
     ensures changes { IfOk result (λ o. o.changes ≡ torn.count) }
-    ensures image_honesty { D.honest image.new ↔ D.honest image.old }
-    ensures journal_honesty { T.honest journal.new ↔ T.honest journal.old }
+    ensures image_faith { D.faithful image.new ↔ D.faithful image.old }
+    ensures journal_faith { T.faithful journal.new ↔ T.faithful journal.old }
     ensures no_failure { OnOk result ((D.failures image.new ≡ D.failures image.old) × (T.failures journal.new ≡ T.failures journal.old)) }
     ensures failure { OnErr result (OneMore (D.failures image.old) (T.failures journal.old) (D.failures image.new) (T.failures journal.new)) }
 {
@@ -75,7 +75,7 @@ fn cut_unfinished<D: Device, T: TextStore, A: Allocator>(
         None => {
             drop_tail(journal, torn.begins)?;
             Ok(Recovered {
-                how: How::Dropped,
+                how: RecoveryOutcome::Dropped,
                 changes: torn.count,
                 undone: 0,
             })
@@ -83,7 +83,7 @@ fn cut_unfinished<D: Device, T: TextStore, A: Allocator>(
         Some(mark) => {
             take_back(image, journal, buffers, mark, torn.begins)?;
             Ok(Recovered {
-                how: How::Restored {
+                how: RecoveryOutcome::Restored {
                     number: torn.count + 1,
                 },
                 changes: torn.count,
@@ -101,17 +101,17 @@ fn finish<D: Device, T: TextStore, A: Allocator>(
     torn: Torn,
 ) -> Result<Recovered, DeviceFailed>
     requires countable { AreBelow D.Device T.TextStore u64.MAX devices.old }
-    requires found { IsUnfinishedIn (T.honest devices.old.journal) (T.text devices.old.journal) torn }
+    requires found { IsUnfinishedIn (T.faithful devices.old.journal) (T.text devices.old.journal) torn }
     requires room { HasRoomToRestore torn.mark (D.room devices.old.image) }
     requires buffers { HasBuffersFor torn.mark buffers.old }
     ensures opened { OpensRead D.Device T.TextStore devices.old.image devices.old.journal devices.new.image devices.new.journal result }
     ensures left { LeavesRead T.TextStore devices.old.journal devices.new.journal result }
-    ensures unclean { IfOk result (λ o. (o.how ≡ How.Clean → ⊥) × (o.undone ≡ 0)) }
+    ensures unclean { IfOk result (λ o. (o.how ≡ RecoveryOutcome.Clean → ⊥) × (o.undone ≡ 0)) }
     ensures keeps { KeepsPair D.Device T.TextStore devices.old devices.new result }
     ensures changes { IfOk result (λ o. o.changes ≡ torn.count) }
-    ensures emptied { T.honest devices.old.redo → OnOk result (T.text devices.new.redo ≡ []) }
-    ensures emptied_first { T.honest devices.old.redo → OnErr result ((devices.new.journal ≡ devices.old.journal) ⊎ (T.text devices.new.redo ≡ [])) }
-    ensures survives { D.honest devices.old.image → T.honest devices.old.journal → T.honest devices.old.redo
+    ensures emptied { T.faithful devices.old.redo → OnOk result (T.text devices.new.redo ≡ []) }
+    ensures emptied_first { T.faithful devices.old.redo → OnErr result ((devices.new.journal ≡ devices.old.journal) ⊎ (T.text devices.new.redo ≡ [])) }
+    ensures survives { D.faithful devices.old.image → T.faithful devices.old.journal → T.faithful devices.old.redo
         → AreSettled D.Device T.TextStore devices.old
         → OpeningSurvives (T.text devices.old.journal) (D.image devices.old.image) (T.text devices.old.redo) (D.survives devices.new.image) (T.survives devices.new.journal) (T.survives devices.new.redo) }
     ensures settles { StaySettled D.Device T.TextStore devices.old devices.new result }
@@ -144,13 +144,13 @@ fn get_ready<D: Device, T: TextStore, A: Allocator + Clone>(
     torn: Torn,
 ) -> Result<Buffers<A>, SessionFault>
     requires countable { AreBelow D.Device T.TextStore u64.MAX devices.old }
-    ensures lengths { D.honest devices.old.image → (text : List ℕ) (r : Reading) → IsTorn text r torn
+    ensures lengths { D.faithful devices.old.image → (text : List ℕ) (r : Reading) → IsTorn text r torn
         → OnOk result (HaveLengths r.entries (image_at r.stage (D.image devices.old.image))) }
     ensures fault { FaultsOfTorn D.Device devices.old.image torn result }
     ensures kind { IfErr result (LookFault ⊥ [] []) }
     ensures room { OnOk result (HasRoomToRestore torn.mark (D.room devices.new.image)) }
     ensures buffers { IfOk result (HasBuffersFor torn.mark) }
-    ensures settled { D.honest devices.old.image → T.honest devices.old.journal → T.honest devices.old.redo
+    ensures settled { D.faithful devices.old.image → T.faithful devices.old.journal → T.faithful devices.old.redo
         → OnOk result (AreSettled D.Device T.TextStore devices.new) }
     ensures stayed { HaveStayed D.Device T.TextStore devices.old devices.new }
     ensures found_before { FoundBefore D.Device T.TextStore devices.old devices.new }
@@ -177,10 +177,10 @@ pub fn recover_read<D: Device, T: TextStore, A: Allocator + Clone>(
     torn: Torn,
 ) -> Result<Recovered, SessionFault>
     requires countable { AreBelow D.Device T.TextStore u64.MAX devices.old }
-    requires found { IsUnfinishedIn (T.honest devices.old.journal) (T.text devices.old.journal) torn }
+    requires found { IsUnfinishedIn (T.faithful devices.old.journal) (T.text devices.old.journal) torn }
     ensures opened { Opens D.Device T.TextStore devices.old devices.new result }
     ensures left { LeavesRead T.TextStore devices.old.journal devices.new.journal result }
-    ensures unclean { IfOk result (λ o. (o.how ≡ How.Clean → ⊥) × (o.undone ≡ 0)) }
+    ensures unclean { IfOk result (λ o. (o.how ≡ RecoveryOutcome.Clean → ⊥) × (o.undone ≡ 0)) }
     ensures sum { IfOk result (λ o. o.changes + o.undone ≤ 65535) }
     ensures faults { FaultsAsRead D.Device T.TextStore devices.old result }
     ensures kind { IfErr result RecoverFault }
@@ -191,7 +191,7 @@ pub fn recover_read<D: Device, T: TextStore, A: Allocator + Clone>(
     ensures empties { EmptiesRedo T.TextStore devices.old devices.new result }
     ensures settled { OfAll D.Device T.TextStore devices.old (OnOk result (AreSettled D.Device T.TextStore devices.new)) }
     ensures found_before { IfErr result (λ e. AfterFault e (Unit {0}) (FoundBefore D.Device T.TextStore devices.old devices.new)) }
-    ensures redo_same { T.honest devices.old.redo → IfErr result (λ e. AfterFault e (Unit {0}) (T.text devices.new.redo ≡ T.text devices.old.redo)) }
+    ensures redo_same { T.faithful devices.old.redo → IfErr result (λ e. AfterFault e (Unit {0}) (T.text devices.new.redo ≡ T.text devices.old.redo)) }
     ensures survives { OfAll D.Device T.TextStore devices.old (RecoverySurvives D.Device T.TextStore result (λ o. Unit {0}) (λ e. e) devices.old devices.new) }
     ensures calls { CallsCount D.Device T.TextStore devices.old devices.new result }
 {

@@ -25,7 +25,7 @@ impl<D: Device, T: TextStore, A: Allocator> Session<D, T, A> {
         patch: &Patch<B>,
     ) -> Result<Option<Other>, SessionFault>
         requires { D.failures self.old.image < u64.MAX }
-        ensures found { D.honest self.old.image → IfOk result (FindsOther (asked_of patch.now) (D.image self.old.image)) }
+        ensures found { D.faithful self.old.image → IfOk result (FindsOther (asked_of patch.now) (D.image self.old.image)) }
 
         // Nothing is changed, and nothing more is to be found after a loss of power. A broken session isn't even read.
         ensures looks { OnlyLooks D.Device T.TextStore self.old self.new }
@@ -47,7 +47,7 @@ impl<D: Device, T: TextStore, A: Allocator> Session<D, T, A> {
     /// `Broken`, and `DeviceFailed` of asking the image.
     pub fn image_len(&mut self) -> Result<u64, SessionFault>
         requires { D.failures self.old.image < u64.MAX }
-        ensures len { D.honest self.old.image → IfOk result (λ n. n ≡ length (D.image self.old.image)) }
+        ensures len { D.faithful self.old.image → IfOk result (λ n. n ≡ length (D.image self.old.image)) }
         ensures looks { OnlyLooks D.Device T.TextStore self.old self.new }
         ensures safe { FailsSafely D.Device T.TextStore self.old self.new result }
         ensures found_before { NothingNew D.Device T.TextStore self.old self.new }

@@ -101,23 +101,23 @@ impl<D: Device, T: TextStore, A: Allocator + Clone> Session<D, T, A> {
     /// One row for each change, the oldest first. It reads the journal's text again, and changes nothing.
     pub fn log(&mut self) -> Result<Vec<LogRow, A>, SessionFault>
         requires { T.failures self.old.journal < u64.MAX }
-        ensures rows { T.honest self.old.journal → (es : List Entry) → IsFinished (T.text self.old.journal) es → IfOk result (λ rows. rows.items ≡ rows_of es) }
+        ensures rows { T.faithful self.old.journal → (es : List Entry) → IsFinished (T.text self.old.journal) es → IfOk result (λ rows. rows.items ≡ rows_of es) }
 
         // Nothing is changed, and nothing more is to be found after a loss of power. A broken session isn't even read.
         ensures safe { FailsSafely D.Device T.TextStore self.old self.new result }
         ensures found_before { NothingNew D.Device T.TextStore self.old self.new }
-        ensures text { T.honest self.old.journal → T.text self.new.journal ≡ T.text self.old.journal }
+        ensures text { T.faithful self.old.journal → T.text self.new.journal ≡ T.text self.old.journal }
         ensures image { self.new.image ≡ self.old.image }
         ensures redo { self.new.redo ≡ self.old.redo }
         ensures count { self.new.count ≡ self.old.count }
         ensures undone { self.new.undone ≡ self.old.undone }
         ensures is_broken { self.new.is_broken ≡ self.old.is_broken }
-        ensures fault { IfErr result (λ e. (e ≡ SessionFault.Broken → ⊥) → AgainFault (T.honest self.old.journal) (T.text self.old.journal) self.old.count e) }
+        ensures fault { IfErr result (λ e. (e ≡ SessionFault.Broken → ⊥) → AgainFault (T.faithful self.old.journal) (T.text self.old.journal) self.old.count e) }
 
         // The text is called damaged exactly where it isn't `count` finished entries alone.
-        ensures undamaged { T.honest self.old.journal → HasCount (T.text self.old.journal) self.old.count
+        ensures undamaged { T.faithful self.old.journal → HasCount (T.text self.old.journal) self.old.count
             → IfErr result (λ e. (n : ℕ) → e ≡ SessionFault.Damaged n → ⊥) }
-        ensures whole { T.honest self.old.journal → OnOk result (HasCount (T.text self.old.journal) self.old.count) }
+        ensures whole { T.faithful self.old.journal → OnOk result (HasCount (T.text self.old.journal) self.old.count) }
     {
         if self.is_broken {
             return Err(SessionFault::Broken);

@@ -23,11 +23,11 @@ fn read_undone<T: TextStore, A: Allocator + Clone>(
 ) -> Result<FinishedRead<A>, SessionFault>
     requires countable { T.failures redo.old < u64.MAX }
     requires few { j ≤ undone }
-    ensures read { IfOk result (λ o. IsLastFrom (T.honest redo.old) (T.text redo.old) o.len o.entries.items undone) }
+    ensures read { IfOk result (λ o. IsLastFrom (T.faithful redo.old) (T.text redo.old) o.len o.entries.items undone) }
     ensures few { IfOk result (λ o. j ≤ length o.entries.items) }
-    ensures fault { IfErr result (RedoAgainFault (T.honest redo.old) (T.text redo.old) undone) }
-    ensures looks { LooksAt T.honest T.text T.failures result redo.old redo.new }
-    ensures survives { T.honest redo.old → NoMore (T.survives redo.old) (T.survives redo.new) }
+    ensures fault { IfErr result (RedoAgainFault (T.faithful redo.old) (T.text redo.old) undone) }
+    ensures looks { LooksAt T.faithful T.text T.failures result redo.old redo.new }
+    ensures survives { T.faithful redo.old → NoMore (T.survives redo.old) (T.survives redo.new) }
 {
     match read_last_of(alloc, redo, undone, j) {
         Ok(read) => Ok(read),
@@ -77,9 +77,9 @@ impl<D: Device, T: TextStore, A: Allocator + Clone> Session<D, T, A> {
         requires redo_countable { T.failures self.old.redo < u64.MAX }
 
         // Accepted, it makes the machine's step, and the session goes on.
-        ensures accepted { D.honest self.old.image → T.honest self.old.journal → T.honest self.old.redo
+        ensures accepted { D.faithful self.old.image → T.faithful self.old.journal → T.faithful self.old.redo
             → RedoesImages D.image T.text j self.old self.new result }
-        ensures sound { D.honest self.old.image → T.honest self.old.journal → T.honest self.old.redo
+        ensures sound { D.faithful self.old.image → T.faithful self.old.journal → T.faithful self.old.redo
             → StaysRedone D.image T.text j self.old self.new result }
         ensures number { IfOk result (λ n. (n ≡ self.old.count + j) × (self.new.count ≡ n)
             × (self.new.undone + j ≡ self.old.undone) × (self.new.is_broken ≡ false)) }
@@ -88,18 +88,18 @@ impl<D: Device, T: TextStore, A: Allocator + Clone> Session<D, T, A> {
         ensures stands { KeepsOldStack D.Device T.TextStore j self.old self.new result }
 
         // The redo text is then that of the other entries, and the journal goes on with what each of the j took of the image.
-        ensures text { T.honest self.old.redo → LeavesFront (T.text self.old.redo) j (T.text self.new.redo) result }
-        ensures grown { D.honest self.old.image → T.honest self.old.journal → T.honest self.old.redo
+        ensures text { T.faithful self.old.redo → LeavesFront (T.text self.old.redo) j (T.text self.new.redo) result }
+        ensures grown { D.faithful self.old.image → T.faithful self.old.journal → T.faithful self.old.redo
             → GrowsByTaken D.image T.text j self.old self.new result }
-        ensures front { T.honest self.old.journal → OnOk result (IsPrefix (T.text self.old.journal) (T.text self.new.journal)) }
+        ensures front { T.faithful self.old.journal → OnOk result (IsPrefix (T.text self.old.journal) (T.text self.new.journal)) }
 
         // An interruption leaves the old stack with some of the images made again, and another fault leaves all as it was.
-        ensures finds { D.honest self.old.image → T.honest self.old.journal → T.honest self.old.redo
+        ensures finds { D.faithful self.old.image → T.faithful self.old.journal → T.faithful self.old.redo
             → FindsSome D.image T.text self.old self.new redo_of j result }
 
         // So it is behind a loss of power inside the call; where it is accepted, the images behind it are on the disk,
         // and of each of the three no more is found than what it has.
-        ensures survives { D.honest self.old.image → T.honest self.old.journal → T.honest self.old.redo
+        ensures survives { D.faithful self.old.image → T.faithful self.old.journal → T.faithful self.old.redo
             → StepsSurvive D.image D.survives T.text T.survives redo_of j self.old self.new result
             × OnOk result (AreSettled D.Device T.TextStore (devices_of self.new)) }
 

@@ -44,30 +44,30 @@ impl<D: Device, T: TextStore, A: Allocator + Clone> Session<D, T, A> {
         requires redo_countable { T.failures self.old.redo < u64.MAX }
 
         // Accepted, it makes the machine's step, and the session goes on.
-        ensures accepted { D.honest self.old.image → T.honest self.old.journal → Steps D.image T.text self.old self.new UndoStep k drop result }
-        ensures sound { D.honest self.old.image → T.honest self.old.journal → StaysReady D.image T.text self.old self.new (drop k) result }
+        ensures accepted { D.faithful self.old.image → T.faithful self.old.journal → Steps D.image T.text self.old self.new UndoStep k drop result }
+        ensures sound { D.faithful self.old.image → T.faithful self.old.journal → StaysReady D.image T.text self.old self.new (drop k) result }
         ensures left { IfOk result (λ left. (left + k ≡ self.old.count) × (self.new.count ≡ left) × (self.new.is_broken ≡ false)
             × (self.new.undone ≤ self.old.undone + k)) }
 
         // The text is then that of the other entries.
-        ensures text { T.honest self.old.journal → LeavesFront (T.text self.old.journal) k (T.text self.new.journal) result }
+        ensures text { T.faithful self.old.journal → LeavesFront (T.text self.old.journal) k (T.text self.new.journal) result }
 
         // The images that were taken back are undone, above those that were.
-        ensures undone { D.honest self.old.image → T.honest self.old.journal → T.honest self.old.redo
+        ensures undone { D.faithful self.old.image → T.faithful self.old.journal → T.faithful self.old.redo
             → UndoesImages D.image T.text k self.old self.new result }
 
         // The redo text has them as entries, each with what its undo took of the image, but perhaps zeros behind it.
-        ensures kept { D.honest self.old.image → T.honest self.old.journal → T.honest self.old.redo
+        ensures kept { D.faithful self.old.image → T.faithful self.old.journal → T.faithful self.old.redo
             → KeepsTaken D.image T.text k self.old self.new result }
 
         // An interruption leaves the stack without some of the images, and another fault leaves all as it was.
-        ensures fault { D.honest self.old.image → T.honest self.old.journal → StopsUndo D.image T.text k self.old self.new result }
-        ensures finds { D.honest self.old.image → T.honest self.old.journal → T.honest self.old.redo
+        ensures fault { D.faithful self.old.image → T.faithful self.old.journal → StopsUndo D.image T.text k self.old self.new result }
+        ensures finds { D.faithful self.old.image → T.faithful self.old.journal → T.faithful self.old.redo
             → FindsSome D.image T.text self.old self.new undo_of k result }
 
         // So it is behind a loss of power inside the call; where it is accepted, the images behind it are on the disk,
         // and of each of the three no more is found than what it has.
-        ensures survives { D.honest self.old.image → T.honest self.old.journal → T.honest self.old.redo
+        ensures survives { D.faithful self.old.image → T.faithful self.old.journal → T.faithful self.old.redo
             → StepsSurvive D.image D.survives T.text T.survives undo_of k self.old self.new result
             × OnOk result (AreSettled D.Device T.TextStore (devices_of self.new)) }
 

@@ -58,10 +58,10 @@ pub fn strike_text<T: TextStore>(
 ) -> Result<bool, DeviceFailed>
     requires countable { T.failures store.old < u64.MAX }
     requires order { from ≤ to }
-    requires within { T.honest store.old → to ≤ length (T.text store.old) }
-    ensures struck { T.honest store.old
+    requires within { T.faithful store.old → to ≤ length (T.text store.old) }
+    ensures struck { T.faithful store.old
         → IfOk result (λ all. all ≡ true → AreStruck total (ranges_in (split (rest_to to from (T.text store.old))).lines) marks.old marks.new) }
-    ensures long { T.honest store.old → IfOk result (λ all. all ≡ false → HasLongLine (length window.old) from to (T.text store.old)) }
+    ensures long { T.faithful store.old → IfOk result (λ all. all ≡ false → HasLongLine (length window.old) from to (T.text store.old)) }
     ensures window { length window.new ≡ length window.old }
     ensures reads { OnlyReadsText T.TextStore (is_err result) store.old store.new }
 {

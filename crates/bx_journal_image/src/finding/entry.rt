@@ -23,10 +23,10 @@ pub fn number_at_end<T: TextStore>(
     len: u64,
 ) -> Result<Option<u32>, DeviceFailed>
     requires countable { T.failures store.old < u64.MAX }
-    requires long { T.honest store.old → len ≡ length (T.text store.old) }
+    requires long { T.faithful store.old → len ≡ length (T.text store.old) }
     requires room { length window.old ≡ 65536 }
-    ensures some { T.honest store.old → IfOk result (λ found. IfSome found (EndsIn (T.text store.old))) }
-    ensures none { T.honest store.old → IfOk result (λ found. IfNone found ((n : ℕ) → EndsIn (T.text store.old) n → ⊥)) }
+    ensures some { T.faithful store.old → IfOk result (λ found. IfSome found (EndsIn (T.text store.old))) }
+    ensures none { T.faithful store.old → IfOk result (λ found. IfNone found ((n : ℕ) → EndsIn (T.text store.old) n → ⊥)) }
     ensures room { length window.new ≡ 65536 }
     ensures reads { OnlyReadsText T.TextStore (is_err result) store.old store.new }
 {
@@ -45,9 +45,9 @@ pub fn last_entry<T: TextStore>(
     len: u64,
 ) -> Result<u64, DeviceFailed>
     requires countable { T.failures store.old < u64.MAX }
-    requires long { T.honest store.old → len ≡ length (T.text store.old) }
+    requires long { T.faithful store.old → len ≡ length (T.text store.old) }
     requires room { length window.old ≡ 65536 }
-    ensures entry { T.honest store.old → IfOk result (IsLastEntryAt (T.text store.old)) }
+    ensures entry { T.faithful store.old → IfOk result (IsLastEntryAt (T.text store.old)) }
     ensures within { IfOk result (λ at. at ≤ len) }
     ensures room { length window.new ≡ 65536 }
     ensures reads { OnlyReadsText T.TextStore (is_err result) store.old store.new }
@@ -105,10 +105,10 @@ pub fn length_before<T: TextStore>(
     len: u64,
 ) -> Result<Option<u64>, DeviceFailed>
     requires countable { T.failures store.old < u64.MAX }
-    requires long { T.honest store.old → len ≡ length (T.text store.old) }
+    requires long { T.faithful store.old → len ≡ length (T.text store.old) }
     requires within { at ≤ len }
     requires room { length window.old ≡ 65536 }
-    ensures before { T.honest store.old → IfOk result (IsBefore (drop at (T.text store.old))) }
+    ensures before { T.faithful store.old → IfOk result (IsBefore (drop at (T.text store.old))) }
     ensures room { length window.new ≡ 65536 }
     ensures reads { OnlyReadsText T.TextStore (is_err result) store.old store.new }
 {

@@ -36,10 +36,10 @@ pub fn keep_near<D: Device>(
     count: usize,
 ) -> Result<Near, DeviceFailed>
     requires countable { D.failures image.old < u64.MAX }
-    requires near { IsInPage (D.honest image.old) (D.image image.old) page.old near }
+    requires near { IsInPage (D.faithful image.old) (D.image image.old) page.old near }
     requires few { count ≤ length page.old }
     requires there { at + count ≤ near.length }
-    ensures near { IfOk result (IsInPage (D.honest image.old) (D.image image.old) page.new) }
+    ensures near { IfOk result (IsInPage (D.faithful image.old) (D.image image.old) page.new) }
     ensures has { IfOk result (λ now. HasNear now at count) }
     ensures room { length page.new ≡ length page.old }
     ensures reads { OnlyReadsImage D.Device (is_err result) image.old image.new }

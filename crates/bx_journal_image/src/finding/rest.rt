@@ -66,9 +66,9 @@ fn read_appended<D: Device>(
     window: &mut [u8],
 ) -> Result<usize, DeviceFailed>
     requires countable { D.failures image.old < u64.MAX }
-    requires long { D.honest image.old → total ≡ length (D.image image.old) }
+    requires long { D.faithful image.old → total ≡ length (D.image image.old) }
     requires window { length window.old ≡ 65536 }
-    ensures bytes { D.honest image.old → IfOk result (λ n. take n window.new ≡ appended_bytes (D.image image.old) before) }
+    ensures bytes { D.faithful image.old → IfOk result (λ n. take n window.new ≡ appended_bytes (D.image image.old) before) }
     ensures within { IfOk result (λ n. n ≤ 65536) }
     ensures window { length window.new ≡ 65536 }
     ensures reads { OnlyReadsImage D.Device (is_err result) image.old image.new }
@@ -95,12 +95,12 @@ fn digest_entry<D: Device, T: TextStore>(
 ) -> Result<Option<Digest>, DeviceFailed>
     requires image_countable { D.failures image.old < u64.MAX }
     requires text_countable { T.failures text.old < u64.MAX }
-    requires long { D.honest image.old → entry.length ≡ length (D.image image.old) }
+    requires long { D.faithful image.old → entry.length ≡ length (D.image image.old) }
     requires order { entry.from ≤ entry.to }
-    requires end { T.honest text.old → entry.to ≡ length (T.text text.old) }
+    requires end { T.faithful text.old → entry.to ≡ length (T.text text.old) }
     requires page { length page.old ≡ 4096 }
     requires window { length window.old ≡ 65536 }
-    ensures digest { D.honest image.old → T.honest text.old → IfOk result (IsDigested (D.image image.old) (T.text text.old) entry.from entry.before) }
+    ensures digest { D.faithful image.old → T.faithful text.old → IfOk result (IsDigested (D.image image.old) (T.text text.old) entry.from entry.before) }
     ensures page { length page.new ≡ 4096 }
     ensures window { length window.new ≡ 65536 }
     ensures looks { LooksAtBoth D.Device T.TextStore (is_err result) image.old image.new text.old text.new }
@@ -129,10 +129,10 @@ fn last_of<D: Device, T: TextStore>(
 ) -> Result<Option<Last>, DeviceFailed>
     requires image_countable { D.failures image.old < u64.MAX }
     requires text_countable { T.failures text.old < u64.MAX }
-    requires long { D.honest image.old → total ≡ length (D.image image.old) }
+    requires long { D.faithful image.old → total ≡ length (D.image image.old) }
     requires page { length page.old ≡ 4096 }
     requires window { length window.old ≡ 65536 }
-    ensures last { D.honest image.old → T.honest text.old → IfOk result (IsLastRead (D.image image.old) (T.text text.old)) }
+    ensures last { D.faithful image.old → T.faithful text.old → IfOk result (IsLastRead (D.image image.old) (T.text text.old)) }
     ensures page { length page.new ≡ 4096 }
     ensures window { length window.new ≡ 65536 }
     ensures looks { LooksAtBoth D.Device T.TextStore (is_err result) image.old image.new text.old text.new }
@@ -179,11 +179,11 @@ fn stand_in<D: Device, T: TextStore>(
     requires redo_countable { T.failures redo.old < u64.MAX }
     requires page { length page.old ≡ 4096 }
     requires window { length window.old ≡ 65536 }
-    ensures found { D.honest image.old → T.honest journal.old → T.honest redo.old
+    ensures found { D.faithful image.old → T.faithful journal.old → T.faithful redo.old
         → IfOk result (IsStandOf (D.image image.old) (T.text journal.old) (T.text redo.old)) }
-    ensures image { LeavesDevice D.honest D.image D.survives image.old image.new }
-    ensures journal { LeavesDevice T.honest T.text T.survives journal.old journal.new }
-    ensures redo { LeavesDevice T.honest T.text T.survives redo.old redo.new }
+    ensures image { LeavesDevice D.faithful D.image D.survives image.old image.new }
+    ensures journal { LeavesDevice T.faithful T.text T.survives journal.old journal.new }
+    ensures redo { LeavesDevice T.faithful T.text T.survives redo.old redo.new }
     ensures counted { ThreeCount (is_err result) (D.failures image.old) (T.failures journal.old) (T.failures redo.old)
         (D.failures image.new) (T.failures journal.new) (T.failures redo.new) }
 {
@@ -222,12 +222,12 @@ pub fn stand<D: Device, T: TextStore, A: Allocator + Clone>(
     requires image_countable { D.failures image.old < u64.MAX }
     requires journal_countable { T.failures journal.old < u64.MAX }
     requires redo_countable { T.failures redo.old < u64.MAX }
-    ensures found { D.honest image.old → T.honest journal.old → T.honest redo.old
+    ensures found { D.faithful image.old → T.faithful journal.old → T.faithful redo.old
         → IfOk result (IsStandOf (D.image image.old) (T.text journal.old) (T.text redo.old)) }
     ensures fault { IfErr result LacksOrFails }
-    ensures image { LeavesDevice D.honest D.image D.survives image.old image.new }
-    ensures journal { LeavesDevice T.honest T.text T.survives journal.old journal.new }
-    ensures redo { LeavesDevice T.honest T.text T.survives redo.old redo.new }
+    ensures image { LeavesDevice D.faithful D.image D.survives image.old image.new }
+    ensures journal { LeavesDevice T.faithful T.text T.survives journal.old journal.new }
+    ensures redo { LeavesDevice T.faithful T.text T.survives redo.old redo.new }
     ensures no_failure { OnOk result ((D.failures image.new ≡ D.failures image.old) × (T.failures journal.new ≡ T.failures journal.old)
         × (T.failures redo.new ≡ T.failures redo.old)) }
     ensures counts { IfErr result (λ e. ThreeCounts e (D.failures image.old) (T.failures journal.old) (T.failures redo.old)

@@ -21,9 +21,9 @@ fn sum_line<D: Device>(
     line: &[u8],
 ) -> Result<Near, DeviceFailed>
     requires countable { D.failures image.old < u64.MAX }
-    requires near { IsInPage (D.honest image.old) (D.image image.old) page.old near }
-    ensures sums { D.honest image.old → IfOk result (λ _. Sums sum.old sum.new (at_line (D.image image.old) line.now)) }
-    ensures near { IfOk result (IsInPage (D.honest image.old) (D.image image.old) page.new) }
+    requires near { IsInPage (D.faithful image.old) (D.image image.old) page.old near }
+    ensures sums { D.faithful image.old → IfOk result (λ _. Sums sum.old sum.new (at_line (D.image image.old) line.now)) }
+    ensures near { IfOk result (IsInPage (D.faithful image.old) (D.image image.old) page.new) }
     ensures room { length page.new ≡ length page.old }
     ensures reads { OnlyReadsImage D.Device (is_err result) image.old image.new }
 {
@@ -57,9 +57,9 @@ fn sum_lines<D: Device>(
     text: &[u8],
 ) -> Result<Lines, DeviceFailed>
     requires countable { D.failures image.old < u64.MAX }
-    requires near { IsInPage (D.honest image.old) (D.image image.old) page.old near }
-    ensures sums { D.honest image.old → IfOk result (λ _. Sums sum.old sum.new (at_lines (D.image image.old) text.now)) }
-    ensures near { IfOk result (λ lines. IsInPage (D.honest image.old) (D.image image.old) page.new lines.near) }
+    requires near { IsInPage (D.faithful image.old) (D.image image.old) page.old near }
+    ensures sums { D.faithful image.old → IfOk result (λ _. Sums sum.old sum.new (at_lines (D.image image.old) text.now)) }
+    ensures near { IfOk result (λ lines. IsInPage (D.faithful image.old) (D.image image.old) page.new lines.near) }
     ensures within { IfOk result (λ lines. lines.taken ≤ length text.now) }
     ensures lines { IfOk result (λ lines. (split (take lines.taken text.now)).lines ≡ (split text.now).lines) }
     ensures whole { IfOk result (λ lines. (split (take lines.taken text.now)).rest ≡ []) }
@@ -98,14 +98,14 @@ pub fn sum_text<D: Device, T: TextStore>(
 ) -> Result<bool, DeviceFailed>
     requires image_countable { D.failures image.old < u64.MAX }
     requires text_countable { T.failures store.old < u64.MAX }
-    requires long { D.honest image.old → part.length ≡ length (D.image image.old) }
+    requires long { D.faithful image.old → part.length ≡ length (D.image image.old) }
     requires order { part.from ≤ part.to }
-    requires within { T.honest store.old → part.to ≤ length (T.text store.old) }
+    requires within { T.faithful store.old → part.to ≤ length (T.text store.old) }
     requires page { length page.old ≡ 4096 }
     requires window { length window.old ≡ 65536 }
-    ensures sums { D.honest image.old → T.honest store.old → IfOk result (λ all. all ≡ true
+    ensures sums { D.faithful image.old → T.faithful store.old → IfOk result (λ all. all ≡ true
         → Sums sum.old sum.new (at_lines (D.image image.old) (rest_to part.to part.from (T.text store.old)))) }
-    ensures long { T.honest store.old → IfOk result (λ all. all ≡ false → HasLongLine 65536 part.from part.to (T.text store.old)) }
+    ensures long { T.faithful store.old → IfOk result (λ all. all ≡ false → HasLongLine 65536 part.from part.to (T.text store.old)) }
     ensures page { length page.new ≡ 4096 }
     ensures window { length window.new ≡ 65536 }
     ensures looks { LooksAtBoth D.Device T.TextStore (is_err result) image.old image.new store.old store.new }

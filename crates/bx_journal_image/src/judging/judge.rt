@@ -36,8 +36,8 @@ fn read_block<D: Device>(
     requires countable { D.failures image.old < u64.MAX }
     requires block { i < 32 }
     requires room { length room.old ≡ 4096 }
-    requires range { D.honest image.old → block_at total i + block_len total ≤ length (D.image image.old) }
-    ensures digest { D.honest image.old → IfOk result (λ d. d ≡ block_digest total i (D.image image.old)) }
+    requires range { D.faithful image.old → block_at total i + block_len total ≤ length (D.image image.old) }
+    ensures digest { D.faithful image.old → IfOk result (λ d. d ≡ block_digest total i (D.image image.old)) }
     ensures room { length room.new ≡ 4096 }
     ensures reads { OnlyReadsImage D.Device (is_err result) image.old image.new }
 {
@@ -58,8 +58,8 @@ fn judge_block<D: Device>(
     requires countable { D.failures image.old < u64.MAX }
     requires block { i < 32 }
     requires room { length room.old ≡ 4096 }
-    requires long { D.honest image.old → len ≡ length (D.image image.old) }
-    ensures read { D.honest image.old → IfOk result (IsBlockRead total mark i (D.image image.old)) }
+    requires long { D.faithful image.old → len ≡ length (D.image image.old) }
+    ensures read { D.faithful image.old → IfOk result (IsBlockRead total mark i (D.image image.old)) }
     ensures room { length room.new ≡ 4096 }
     ensures reads { OnlyReadsImage D.Device (is_err result) image.old image.new }
 {
@@ -87,7 +87,7 @@ pub fn judge_blocks<D: Device>(
 ) -> Result<Verdict, DeviceFailed>
     requires countable { D.failures image.old < u64.MAX }
     requires room { length room.old ≡ 4096 }
-    ensures verdict { D.honest image.old → IfOk result (AreRead 32 total marks.now (D.image image.old)) }
+    ensures verdict { D.faithful image.old → IfOk result (AreRead 32 total marks.now (D.image image.old)) }
     ensures room { length room.new ≡ 4096 }
     ensures reads { OnlyReadsImage D.Device (is_err result) image.old image.new }
 {
@@ -113,7 +113,7 @@ pub fn judge_image<D: Device>(
 ) -> Result<Verdict, DeviceFailed>
     requires countable { D.failures image.old < u64.MAX }
     requires room { length room.old ≡ 4096 }
-    ensures verdict { D.honest image.old → IfOk result (IsJudged line.now marks.now (D.image image.old)) }
+    ensures verdict { D.faithful image.old → IfOk result (IsJudged line.now marks.now (D.image image.old)) }
     ensures room { length room.new ≡ 4096 }
     ensures reads { OnlyReadsImage D.Device (is_err result) image.old image.new }
 {
@@ -137,8 +137,8 @@ pub struct Blocks {
 fn mark_all<D: Device>(image: &mut D, total: u64, room: &mut [u8]) -> Result<Marks, DeviceFailed>
     requires countable { D.failures image.old < u64.MAX }
     requires room { length room.old ≡ 4096 }
-    requires long { D.honest image.old → total ≡ length (D.image image.old) }
-    ensures marks { D.honest image.old → IfOk result (AreWholeMarks (D.image image.old)) }
+    requires long { D.faithful image.old → total ≡ length (D.image image.old) }
+    ensures marks { D.faithful image.old → IfOk result (AreWholeMarks (D.image image.old)) }
     ensures room { length room.new ≡ 4096 }
     ensures reads { OnlyReadsImage D.Device (is_err result) image.old image.new }
 {
@@ -169,8 +169,8 @@ fn mark_short<D: Device>(image: &mut D, total: u64, room: &mut [u8]) -> Result<M
     requires countable { D.failures image.old < u64.MAX }
     requires room { length room.old ≡ 4096 }
     requires few { total ≤ 4096 }
-    requires long { D.honest image.old → total ≡ length (D.image image.old) }
-    ensures marks { D.honest image.old → IfOk result (AreWholeMarks (D.image image.old)) }
+    requires long { D.faithful image.old → total ≡ length (D.image image.old) }
+    ensures marks { D.faithful image.old → IfOk result (AreWholeMarks (D.image image.old)) }
     ensures room { length room.new ≡ 4096 }
     ensures reads { OnlyReadsImage D.Device (is_err result) image.old image.new }
 {
@@ -183,8 +183,8 @@ fn mark_short<D: Device>(image: &mut D, total: u64, room: &mut [u8]) -> Result<M
 fn mark_blocks<D: Device>(image: &mut D, total: u64, room: &mut [u8]) -> Result<Marks, DeviceFailed>
     requires countable { D.failures image.old < u64.MAX }
     requires room { length room.old ≡ 4096 }
-    requires long { D.honest image.old → total ≡ length (D.image image.old) }
-    ensures marks { D.honest image.old → IfOk result (AreWholeMarks (D.image image.old)) }
+    requires long { D.faithful image.old → total ≡ length (D.image image.old) }
+    ensures marks { D.faithful image.old → IfOk result (AreWholeMarks (D.image image.old)) }
     ensures room { length room.new ≡ 4096 }
     ensures reads { OnlyReadsImage D.Device (is_err result) image.old image.new }
 {
@@ -199,8 +199,8 @@ fn mark_blocks<D: Device>(image: &mut D, total: u64, room: &mut [u8]) -> Result<
 pub fn mark_image<D: Device>(image: &mut D, room: &mut [u8]) -> Result<Blocks, DeviceFailed>
     requires countable { D.failures image.old < u64.MAX }
     requires room { length room.old ≡ 4096 }
-    ensures total { D.honest image.old → IfOk result (λ b. b.total ≡ length (D.image image.old)) }
-    ensures marks { D.honest image.old → IfOk result (λ b. AreWholeMarks (D.image image.old) b.marks) }
+    ensures total { D.faithful image.old → IfOk result (λ b. b.total ≡ length (D.image image.old)) }
+    ensures marks { D.faithful image.old → IfOk result (λ b. AreWholeMarks (D.image image.old) b.marks) }
     ensures room { length room.new ≡ 4096 }
     ensures reads { OnlyReadsImage D.Device (is_err result) image.old image.new }
 {

@@ -32,9 +32,9 @@ pub fn strike_marked<T: TextStore>(
 ) -> Result<Option<Marks>, DeviceFailed>
     requires countable { T.failures journal.old < u64.MAX }
     requires order { mark.lines ≤ mark.saved }
-    requires within { T.honest journal.old → mark.saved ≤ length (T.text journal.old) }
+    requires within { T.faithful journal.old → mark.saved ≤ length (T.text journal.old) }
     requires room { length room.old ≡ 65536 }
-    ensures struck { T.honest journal.old → IfOk result (IsStruckAt line.now (T.text journal.old) mark) }
+    ensures struck { T.faithful journal.old → IfOk result (IsStruckAt line.now (T.text journal.old) mark) }
     ensures room { length room.new ≡ 65536 }
     ensures reads { OnlyReadsText T.TextStore (is_err result) journal.old journal.new }
 {
@@ -65,9 +65,9 @@ fn judge_marked<D: Device, T: TextStore>(
     requires image_countable { D.failures image.old < u64.MAX }
     requires journal_countable { T.failures journal.old < u64.MAX }
     requires order { mark.lines ≤ mark.saved }
-    requires within { T.honest journal.old → mark.saved ≤ length (T.text journal.old) }
+    requires within { T.faithful journal.old → mark.saved ≤ length (T.text journal.old) }
     requires room { length room.old ≡ 65536 }
-    ensures verdict { D.honest image.old → T.honest journal.old → IfOk result (IsJudgedAt line.now (T.text journal.old) mark (D.image image.old)) }
+    ensures verdict { D.faithful image.old → T.faithful journal.old → IfOk result (IsJudgedAt line.now (T.text journal.old) mark (D.image image.old)) }
     ensures looks { LooksAtBoth D.Device T.TextStore (is_err result) image.old image.new journal.old journal.new }
 {
     let Some(marks) = strike_marked(journal, room, line, mark)? else {
@@ -88,15 +88,15 @@ fn judge_at<D: Device, T: TextStore, A: Allocator + Clone>(
     requires image_countable { D.failures image.old < u64.MAX }
     requires journal_countable { T.failures journal.old < u64.MAX }
     requires order { mark.lines ≤ mark.saved }
-    requires within { T.honest journal.old → mark.saved ≤ length (T.text journal.old) }
-    ensures verdict { D.honest image.old → T.honest journal.old → IfOk result (IsJudgedBy line (T.text journal.old) mark (D.image image.old)) }
+    requires within { T.faithful journal.old → mark.saved ≤ length (T.text journal.old) }
+    ensures verdict { D.faithful image.old → T.faithful journal.old → IfOk result (IsJudgedBy line (T.text journal.old) mark (D.image image.old)) }
     ensures fault { IfErr result LacksOrFails }
-    ensures image { D.honest image.old → D.image image.new ≡ D.image image.old }
-    ensures journal { T.honest journal.old → T.text journal.new ≡ T.text journal.old }
-    ensures image_before { D.honest image.old → NoMore (D.survives image.old) (D.survives image.new) }
-    ensures journal_before { T.honest journal.old → NoMore (T.survives journal.old) (T.survives journal.new) }
-    ensures image_honesty { D.honest image.new ↔ D.honest image.old }
-    ensures journal_honesty { T.honest journal.new ↔ T.honest journal.old }
+    ensures image { D.faithful image.old → D.image image.new ≡ D.image image.old }
+    ensures journal { T.faithful journal.old → T.text journal.new ≡ T.text journal.old }
+    ensures image_before { D.faithful image.old → NoMore (D.survives image.old) (D.survives image.new) }
+    ensures journal_before { T.faithful journal.old → NoMore (T.survives journal.old) (T.survives journal.new) }
+    ensures image_faith { D.faithful image.new ↔ D.faithful image.old }
+    ensures journal_faith { T.faithful journal.new ↔ T.faithful journal.old }
     ensures no_failure { OnOk result ((D.failures image.new ≡ D.failures image.old) × (T.failures journal.new ≡ T.failures journal.old)) }
     ensures counts { IfErr result (λ e. FaultCounts e (D.failures image.old) (T.failures journal.old) (D.failures image.new) (T.failures journal.new)) }
 {
@@ -120,15 +120,15 @@ pub fn judge_unfinished<D: Device, T: TextStore, A: Allocator + Clone>(
 ) -> Result<Option<Verdict>, SessionFault>
     requires image_countable { D.failures image.old < u64.MAX }
     requires journal_countable { T.failures journal.old < u64.MAX }
-    ensures verdict { D.honest image.old → T.honest journal.old
+    ensures verdict { D.faithful image.old → T.faithful journal.old
         → IfOk result (IsUnfinishedJudged line (T.text journal.old) (D.image image.old)) }
-    ensures fault { IfErr result (FindFault (T.honest journal.old) (shown (T.text journal.old))) }
-    ensures image { D.honest image.old → D.image image.new ≡ D.image image.old }
-    ensures journal { T.honest journal.old → T.text journal.new ≡ T.text journal.old }
-    ensures image_before { D.honest image.old → NoMore (D.survives image.old) (D.survives image.new) }
-    ensures journal_before { T.honest journal.old → NoMore (T.survives journal.old) (T.survives journal.new) }
-    ensures image_honesty { D.honest image.new ↔ D.honest image.old }
-    ensures journal_honesty { T.honest journal.new ↔ T.honest journal.old }
+    ensures fault { IfErr result (FindFault (T.faithful journal.old) (shown (T.text journal.old))) }
+    ensures image { D.faithful image.old → D.image image.new ≡ D.image image.old }
+    ensures journal { T.faithful journal.old → T.text journal.new ≡ T.text journal.old }
+    ensures image_before { D.faithful image.old → NoMore (D.survives image.old) (D.survives image.new) }
+    ensures journal_before { T.faithful journal.old → NoMore (T.survives journal.old) (T.survives journal.new) }
+    ensures image_faith { D.faithful image.new ↔ D.faithful image.old }
+    ensures journal_faith { T.faithful journal.new ↔ T.faithful journal.old }
     ensures no_failure { OnOk result ((D.failures image.new ≡ D.failures image.old) × (T.failures journal.new ≡ T.failures journal.old)) }
     ensures counts { IfErr result (λ e. FaultCounts e (D.failures image.old) (T.failures journal.old) (D.failures image.new) (T.failures journal.new)) }
 {

@@ -64,8 +64,8 @@ fn keep_marks<T: TextStore, A: Allocator + Clone>(
 ) -> Result<Marks, SessionFault>
     requires countable { T.failures journal.old < u64.MAX }
     requires order { mark.lines ≤ mark.saved }
-    requires within { T.honest journal.old → mark.saved ≤ length (T.text journal.old) }
-    ensures marks { T.honest journal.old → IfOk result (AreKeptAt line.now (T.text journal.old) mark) }
+    requires within { T.faithful journal.old → mark.saved ≤ length (T.text journal.old) }
+    ensures marks { T.faithful journal.old → IfOk result (AreKeptAt line.now (T.text journal.old) mark) }
     ensures looks { LooksThrough T.TextStore result journal.old journal.new }
 {
     let mut room = vec![in alloc.clone()?; 0u8; WINDOW]?;
@@ -83,10 +83,10 @@ fn marks_behind<T: TextStore, A: Allocator + Clone>(
     line: &ImageLine,
 ) -> Result<Marks, SessionFault>
     requires { T.failures journal.old < u64.MAX }
-    ensures marks { T.honest journal.old → IfOk result (AreKeptBehind line.now (T.text journal.old)) }
-    ensures fault { IfErr result (FindFault (T.honest journal.old) (shown (T.text journal.old))) }
-    ensures looks { LooksAt T.honest T.text T.failures result journal.old journal.new }
-    ensures survives { T.honest journal.old → NoMore (T.survives journal.old) (T.survives journal.new) }
+    ensures marks { T.faithful journal.old → IfOk result (AreKeptBehind line.now (T.text journal.old)) }
+    ensures fault { IfErr result (FindFault (T.faithful journal.old) (shown (T.text journal.old))) }
+    ensures looks { LooksAt T.faithful T.text T.failures result journal.old journal.new }
+    ensures survives { T.faithful journal.old → NoMore (T.survives journal.old) (T.survives journal.new) }
 {
     let found = match read_text(alloc, journal) {
         Ok(found) => found,
@@ -116,10 +116,10 @@ pub fn seal_unfinished<T: TextStore, A: Allocator + Clone>(
     line: Option<ImageLine>,
 ) -> Result<ImageLine, SessionFault>
     requires { T.failures journal.old < u64.MAX }
-    ensures line { T.honest journal.old → IfOk result (IsOpenSeal line (T.text journal.old)) }
-    ensures fault { IfErr result (FindFault (T.honest journal.old) (shown (T.text journal.old))) }
-    ensures looks { LooksAt T.honest T.text T.failures result journal.old journal.new }
-    ensures survives { T.honest journal.old → NoMore (T.survives journal.old) (T.survives journal.new) }
+    ensures line { T.faithful journal.old → IfOk result (IsOpenSeal line (T.text journal.old)) }
+    ensures fault { IfErr result (FindFault (T.faithful journal.old) (shown (T.text journal.old))) }
+    ensures looks { LooksAt T.faithful T.text T.failures result journal.old journal.new }
+    ensures survives { T.faithful journal.old → NoMore (T.survives journal.old) (T.survives journal.new) }
 {
     let Some(line) = line else {
         return Ok(bare_line());

@@ -82,10 +82,10 @@ pub fn seal<D: Device, A: Allocator + Clone>(
     span: Span,
 ) -> Result<ImageLine, SessionFault>
     requires { D.failures image.old < u64.MAX }
-    ensures line { D.honest image.old → IfOk result (IsSealOf (D.image image.old) now others span) }
+    ensures line { D.faithful image.old → IfOk result (IsSealOf (D.image image.old) now others span) }
     ensures fault { IfErr result LacksOrFails }
-    ensures looks { LooksAt D.honest D.image D.failures result image.old image.new }
-    ensures survives { D.honest image.old → NoMore (D.survives image.old) (D.survives image.new) }
+    ensures looks { LooksAt D.faithful D.image D.failures result image.old image.new }
+    ensures survives { D.faithful image.old → NoMore (D.survives image.old) (D.survives image.new) }
 {
     let mut room = vec![in alloc.clone()?; 0u8; BLOCK]?;
     match mark_image(image, room.as_mut_slice()) {
@@ -103,8 +103,8 @@ fn mark_untouched<D: Device, T: TextStore>(
     requires image_countable { D.failures image.old < u64.MAX }
     requires text_countable { T.failures text.old < u64.MAX }
     requires room { length room.old ≡ 65536 }
-    ensures total { D.honest image.old → IfOk result (λ b. b.total ≡ length (D.image image.old)) }
-    ensures marks { D.honest image.old → T.honest text.old → IfOk result (λ b. AreStepsMarks (D.image image.old) (T.text text.old) b.marks) }
+    ensures total { D.faithful image.old → IfOk result (λ b. b.total ≡ length (D.image image.old)) }
+    ensures marks { D.faithful image.old → T.faithful text.old → IfOk result (λ b. AreStepsMarks (D.image image.old) (T.text text.old) b.marks) }
     ensures looks { LooksAtBoth D.Device T.TextStore (is_err result) image.old image.new text.old text.new }
 {
     let (block, _) = room.split_at_mut(BLOCK);
@@ -132,10 +132,10 @@ pub fn seal_steps<D: Device, T: TextStore, A: Allocator + Clone>(
 ) -> Result<ImageLine, SessionFault>
     requires image_countable { D.failures image.old < u64.MAX }
     requires text_countable { T.failures text.old < u64.MAX }
-    ensures line { D.honest image.old → T.honest text.old → IfOk result (IsStepsSealOf (D.image image.old) (T.text text.old) now others) }
+    ensures line { D.faithful image.old → T.faithful text.old → IfOk result (IsStepsSealOf (D.image image.old) (T.text text.old) now others) }
     ensures fault { IfErr result LacksOrFails }
-    ensures image { LeavesDevice D.honest D.image D.survives image.old image.new }
-    ensures text { LeavesDevice T.honest T.text T.survives text.old text.new }
+    ensures image { LeavesDevice D.faithful D.image D.survives image.old image.new }
+    ensures text { LeavesDevice T.faithful T.text T.survives text.old text.new }
     ensures no_failure { OnOk result ((D.failures image.new ≡ D.failures image.old) × (T.failures text.new ≡ T.failures text.old)) }
     ensures counts { IfErr result (λ e. FaultCounts e (D.failures image.old) (T.failures text.old) (D.failures image.new) (T.failures text.new)) }
 {

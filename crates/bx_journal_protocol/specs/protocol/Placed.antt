@@ -11,18 +11,18 @@ use Rattle.bx_journal_model.specs.Restoring.{IsEnough, StandsAt}
 use Rattle.bx_journal_protocol.specs.protocol.Takens.{AreReady}
 use Rattle.bx_journal_model.specs.Undoing.{AreReadFrom}
 
--- an entry begins at this place and restores this length; its record stands in the text, where that is the honest store's
-pub record IsPlaced {A : Type 0} (honest : Type 0) (text : List ℕ) (e : EntryRead A) (p : Placed) : Type 0 where
+-- an entry begins at this place and restores this length; its record stands in the text, where that is the faithful store's
+pub record IsPlaced {A : Type 0} (faithful : Type 0) (text : List ℕ) (e : EntryRead A) (p : Placed) : Type 0 where
   pub begins : p.begins ≡ e.begins
   pub saved : p.mark.saved ≡ e.saved
   pub len : p.mark.len ≡ e.kept.len
-  pub stands : honest → StandsAt text p.mark (kept_of e.kept)
+  pub stands : faithful → StandsAt text p.mark (kept_of e.kept)
 
 -- the first of these entries stand at these places
 abbrev pub ArePlaced : {A : Type 0} → Type 0 → List ℕ → List (EntryRead A) → List Placed → Type 0
-ArePlaced honest text es [] = Unit {0}
-ArePlaced honest text [] (p ∷ ps) = ⊥
-ArePlaced honest text (e ∷ es) (p ∷ ps) = IsPlaced honest text e p × ArePlaced honest text es ps
+ArePlaced faithful text es [] = Unit {0}
+ArePlaced faithful text [] (p ∷ ps) = ⊥
+ArePlaced faithful text (e ∷ es) (p ∷ ps) = IsPlaced faithful text e p × ArePlaced faithful text es ps
 
 -- the places lie in order, within an image's room, and any line within a window
 abbrev pub AllFit : ℕ → ℕ → List Placed → Type 0
@@ -30,15 +30,15 @@ AllFit room window [] = Unit {0}
 AllFit room window (p ∷ ps) =
     (p.begins ≤ p.mark.lines) × (p.mark.lines ≤ p.mark.saved) × (p.mark.len ≤ room) × IsEnough window × AllFit room window ps
 
--- the last entries of a text stand at these places, where the store is honest, and the records of what their undos take of the image are ready
-pub record ArePrepared {A : Type 0} (honest : Type 0) (x : List ℕ) (text_honest : Type 0) (stored : List ℕ) (places : List Placed)
+-- the last entries of a text stand at these places, where the store is faithful, and the records of what their undos take of the image are ready
+pub record ArePrepared {A : Type 0} (faithful : Type 0) (x : List ℕ) (text_faithful : Type 0) (stored : List ℕ) (places : List Placed)
     (takens : List (Saved A)) : Type 0 where
   pub entries : List (EntryRead A)
-  pub read : AreReadFrom text_honest stored entries
+  pub read : AreReadFrom text_faithful stored entries
   pub few : length takens ≤ length entries
-  pub placed : ArePlaced text_honest stored (reverse entries) (reverse places)
-  pub ready : honest → AreReady x (reverse entries) (reverse takens)
+  pub placed : ArePlaced text_faithful stored (reverse entries) (reverse places)
+  pub ready : faithful → AreReady x (reverse entries) (reverse takens)
 
 -- the same of image and journal in one hand
 abbrev pub ArePreparedIn : {D T A : Type 0} → DeviceViews D → StoreViews T → Devices D T → List Placed → List (Saved A) → Type 0
-ArePreparedIn d t x places takens = ArePrepared (d.honest x.image) (d.image x.image) (t.honest x.journal) (t.text x.journal) places takens
+ArePreparedIn d t x places takens = ArePrepared (d.faithful x.image) (d.image x.image) (t.faithful x.journal) (t.text x.journal) places takens

@@ -36,22 +36,22 @@ pub record KeepsRoom {A : Type 0} (old new : Buffers A) : Type 0 where
 -- What is taken lies within its length, the redo text has room for its entry, and the page is empty and has room for each line
 pub record CanKeep {T A : Type 0} (t : StoreViews T) (redo : T) (waiting : List ℕ) (capacity number : ℕ) (taken : Saved A) (after : ℕ) : Type 0 where
   pub within : AllWithin taken.len taken.runs
-  pub fits : t.honest redo → length (t.text redo) + length (entry_text number (kept_of taken) after) ≤ t.room redo
+  pub fits : t.faithful redo → length (t.text redo) + length (entry_text number (kept_of taken) after) ≤ t.room redo
   pub empty : waiting ≡ []
   pub page_room : 82 ≤ capacity
 
--- where image and journal are honest, each byte of the image stays that the record leaves out which stands at this place
+-- where image and journal are faithful, each byte of the image stays that the record leaves out which stands at this place
 abbrev pub KeepsLeftOut : {D T : Type 0} → DeviceViews D → StoreViews T → Mark → Devices D T → Devices D T → Type 0
 KeepsLeftOut d t mark old new =
-    d.honest old.image → t.honest old.journal → (s : Kept) → StandsAt (t.text old.journal) mark s → KeepsUnmapped s (d.image old.image) (d.image new.image)
+    d.faithful old.image → t.faithful old.journal → (s : Kept) → StandsAt (t.text old.journal) mark s → KeepsUnmapped s (d.image old.image) (d.image new.image)
 
 -- The image is restored, the redo text has what was taken, and neither has less room
 pub record Undoes {D T R E A : Type 0} (d : DeviceViews D) (t : StoreViews T) (result : Result R E) (old new : Devices D T) (number : ℕ) (taken : Saved A)
     (mark : Mark) : Type 0 where
-  pub image_is : d.honest old.image → t.honest old.journal → (s : Kept) → StandsAt (t.text old.journal) mark s
+  pub image_is : d.faithful old.image → t.faithful old.journal → (s : Kept) → StandsAt (t.text old.journal) mark s
       → OnOk result (d.image new.image ≡ restore s (d.image old.image))
-  pub long : d.honest old.image → OnOk result (length (d.image new.image) ≡ mark.len)
-  pub redo_is : t.honest old.redo → OnOk result (t.text new.redo ≡ kept_text (t.text old.redo) (kept_of taken) number mark.len)
+  pub long : d.faithful old.image → OnOk result (length (d.image new.image) ≡ mark.len)
+  pub redo_is : t.faithful old.redo → OnOk result (t.text new.redo ≡ kept_text (t.text old.redo) (kept_of taken) number mark.len)
   pub room_kept : d.room old.image ≤ d.room new.image
   pub redo_room : t.room old.redo ≤ t.room new.redo
 
@@ -72,10 +72,10 @@ UndoStops d t entry old new result =
     (below : List (List ℕ)) (v : Version) (e : Entry) → TakesBack (t.text old.journal) (d.image old.image) below v e entry.begins entry.mark.saved
     → StandsAt (t.text old.journal) entry.mark e.saved → OnErr result (RecoversEither (t.text new.journal) (d.image new.image) (d.image old.image ∷ below) below)
 
--- and with the redo text all is as before, as behind it, or the journal is unfinished, where all three are honest
+-- and with the redo text all is as before, as behind it, or the journal is unfinished, where all three are faithful
 abbrev pub LeftUndo : {D T A V E : Type 0} → DeviceViews D → StoreViews T → Placed → ℕ → Saved A → Devices D T → Devices D T → Result V E → Type 0
 LeftUndo d t entry number taken old new result =
-    d.honest old.image → t.honest old.journal → t.honest old.redo → (below : List (List ℕ)) (v : Version) (e : Entry) → TakesBack (t.text old.journal) (d.image old.image) below v e entry.begins entry.mark.saved
+    d.faithful old.image → t.faithful old.journal → t.faithful old.redo → (below : List (List ℕ)) (v : Version) (e : Entry) → TakesBack (t.text old.journal) (d.image old.image) below v e entry.begins entry.mark.saved
     → StandsAt (t.text old.journal) entry.mark e.saved
     → OnErr result (LeavesEither (t.text new.journal) (d.image new.image) (t.text new.redo) (side_of (d.image old.image ∷ below) (d.image old.image) (t.text old.redo))
     (side_of below (restore e.saved (d.image old.image)) (kept_text (t.text old.redo) (kept_of taken) number entry.mark.len)))
@@ -83,7 +83,7 @@ LeftUndo d t entry number taken old new result =
 -- Behind a loss of power, where all three were on the disk before, all is found as before the undo, as behind it, or the journal is unfinished
 abbrev pub UndoSurvives : {D T A : Type 0} → DeviceViews D → StoreViews T → Placed → ℕ → Saved A → Devices D T → Devices D T → Type 0
 UndoSurvives d t entry number taken old new =
-    d.honest old.image → t.honest old.journal → t.honest old.redo → AreSettled d t old → (below : List (List ℕ)) (v : Version) (e : Entry) → TakesBack (t.text old.journal) (d.image old.image) below v e entry.begins entry.mark.saved
+    d.faithful old.image → t.faithful old.journal → t.faithful old.redo → AreSettled d t old → (below : List (List ℕ)) (v : Version) (e : Entry) → TakesBack (t.text old.journal) (d.image old.image) below v e entry.begins entry.mark.saved
     → StandsAt (t.text old.journal) entry.mark e.saved
     → (y text redo : List ℕ) → d.survives new.image y → t.survives new.journal text → t.survives new.redo redo
     → LeavesEither (shown text) y redo (side_of (d.image old.image ∷ below) (d.image old.image) (t.text old.redo))

@@ -1,4 +1,4 @@
--- What writing the entry of a change leaves, where image, journal and redo text are honest.
+-- What writing the entry of a change leaves, where image, journal and redo text are faithful.
 use Rattle.std.specs.Prelude.{◌∷◌, ℕ, List, take, Result, OnOk, OnErr}
 use Rattle.bx_image.specs.declared.device.Device.{Ghosts as DeviceViews}
 use Rattle.bx_journal_store.specs.declared.store.TextStore.{Ghosts as StoreViews}
@@ -25,7 +25,7 @@ pub record AreSettled {D T : Type 0} (d : DeviceViews D) (t : StoreViews T) (x :
 
 -- where the change is made, all three are on the disk
 abbrev pub EntrySettles : {D T V E : Type 0} → DeviceViews D → StoreViews T → Devices D T → Devices D T → Result V E → Type 0
-EntrySettles d t old new result = d.honest old.image → t.honest old.journal → t.honest old.redo → OnOk result (AreSettled d t new)
+EntrySettles d t old new result = d.faithful old.image → t.faithful old.journal → t.faithful old.redo → OnOk result (AreSettled d t new)
 
 -- the text of an entry's head which keeps these ranges of an image
 abbrev pub head_on : {D A : Type 0} → (D → List ℕ) → D → List Span → Head A → List ℕ
@@ -43,19 +43,19 @@ entry_on image x ranges head end_line = record { head = head_on image x.image ra
 -- image and journal are at rest behind the entry, and the changed image is the newest of their stack
 abbrev pub RestsBehind : {D T A V E : Type 0} → DeviceViews D → StoreViews T → Change A → EntryText → Devices D T → Devices D T → Result V E → Type 0
 RestsBehind d t c entry old new result =
-    d.honest old.image → t.honest old.journal → (stack : List (List ℕ)) → WritesEntry c (t.text old.journal) (d.image old.image) stack entry.head entry.end_line
+    d.faithful old.image → t.faithful old.journal → (stack : List (List ℕ)) → WritesEntry c (t.text old.journal) (d.image old.image) stack entry.head entry.end_line
     → OnOk result (IsAtRest (t.text new.journal) (d.image new.image) (effect c (d.image old.image) ∷ stack))
 
 -- where it is stopped, opening finds the old stack or the new one
 abbrev pub StopsEither : {D T A V E : Type 0} → DeviceViews D → StoreViews T → Change A → EntryText → Devices D T → Devices D T → Result V E → Type 0
 StopsEither d t c entry old new result =
-    d.honest old.image → t.honest old.journal → (stack : List (List ℕ)) → WritesEntry c (t.text old.journal) (d.image old.image) stack entry.head entry.end_line
+    d.faithful old.image → t.faithful old.journal → (stack : List (List ℕ)) → WritesEntry c (t.text old.journal) (d.image old.image) stack entry.head entry.end_line
     → OnErr result (RecoversEither (t.text new.journal) (d.image new.image) stack (effect c (d.image old.image) ∷ stack))
 
 -- and with the redo text, which is cut in part, all is as before, as behind it, or the journal is unfinished
 abbrev pub LeavesBoth : {D T A V E : Type 0} → DeviceViews D → StoreViews T → Change A → EntryText → RedoCut → Devices D T → Devices D T → Result V E → Type 0
 LeavesBoth d t c entry part old new result =
-    d.honest old.image → t.honest old.journal → t.honest old.redo
+    d.faithful old.image → t.faithful old.journal → t.faithful old.redo
     → (stack : List (List ℕ)) → WritesEntry c (t.text old.journal) (d.image old.image) stack entry.head entry.end_line
     → OnErr result (LeavesEither (t.text new.journal) (d.image new.image) (t.text new.redo) (side_of stack (d.image old.image) (t.text old.redo))
     (side_of (effect c (d.image old.image) ∷ stack) (effect c (d.image old.image)) (take (cut_place part) (t.text old.redo))))
@@ -63,7 +63,7 @@ LeavesBoth d t c entry part old new result =
 -- so it is of whatever is found of the three behind a loss of power, where all was on the disk before
 abbrev pub SurvivesBoth : {D T A : Type 0} → DeviceViews D → StoreViews T → Change A → EntryText → RedoCut → Devices D T → Devices D T → Type 0
 SurvivesBoth d t c entry part old new =
-    d.honest old.image → t.honest old.journal → t.honest old.redo → AreSettled d t old
+    d.faithful old.image → t.faithful old.journal → t.faithful old.redo → AreSettled d t old
     → (stack : List (List ℕ)) → WritesEntry c (t.text old.journal) (d.image old.image) stack entry.head entry.end_line
     → (y text redo : List ℕ) → d.survives new.image y → t.survives new.journal text → t.survives new.redo redo
     → LeavesEither (shown text) y redo (side_of stack (d.image old.image) (t.text old.redo))

@@ -16,6 +16,6 @@ AllHaveFirst text survives = (c : List ℕ) → survives c → HasFirst text c
 abbrev pub AllLeft : ℕ → List ℕ → (List ℕ → Type 0) → Type 0
 AllLeft n text survives = (c : List ℕ) → survives c → IsFaded n text c × HasFirst text c
 
--- where a text is honest, and on the disk as it is, this holds
+-- where a text is faithful, and on the disk as it is, this holds
 abbrev pub WhereSettled : {T : Type 0} → StoreViews T → T → Type 0 → Type 0
-WhereSettled t s holds = t.honest s → Only (t.text s) (t.survives s) → holds
+WhereSettled t s holds = t.faithful s → Only (t.text s) (t.survives s) → holds

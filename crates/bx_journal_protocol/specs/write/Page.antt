@@ -14,13 +14,13 @@ pub record IsPaged (bytes old new page : List ℕ) : Type 0 where
   pub text_is : new ≡ old ++ added
   pub bytes_are : added ++ page ≡ bytes
 
--- behind the call the text has these bytes at its end, where it is honest
+-- behind the call the text has these bytes at its end, where it is faithful
 abbrev pub HasAppended : {T V E : Type 0} → StoreViews T → T → List ℕ → T → Result V E → Type 0
-HasAppended t old bytes new result = t.honest old → OnOk result (t.text new ≡ t.text old ++ bytes)
+HasAppended t old bytes new result = t.faithful old → OnOk result (t.text new ≡ t.text old ++ bytes)
 
--- the text fades as it did, with these bytes behind it, where it is honest
+-- the text fades as it did, with these bytes behind it, where it is faithful
 abbrev pub FadesWith : {T : Type 0} → StoreViews T → T → List ℕ → T → Type 0
-FadesWith t old bytes new = t.honest old → FadesBehind (t.text old) bytes (t.survives old) (t.survives new)
+FadesWith t old bytes new = t.faithful old → FadesBehind (t.text old) bytes (t.survives old) (t.survives new)
 
 -- a saved line with its newline
 abbrev pub row_text : ℕ → List ℕ → List ℕ

@@ -25,28 +25,28 @@ AreTouched len es [] = Unit {0}
 AreTouched len [] (r ∷ rs) = ⊥
 AreTouched len (e ∷ es) (r ∷ rs) = IsTouched len e r.items × AreTouched e.kept.len es rs
 
--- the same from the image x on, where it is honest
-pub record AreTouchedFrom {A B : Type 0} (honest : Type 0) (x : List ℕ) (es : List (EntryRead A)) (rs : List (Vec Span B)) : Type 0 where
+-- the same from the image x on, where it is faithful
+pub record AreTouchedFrom {A B : Type 0} (faithful : Type 0) (x : List ℕ) (es : List (EntryRead A)) (rs : List (Vec Span B)) : Type 0 where
   pub len : ℕ
-  pub long : honest → len ≡ length x
+  pub long : faithful → len ≡ length x
   pub touched : AreTouched len (reverse es) (reverse rs)
 
 -- the head of an entry with ranges of the image x, which were looked at, is begun in a page, and its lines go on at a place
-pub record IsHeadBegun (honest : Type 0) (x : List ℕ) (number : ℕ) (ranges : List Span) (page : List ℕ) (place : Place) : Type 0 where
+pub record IsHeadBegun (faithful : Type 0) (x : List ℕ) (number : ℕ) (ranges : List Span) (page : List ℕ) (place : Place) : Type 0 where
   pub is_place : IsPlace ranges place
-  pub text : honest → head_from x ranges place page number ≡ head_text number (kept_over x ranges)
-  pub bytes : honest → HaveBytes (kept_over x ranges).runs
+  pub text : faithful → head_from x ranges place page number ≡ head_text number (kept_over x ranges)
+  pub bytes : faithful → HaveBytes (kept_over x ranges).runs
   pub long : length page + rest_len ranges place ≡ 34 + left_len ranges 0
   pub some : 0 < length page
 
 -- that of the first ranges is, if there are any
 abbrev pub IsFirstBegun : {A : Type 0} → Type 0 → List ℕ → ℕ → List (Vec Span A) → List ℕ → Place → Type 0
-IsFirstBegun honest x number [] page place = Unit {0}
-IsFirstBegun honest x number (r ∷ rs) page place = IsHeadBegun honest x number r.items page place
+IsFirstBegun faithful x number [] page place = Unit {0}
+IsFirstBegun faithful x number (r ∷ rs) page place = IsHeadBegun faithful x number r.items page place
 
 -- and it is the head that a redo of these goes on with
 abbrev pub IsFirstHead : {D A B : Type 0} → DeviceViews D → D → ℕ → List (Vec Span A) → Head B → Type 0
-IsFirstHead d x number takens head = IsFirstBegun (d.honest x) (d.image x) number (reverse takens) head.page.items head.place
+IsFirstHead d x number takens head = IsFirstBegun (d.faithful x) (d.image x) number (reverse takens) head.page.items head.place
 
 -- the first ranges lie within a length
 abbrev pub IsFirstWithin : {A : Type 0} → ℕ → List (Vec Span A) → Type 0

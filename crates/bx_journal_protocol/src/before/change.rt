@@ -38,14 +38,14 @@ pub fn prepare_change<D: Device, T: TextStore, A: Allocator + Clone>(
     ensures head { IfOk result (λ p. IsOpenHead p.ranges.items p.head) }
     ensures some { IfOk result (λ p. 0 < length p.head.page.items) }
     ensures number { IfOk result (λ p. p.head.number ≡ number) }
-    ensures prepared { D.honest devices.old.image → IfOk result (IsReadyChange change.now (D.image devices.old.image) number) }
+    ensures prepared { D.faithful devices.old.image → IfOk result (IsReadyChange change.now (D.image devices.old.image) number) }
     ensures image_room { OnOk result (length (effect change.now []) ≤ D.room devices.new.image) }
-    ensures text_room { T.honest devices.old.journal
+    ensures text_room { T.faithful devices.old.journal
         → IfOk result (λ p. length (T.text devices.new.journal) + rest_of p.ranges.items p.head + length p.end ≤ T.room devices.new.journal) }
-    ensures settled { D.honest devices.old.image → T.honest devices.old.journal → T.honest devices.old.redo
+    ensures settled { D.faithful devices.old.image → T.faithful devices.old.journal → T.faithful devices.old.redo
         → OnOk result (AreSettled D.Device T.TextStore devices.new) }
-    ensures large { D.honest devices.old.image → IsErrOf result SessionFault.TooLarge → Fits change.now (length (D.image devices.old.image)) MAX_LEN → ⊥ }
-    ensures fitting { D.honest devices.old.image → IsErrOf result SessionFault.NoMemory → Fits change.now (length (D.image devices.old.image)) MAX_LEN }
+    ensures large { D.faithful devices.old.image → IsErrOf result SessionFault.TooLarge → Fits change.now (length (D.image devices.old.image)) MAX_LEN → ⊥ }
+    ensures fitting { D.faithful devices.old.image → IsErrOf result SessionFault.NoMemory → Fits change.now (length (D.image devices.old.image)) MAX_LEN }
     ensures kind { IfErr result PrepareFault }
     ensures stayed { HaveStayed D.Device T.TextStore devices.old devices.new }
     ensures found_before { FoundBefore D.Device T.TextStore devices.old devices.new }

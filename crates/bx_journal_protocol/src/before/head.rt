@@ -46,15 +46,15 @@ pub fn begin_change<D: Device, A: Allocator + Clone>(
 ) -> Result<Begun<A>, SessionFault>
     requires countable { D.failures image.old < u64.MAX }
     requires few { len ≤ MAX_LEN }
-    requires long { D.honest image.old → len ≡ length (D.image image.old) }
+    requires long { D.faithful image.old → len ≡ length (D.image image.old) }
     ensures head { IfOk result (λ b. IsOpenHead b.ranges.items b.head) }
     ensures some { IfOk result (λ b. 0 < length b.head.page.items) }
-    ensures begins { D.honest image.old → IfOk result (λ b. BeginsEntry change.now (D.image image.old) b.ranges.items b.head) }
+    ensures begins { D.faithful image.old → IfOk result (λ b. BeginsEntry change.now (D.image image.old) b.ranges.items b.head) }
     ensures long { IfOk result (λ b. b.len ≡ min (rest_of b.ranges.items b.head) (2 ^ 64 - 1)) }
     ensures number { IfOk result (λ b. b.head.number ≡ number) }
     ensures fault { IfErr result LacksOrFails }
-    ensures looks { LooksAt D.honest D.image D.failures result image.old image.new }
-    ensures survives { D.honest image.old → NoMore (D.survives image.old) (D.survives image.new) }
+    ensures looks { LooksAt D.faithful D.image D.failures result image.old image.new }
+    ensures survives { D.faithful image.old → NoMore (D.survives image.old) (D.survives image.new) }
 {
     let ranges = touched_by(alloc.clone()?, change, len)?;
     let spans = ranges.as_slice();

@@ -52,12 +52,12 @@ fn overwritten_now<D: Device, A: Allocator + Clone>(
     len: u64,
 ) -> Result<Overwritten<A>, SessionFault>
     requires countable { D.failures image.old < u64.MAX }
-    requires long { D.honest image.old → len ≡ length (D.image image.old) }
-    ensures overwritten { D.honest image.old → IfOk result (IsOverwrittenOf (D.image image.old) entry.now) }
+    requires long { D.faithful image.old → len ≡ length (D.image image.old) }
+    ensures overwritten { D.faithful image.old → IfOk result (IsOverwrittenOf (D.image image.old) entry.now) }
     ensures within { IfOk result (λ o. LieWithin o.len o.ranges.items) }
     ensures fault { IfErr result LacksOrFails }
-    ensures looks { LooksAt D.honest D.image D.failures result image.old image.new }
-    ensures survives { D.honest image.old → NoMore (D.survives image.old) (D.survives image.new) }
+    ensures looks { LooksAt D.faithful D.image D.failures result image.old image.new }
+    ensures survives { D.faithful image.old → NoMore (D.survives image.old) (D.survives image.new) }
 {
     if len > MAX_LEN {
         return Ok(Overwritten {
@@ -119,14 +119,14 @@ pub fn overwritten_from<D: Device, A: Allocator + Clone>(
     len: u64,
 ) -> Result<Vec<Overwritten<A>, A>, SessionFault>
     requires countable { D.failures image.old < u64.MAX }
-    requires long { D.honest image.old → len ≡ length (D.image image.old) }
+    requires long { D.faithful image.old → len ≡ length (D.image image.old) }
     requires few { k ≤ length entries.now }
-    ensures overwritten { D.honest image.old → IfOk result (λ os. AreOverwrittenOf (D.image image.old) (reverse entries.now) (reverse os.items)) }
+    ensures overwritten { D.faithful image.old → IfOk result (λ os. AreOverwrittenOf (D.image image.old) (reverse entries.now) (reverse os.items)) }
     ensures within { IfOk result (λ os. AreAllWithin os.items) }
     ensures count { IfOk result (λ os. length os.items ≡ k) }
     ensures fault { IfErr result LacksOrFails }
-    ensures looks { LooksAt D.honest D.image D.failures result image.old image.new }
-    ensures survives { D.honest image.old → NoMore (D.survives image.old) (D.survives image.new) }
+    ensures looks { LooksAt D.faithful D.image D.failures result image.old image.new }
+    ensures survives { D.faithful image.old → NoMore (D.survives image.old) (D.survives image.new) }
 {
     if k == 0 {
         return Ok(Vec::new(alloc.clone()?));

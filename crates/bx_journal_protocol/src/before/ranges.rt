@@ -133,18 +133,18 @@ fn begin_first<D: Device, A: Allocator>(
     len: u64,
 ) -> Result<Again<A>, DeviceFailed>
     requires countable { D.failures image.old < u64.MAX }
-    requires long { D.honest image.old → len ≡ length (D.image image.old) }
+    requires long { D.faithful image.old → len ≡ length (D.image image.old) }
     requires within { IsFirstWithin len (reverse again.takens.items) }
     requires empty { again.head.page.items ≡ [] }
     requires room { 82 ≤ vec_capacity again.head.page }
     requires window { 16 ≤ length again.head.window.items }
-    ensures begun { IfOk result (λ o. IsFirstBegun (D.honest image.old) (D.image image.old) number (reverse o.takens.items) o.head.page.items o.head.place) }
+    ensures begun { IfOk result (λ o. IsFirstBegun (D.faithful image.old) (D.image image.old) number (reverse o.takens.items) o.head.page.items o.head.place) }
     ensures takens { IfOk result (λ o. o.takens ≡ again.takens) }
     ensures room { IfOk result (λ o. 82 ≤ vec_capacity o.head.page) }
     ensures window { IfOk result (λ o. 16 ≤ length o.head.window.items) }
-    ensures image { D.honest image.old → D.image image.new ≡ D.image image.old }
-    ensures survives { D.honest image.old → NoMore (D.survives image.old) (D.survives image.new) }
-    ensures goes_on { GoesOn D.honest D.room D.failures (is_err result) image.old image.new }
+    ensures image { D.faithful image.old → D.image image.new ≡ D.image image.old }
+    ensures survives { D.faithful image.old → NoMore (D.survives image.old) (D.survives image.new) }
+    ensures goes_on { GoesOn D.faithful D.room D.failures (is_err result) image.old image.new }
 {
     let Again {
         takens,
@@ -186,8 +186,8 @@ fn take_ranges<D: Device, T: TextStore, A: Allocator + Clone>(
     requires to_countable { T.failures devices.old.journal < u64.MAX }
     requires few { k ≤ length read.now.entries.items }
     ensures kept { HasRoomFor (D.room devices.new.image) read.now.entries.items k result }
-    ensures ready { IfOk result (IsReadyAgain (D.honest devices.old.image) (D.image devices.old.image) read.now.entries.items k number) }
-    ensures roomed { T.honest devices.old.journal → IfOk result (λ o. HasRoomForRanges T.TextStore devices.new.journal o.takens.items) }
+    ensures ready { IfOk result (IsReadyAgain (D.faithful devices.old.image) (D.image devices.old.image) read.now.entries.items k number) }
+    ensures roomed { T.faithful devices.old.journal → IfOk result (λ o. HasRoomForRanges T.TextStore devices.new.journal o.takens.items) }
     ensures kind { IfErr result DeviceFault }
     ensures stayed { HaveStayed D.Device T.TextStore devices.old devices.new }
     ensures found_before { FoundBefore D.Device T.TextStore devices.old devices.new }
@@ -220,9 +220,9 @@ pub fn prepare_redo<D: Device, T: TextStore, A: Allocator + Clone>(
     requires to_countable { T.failures devices.old.journal < u64.MAX }
     requires few { k ≤ length read.now.entries.items }
     ensures kept { HasRoomFor (D.room devices.new.image) read.now.entries.items k result }
-    ensures ready { IfOk result (IsReadyAgain (D.honest devices.old.image) (D.image devices.old.image) read.now.entries.items k number) }
-    ensures roomed { T.honest devices.old.journal → IfOk result (λ o. HasRoomForRanges T.TextStore devices.new.journal o.takens.items) }
-    ensures settled { D.honest devices.old.image → T.honest devices.old.journal → T.honest devices.old.redo
+    ensures ready { IfOk result (IsReadyAgain (D.faithful devices.old.image) (D.image devices.old.image) read.now.entries.items k number) }
+    ensures roomed { T.faithful devices.old.journal → IfOk result (λ o. HasRoomForRanges T.TextStore devices.new.journal o.takens.items) }
+    ensures settled { D.faithful devices.old.image → T.faithful devices.old.journal → T.faithful devices.old.redo
         → OnOk result (AreSettled D.Device T.TextStore devices.new) }
     ensures kind { IfErr result DeviceFault }
     ensures stayed { HaveStayed D.Device T.TextStore devices.old devices.new }

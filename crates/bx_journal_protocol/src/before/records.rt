@@ -65,15 +65,15 @@ fn plan_last<D: Device, A: Allocator + Clone>(
     len: u64,
 ) -> Result<Plan<A>, SessionFault>
     requires countable { D.failures image.old < u64.MAX }
-    requires long { D.honest image.old → len ≡ length (D.image image.old) }
+    requires long { D.faithful image.old → len ≡ length (D.image image.old) }
     requires few { k ≤ length read.now.entries.items }
     requires order { AreOrdered read.now.entries.items }
     ensures plan { IfOk result (IsPlan read.now.entries.items k) }
-    ensures overwritten { D.honest image.old
+    ensures overwritten { D.faithful image.old
         → IfOk result (λ p. AreOverwrittenOf (D.image image.old) (reverse read.now.entries.items) (reverse p.overwritten.items)) }
     ensures fault { IfErr result LacksOrFails }
-    ensures looks { LooksAt D.honest D.image D.failures result image.old image.new }
-    ensures survives { D.honest image.old → NoMore (D.survives image.old) (D.survives image.new) }
+    ensures looks { LooksAt D.faithful D.image D.failures result image.old image.new }
+    ensures survives { D.faithful image.old → NoMore (D.survives image.old) (D.survives image.new) }
 {
     let entries = read.entries.as_slice();
     let (_, last) = entries.split_at(entries.len() - k as usize);
@@ -95,15 +95,15 @@ fn plan_of<D: Device, A: Allocator + Clone>(
     len: u64,
 ) -> Result<Plan<A>, SessionFault>
     requires countable { D.failures image.old < u64.MAX }
-    requires long { D.honest image.old → len ≡ length (D.image image.old) }
+    requires long { D.faithful image.old → len ≡ length (D.image image.old) }
     requires few { k ≤ length read.entries.items }
     requires order { AreOrdered read.entries.items }
     ensures plan { IfOk result (IsPlan read.entries.items k) }
-    ensures overwritten { D.honest image.old
+    ensures overwritten { D.faithful image.old
         → IfOk result (λ p. AreOverwrittenOf (D.image image.old) (reverse read.entries.items) (reverse p.overwritten.items)) }
     ensures fault { IfErr result LacksOrFails }
-    ensures looks { LooksAt D.honest D.image D.failures result image.old image.new }
-    ensures survives { D.honest image.old → NoMore (D.survives image.old) (D.survives image.new) }
+    ensures looks { LooksAt D.faithful D.image D.failures result image.old image.new }
+    ensures survives { D.faithful image.old → NoMore (D.survives image.old) (D.survives image.new) }
 {
     plan_last(alloc, image, &read, k, len)
 }
@@ -132,14 +132,14 @@ fn take_memory<D: Device, A: Allocator + Clone>(
     len: u64,
 ) -> Result<Taking<A>, SessionFault>
     requires countable { D.failures image.old < u64.MAX }
-    requires long { D.honest image.old → len ≡ length (D.image image.old) }
+    requires long { D.faithful image.old → len ≡ length (D.image image.old) }
     requires few { k ≤ length read.entries.items }
     requires order { AreOrdered read.entries.items }
     ensures taken { IfOk result (IsTakenFor read.entries.items k) }
-    ensures room { D.honest image.old → IfOk result (λ o. AreRoomFrom (D.image image.old) (reverse read.entries.items) (reverse o.takens.items)) }
+    ensures room { D.faithful image.old → IfOk result (λ o. AreRoomFrom (D.image image.old) (reverse read.entries.items) (reverse o.takens.items)) }
     ensures fault { IfErr result LacksOrFails }
-    ensures looks { LooksAt D.honest D.image D.failures result image.old image.new }
-    ensures survives { D.honest image.old → NoMore (D.survives image.old) (D.survives image.new) }
+    ensures looks { LooksAt D.faithful D.image D.failures result image.old image.new }
+    ensures survives { D.faithful image.old → NoMore (D.survives image.old) (D.survives image.new) }
 {
     let text_len = read.len;
     let plan = plan_of(alloc, image, read, k, len)?;
@@ -175,10 +175,10 @@ fn take_records<D: Device, T: TextStore, A: Allocator + Clone>(
     ensures places { IfOk result (λ o. o.placed.items ≡ map place_in (drop (length read.entries.items - k) read.entries.items)) }
     ensures fit { IfOk result (λ o. AllFit (D.room devices.new.image) (length o.buffers.window.items) o.placed.items) }
     ensures parts { IfOk result (λ o. 0 < vec_capacity o.buffers.parts) }
-    ensures filled { D.honest devices.old.image → IfOk result (λ o. AreReadyLast (D.image devices.old.image) read.entries.items o.takens.items) }
+    ensures filled { D.faithful devices.old.image → IfOk result (λ o. AreReadyLast (D.image devices.old.image) read.entries.items o.takens.items) }
     ensures shaped { IfOk result (λ o. AllShaped o.takens.items) }
     ensures count { IfOk result (λ o. length o.takens.items ≡ k) }
-    ensures roomed { T.honest devices.old.redo → IfOk result (λ o. HasRoomForEntries T.TextStore devices.new.redo o.takens.items) }
+    ensures roomed { T.faithful devices.old.redo → IfOk result (λ o. HasRoomForEntries T.TextStore devices.new.redo o.takens.items) }
     ensures empty { IfOk result (λ o. o.page.items ≡ []) }
     ensures page_room { IfOk result (λ o. 82 ≤ vec_capacity o.page) }
     ensures kind { IfErr result DeviceFault }
@@ -221,17 +221,17 @@ pub fn prepare_takens<D: Device, T: TextStore, A: Allocator + Clone>(
     requires from_countable { T.failures devices.old.journal < u64.MAX }
     requires to_countable { T.failures devices.old.redo < u64.MAX }
     requires few { k ≤ length read.entries.items }
-    requires read { AreReadFrom (T.honest devices.old.journal) (T.text devices.old.journal) read.entries.items }
+    requires read { AreReadFrom (T.faithful devices.old.journal) (T.text devices.old.journal) read.entries.items }
     ensures prepared { IfOk result (λ o. ArePreparedIn D.Device T.TextStore devices.new o.placed.items o.takens.items) }
     ensures fit { IfOk result (λ o. AllFit (D.room devices.new.image) (length o.buffers.window.items) o.placed.items) }
     ensures parts { IfOk result (λ o. 0 < vec_capacity o.buffers.parts) }
     ensures same { IfOk result (λ o. length o.placed.items ≡ length o.takens.items) }
     ensures shaped { IfOk result (λ o. AllShaped o.takens.items) }
     ensures count { IfOk result (λ o. length o.takens.items ≡ k) }
-    ensures roomed { T.honest devices.old.redo → IfOk result (λ o. HasRoomForEntries T.TextStore devices.new.redo o.takens.items) }
+    ensures roomed { T.faithful devices.old.redo → IfOk result (λ o. HasRoomForEntries T.TextStore devices.new.redo o.takens.items) }
     ensures empty { IfOk result (λ o. o.page.items ≡ []) }
     ensures page_room { IfOk result (λ o. 82 ≤ vec_capacity o.page) }
-    ensures settled { D.honest devices.old.image → T.honest devices.old.journal → T.honest devices.old.redo
+    ensures settled { D.faithful devices.old.image → T.faithful devices.old.journal → T.faithful devices.old.redo
         → OnOk result (AreSettled D.Device T.TextStore devices.new) }
     ensures kind { IfErr result DeviceFault }
     ensures stayed { HaveStayed D.Device T.TextStore devices.old devices.new }

@@ -11,7 +11,7 @@ use bx_journal_store::TextStore;
 /// Puts on the disk what journal, image and redo text have: whatever was written before, a loss of power then leaves them.
 pub fn settle<D: Device, T: TextStore>(devices: &mut Devices<D, T>) -> Result<(), DeviceFailed>
     requires countable { AreBelow D.Device T.TextStore u64.MAX devices.old }
-    ensures settled { D.honest devices.old.image → T.honest devices.old.journal → T.honest devices.old.redo
+    ensures settled { D.faithful devices.old.image → T.faithful devices.old.journal → T.faithful devices.old.redo
         → OnOk result (AreSettled D.Device T.TextStore devices.new) }
     ensures stayed { HaveStayed D.Device T.TextStore devices.old devices.new }
     ensures found_before { FoundBefore D.Device T.TextStore devices.old devices.new }

@@ -13,14 +13,14 @@ pub fn fill_last<D: Device, A: Allocator>(
     takens: &mut Vec<Saved<A>, A>,
 ) -> Result<(), DeviceFailed>
     requires countable { D.failures image.old < u64.MAX }
-    requires range { D.honest image.old → IsFirstBelow (length (D.image image.old)) (reverse takens.old.items) }
-    ensures filled { D.honest image.old → OnOk result (AreFilled (D.image image.old) takens.old.items takens.new.items) }
+    requires range { D.faithful image.old → IsFirstBelow (length (D.image image.old)) (reverse takens.old.items) }
+    ensures filled { D.faithful image.old → OnOk result (AreFilled (D.image image.old) takens.old.items takens.new.items) }
     ensures shaped { AllShaped takens.old.items → AllShaped takens.new.items }
     ensures entries_len { entries_len takens.new.items ≡ entries_len takens.old.items }
     ensures count { length takens.new.items ≡ length takens.old.items }
-    ensures image { D.honest image.old → D.image image.new ≡ D.image image.old }
-    ensures survives { D.honest image.old → NoMore (D.survives image.old) (D.survives image.new) }
-    ensures goes_on { GoesOn D.honest D.room D.failures (is_err result) image.old image.new }
+    ensures image { D.faithful image.old → D.image image.new ≡ D.image image.old }
+    ensures survives { D.faithful image.old → NoMore (D.survives image.old) (D.survives image.new) }
+    ensures goes_on { GoesOn D.faithful D.room D.failures (is_err result) image.old image.new }
 {
     fill_end(image, takens.as_mut_slice())
 }
@@ -31,14 +31,14 @@ fn fill_end<D: Device, A: Allocator>(
     takens: &mut [Saved<A>],
 ) -> Result<(), DeviceFailed>
     requires countable { D.failures image.old < u64.MAX }
-    requires range { D.honest image.old → IsFirstBelow (length (D.image image.old)) (reverse takens.old) }
-    ensures filled { D.honest image.old → OnOk result (AreFilled (D.image image.old) takens.old takens.new) }
+    requires range { D.faithful image.old → IsFirstBelow (length (D.image image.old)) (reverse takens.old) }
+    ensures filled { D.faithful image.old → OnOk result (AreFilled (D.image image.old) takens.old takens.new) }
     ensures shaped { AllShaped takens.old → AllShaped takens.new }
     ensures entries_len { entries_len takens.new ≡ entries_len takens.old }
     ensures count { length takens.new ≡ length takens.old }
-    ensures image { D.honest image.old → D.image image.new ≡ D.image image.old }
-    ensures survives { D.honest image.old → NoMore (D.survives image.old) (D.survives image.new) }
-    ensures goes_on { GoesOn D.honest D.room D.failures (is_err result) image.old image.new }
+    ensures image { D.faithful image.old → D.image image.new ≡ D.image image.old }
+    ensures survives { D.faithful image.old → NoMore (D.survives image.old) (D.survives image.new) }
+    ensures goes_on { GoesOn D.faithful D.room D.failures (is_err result) image.old image.new }
 {
     let count = takens.len();
     if count == 0 {

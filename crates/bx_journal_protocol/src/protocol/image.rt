@@ -19,14 +19,14 @@ pub fn change_image<D: Device, A: Allocator>(
 ) -> Result<(), DeviceFailed>
     requires countable { D.failures image.old < u64.MAX }
     requires room { length (effect change.now []) ≤ D.room image.old }
-    ensures ok { D.honest image.old → OnOk result (D.image image.new ≡ effect change.now (D.image image.old)) }
-    ensures taken_back { D.honest image.old → IsAsGood (kept_of (saved change.now (D.image image.old))) (D.image image.old) (D.image image.new) }
-    ensures phase { D.honest image.old → StaysOpenFor change.now (D.image image.old) (D.image image.new) }
-    ensures settled { D.honest image.old → OnOk result (Only (D.image image.new) (D.survives image.new)) }
-    ensures survives { D.honest image.old → Only (D.image image.old) (D.survives image.old)
+    ensures ok { D.faithful image.old → OnOk result (D.image image.new ≡ effect change.now (D.image image.old)) }
+    ensures taken_back { D.faithful image.old → IsAsGood (kept_of (saved change.now (D.image image.old))) (D.image image.old) (D.image image.new) }
+    ensures phase { D.faithful image.old → StaysOpenFor change.now (D.image image.old) (D.image image.new) }
+    ensures settled { D.faithful image.old → OnOk result (Only (D.image image.new) (D.survives image.new)) }
+    ensures survives { D.faithful image.old → Only (D.image image.old) (D.survives image.old)
         → AllStayOpenFor change.now (D.image image.old) (D.survives image.new) }
-    ensures fault { D.honest image.old → RecoversOpenFor change.now (D.image image.old) (D.image image.new) result }
-    ensures goes_on { GoesOn D.honest D.room D.failures (is_err result) image.old image.new }
+    ensures fault { D.faithful image.old → RecoversOpenFor change.now (D.image image.old) (D.image image.new) result }
+    ensures goes_on { GoesOn D.faithful D.room D.failures (is_err result) image.old image.new }
 {
     apply(image, change)?;
     image.sync()
@@ -38,12 +38,12 @@ pub fn change_image<D: Device, A: Allocator>(
 pub fn restore_len<D: Device>(image: &mut D, len: u64) -> Result<(), DeviceFailed>
     requires countable { D.failures image.old < u64.MAX }
     requires room { len ≤ D.room image.old }
-    ensures ok { D.honest image.old → OnOk result (D.image image.new ≡ cut (D.image image.old) len) }
-    ensures keeps { D.honest image.old → (s : Kept) → IsCutOf s len → KeepsUnmapped s (D.image image.old) (D.image image.new) }
-    ensures phase { D.honest image.old → (s : Kept) → IsCutOf s len → StaysOpen s (D.image image.old) (D.image image.new) }
-    ensures survives { D.honest image.old → (s : Kept) → IsCutOf s len → Only (D.image image.old) (D.survives image.old)
+    ensures ok { D.faithful image.old → OnOk result (D.image image.new ≡ cut (D.image image.old) len) }
+    ensures keeps { D.faithful image.old → (s : Kept) → IsCutOf s len → KeepsUnmapped s (D.image image.old) (D.image image.new) }
+    ensures phase { D.faithful image.old → (s : Kept) → IsCutOf s len → StaysOpen s (D.image image.old) (D.image image.new) }
+    ensures survives { D.faithful image.old → (s : Kept) → IsCutOf s len → Only (D.image image.old) (D.survives image.old)
         → AllKeepUnmapped s (D.image image.old) (D.survives image.new) }
-    ensures goes_on { GoesOn D.honest D.room D.failures (is_err result) image.old image.new }
+    ensures goes_on { GoesOn D.faithful D.room D.failures (is_err result) image.old image.new }
 {
     image.set_len(len)
 }
@@ -54,12 +54,12 @@ pub fn restore_len<D: Device>(image: &mut D, len: u64) -> Result<(), DeviceFaile
 pub fn restore_part<D: Device>(image: &mut D, at: u64, bytes: &[u8]) -> Result<(), DeviceFailed>
     requires countable { D.failures image.old < u64.MAX }
     requires room { at + length bytes.now ≤ D.room image.old }
-    ensures ok { D.honest image.old → OnOk result (D.image image.new ≡ place (D.image image.old) at bytes.now) }
-    ensures keeps { D.honest image.old → (s : Kept) → IsPartOf s at (length bytes.now) → KeepsUnmapped s (D.image image.old) (D.image image.new) }
-    ensures phase { D.honest image.old → (s : Kept) → IsPartOf s at (length bytes.now) → StaysOpen s (D.image image.old) (D.image image.new) }
-    ensures survives { D.honest image.old → (s : Kept) → IsPartOf s at (length bytes.now)
+    ensures ok { D.faithful image.old → OnOk result (D.image image.new ≡ place (D.image image.old) at bytes.now) }
+    ensures keeps { D.faithful image.old → (s : Kept) → IsPartOf s at (length bytes.now) → KeepsUnmapped s (D.image image.old) (D.image image.new) }
+    ensures phase { D.faithful image.old → (s : Kept) → IsPartOf s at (length bytes.now) → StaysOpen s (D.image image.old) (D.image image.new) }
+    ensures survives { D.faithful image.old → (s : Kept) → IsPartOf s at (length bytes.now)
         → Follows (KeepsUnmapped s) (D.survives image.old) (D.survives image.new) }
-    ensures goes_on { GoesOn D.honest D.room D.failures (is_err result) image.old image.new }
+    ensures goes_on { GoesOn D.faithful D.room D.failures (is_err result) image.old image.new }
 {
     image.write_at(at, bytes)
 }

@@ -43,17 +43,17 @@ pub fn begin_last<D: Device, A: Allocator>(
     len: u64,
 ) -> Result<Place, DeviceFailed>
     requires countable { D.failures image.old < u64.MAX }
-    requires long { D.honest image.old → len ≡ length (D.image image.old) }
+    requires long { D.faithful image.old → len ≡ length (D.image image.old) }
     requires within { IsFirstWithin len (reverse takens.now) }
     requires window { 16 ≤ length window.old }
     requires empty { page.old.items ≡ [] }
     requires room { 82 ≤ vec_capacity page.old }
-    ensures begun { IfOk result (IsFirstBegun (D.honest image.old) (D.image image.old) number (reverse takens.now) page.new.items) }
+    ensures begun { IfOk result (IsFirstBegun (D.faithful image.old) (D.image image.old) number (reverse takens.now) page.new.items) }
     ensures room { vec_capacity page.old ≤ vec_capacity page.new }
     ensures window { length window.new ≡ length window.old }
-    ensures image { D.honest image.old → D.image image.new ≡ D.image image.old }
-    ensures survives { D.honest image.old → NoMore (D.survives image.old) (D.survives image.new) }
-    ensures goes_on { GoesOn D.honest D.room D.failures (is_err result) image.old image.new }
+    ensures image { D.faithful image.old → D.image image.new ≡ D.image image.old }
+    ensures survives { D.faithful image.old → NoMore (D.survives image.old) (D.survives image.new) }
+    ensures goes_on { GoesOn D.faithful D.room D.failures (is_err result) image.old image.new }
 {
     let count = takens.len();
     if count == 0 {
@@ -76,10 +76,10 @@ pub fn redo_entries<D: Device, T: TextStore, A: Allocator>(
     requires few { length takens.old.items ≤ length entries.old.items }
     requires bound { count + length takens.old.items ≤ 65535 }
     requires kept { AllKept (D.room devices.old.image) (drop (length entries.old.items - length takens.old.items) entries.old.items) }
-    requires read { AreReadFrom (T.honest devices.old.redo) (T.text devices.old.redo) entries.old.items }
-    requires touched { AreTouchedFrom (D.honest devices.old.image) (D.image devices.old.image) entries.old.items takens.old.items }
+    requires read { AreReadFrom (T.faithful devices.old.redo) (T.text devices.old.redo) entries.old.items }
+    requires touched { AreTouchedFrom (D.faithful devices.old.image) (D.image devices.old.image) entries.old.items takens.old.items }
     requires begun { IsFirstHead D.Device devices.old.image (count + 1) takens.old.items head.old }
-    requires fits { T.honest devices.old.journal → length (T.text devices.old.journal) + entries_over takens.old.items ≤ T.room devices.old.journal }
+    requires fits { T.faithful devices.old.journal → length (T.text devices.old.journal) + entries_over takens.old.items ≤ T.room devices.old.journal }
     requires page_room { 82 ≤ vec_capacity head.old.page }
     requires window { 16 ≤ length head.old.window.items }
     ensures found { RedoRests D.Device T.TextStore devices.old devices.new count takens.old.items result }
@@ -89,8 +89,8 @@ pub fn redo_entries<D: Device, T: TextStore, A: Allocator>(
     ensures fault { StopsOnTop D.Device T.TextStore devices.old devices.new count takens.old.items result }
     ensures taken { RedoTakes D.Device T.TextStore devices.old devices.new count takens.old.items result }
     ensures number { IfOk result (λ n. n ≡ count + length takens.old.items) }
-    ensures left { T.honest devices.old.redo → LeavesFront (T.text devices.old.redo) (length takens.old.items) (T.text devices.new.redo) result }
-    ensures front { T.honest devices.old.journal → OnOk result (IsPrefix (T.text devices.old.journal) (T.text devices.new.journal)) }
+    ensures left { T.faithful devices.old.redo → LeavesFront (T.text devices.old.redo) (length takens.old.items) (T.text devices.new.redo) result }
+    ensures front { T.faithful devices.old.journal → OnOk result (IsPrefix (T.text devices.old.journal) (T.text devices.new.journal)) }
     ensures finds { RedoSome D.Device T.TextStore devices.old devices.new count takens.old.items result }
     ensures settles { StaySettled D.Device T.TextStore devices.old devices.new result }
     ensures survives { RedoSomeSurvives D.Device T.TextStore devices.old devices.new count takens.old.items result }

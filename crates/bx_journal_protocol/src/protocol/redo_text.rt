@@ -25,10 +25,10 @@ pub enum RedoCut {
 /// Leaves the first `n` bytes, and puts that on the disk.
 pub fn cut_redo<T: TextStore>(redo: &mut T, n: u64) -> Result<(), DeviceFailed>
     requires countable { T.failures redo.old < u64.MAX }
-    requires within { T.honest redo.old → n ≤ length (T.text redo.old) }
-    ensures settled { T.honest redo.old → OnOk result (Only (T.text redo.new) (T.survives redo.new)) }
-    ensures redo { T.honest redo.old → OnOk result (T.text redo.new ≡ take n (T.text redo.old)) }
-    ensures goes_on { GoesOn T.honest T.room T.failures (is_err result) redo.old redo.new }
+    requires within { T.faithful redo.old → n ≤ length (T.text redo.old) }
+    ensures settled { T.faithful redo.old → OnOk result (Only (T.text redo.new) (T.survives redo.new)) }
+    ensures redo { T.faithful redo.old → OnOk result (T.text redo.new ≡ take n (T.text redo.old)) }
+    ensures goes_on { GoesOn T.faithful T.room T.failures (is_err result) redo.old redo.new }
 {
     redo.cut(n)?;
     redo.sync()
@@ -44,14 +44,14 @@ fn put_entry<T: TextStore, A: Allocator>(
 ) -> Result<(), DeviceFailed>
     requires countable { T.failures redo.old < u64.MAX }
     requires within { AllWithin kept.now.len kept.now.runs }
-    requires fits { T.honest redo.old → length (T.text redo.old) + length (entry_text number (kept_of kept.now) after) ≤ T.room redo.old }
+    requires fits { T.faithful redo.old → length (T.text redo.old) + length (entry_text number (kept_of kept.now) after) ≤ T.room redo.old }
     requires empty { page.old.items ≡ [] }
     requires room { 82 ≤ vec_capacity page.old }
-    ensures settled { T.honest redo.old → OnOk result (Only (T.text redo.new) (T.survives redo.new)) }
-    ensures redo { T.honest redo.old → OnOk result (T.text redo.new ≡ T.text redo.old ++ entry_text number (kept_of kept.now) after) }
+    ensures settled { T.faithful redo.old → OnOk result (Only (T.text redo.new) (T.survives redo.new)) }
+    ensures redo { T.faithful redo.old → OnOk result (T.text redo.new ≡ T.text redo.old ++ entry_text number (kept_of kept.now) after) }
     ensures emptied { OnOk result (page.new.items ≡ []) }
     ensures page_room { vec_capacity page.old ≤ vec_capacity page.new }
-    ensures goes_on { GoesOn T.honest T.room T.failures (is_err result) redo.old redo.new }
+    ensures goes_on { GoesOn T.faithful T.room T.failures (is_err result) redo.old redo.new }
 {
     put_head(redo, page, number, kept)?;
     redo.append(entry_end(number, after).as_bytes())?;
@@ -69,14 +69,14 @@ pub fn keep_undone<T: TextStore, A: Allocator>(
 ) -> Result<(), DeviceFailed>
     requires countable { T.failures redo.old < u64.MAX }
     requires within { AllWithin taken.now.len taken.now.runs }
-    requires fits { T.honest redo.old → length (T.text redo.old) + length (entry_text number (kept_of taken.now) after) ≤ T.room redo.old }
+    requires fits { T.faithful redo.old → length (T.text redo.old) + length (entry_text number (kept_of taken.now) after) ≤ T.room redo.old }
     requires empty { page.old.items ≡ [] }
     requires room { 82 ≤ vec_capacity page.old }
-    ensures settled { T.honest redo.old → OnOk result (Only (T.text redo.new) (T.survives redo.new)) }
-    ensures redo { T.honest redo.old → OnOk result (T.text redo.new ≡ kept_text (T.text redo.old) (kept_of taken.now) number after) }
+    ensures settled { T.faithful redo.old → OnOk result (Only (T.text redo.new) (T.survives redo.new)) }
+    ensures redo { T.faithful redo.old → OnOk result (T.text redo.new ≡ kept_text (T.text redo.old) (kept_of taken.now) number after) }
     ensures emptied { OnOk result (page.new.items ≡ []) }
     ensures page_room { vec_capacity page.old ≤ vec_capacity page.new }
-    ensures goes_on { GoesOn T.honest T.room T.failures (is_err result) redo.old redo.new }
+    ensures goes_on { GoesOn T.faithful T.room T.failures (is_err result) redo.old redo.new }
 {
     if taken.len > MAX_LEN {
         return cut_redo(redo, 0);

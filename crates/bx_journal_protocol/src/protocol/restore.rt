@@ -50,12 +50,12 @@ fn restore_parts<D: Device>(
     requires countable { D.failures image.old < u64.MAX }
     requires room { len ≤ D.room image.old }
     requires lie { All (LiesIn (length window.now) len) parts.now }
-    ensures ok { D.honest image.old → OnOk result (D.image image.new ≡ placed (map (part_run window.now) parts.now) (D.image image.old)) }
-    ensures keeps { D.honest image.old → (r : Kept) → AreNamed r (map (part_run window.now) parts.now)
+    ensures ok { D.faithful image.old → OnOk result (D.image image.new ≡ placed (map (part_run window.now) parts.now) (D.image image.old)) }
+    ensures keeps { D.faithful image.old → (r : Kept) → AreNamed r (map (part_run window.now) parts.now)
         → KeepsUnmapped r (D.image image.old) (D.image image.new) }
-    ensures survives { D.honest image.old → (r : Kept) → AreNamed r (map (part_run window.now) parts.now)
+    ensures survives { D.faithful image.old → (r : Kept) → AreNamed r (map (part_run window.now) parts.now)
         → Follows (KeepsUnmapped r) (D.survives image.old) (D.survives image.new) }
-    ensures goes_on { GoesOn D.honest D.room D.failures (is_err result) image.old image.new }
+    ensures goes_on { GoesOn D.faithful D.room D.failures (is_err result) image.old image.new }
 {
     for part in parts {
         let (_, behind) = window.split_at(part.from);
@@ -77,22 +77,22 @@ fn restore_window<D: Device, T: TextStore, A: Allocator>(
     requires image_countable { D.failures image.old < u64.MAX }
     requires journal_countable { T.failures from.old < u64.MAX }
     requires room { mark.len ≤ D.room image.old }
-    requires within { T.honest from.old → mark.saved ≤ length (T.text from.old) }
+    requires within { T.faithful from.old → mark.saved ≤ length (T.text from.old) }
     requires below { at ≤ mark.saved }
     requires window { IsEnough (length window.old) }
     ensures below { IfOk result (λ n. at + n ≤ mark.saved) }
-    ensures restored { D.honest image.old → T.honest from.old → (text : List ℕ) → T.text from.old ≡ text → IfOk result (λ n. RestoresWindow text mark.len
+    ensures restored { D.faithful image.old → T.faithful from.old → (text : List ℕ) → T.text from.old ≡ text → IfOk result (λ n. RestoresWindow text mark.len
         (mark.saved - at) (vec_capacity parts.old) at n (D.image image.old) (D.image image.new)) }
-    ensures keeps { D.honest image.old → T.honest from.old → (text : List ℕ) → T.text from.old ≡ text → (s r : Kept) (stands : StandsAt text mark s)
+    ensures keeps { D.faithful image.old → T.faithful from.old → (text : List ℕ) → T.text from.old ≡ text → (s r : Kept) (stands : StandsAt text mark s)
         → Names r s → (x : List ℕ) → IsRestoredTo text stands.entries stands.version mark.len at x (D.image image.old)
         → KeepsUnmapped r (D.image image.old) (D.image image.new) × Follows (KeepsUnmapped r) (D.survives image.old) (D.survives image.new) }
-    ensures long { D.honest image.old → length (D.image image.old) ≡ mark.len → OnOk result (length (D.image image.new) ≡ mark.len) }
-    ensures text { T.honest from.old → T.text from.new ≡ T.text from.old }
-    ensures text_survives { T.honest from.old → NoMore (T.survives from.old) (T.survives from.new) }
+    ensures long { D.faithful image.old → length (D.image image.old) ≡ mark.len → OnOk result (length (D.image image.new) ≡ mark.len) }
+    ensures text { T.faithful from.old → T.text from.new ≡ T.text from.old }
+    ensures text_survives { T.faithful from.old → NoMore (T.survives from.old) (T.survives from.new) }
     ensures window { length window.new ≡ length window.old }
     ensures parts { vec_capacity parts.old ≤ vec_capacity parts.new }
-    ensures image_honesty { D.honest image.new ↔ D.honest image.old }
-    ensures journal_honesty { T.honest from.new ↔ T.honest from.old }
+    ensures image_faith { D.faithful image.new ↔ D.faithful image.old }
+    ensures journal_faith { T.faithful from.new ↔ T.faithful from.old }
     ensures no_less_room { D.room image.old ≤ D.room image.new }
     ensures no_failure { OnOk result ((D.failures image.new ≡ D.failures image.old) × (T.failures from.new ≡ T.failures from.old)) }
     ensures failure { OnErr result (OneMore (D.failures image.old) (T.failures from.old) (D.failures image.new) (T.failures from.new)) }
@@ -116,21 +116,21 @@ fn restore_lines<D: Device, T: TextStore, A: Allocator>(
     requires image_countable { D.failures image.old < u64.MAX }
     requires journal_countable { T.failures from.old < u64.MAX }
     requires room { mark.len ≤ D.room image.old }
-    requires within { T.honest from.old → mark.saved ≤ length (T.text from.old) }
+    requires within { T.faithful from.old → mark.saved ≤ length (T.text from.old) }
     requires order { mark.lines ≤ mark.saved }
     requires window { IsEnough (length window.old) }
     requires parts { 0 < vec_capacity parts.old }
-    ensures ok { D.honest image.old → T.honest from.old → (s : Kept) → StandsAt (T.text from.old) mark s → (x : List ℕ) → D.image image.old ≡ cut x mark.len
+    ensures ok { D.faithful image.old → T.faithful from.old → (s : Kept) → StandsAt (T.text from.old) mark s → (x : List ℕ) → D.image image.old ≡ cut x mark.len
         → OnOk result (D.image image.new ≡ restore s x) }
-    ensures keeps { D.honest image.old → T.honest from.old → (s r : Kept) → StandsAt (T.text from.old) mark s → Names r s
+    ensures keeps { D.faithful image.old → T.faithful from.old → (s r : Kept) → StandsAt (T.text from.old) mark s → Names r s
         → KeepsUnmapped r (D.image image.old) (D.image image.new) × Follows (KeepsUnmapped r) (D.survives image.old) (D.survives image.new) }
-    ensures long { D.honest image.old → length (D.image image.old) ≡ mark.len → OnOk result (length (D.image image.new) ≡ mark.len) }
-    ensures text { T.honest from.old → T.text from.new ≡ T.text from.old }
-    ensures text_survives { T.honest from.old → NoMore (T.survives from.old) (T.survives from.new) }
+    ensures long { D.faithful image.old → length (D.image image.old) ≡ mark.len → OnOk result (length (D.image image.new) ≡ mark.len) }
+    ensures text { T.faithful from.old → T.text from.new ≡ T.text from.old }
+    ensures text_survives { T.faithful from.old → NoMore (T.survives from.old) (T.survives from.new) }
     ensures window { length window.new ≡ length window.old }
     ensures parts { vec_capacity parts.old ≤ vec_capacity parts.new }
-    ensures image_honesty { D.honest image.new ↔ D.honest image.old }
-    ensures journal_honesty { T.honest from.new ↔ T.honest from.old }
+    ensures image_faith { D.faithful image.new ↔ D.faithful image.old }
+    ensures journal_faith { T.faithful from.new ↔ T.faithful from.old }
     ensures no_less_room { D.room image.old ≤ D.room image.new }
     ensures no_failure { OnOk result ((D.failures image.new ≡ D.failures image.old) × (T.failures from.new ≡ T.failures from.old)) }
     ensures failure { OnErr result (OneMore (D.failures image.old) (T.failures from.old) (D.failures image.new) (T.failures from.new)) }
@@ -159,26 +159,26 @@ pub fn restore_windows<D: Device, T: TextStore, A: Allocator>(
     requires image_countable { D.failures image.old < u64.MAX }
     requires journal_countable { T.failures from.old < u64.MAX }
     requires room { mark.len ≤ D.room image.old }
-    requires within { T.honest from.old → mark.saved ≤ length (T.text from.old) }
+    requires within { T.faithful from.old → mark.saved ≤ length (T.text from.old) }
     requires order { mark.lines ≤ mark.saved }
     requires window { IsEnough (length window.old) }
     requires parts { 0 < vec_capacity parts.old }
-    ensures ok { D.honest image.old → T.honest from.old → (s : Kept) → StandsAt (T.text from.old) mark s
+    ensures ok { D.faithful image.old → T.faithful from.old → (s : Kept) → StandsAt (T.text from.old) mark s
         → OnOk result (D.image image.new ≡ restore s (D.image image.old)) }
-    ensures keeps { D.honest image.old → T.honest from.old → (s r : Kept) → StandsAt (T.text from.old) mark s → Names r s
+    ensures keeps { D.faithful image.old → T.faithful from.old → (s r : Kept) → StandsAt (T.text from.old) mark s → Names r s
         → KeepsUnmapped r (D.image image.old) (D.image image.new) }
-    ensures phase { D.honest image.old → T.honest from.old → (s r : Kept) → StandsAt (T.text from.old) mark s → Names r s
+    ensures phase { D.faithful image.old → T.faithful from.old → (s r : Kept) → StandsAt (T.text from.old) mark s → Names r s
         → StaysOpen r (D.image image.old) (D.image image.new) }
-    ensures settled { D.honest image.old → OnOk result (Only (D.image image.new) (D.survives image.new)) }
-    ensures survives { D.honest image.old → T.honest from.old → (s r : Kept) → StandsAt (T.text from.old) mark s → Names r s
+    ensures settled { D.faithful image.old → OnOk result (Only (D.image image.new) (D.survives image.new)) }
+    ensures survives { D.faithful image.old → T.faithful from.old → (s r : Kept) → StandsAt (T.text from.old) mark s → Names r s
         → Only (D.image image.old) (D.survives image.old) → AllKeepUnmapped r (D.image image.old) (D.survives image.new) }
-    ensures long { D.honest image.old → OnOk result (length (D.image image.new) ≡ mark.len) }
-    ensures text { T.honest from.old → T.text from.new ≡ T.text from.old }
-    ensures text_survives { T.honest from.old → NoMore (T.survives from.old) (T.survives from.new) }
+    ensures long { D.faithful image.old → OnOk result (length (D.image image.new) ≡ mark.len) }
+    ensures text { T.faithful from.old → T.text from.new ≡ T.text from.old }
+    ensures text_survives { T.faithful from.old → NoMore (T.survives from.old) (T.survives from.new) }
     ensures window { length window.new ≡ length window.old }
     ensures parts { vec_capacity parts.old ≤ vec_capacity parts.new }
-    ensures image_honesty { D.honest image.new ↔ D.honest image.old }
-    ensures journal_honesty { T.honest from.new ↔ T.honest from.old }
+    ensures image_faith { D.faithful image.new ↔ D.faithful image.old }
+    ensures journal_faith { T.faithful from.new ↔ T.faithful from.old }
     ensures no_less_room { D.room image.old ≤ D.room image.new }
     ensures no_failure { OnOk result ((D.failures image.new ≡ D.failures image.old) × (T.failures from.new ≡ T.failures from.old)) }
     ensures failure { OnErr result (OneMore (D.failures image.old) (T.failures from.old) (D.failures image.new) (T.failures from.new)) }

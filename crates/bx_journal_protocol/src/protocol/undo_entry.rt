@@ -43,18 +43,18 @@ fn change_undone<D: Device, T: TextStore, A: Allocator>(
     taken: &Saved<A>,
 ) -> Result<(), DeviceFailed>
     requires countable { AreBelow D.Device T.TextStore u64.MAX devices.old }
-    requires within_text { T.honest devices.old.journal → mark.saved ≤ length (T.text devices.old.journal) }
+    requires within_text { T.faithful devices.old.journal → mark.saved ≤ length (T.text devices.old.journal) }
     requires restorable { CanRestore (D.room devices.old.image) mark buffers.old }
     requires ready { CanKeep T.TextStore devices.old.redo page.old.items (vec_capacity page.old) number taken.now mark.len }
     ensures keeps { KeepsLeftOut D.Device T.TextStore mark devices.old devices.new }
-    ensures settled { D.honest devices.old.image → OnOk result (Only (D.image devices.new.image) (D.survives devices.new.image)) }
-    ensures redo_settled { T.honest devices.old.redo → OnOk result (Only (T.text devices.new.redo) (T.survives devices.new.redo)) }
-    ensures survives { D.honest devices.old.image → T.honest devices.old.journal → (s : Kept) → StandsAt (T.text devices.old.journal) mark s
+    ensures settled { D.faithful devices.old.image → OnOk result (Only (D.image devices.new.image) (D.survives devices.new.image)) }
+    ensures redo_settled { T.faithful devices.old.redo → OnOk result (Only (T.text devices.new.redo) (T.survives devices.new.redo)) }
+    ensures survives { D.faithful devices.old.image → T.faithful devices.old.journal → (s : Kept) → StandsAt (T.text devices.old.journal) mark s
         → Only (D.image devices.old.image) (D.survives devices.old.image) → AllStayOpen s (D.image devices.old.image) (D.survives devices.new.image) }
-    ensures order { T.honest devices.old.journal → (s : Kept) → StandsAt (T.text devices.old.journal) mark s
-        → ImageIsFirst D.honest D.image result (restore s) devices.old.image devices.new.image devices.old.redo devices.new.redo }
-    ensures text { T.honest devices.old.journal → T.text devices.new.journal ≡ T.text devices.old.journal }
-    ensures text_survives { T.honest devices.old.journal → NoMore (T.survives devices.old.journal) (T.survives devices.new.journal) }
+    ensures order { T.faithful devices.old.journal → (s : Kept) → StandsAt (T.text devices.old.journal) mark s
+        → ImageIsFirst D.faithful D.image result (restore s) devices.old.image devices.new.image devices.old.redo devices.new.redo }
+    ensures text { T.faithful devices.old.journal → T.text devices.new.journal ≡ T.text devices.old.journal }
+    ensures text_survives { T.faithful devices.old.journal → NoMore (T.survives devices.old.journal) (T.survives devices.new.journal) }
     ensures emptied { OnOk result (page.new.items ≡ []) }
     ensures page_kept { vec_capacity page.old ≤ vec_capacity page.new }
     ensures buffers_kept { KeepsRoom buffers.old buffers.new }
@@ -75,12 +75,12 @@ fn change_undone<D: Device, T: TextStore, A: Allocator>(
 /// Cuts off the line that ends the newest entry, and puts that on the disk.
 fn cut_end<T: TextStore>(journal: &mut T, saved: u64) -> Result<(), DeviceFailed>
     requires countable { T.failures journal.old < u64.MAX }
-    requires within_text { T.honest journal.old → saved ≤ length (T.text journal.old) }
-    ensures text { T.honest journal.old → OnOk result (T.text journal.new ≡ take saved (T.text journal.old)) }
-    ensures cut { T.honest journal.old → OnErr result (IsCutInPart saved (T.text journal.old) (T.text journal.new)) }
-    ensures settled { T.honest journal.old → OnOk result (Only (T.text journal.new) (T.survives journal.new)) }
+    requires within_text { T.faithful journal.old → saved ≤ length (T.text journal.old) }
+    ensures text { T.faithful journal.old → OnOk result (T.text journal.new ≡ take saved (T.text journal.old)) }
+    ensures cut { T.faithful journal.old → OnErr result (IsCutInPart saved (T.text journal.old) (T.text journal.new)) }
+    ensures settled { T.faithful journal.old → OnOk result (Only (T.text journal.new) (T.survives journal.new)) }
     ensures survives { WhereSettled T.TextStore journal.old (CutSurvives (T.text journal.old) saved (T.survives journal.new)) }
-    ensures goes_on { GoesOn T.honest T.room T.failures (is_err result) journal.old journal.new }
+    ensures goes_on { GoesOn T.faithful T.room T.failures (is_err result) journal.old journal.new }
 {
     journal.cut(saved)?;
     journal.sync()
@@ -97,14 +97,14 @@ fn open_and_change<D: Device, T: TextStore, A: Allocator>(
     taken: &Saved<A>,
 ) -> Result<(), DeviceFailed>
     requires countable { AreBelow D.Device T.TextStore u64.MAX devices.old }
-    requires within_text { T.honest devices.old.journal → mark.saved ≤ length (T.text devices.old.journal) }
+    requires within_text { T.faithful devices.old.journal → mark.saved ≤ length (T.text devices.old.journal) }
     requires restorable { CanRestore (D.room devices.old.image) mark buffers.old }
     requires ready { CanKeep T.TextStore devices.old.redo page.old.items (vec_capacity page.old) number taken.now mark.len }
-    ensures order { T.honest devices.old.journal → CutsFirst T.TextStore mark.saved devices.old devices.new result }
+    ensures order { T.faithful devices.old.journal → CutsFirst T.TextStore mark.saved devices.old devices.new result }
     ensures keeps { KeepsLeftOut D.Device T.TextStore mark devices.old devices.new }
     ensures settles { EntrySettles D.Device T.TextStore devices.old devices.new result }
     ensures survives { (begins : ℕ) → UndoSurvives D.Device T.TextStore (record { begins = begins; mark = mark }) number taken.now devices.old devices.new }
-    ensures text { T.honest devices.old.journal → OnOk result (T.text devices.new.journal ≡ take mark.saved (T.text devices.old.journal)) }
+    ensures text { T.faithful devices.old.journal → OnOk result (T.text devices.new.journal ≡ take mark.saved (T.text devices.old.journal)) }
     ensures emptied { OnOk result (page.new.items ≡ []) }
     ensures page_kept { vec_capacity page.old ≤ vec_capacity page.new }
     ensures buffers_kept { KeepsRoom buffers.old buffers.new }
@@ -128,17 +128,17 @@ pub fn undo_entry<D: Device, T: TextStore, A: Allocator>(
 ) -> Result<(), DeviceFailed>
     requires countable { AreBelow D.Device T.TextStore u64.MAX devices.old }
     requires order { entry.begins ≤ entry.mark.saved }
-    requires within_text { T.honest devices.old.journal → entry.mark.saved ≤ length (T.text devices.old.journal) }
+    requires within_text { T.faithful devices.old.journal → entry.mark.saved ≤ length (T.text devices.old.journal) }
     requires restorable { CanRestore (D.room devices.old.image) entry.mark buffers.old }
     requires ready { CanKeep T.TextStore devices.old.redo page.old.items (vec_capacity page.old) number taken.now entry.mark.len }
-    ensures ok { D.honest devices.old.image → T.honest devices.old.journal
+    ensures ok { D.faithful devices.old.image → T.faithful devices.old.journal
         → UndoRests D.Device T.TextStore entry devices.old devices.new result }
-    ensures fault { D.honest devices.old.image → T.honest devices.old.journal
+    ensures fault { D.faithful devices.old.image → T.faithful devices.old.journal
         → UndoStops D.Device T.TextStore entry devices.old devices.new result }
     ensures left { LeftUndo D.Device T.TextStore entry number taken.now devices.old devices.new result }
     ensures settles { EntrySettles D.Device T.TextStore devices.old devices.new result }
     ensures survives { UndoSurvives D.Device T.TextStore entry number taken.now devices.old devices.new }
-    ensures text { T.honest devices.old.journal → OnOk result (T.text devices.new.journal ≡ take entry.begins (T.text devices.old.journal)) }
+    ensures text { T.faithful devices.old.journal → OnOk result (T.text devices.new.journal ≡ take entry.begins (T.text devices.old.journal)) }
     ensures emptied { OnOk result (page.new.items ≡ []) }
     ensures page_kept { vec_capacity page.old ≤ vec_capacity page.new }
     ensures buffers_kept { KeepsRoom buffers.old buffers.new }
@@ -187,15 +187,15 @@ pub fn undo_entries<D: Device, T: TextStore, A: Allocator>(
     requires parts { 0 < vec_capacity buffers.old.parts }
     requires prepared { ArePreparedIn D.Device T.TextStore devices.old placed.old.items takens.old.items }
     requires shaped { AllShaped takens.old.items }
-    requires fits { T.honest devices.old.redo → length (T.text devices.old.redo) + entries_len takens.old.items ≤ T.room devices.old.redo }
+    requires fits { T.faithful devices.old.redo → length (T.text devices.old.redo) + entries_len takens.old.items ≤ T.room devices.old.redo }
     requires empty { page.old.items ≡ [] }
     requires page_room { 82 ≤ vec_capacity page.old }
-    ensures ok { D.honest devices.old.image → T.honest devices.old.journal
+    ensures ok { D.faithful devices.old.image → T.faithful devices.old.journal
         → DropsRest D.Device T.TextStore devices.old devices.new takens.old.items result }
-    ensures stands { D.honest devices.old.image → T.honest devices.old.journal
+    ensures stands { D.faithful devices.old.image → T.faithful devices.old.journal
         → DropsStand D.Device T.TextStore devices.old devices.new takens.old.items result }
-    ensures left { T.honest devices.old.journal → LeavesFront (T.text devices.old.journal) (length takens.old.items) (T.text devices.new.journal) result }
-    ensures fault { D.honest devices.old.image → T.honest devices.old.journal
+    ensures left { T.faithful devices.old.journal → LeavesFront (T.text devices.old.journal) (length takens.old.items) (T.text devices.new.journal) result }
+    ensures fault { D.faithful devices.old.image → T.faithful devices.old.journal
         → DropsSome D.Device T.TextStore devices.old devices.new takens.old.items result }
     ensures images { UndoAll D.Device T.TextStore devices.old devices.new undone takens.old.items result }
     ensures taken { UndoTakes D.Device T.TextStore devices.old devices.new undone takens.old.items result }

@@ -25,15 +25,15 @@ pub fn put_head<T: TextStore, A: Allocator>(
 ) -> Result<(), DeviceFailed>
     requires countable { T.failures store.old < u64.MAX }
     requires within { AllWithin kept.now.len kept.now.runs }
-    requires fits { T.honest store.old → length (T.text store.old) + length (head_text number (kept_of kept.now)) ≤ T.room store.old }
+    requires fits { T.faithful store.old → length (T.text store.old) + length (head_text number (kept_of kept.now)) ≤ T.room store.old }
     requires empty { page.old.items ≡ [] }
     requires room { 82 ≤ vec_capacity page.old }
-    ensures ok { T.honest store.old → OnOk result (T.text store.new ≡ T.text store.old ++ head_text number (kept_of kept.now)) }
-    ensures fault { T.honest store.old → OnErr result (IsPartlyAppended (head_text number (kept_of kept.now)) (T.text store.old) (T.text store.new)) }
+    ensures ok { T.faithful store.old → OnOk result (T.text store.new ≡ T.text store.old ++ head_text number (kept_of kept.now)) }
+    ensures fault { T.faithful store.old → OnErr result (IsPartlyAppended (head_text number (kept_of kept.now)) (T.text store.old) (T.text store.new)) }
     ensures fades { FadesWith T.TextStore store.old (head_text number (kept_of kept.now)) store.new }
     ensures emptied { OnOk result (page.new.items ≡ []) }
     ensures page_room { vec_capacity page.old ≤ vec_capacity page.new }
-    ensures goes_on { GoesOn T.honest T.room T.failures (is_err result) store.old store.new }
+    ensures goes_on { GoesOn T.faithful T.room T.failures (is_err result) store.old store.new }
 {
     put_words(store, page, start_words(number, kept.len))?;
     put_runs(store, page, kept)?;
@@ -48,14 +48,14 @@ pub fn put_words<T: TextStore, A: Allocator>(
     line: Words,
 ) -> Result<(), DeviceFailed>
     requires countable { T.failures store.old < u64.MAX }
-    requires fits { T.honest store.old → length (T.text store.old) + length page.old.items ≤ T.room store.old }
+    requires fits { T.faithful store.old → length (T.text store.old) + length page.old.items ≤ T.room store.old }
     requires room { 82 ≤ vec_capacity page.old }
     requires short { length line < 34 }
-    ensures ok { T.honest store.old → OnOk result (IsPaged (page.old.items ++ ended line) (T.text store.old) (T.text store.new) page.new.items) }
-    ensures fault { T.honest store.old → OnErr result (IsPartlyAppended (page.old.items ++ ended line) (T.text store.old) (T.text store.new)) }
+    ensures ok { T.faithful store.old → OnOk result (IsPaged (page.old.items ++ ended line) (T.text store.old) (T.text store.new) page.new.items) }
+    ensures fault { T.faithful store.old → OnErr result (IsPartlyAppended (page.old.items ++ ended line) (T.text store.old) (T.text store.new)) }
     ensures fades { FadesWith T.TextStore store.old (page.old.items ++ ended line) store.new }
     ensures room { vec_capacity page.old ≤ vec_capacity page.new }
-    ensures goes_on { GoesOn T.honest T.room T.failures (is_err result) store.old store.new }
+    ensures goes_on { GoesOn T.faithful T.room T.failures (is_err result) store.old store.new }
 {
     let mut line = line;
     line.push(b'\n');
@@ -70,13 +70,13 @@ fn put_runs<T: TextStore, A: Allocator>(
 ) -> Result<(), DeviceFailed>
     requires countable { T.failures store.old < u64.MAX }
     requires within { AllWithin kept.now.len kept.now.runs }
-    requires fits { T.honest store.old → length (T.text store.old) + length page.old.items + length (runs_text kept.now.runs) ≤ T.room store.old }
+    requires fits { T.faithful store.old → length (T.text store.old) + length page.old.items + length (runs_text kept.now.runs) ≤ T.room store.old }
     requires room { 82 ≤ vec_capacity page.old }
-    ensures ok { T.honest store.old → OnOk result (IsPaged (page.old.items ++ runs_text kept.now.runs) (T.text store.old) (T.text store.new) page.new.items) }
-    ensures fault { T.honest store.old → OnErr result (IsPartlyAppended (page.old.items ++ runs_text kept.now.runs) (T.text store.old) (T.text store.new)) }
+    ensures ok { T.faithful store.old → OnOk result (IsPaged (page.old.items ++ runs_text kept.now.runs) (T.text store.old) (T.text store.new) page.new.items) }
+    ensures fault { T.faithful store.old → OnErr result (IsPartlyAppended (page.old.items ++ runs_text kept.now.runs) (T.text store.old) (T.text store.new)) }
     ensures fades { FadesWith T.TextStore store.old (page.old.items ++ runs_text kept.now.runs) store.new }
     ensures room { vec_capacity page.old ≤ vec_capacity page.new }
-    ensures goes_on { GoesOn T.honest T.room T.failures (is_err result) store.old store.new }
+    ensures goes_on { GoesOn T.faithful T.room T.failures (is_err result) store.old store.new }
 {
     // (that this is a u64 bounds where each run ends)
     let _within_u64 = kept.len;
@@ -94,13 +94,13 @@ fn put_run<T: TextStore, A: Allocator>(
 ) -> Result<(), DeviceFailed>
     requires countable { T.failures store.old < u64.MAX }
     requires within { end_of run.now.at run.now.bytes < 2 ^ 64 }
-    requires fits { T.honest store.old → length (T.text store.old) + length page.old.items + length (run_text run.now) ≤ T.room store.old }
+    requires fits { T.faithful store.old → length (T.text store.old) + length page.old.items + length (run_text run.now) ≤ T.room store.old }
     requires room { 82 ≤ vec_capacity page.old }
-    ensures ok { T.honest store.old → OnOk result (IsPaged (page.old.items ++ run_text run.now) (T.text store.old) (T.text store.new) page.new.items) }
-    ensures fault { T.honest store.old → OnErr result (IsPartlyAppended (page.old.items ++ run_text run.now) (T.text store.old) (T.text store.new)) }
+    ensures ok { T.faithful store.old → OnOk result (IsPaged (page.old.items ++ run_text run.now) (T.text store.old) (T.text store.new) page.new.items) }
+    ensures fault { T.faithful store.old → OnErr result (IsPartlyAppended (page.old.items ++ run_text run.now) (T.text store.old) (T.text store.new)) }
     ensures fades { FadesWith T.TextStore store.old (page.old.items ++ run_text run.now) store.new }
     ensures room { vec_capacity page.old ≤ vec_capacity page.new }
-    ensures goes_on { GoesOn T.honest T.room T.failures (is_err result) store.old store.new }
+    ensures goes_on { GoesOn T.faithful T.room T.failures (is_err result) store.old store.new }
 {
     let bytes = run.bytes.as_slice();
     let count = (bytes.len() + 15) / 16;
@@ -125,13 +125,13 @@ fn put_row<T: TextStore, A: Allocator>(
     requires countable { T.failures store.old < u64.MAX }
     requires some { 0 < length bytes.now }
     requires few { length bytes.now ≤ 16 }
-    requires fits { T.honest store.old → length (T.text store.old) + length page.old.items ≤ T.room store.old }
+    requires fits { T.faithful store.old → length (T.text store.old) + length page.old.items ≤ T.room store.old }
     requires room { 82 ≤ vec_capacity page.old }
-    ensures ok { T.honest store.old → OnOk result (IsPaged (page.old.items ++ row_text at bytes.now) (T.text store.old) (T.text store.new) page.new.items) }
-    ensures fault { T.honest store.old → OnErr result (IsPartlyAppended (page.old.items ++ row_text at bytes.now) (T.text store.old) (T.text store.new)) }
+    ensures ok { T.faithful store.old → OnOk result (IsPaged (page.old.items ++ row_text at bytes.now) (T.text store.old) (T.text store.new) page.new.items) }
+    ensures fault { T.faithful store.old → OnErr result (IsPartlyAppended (page.old.items ++ row_text at bytes.now) (T.text store.old) (T.text store.new)) }
     ensures fades { FadesWith T.TextStore store.old (page.old.items ++ row_text at bytes.now) store.new }
     ensures room { vec_capacity page.old ≤ vec_capacity page.new }
-    ensures goes_on { GoesOn T.honest T.room T.failures (is_err result) store.old store.new }
+    ensures goes_on { GoesOn T.faithful T.room T.failures (is_err result) store.old store.new }
 {
     if at > u32::MAX as u64 {
         return put_bytes(store, page, row_of(at, bytes).as_bytes());
@@ -150,13 +150,13 @@ fn put_full_row<T: TextStore, A: Allocator>(
     bytes: &[u8; 16],
 ) -> Result<(), DeviceFailed>
     requires countable { T.failures store.old < u64.MAX }
-    requires fits { T.honest store.old → length (T.text store.old) + length page.old.items ≤ T.room store.old }
+    requires fits { T.faithful store.old → length (T.text store.old) + length page.old.items ≤ T.room store.old }
     requires room { 82 ≤ vec_capacity page.old }
-    ensures ok { T.honest store.old → OnOk result (IsPaged (page.old.items ++ row_text at bytes.now) (T.text store.old) (T.text store.new) page.new.items) }
-    ensures fault { T.honest store.old → OnErr result (IsPartlyAppended (page.old.items ++ row_text at bytes.now) (T.text store.old) (T.text store.new)) }
+    ensures ok { T.faithful store.old → OnOk result (IsPaged (page.old.items ++ row_text at bytes.now) (T.text store.old) (T.text store.new) page.new.items) }
+    ensures fault { T.faithful store.old → OnErr result (IsPartlyAppended (page.old.items ++ row_text at bytes.now) (T.text store.old) (T.text store.new)) }
     ensures fades { FadesWith T.TextStore store.old (page.old.items ++ row_text at bytes.now) store.new }
     ensures room { vec_capacity page.old ≤ vec_capacity page.new }
-    ensures goes_on { GoesOn T.honest T.room T.failures (is_err result) store.old store.new }
+    ensures goes_on { GoesOn T.faithful T.room T.failures (is_err result) store.old store.new }
 {
     make_room(store, page, 68)?;
     push_full_row(page, at, bytes);

@@ -18,16 +18,16 @@ pub fn put_first<T: TextStore, A: Allocator>(
 ) -> Result<(), DeviceFailed>
     requires countable { T.failures store.old < u64.MAX }
     requires some { 0 < length page.old.items }
-    requires fits { T.honest store.old → length (T.text store.old) + length page.old.items ≤ T.room store.old }
-    ensures ok { T.honest store.old → OnOk result (IsPaged page.old.items (T.text store.old) (T.text store.new) page.new.items) }
-    ensures fault { T.honest store.old → OnErr result (IsPartlyAppended page.old.items (T.text store.old) (T.text store.new)) }
-    ensures fades { T.honest store.old → FadesBehind (T.text store.old) page.old.items (T.survives store.old) (T.survives store.new) }
-    ensures first { T.honest store.old → OnOk result (0 < length (T.text store.new)) }
-    ensures settled { T.honest store.old → Only (T.text store.old) (T.survives store.old) → OnOk result (Only (T.text store.new) (T.survives store.new)) }
-    ensures short { T.honest store.old → Only (T.text store.old) (T.survives store.old)
+    requires fits { T.faithful store.old → length (T.text store.old) + length page.old.items ≤ T.room store.old }
+    ensures ok { T.faithful store.old → OnOk result (IsPaged page.old.items (T.text store.old) (T.text store.new) page.new.items) }
+    ensures fault { T.faithful store.old → OnErr result (IsPartlyAppended page.old.items (T.text store.old) (T.text store.new)) }
+    ensures fades { T.faithful store.old → FadesBehind (T.text store.old) page.old.items (T.survives store.old) (T.survives store.new) }
+    ensures first { T.faithful store.old → OnOk result (0 < length (T.text store.new)) }
+    ensures settled { T.faithful store.old → Only (T.text store.old) (T.survives store.old) → OnOk result (Only (T.text store.new) (T.survives store.new)) }
+    ensures short { T.faithful store.old → Only (T.text store.old) (T.survives store.old)
         → OnErr result (AllKeptOrShort (T.text store.old) (T.survives store.new)) }
     ensures room { vec_capacity page.old ≤ vec_capacity page.new }
-    ensures goes_on { GoesOn T.honest T.room T.failures (is_err result) store.old store.new }
+    ensures goes_on { GoesOn T.faithful T.room T.failures (is_err result) store.old store.new }
 {
     if store.len()? > 0 {
         return Ok(());

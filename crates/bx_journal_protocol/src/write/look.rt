@@ -20,12 +20,12 @@ fn are_bytes(bytes: &[u8])
 /// Reads a part of the image.
 fn look_part<D: Device>(image: &mut D, part: &mut [u8], at: u64) -> Result<(), DeviceFailed>
     requires countable { D.failures image.old < u64.MAX }
-    requires range { D.honest image.old → at + length part.old ≤ length (D.image image.old) }
-    ensures bytes { D.honest image.old → OnOk result (AreBytes (take (length part.old) (drop at (D.image image.old)))) }
+    requires range { D.faithful image.old → at + length part.old ≤ length (D.image image.old) }
+    ensures bytes { D.faithful image.old → OnOk result (AreBytes (take (length part.old) (drop at (D.image image.old)))) }
     ensures same_length { length part.new ≡ length part.old }
-    ensures image { D.honest image.old → D.image image.new ≡ D.image image.old }
-    ensures survives { D.honest image.old → NoMore (D.survives image.old) (D.survives image.new) }
-    ensures goes_on { GoesOn D.honest D.room D.failures (is_err result) image.old image.new }
+    ensures image { D.faithful image.old → D.image image.new ≡ D.image image.old }
+    ensures survives { D.faithful image.old → NoMore (D.survives image.old) (D.survives image.new) }
+    ensures goes_on { GoesOn D.faithful D.room D.failures (is_err result) image.old image.new }
 {
     let result = image.read_at(at, part);
     are_bytes(part);
@@ -41,13 +41,13 @@ fn look_range<D: Device>(
 ) -> Result<(), DeviceFailed>
     requires countable { D.failures image.old < u64.MAX }
     requires order { at ≤ end }
-    requires range { D.honest image.old → end ≤ length (D.image image.old) }
+    requires range { D.faithful image.old → end ≤ length (D.image image.old) }
     requires window { 16 ≤ length window.old }
-    ensures bytes { D.honest image.old → OnOk result (AreBytes (take (end - at) (drop at (D.image image.old)))) }
+    ensures bytes { D.faithful image.old → OnOk result (AreBytes (take (end - at) (drop at (D.image image.old)))) }
     ensures window { length window.new ≡ length window.old }
-    ensures image { D.honest image.old → D.image image.new ≡ D.image image.old }
-    ensures survives { D.honest image.old → NoMore (D.survives image.old) (D.survives image.new) }
-    ensures goes_on { GoesOn D.honest D.room D.failures (is_err result) image.old image.new }
+    ensures image { D.faithful image.old → D.image image.new ≡ D.image image.old }
+    ensures survives { D.faithful image.old → NoMore (D.survives image.old) (D.survives image.new) }
+    ensures goes_on { GoesOn D.faithful D.room D.failures (is_err result) image.old image.new }
 {
     let mut from = at;
     while from < end {
@@ -67,13 +67,13 @@ pub fn look_at<D: Device>(
 ) -> Result<(), DeviceFailed>
     requires countable { D.failures image.old < u64.MAX }
     requires ordered { AreRanges (2 ^ 64) ranges.now }
-    requires ranges { D.honest image.old → AreRanges (length (D.image image.old)) ranges.now }
+    requires ranges { D.faithful image.old → AreRanges (length (D.image image.old)) ranges.now }
     requires window { 16 ≤ length window.old }
-    ensures bytes { D.honest image.old → OnOk result (HaveBytes (kept_over (D.image image.old) ranges.now).runs) }
+    ensures bytes { D.faithful image.old → OnOk result (HaveBytes (kept_over (D.image image.old) ranges.now).runs) }
     ensures window { length window.new ≡ length window.old }
-    ensures image { D.honest image.old → D.image image.new ≡ D.image image.old }
-    ensures survives { D.honest image.old → NoMore (D.survives image.old) (D.survives image.new) }
-    ensures goes_on { GoesOn D.honest D.room D.failures (is_err result) image.old image.new }
+    ensures image { D.faithful image.old → D.image image.new ≡ D.image image.old }
+    ensures survives { D.faithful image.old → NoMore (D.survives image.old) (D.survives image.new) }
+    ensures goes_on { GoesOn D.faithful D.room D.failures (is_err result) image.old image.new }
 {
     for range in ranges {
         look_range(image, window, range.at, range.end)?;
@@ -92,22 +92,22 @@ pub fn look_and_begin<D: Device, A: Allocator>(
 ) -> Result<Place, DeviceFailed>
     requires countable { D.failures image.old < u64.MAX }
     requires ordered { AreRanges (2 ^ 64) ranges.now }
-    requires ranges { D.honest image.old → AreRanges (length (D.image image.old)) ranges.now }
-    requires long { D.honest image.old → len ≡ length (D.image image.old) }
+    requires ranges { D.faithful image.old → AreRanges (length (D.image image.old)) ranges.now }
+    requires long { D.faithful image.old → len ≡ length (D.image image.old) }
     requires window { 16 ≤ length window.old }
     requires empty { page.old.items ≡ [] }
     requires room { 82 ≤ vec_capacity page.old }
-    ensures begun { D.honest image.old
+    ensures begun { D.faithful image.old
         → IfOk result (λ p. head_from (D.image image.old) ranges.now p page.new.items number ≡ head_text number (kept_over (D.image image.old) ranges.now)) }
-    ensures bytes { D.honest image.old → OnOk result (HaveBytes (kept_over (D.image image.old) ranges.now).runs) }
+    ensures bytes { D.faithful image.old → OnOk result (HaveBytes (kept_over (D.image image.old) ranges.now).runs) }
     ensures long { IfOk result (λ p. length page.new.items + rest_len ranges.now p ≡ 34 + left_len ranges.now 0) }
     ensures some { OnOk result (0 < length page.new.items) }
     ensures place { IfOk result (IsPlace ranges.now) }
     ensures room { vec_capacity page.old ≤ vec_capacity page.new }
     ensures window { length window.new ≡ length window.old }
-    ensures image { D.honest image.old → D.image image.new ≡ D.image image.old }
-    ensures survives { D.honest image.old → NoMore (D.survives image.old) (D.survives image.new) }
-    ensures goes_on { GoesOn D.honest D.room D.failures (is_err result) image.old image.new }
+    ensures image { D.faithful image.old → D.image image.new ≡ D.image image.old }
+    ensures survives { D.faithful image.old → NoMore (D.survives image.old) (D.survives image.new) }
+    ensures goes_on { GoesOn D.faithful D.room D.failures (is_err result) image.old image.new }
 {
     look_at(image, window, ranges)?;
     begin_head(image, page, window, ranges, number, len)

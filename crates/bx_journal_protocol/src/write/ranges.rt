@@ -62,15 +62,15 @@ fn fill_part<D: Device, A: Allocator>(
     at: u64,
 ) -> Result<(), DeviceFailed>
     requires countable { D.failures image.old < u64.MAX }
-    requires range { D.honest image.old → at + length part.old ≤ length (D.image image.old) }
+    requires range { D.faithful image.old → at + length part.old ≤ length (D.image image.old) }
     requires sum { at + length part.old < 2 ^ 64 }
     requires free { length page.old.items + 82 * ((length part.old + 15) / 16) ≤ vec_capacity page.old }
-    ensures put { D.honest image.old → OnOk result (page.new.items ≡ page.old.items ++ saved_lines_text (D.image image.old) at (at + length part.old)) }
+    ensures put { D.faithful image.old → OnOk result (page.new.items ≡ page.old.items ++ saved_lines_text (D.image image.old) at (at + length part.old)) }
     ensures long { OnOk result (length page.new.items ≡ length page.old.items + range_len at (at + length part.old)) }
     ensures room { vec_capacity page.old ≤ vec_capacity page.new }
-    ensures image { D.honest image.old → D.image image.new ≡ D.image image.old }
-    ensures survives { D.honest image.old → NoMore (D.survives image.old) (D.survives image.new) }
-    ensures goes_on { GoesOn D.honest D.room D.failures (is_err result) image.old image.new }
+    ensures image { D.faithful image.old → D.image image.new ≡ D.image image.old }
+    ensures survives { D.faithful image.old → NoMore (D.survives image.old) (D.survives image.new) }
+    ensures goes_on { GoesOn D.faithful D.room D.failures (is_err result) image.old image.new }
 {
     image.read_at(at, part)?;
     push_run(page, at, part);
@@ -98,19 +98,19 @@ fn fill_range<D: Device, A: Allocator>(
 ) -> Result<u64, DeviceFailed>
     requires countable { D.failures image.old < u64.MAX }
     requires some { at < end }
-    requires range { D.honest image.old → end ≤ length (D.image image.old) }
+    requires range { D.faithful image.old → end ≤ length (D.image image.old) }
     requires free { length page.old.items + 82 ≤ vec_capacity page.old }
     requires window { 16 ≤ length window.old }
     ensures forth { IfOk result (λ next. (at < next) × (next ≤ end)) }
-    ensures put { D.honest image.old
+    ensures put { D.faithful image.old
         → IfOk result (λ next. page.new.items ++ saved_lines_text (D.image image.old) next end ≡ page.old.items ++ saved_lines_text (D.image image.old) at end) }
     ensures long { IfOk result (λ next. length page.new.items + range_len next end ≡ length page.old.items + range_len at end) }
     ensures more { OnOk result (length page.old.items < length page.new.items) }
     ensures room { vec_capacity page.old ≤ vec_capacity page.new }
     ensures window { length window.new ≡ length window.old }
-    ensures image { D.honest image.old → D.image image.new ≡ D.image image.old }
-    ensures survives { D.honest image.old → NoMore (D.survives image.old) (D.survives image.new) }
-    ensures goes_on { GoesOn D.honest D.room D.failures (is_err result) image.old image.new }
+    ensures image { D.faithful image.old → D.image image.new ≡ D.image image.old }
+    ensures survives { D.faithful image.old → NoMore (D.survives image.old) (D.survives image.new) }
+    ensures goes_on { GoesOn D.faithful D.room D.failures (is_err result) image.old image.new }
 {
     let lines = fits_in(page.capacity() - page.len(), window.len());
     let count = (end - at).min(16 * lines as u64) as usize;
@@ -157,10 +157,10 @@ pub fn fill_page<D: Device, A: Allocator>(
 ) -> Result<Place, DeviceFailed>
     requires countable { D.failures image.old < u64.MAX }
     requires ordered { AreRanges (2 ^ 64) ranges.now }
-    requires ranges { D.honest image.old → AreRanges (length (D.image image.old)) ranges.now }
+    requires ranges { D.faithful image.old → AreRanges (length (D.image image.old)) ranges.now }
     requires place { IsPlace ranges.now place }
     requires window { 16 ≤ length window.old }
-    ensures put { D.honest image.old
+    ensures put { D.faithful image.old
         → IfOk result (λ next. page.new.items ++ rest_text (D.image image.old) ranges.now next
         ≡ page.old.items ++ rest_text (D.image image.old) ranges.now place) }
     ensures long { IfOk result (λ next. length page.new.items + rest_len ranges.now next ≡ length page.old.items + rest_len ranges.now place) }
@@ -170,9 +170,9 @@ pub fn fill_page<D: Device, A: Allocator>(
     ensures grows { OnOk result (length page.old.items ≤ length page.new.items) }
     ensures room { vec_capacity page.old ≤ vec_capacity page.new }
     ensures window { length window.new ≡ length window.old }
-    ensures image { D.honest image.old → D.image image.new ≡ D.image image.old }
-    ensures survives { D.honest image.old → NoMore (D.survives image.old) (D.survives image.new) }
-    ensures goes_on { GoesOn D.honest D.room D.failures (is_err result) image.old image.new }
+    ensures image { D.faithful image.old → D.image image.new ≡ D.image image.old }
+    ensures survives { D.faithful image.old → NoMore (D.survives image.old) (D.survives image.new) }
+    ensures goes_on { GoesOn D.faithful D.room D.failures (is_err result) image.old image.new }
 {
     let mut now = place;
     while now.range < ranges.len() && has_room(page) {
@@ -195,20 +195,20 @@ pub fn put_pages<D: Device, T: TextStore, A: Allocator>(
     requires image_countable { D.failures image.old < u64.MAX }
     requires journal_countable { T.failures journal.old < u64.MAX }
     requires ordered { AreRanges (2 ^ 64) ranges.now }
-    requires ranges { D.honest image.old → AreRanges (length (D.image image.old)) ranges.now }
+    requires ranges { D.faithful image.old → AreRanges (length (D.image image.old)) ranges.now }
     requires place { IsPlace ranges.now place }
     requires window { 16 ≤ length window.old }
-    requires fits { T.honest journal.old → length (T.text journal.old) + length page.old.items + rest_len ranges.now place ≤ T.room journal.old }
+    requires fits { T.faithful journal.old → length (T.text journal.old) + length page.old.items + rest_len ranges.now place ≤ T.room journal.old }
     requires room { 82 ≤ vec_capacity page.old }
-    ensures ok { D.honest image.old → T.honest journal.old
+    ensures ok { D.faithful image.old → T.faithful journal.old
         → OnOk result (IsPaged (page.old.items ++ rest_text (D.image image.old) ranges.now place) (T.text journal.old) (T.text journal.new) page.new.items) }
-    ensures fault { D.honest image.old → T.honest journal.old
+    ensures fault { D.faithful image.old → T.faithful journal.old
         → OnErr result (IsPartlyAppended (page.old.items ++ rest_text (D.image image.old) ranges.now place) (T.text journal.old) (T.text journal.new)) }
-    ensures fades { D.honest image.old → T.honest journal.old
+    ensures fades { D.faithful image.old → T.faithful journal.old
         → FadesBehind (T.text journal.old) (page.old.items ++ rest_text (D.image image.old) ranges.now place) (T.survives journal.old) (T.survives journal.new) }
-    ensures long { T.honest journal.old
+    ensures long { T.faithful journal.old
         → OnOk result (length (T.text journal.new) + length page.new.items ≡ length (T.text journal.old) + length page.old.items + rest_len ranges.now place) }
-    ensures front { T.honest journal.old → OnOk result (IsPrefix (T.text journal.old) (T.text journal.new)) }
+    ensures front { T.faithful journal.old → OnOk result (IsPrefix (T.text journal.old) (T.text journal.new)) }
     ensures window { length window.new ≡ length window.old }
     ensures room { vec_capacity page.old ≤ vec_capacity page.new }
     ensures goes_on { GoOnPaired D.Device T.TextStore result image.old journal.old image.new journal.new }
@@ -245,21 +245,21 @@ pub fn begin_head<D: Device, A: Allocator>(
 ) -> Result<Place, DeviceFailed>
     requires countable { D.failures image.old < u64.MAX }
     requires ordered { AreRanges (2 ^ 64) ranges.now }
-    requires ranges { D.honest image.old → AreRanges (length (D.image image.old)) ranges.now }
-    requires long { D.honest image.old → len ≡ length (D.image image.old) }
+    requires ranges { D.faithful image.old → AreRanges (length (D.image image.old)) ranges.now }
+    requires long { D.faithful image.old → len ≡ length (D.image image.old) }
     requires window { 16 ≤ length window.old }
     requires empty { page.old.items ≡ [] }
     requires room { 82 ≤ vec_capacity page.old }
-    ensures begun { D.honest image.old
+    ensures begun { D.faithful image.old
         → IfOk result (λ p. head_from (D.image image.old) ranges.now p page.new.items number ≡ head_text number (kept_over (D.image image.old) ranges.now)) }
     ensures long { IfOk result (λ p. length page.new.items + rest_len ranges.now p ≡ 34 + left_len ranges.now 0) }
     ensures some { OnOk result (0 < length page.new.items) }
     ensures place { IfOk result (IsPlace ranges.now) }
     ensures room { vec_capacity page.old ≤ vec_capacity page.new }
     ensures window { length window.new ≡ length window.old }
-    ensures image { D.honest image.old → D.image image.new ≡ D.image image.old }
-    ensures survives { D.honest image.old → NoMore (D.survives image.old) (D.survives image.new) }
-    ensures goes_on { GoesOn D.honest D.room D.failures (is_err result) image.old image.new }
+    ensures image { D.faithful image.old → D.image image.new ≡ D.image image.old }
+    ensures survives { D.faithful image.old → NoMore (D.survives image.old) (D.survives image.new) }
+    ensures goes_on { GoesOn D.faithful D.room D.failures (is_err result) image.old image.new }
 {
     push_line(page, start_words(number, len));
     let first = Place { range: 0, done: 0 };
@@ -276,16 +276,16 @@ fn put_rest_of<D: Device, T: TextStore, A: Allocator>(
     requires image_countable { D.failures image.old < u64.MAX }
     requires journal_countable { T.failures journal.old < u64.MAX }
     requires head { IsOpenHead ranges.now head.old }
-    requires ranges { D.honest image.old → AreRanges (length (D.image image.old)) ranges.now }
-    requires fits { T.honest journal.old → length (T.text journal.old) + rest_of ranges.now head.old ≤ T.room journal.old }
-    ensures ok { D.honest image.old → T.honest journal.old
+    requires ranges { D.faithful image.old → AreRanges (length (D.image image.old)) ranges.now }
+    requires fits { T.faithful journal.old → length (T.text journal.old) + rest_of ranges.now head.old ≤ T.room journal.old }
+    ensures ok { D.faithful image.old → T.faithful journal.old
         → OnOk result (T.text journal.new ≡ T.text journal.old ++ head_from (D.image image.old) ranges.now head.old.place head.old.page.items head.old.number) }
-    ensures fault { D.honest image.old → T.honest journal.old
+    ensures fault { D.faithful image.old → T.faithful journal.old
         → OnErr result (IsPartlyAppended (head_from (D.image image.old) ranges.now head.old.place head.old.page.items head.old.number) (T.text journal.old) (T.text journal.new)) }
-    ensures fades { D.honest image.old → T.honest journal.old
+    ensures fades { D.faithful image.old → T.faithful journal.old
         → FadesBehind (T.text journal.old) (head_from (D.image image.old) ranges.now head.old.place head.old.page.items head.old.number) (T.survives journal.old) (T.survives journal.new) }
-    ensures long { T.honest journal.old → OnOk result (length (T.text journal.new) ≡ length (T.text journal.old) + rest_of ranges.now head.old) }
-    ensures front { T.honest journal.old → OnOk result (IsPrefix (T.text journal.old) (T.text journal.new)) }
+    ensures long { T.faithful journal.old → OnOk result (length (T.text journal.new) ≡ length (T.text journal.old) + rest_of ranges.now head.old) }
+    ensures front { T.faithful journal.old → OnOk result (IsPrefix (T.text journal.old) (T.text journal.new)) }
     ensures emptied { OnOk result (head.new.page.items ≡ []) }
     ensures kept { KeepsBuffers head.old head.new }
     ensures goes_on { GoOnPaired D.Device T.TextStore result image.old journal.old image.new journal.new }
@@ -308,18 +308,18 @@ pub fn put_head_from<D: Device, T: TextStore, A: Allocator>(
     requires journal_countable { T.failures journal.old < u64.MAX }
     requires head { IsOpenHead ranges.now head.old }
     requires some { 0 < length head.old.page.items }
-    requires ranges { D.honest image.old → AreRanges (length (D.image image.old)) ranges.now }
-    requires fits { T.honest journal.old → length (T.text journal.old) + rest_of ranges.now head.old ≤ T.room journal.old }
-    ensures ok { D.honest image.old → T.honest journal.old
+    requires ranges { D.faithful image.old → AreRanges (length (D.image image.old)) ranges.now }
+    requires fits { T.faithful journal.old → length (T.text journal.old) + rest_of ranges.now head.old ≤ T.room journal.old }
+    ensures ok { D.faithful image.old → T.faithful journal.old
         → OnOk result (T.text journal.new ≡ T.text journal.old ++ head_from (D.image image.old) ranges.now head.old.place head.old.page.items head.old.number) }
-    ensures fault { D.honest image.old → T.honest journal.old
+    ensures fault { D.faithful image.old → T.faithful journal.old
         → OnErr result (IsPartlyAppended (head_from (D.image image.old) ranges.now head.old.place head.old.page.items head.old.number) (T.text journal.old) (T.text journal.new)) }
-    ensures fades { D.honest image.old → T.honest journal.old
+    ensures fades { D.faithful image.old → T.faithful journal.old
         → FadesBehind (T.text journal.old) (head_from (D.image image.old) ranges.now head.old.place head.old.page.items head.old.number) (T.survives journal.old) (T.survives journal.new) }
-    ensures first { D.honest image.old → T.honest journal.old → Only (T.text journal.old) (T.survives journal.old)
+    ensures first { D.faithful image.old → T.faithful journal.old → Only (T.text journal.old) (T.survives journal.old)
         → AllHaveFirst (T.text journal.old ++ head_from (D.image image.old) ranges.now head.old.place head.old.page.items head.old.number) (T.survives journal.new) }
-    ensures long { T.honest journal.old → OnOk result (length (T.text journal.new) ≡ length (T.text journal.old) + rest_of ranges.now head.old) }
-    ensures front { T.honest journal.old → OnOk result (IsPrefix (T.text journal.old) (T.text journal.new)) }
+    ensures long { T.faithful journal.old → OnOk result (length (T.text journal.new) ≡ length (T.text journal.old) + rest_of ranges.now head.old) }
+    ensures front { T.faithful journal.old → OnOk result (IsPrefix (T.text journal.old) (T.text journal.new)) }
     ensures emptied { OnOk result (head.new.page.items ≡ []) }
     ensures kept { KeepsBuffers head.old head.new }
     ensures goes_on { GoOnPaired D.Device T.TextStore result image.old journal.old image.new journal.new }

@@ -15,8 +15,8 @@ pub record IsInPlace (now : PlaceScan) (text : List ℕ) : Type 0 where
 abbrev pub read_of : Bool → List ℕ → List ℕ
 read_of fades text = if fades then shown text else text
 
--- a text is damaged at a line: the store's, where that is honest
-pub record IsDamagedIn (honest : Type 0) (stored : List ℕ) (line : ℕ) : Type 0 where
+-- a text is damaged at a line: the store's, where that is faithful
+pub record IsDamagedIn (faithful : Type 0) (stored : List ℕ) (line : ℕ) : Type 0 where
   pub text : List ℕ
-  pub is : honest → stored ≡ text
+  pub is : faithful → stored ≡ text
   pub damaged : IsDamagedAt text line

@@ -26,10 +26,10 @@ pub record IsReadAgain {A : Type 0} (text : List ℕ) (es : List (EntryRead A)) 
   pub counted : length es ≡ count
   pub few : length es ≤ 65535
 
--- `count` finished entries alone, as a text of `len` bytes was read again: the store's, where that is honest
-pub record IsReadFrom {A : Type 0} (honest : Type 0) (stored : List ℕ) (len : ℕ) (es : List (EntryRead A)) (count : ℕ) : Type 0 where
+-- `count` finished entries alone, as a text of `len` bytes was read again: the store's, where that is faithful
+pub record IsReadFrom {A : Type 0} (faithful : Type 0) (stored : List ℕ) (len : ℕ) (es : List (EntryRead A)) (count : ℕ) : Type 0 where
   pub text : List ℕ
-  pub is : honest → stored ≡ text
+  pub is : faithful → stored ≡ text
   pub long : len ≡ length text
   pub countable : length text < 2 ^ 64
   pub read : IsReadAgain text es count
@@ -44,18 +44,18 @@ FindsLast read first len count found =
 pub read_whole : {A : Type 0} → (text : List ℕ) (older : List Entry) (front : Front) (r : LinesRead A) → IsReadUpTo text older front r → (split text).rest ≡ []
 read_whole text older front r read = subst (λ t. (split t).rest ≡ []) (take-length text) (subst (λ n. (split (take n text)).rest ≡ []) (sym read.long) read.read.mark.whole)
 
--- a text was read so far behind a front of it: the store's, where that is honest
-pub record IsReadBehind {A : Type 0} (honest : Type 0) (stored : List ℕ) (front : Front) (r : LinesRead A) : Type 0 where
+-- a text was read so far behind a front of it: the store's, where that is faithful
+pub record IsReadBehind {A : Type 0} (faithful : Type 0) (stored : List ℕ) (front : Front) (r : LinesRead A) : Type 0 where
   pub text : List ℕ
   pub older : List Entry
-  pub is : honest → text ≡ take r.at stored
+  pub is : faithful → text ≡ take r.at stored
   pub read : IsReadUpTo text older front r
 
 -- A call that looks for the last k entries, at least, of `count` finished entries alone: it answers them, or none, and its fault
 -- isn't the text's
 pub record LooksForLast {T A : Type 0} (t : StoreViews T) (count k : ℕ) (result : Result (Option (FinishedRead A)) SessionFault) (old new : T) : Type 0 where
-  pub read : IfOk result (λ found. IfSome found (λ o. IsLastFrom (t.honest old) (t.text old) o.len o.entries.items count))
+  pub read : IfOk result (λ found. IfSome found (λ o. IsLastFrom (t.faithful old) (t.text old) o.len o.entries.items count))
   pub few : IfOk result (λ found. IfSome found (λ o. k ≤ length o.entries.items))
   pub fault : IfErr result LacksOrFails
-  pub looks : LooksAt t.honest t.text t.failures result old new
-  pub found_before : t.honest old → NoMore (t.survives old) (t.survives new)
+  pub looks : LooksAt t.faithful t.text t.failures result old new
+  pub found_before : t.faithful old → NoMore (t.survives old) (t.survives new)

@@ -18,9 +18,9 @@ RefusesRedo line e = DeviceFault e
 abbrev pub IsUnfitAt : List ℕ → ℕ → ℕ → Type 0
 IsUnfitAt text changes line = IsNoRedoAt text line ⊎ IsTooManyAt text changes line
 
--- the text is so at a line: the store's, where that is honest
+-- the text is so at a line: the store's, where that is faithful
 abbrev pub IsUnfitIn : Type 0 → List ℕ → ℕ → ℕ → Type 0
-IsUnfitIn honest stored changes line = honest → IsUnfitAt stored changes line
+IsUnfitIn faithful stored changes line = faithful → IsUnfitAt stored changes line
 
 -- finished entries alone, each with its length, and with `changes` changes not too many
 pub record IsFit (text : List ℕ) (changes : ℕ) (entries : List Entry) : Type 0 where
@@ -43,8 +43,8 @@ RedoTextFault text changes e = ⊥
 
 -- which fault judging the redo text of an image may answer
 abbrev pub JudgeFault : Type 0 → List ℕ → List ℕ → ℕ → SessionFault → Type 0
-JudgeFault honest text x changes (RedoDamaged line) = honest → IsRefusedAt text x changes line
-JudgeFault honest text x changes e = DeviceFault e
+JudgeFault faithful text x changes (RedoDamaged line) = faithful → IsRefusedAt text x changes line
+JudgeFault faithful text x changes e = DeviceFault e
 
 -- each entry that was read tells the length after it
 abbrev pub AllTold : {A : Type 0} → List (EntryRead A) → Type 0
@@ -76,6 +76,6 @@ pub record IsUnfitFrom (text : List ℕ) (changes at : ℕ) : Type 0 where
   pub within : at ≤ length text
   pub unfit : IsUnfitAt text changes (suc (length (split (take at text)).lines))
 
--- a device failed, or the text is damaged at its last line, which tells a length that the image, if honest, doesn't have
+-- a device failed, or the text is damaged at its last line, which tells a length that the image, if faithful, doesn't have
 abbrev pub LastLineFault : Type 0 → ℕ → Option ℕ → List ℕ → SessionFault → Type 0
-LastLineFault honest lines told x e = (e ≡ DeviceFailed) ⊎ ((e ≡ RedoDamaged lines) × (honest → (n : ℕ) × (told ≡ Some n) × (length x ≡ n → ⊥)))
+LastLineFault faithful lines told x e = (e ≡ DeviceFailed) ⊎ ((e ≡ RedoDamaged lines) × (faithful → (n : ℕ) × (told ≡ Some n) × (length x ≡ n → ⊥)))

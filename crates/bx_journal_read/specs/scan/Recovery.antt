@@ -22,10 +22,10 @@ use Rattle.bx_journal_format.specs.count.Tally.{IsCounted}
 use Rattle.bx_journal_format.specs.Shown.{shown}
 use Rattle.bx_journal_format.specs.Text.{Stage, Between, Saving, Ending, Reading, Reads, IsDamagedAt}
 
--- `count` finished entries alone were counted: the store's, where that is honest
-pub record IsCountedIn (honest : Type 0) (stored : List ℕ) (count : ℕ) (told : Option ℕ) : Type 0 where
+-- `count` finished entries alone were counted: the store's, where that is faithful
+pub record IsCountedIn (faithful : Type 0) (stored : List ℕ) (count : ℕ) (told : Option ℕ) : Type 0 where
   pub text : List ℕ
-  pub is : honest → stored ≡ text
+  pub is : faithful → stored ≡ text
   pub counted : IsCounted text count told
   pub few : count ≤ 65535
 
@@ -52,9 +52,9 @@ pub record HasTorn (text : List ℕ) (t : Torn) : Type 0 where
   pub reading : Reading
   pub torn : IsTorn text reading t
 
--- the first n bytes of a journal have such an end: of the store's, where that is honest
-pub record IsTornFront (honest : Type 0) (stored : List ℕ) (n : ℕ) (t : Torn) : Type 0 where
-  pub torn : honest → HasTorn (take n stored) t
+-- the first n bytes of a journal have such an end: of the store's, where that is faithful
+pub record IsTornFront (faithful : Type 0) (stored : List ℕ) (n : ℕ) (t : Torn) : Type 0 where
+  pub torn : faithful → HasTorn (take n stored) t
   pub few : t.count ≤ 65535
   pub order : IfSome t.mark (λ m. m.lines ≤ m.saved)
   pub within : t.begins ≤ n
@@ -65,16 +65,16 @@ pub record IsTornIn (text : List ℕ) (t : Torn) : Type 0 where
   pub torn : IsTorn (shown text) reading t
   pub unfinished : IsClean text → ⊥
 
--- something unfinished was found at the end of a journal: of the store's, where that is honest
-pub record IsUnfinishedIn (honest : Type 0) (stored : List ℕ) (t : Torn) : Type 0 where
-  pub torn : honest → IsTornIn stored t
+-- something unfinished was found at the end of a journal: of the store's, where that is faithful
+pub record IsUnfinishedIn (faithful : Type 0) (stored : List ℕ) (t : Torn) : Type 0 where
+  pub torn : faithful → IsTornIn stored t
   pub few : t.count ≤ 65535
   pub order : IfSome t.mark (λ m. m.lines ≤ m.saved)
 
--- what was found is the store's, where that is honest
+-- what was found is the store's, where that is faithful
 abbrev pub IsFoundIn : Type 0 → List ℕ → Found → Type 0
-IsFoundIn honest stored (Finished counted) = IsCountedIn honest stored counted.count counted.told
-IsFoundIn honest stored (Unfinished torn) = IsUnfinishedIn honest stored torn
+IsFoundIn faithful stored (Finished counted) = IsCountedIn faithful stored counted.count counted.told
+IsFoundIn faithful stored (Unfinished torn) = IsUnfinishedIn faithful stored torn
 
 -- a sound pair keeps its stack: at rest, or behind a fault so that opening finds it again
 abbrev pub KeepsStack : {T E : Type 0} → Result T E → List ℕ → List ℕ → List ℕ → List ℕ → Type 0
@@ -83,15 +83,15 @@ KeepsStack result text x new y =
 
 -- which fault reading the journal may answer
 abbrev pub FindFault : Type 0 → List ℕ → SessionFault → Type 0
-FindFault honest text (Damaged line) = honest → IsDamagedAt text line
-FindFault honest text e = DeviceFault e
+FindFault faithful text (Damaged line) = faithful → IsDamagedAt text line
+FindFault faithful text e = DeviceFault e
 
 -- A call that looks at what a journal's text is: it answers that, or why the text can't be read
 pub record FindsText {T : Type 0} (t : StoreViews T) (result : Result Found SessionFault) (old new : T) : Type 0 where
-  pub found : IfOk result (IsFoundIn (t.honest old) (t.text old))
-  pub fault : IfErr result (FindFault (t.honest old) (shown (t.text old)))
-  pub looks : LooksAt t.honest t.text t.failures result old new
-  pub found_before : t.honest old → NoMore (t.survives old) (t.survives new)
+  pub found : IfOk result (IsFoundIn (t.faithful old) (t.text old))
+  pub fault : IfErr result (FindFault (t.faithful old) (shown (t.text old)))
+  pub looks : LooksAt t.faithful t.text t.failures result old new
+  pub found_before : t.faithful old → NoMore (t.survives old) (t.survives new)
 
 -- which fault taking back what is unfinished may answer
 abbrev pub RecoverFault : SessionFault → Type 0
@@ -115,21 +115,21 @@ HasToldLength told x = IfSome told (λ n. length x ≡ n)
 abbrev pub HasOtherLength : Option ℕ → List ℕ → ℕ → Type 0
 HasOtherLength told x n = (told ≡ Some n) × (length x ≡ n → ⊥)
 
--- which fault opening beside finished entries alone may answer: of the image, and of the image and the redo text, if honest
+-- which fault opening beside finished entries alone may answer: of the image, and of the image and the redo text, if faithful
 abbrev pub FinishedFault : Type 0 → Type 0 → List ℕ → List ℕ → ℕ → Option ℕ → SessionFault → Type 0
 FinishedFault image both redo x changes told (LengthDiffers n) = image → HasOtherLength told x n
 FinishedFault image both redo x changes told (RedoDamaged line) = (image → HasToldLength told x) × (both → IsRefusedAt redo x changes line)
 FinishedFault image both redo x changes told e = DeviceFault e
 
--- a length that is recorded and that the image, if honest, doesn't have, or a failed device
+-- a length that is recorded and that the image, if faithful, doesn't have, or a failed device
 abbrev pub LengthFault : Type 0 → Option ℕ → List ℕ → SessionFault → Type 0
-LengthFault honest told x e = (e ≡ DeviceFailed) ⊎ ((n : ℕ) × (e ≡ LengthDiffers n) × (honest → HasOtherLength told x n))
+LengthFault faithful told x e = (e ≡ DeviceFailed) ⊎ ((n : ℕ) × (e ≡ LengthDiffers n) × (faithful → HasOtherLength told x n))
 
 -- which fault may come between reading a journal and the first write
 abbrev pub LookReadFault : Type 0 → Reading → List ℕ → SessionFault → Type 0
-LookReadFault honest r x e = LookFault honest r.entries (image_at r.stage x) e
+LookReadFault faithful r x e = LookFault faithful r.entries (image_at r.stage x) e
 
--- the same of an image and a redo text, which are honest by themselves
+-- the same of an image and a redo text, which are faithful by themselves
 abbrev pub FaultBeside : Type 0 → Type 0 → List ℕ → List ℕ → ℕ → Option ℕ → SessionFault → Type 0
 FaultBeside image text redo x changes told e = FinishedFault image (image × text) redo x changes told e
 

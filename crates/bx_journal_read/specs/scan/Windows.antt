@@ -10,10 +10,10 @@ use Rattle.bx_journal_read.specs.declared.scan.windows.Taken.{Taken}
 use Rattle.bx_journal_format.specs.Text.{split}
 use Rattle.bx_journal_format.specs.count.Tally.{IsTallied, IsCountedAll}
 
--- the text up to a place leads to a state: the store's, where that is honest
-pub record IsLedTo {S : Type 0} (honest : Type 0) (stored : List ℕ) (Leads : S → List ℕ → Type 0) (at : ℕ) (scan : S) : Type 0 where
+-- the text up to a place leads to a state: the store's, where that is faithful
+pub record IsLedTo {S : Type 0} (faithful : Type 0) (stored : List ℕ) (Leads : S → List ℕ → Type 0) (at : ℕ) (scan : S) : Type 0 where
   pub text : List ℕ
-  pub is : honest → text ≡ take at stored
+  pub is : faithful → text ≡ take at stored
   pub long : length text ≡ at
   pub leads : Leads scan text
 
@@ -22,8 +22,8 @@ abbrev pub TakesLong : {S : Type 0} → (S → List ℕ → Type 0) → List ℕ
 TakesLong Leads text line t = ((t.taken ≡ 0) × Leads t.scan text) ⊎ ((0 < t.taken) × Leads t.scan (text ++ line))
 
 -- the text up to a place before `len` leads to a state
-pub record IsReached {S : Type 0} (honest : Type 0) (stored : List ℕ) (Leads : S → List ℕ → Type 0) (len : ℕ) (r : Reached S) : Type 0 where
-  pub led : IsLedTo honest stored Leads r.at r.scan
+pub record IsReached {S : Type 0} (faithful : Type 0) (stored : List ℕ) (Leads : S → List ℕ → Type 0) (len : ℕ) (r : Reached S) : Type 0 where
+  pub led : IsLedTo faithful stored Leads r.at r.scan
   pub below : r.at ≤ len
 
 -- what is said of the place that was reached, if one was
@@ -38,16 +38,16 @@ pub record IsCountedBy (first now : CountScan) (text : List ℕ) : Type 0 where
   pub few : now.tally.count ≤ 65535
 
 -- the lines of a text were walked along up to a place, which lead to a tally
-pub record IsWalkedTo (honest : Type 0) (stored : List ℕ) (only_second : Bool) (len : ℕ) (w : Walk) : Type 0 where
-  pub led : IsLedTo honest stored (λ (w : Walk) text. IsTallied only_second text w.tally w.lines) w.at w
+pub record IsWalkedTo (faithful : Type 0) (stored : List ℕ) (only_second : Bool) (len : ℕ) (w : Walk) : Type 0 where
+  pub led : IsLedTo faithful stored (λ (w : Walk) text. IsTallied only_second text w.tally w.lines) w.at w
   pub below : w.at ≤ len
   pub lines : w.lines ≤ w.at
   pub few : w.tally.count ≤ 65535
 
--- a front of a text is `f.count` finished entries alone: of the store's, where that is honest
-pub record IsFrontCounted (honest : Type 0) (stored : List ℕ) (only_second : Bool) (f : Front) : Type 0 where
+-- a front of a text is `f.count` finished entries alone: of the store's, where that is faithful
+pub record IsFrontCounted (faithful : Type 0) (stored : List ℕ) (only_second : Bool) (f : Front) : Type 0 where
   pub front : List ℕ
-  pub is : honest → front ≡ take f.at stored
+  pub is : faithful → front ≡ take f.at stored
   pub long : length front ≡ f.at
   pub counted : IsCountedAll only_second front f.count f.told f.lines
   pub lines : f.lines ≤ f.at
@@ -68,10 +68,10 @@ pub record AreMoreThan (whole front : Front) (most len : ℕ) : Type 0 where
   pub more : most < whole.count
   pub within : front.at < len
 
--- all of a text was counted: the store's, where that is honest
-pub record IsAllCounted (honest : Type 0) (stored : List ℕ) (only_second : Bool) (c : CountedText) : Type 0 where
+-- all of a text was counted: the store's, where that is faithful
+pub record IsAllCounted (faithful : Type 0) (stored : List ℕ) (only_second : Bool) (c : CountedText) : Type 0 where
   pub text : List ℕ
-  pub is : honest → stored ≡ text
+  pub is : faithful → stored ≡ text
   pub counted : IsCountedAll only_second text c.counted.count c.counted.told c.lines
   pub few : c.counted.count ≤ 65535
 

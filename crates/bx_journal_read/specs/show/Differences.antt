@@ -40,10 +40,10 @@ diff_line image len line = lines_beside image (saved_in len line)
 abbrev pub diff_text : List ℕ → ℕ → List (List ℕ) → List ℕ
 diff_text image len lines = flat_map (diff_line image len) lines
 
--- a page has room for a line's bytes, and those of it that count are the image's, which is of this length, where that is honest
-pub record IsCache (honest : Type 0) (image page : List ℕ) (c : Cached) : Type 0 where
-  pub long : honest → c.len ≡ length image
-  pub are : honest → take c.count page ≡ take c.count (drop c.at image)
+-- a page has room for a line's bytes, and those of it that count are the image's, which is of this length, where that is faithful
+pub record IsCache (faithful : Type 0) (image page : List ℕ) (c : Cached) : Type 0 where
+  pub long : faithful → c.len ≡ length image
+  pub are : faithful → take c.count page ≡ take c.count (drop c.at image)
   pub inside : c.count ≤ length page
   pub room : 16 ≤ length page
 

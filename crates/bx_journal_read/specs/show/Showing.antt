@@ -73,56 +73,56 @@ CountsNone fault = (d t d_new t_new : ℕ) → d_new ≡ d → t_new ≡ t → L
 
 -- which fault a log with ranges answers: the line at which the text is damaged, or one that the text doesn't make
 abbrev pub StopsLog : Type 0 → List ℕ → ShowFault → Type 0
-StopsLog honest text (Text (Damaged line)) = honest → IsDamagedAt (shown text) line
-StopsLog honest text (Text fault) = DeviceFault fault
-StopsLog honest text (Io fault) = PutFault (Io fault)
+StopsLog faithful text (Text (Damaged line)) = faithful → IsDamagedAt (shown text) line
+StopsLog faithful text (Text fault) = DeviceFault fault
+StopsLog faithful text (Io fault) = PutFault (Io fault)
 
--- the first bytes of a text are finished entries alone, with these marks: of the store's, where that is honest
-pub record AreMarksOf (honest : Type 0) (stored : List ℕ) (len : ℕ) (marks : List Mark) : Type 0 where
+-- the first bytes of a text are finished entries alone, with these marks: of the store's, where that is faithful
+pub record AreMarksOf (faithful : Type 0) (stored : List ℕ) (len : ℕ) (marks : List Mark) : Type 0 where
   pub front : List ℕ
-  pub is : honest → front ≡ take len stored
+  pub is : faithful → front ≡ take len stored
   pub entries : List EntryLines
   pub spelled : IsSpelled front entries
   pub marks_are : marks ≡ marks_of entries
 
--- all of a text is: the store's, where that is honest
-pub record AreAllMarks (honest : Type 0) (stored : List ℕ) (marks : List Mark) : Type 0 where
+-- all of a text is: the store's, where that is faithful
+pub record AreAllMarks (faithful : Type 0) (stored : List ℕ) (marks : List Mark) : Type 0 where
   pub text : List ℕ
-  pub is : honest → stored ≡ text
+  pub is : faithful → stored ≡ text
   pub entries : List EntryLines
   pub spelled : IsSpelled text entries
   pub marks_are : marks ≡ marks_of entries
 
 -- A call that looks for the marks of all entries of a text: it answers them, or a fault of reading it
-pub record FindsMarks {T A : Type 0} (honest : T → Type 0) (text : T → List ℕ) (failures : T → ℕ) (result : Result (Vec Mark A) SessionFault)
+pub record FindsMarks {T A : Type 0} (faithful : T → Type 0) (text : T → List ℕ) (failures : T → ℕ) (result : Result (Vec Mark A) SessionFault)
     (old new : T) : Type 0 where
-  pub marks : IfOk result (λ marks. AreAllMarks (honest old) (text old) marks.items)
-  pub fault : IfErr result (FindFault (honest old) (shown (text old)))
-  pub looks : LooksAt honest text failures result old new
+  pub marks : IfOk result (λ marks. AreAllMarks (faithful old) (text old) marks.items)
+  pub fault : IfErr result (FindFault (faithful old) (shown (text old)))
+  pub looks : LooksAt faithful text failures result old new
 
 -- a call that only looks at a text, whatever its faults are: the text stays, and no call failed where it is accepted
-pub record Stays {T R E : Type 0} (honest : T → Type 0) (text : T → List ℕ) (failures : T → ℕ) (result : Result R E) (old new : T) : Type 0 where
-  pub same : honest old → text new ≡ text old
-  pub honesty : honest new ↔ honest old
+pub record Stays {T R E : Type 0} (faithful : T → Type 0) (text : T → List ℕ) (failures : T → ℕ) (result : Result R E) (old new : T) : Type 0 where
+  pub same : faithful old → text new ≡ text old
+  pub faith : faithful new ↔ faithful old
   pub no_failure : OnOk result (failures new ≡ failures old)
 
 -- a call that writes what it reads of a device, the image's or a text's: which fault it answers, and that it changes nothing there
-pub record WritesFrom {T R : Type 0} (honest : T → Type 0) (view : T → List ℕ) (failures : T → ℕ) (result : Result R ShowFault) (old new : T) : Type 0 where
+pub record WritesFrom {T R : Type 0} (faithful : T → Type 0) (view : T → List ℕ) (failures : T → ℕ) (result : Result R ShowFault) (old new : T) : Type 0 where
   pub kind : IfErr result PutFault
-  pub stays : Stays honest view failures result old new
+  pub stays : Stays faithful view failures result old new
   pub counts : IfErr result (λ f. LookCounts f (failures old) 0 (failures new) 0)
 
 -- the same of one that reads a text beside an image
 pub record WritesBeside {D T R : Type 0} (d : DeviceViews D) (t : StoreViews T) (result : Result R ShowFault) (image_old image_new : D) (text_old text_new : T) : Type 0 where
   pub kind : IfErr result PutFault
-  pub image : Stays d.honest d.image d.failures result image_old image_new
-  pub text : Stays t.honest t.text t.failures result text_old text_new
+  pub image : Stays d.faithful d.image d.failures result image_old image_new
+  pub text : Stays t.faithful t.text t.failures result text_old text_new
   pub counts : IfErr result (λ f. LookCounts f (d.failures image_old) (t.failures text_old) (d.failures image_new) (t.failures text_new))
 
--- whole lines at a place of an entry's saved lines end ranges, which were written; the lines are the store's, where that is honest
-pub record PutsOn (honest : Type 0) (stored : List ℕ) (mark : Mark) (old new : Done) (w0 w1 : Option (List ℕ)) : Type 0 where
+-- whole lines at a place of an entry's saved lines end ranges, which were written; the lines are the store's, where that is faithful
+pub record PutsOn (faithful : Type 0) (stored : List ℕ) (mark : Mark) (old new : Done) (w0 w1 : Option (List ℕ)) : Type 0 where
   pub bytes : List ℕ
-  pub is : honest → bytes ≡ take (new.at - old.at) (drop old.at stored)
+  pub is : faithful → bytes ≡ take (new.at - old.at) (drop old.at stored)
   pub whole : (split bytes).rest ≡ []
   pub text : List ℕ
   pub leads : RangesOn mark.len (split bytes).lines old.ranging [] text new.ranging
@@ -132,10 +132,10 @@ pub record PutsOn (honest : Type 0) (stored : List ℕ) (mark : Mark) (old new :
   pub within : new.at ≤ mark.to
   pub below : new.ranging.at + new.ranging.count ≤ mark.len
 
--- what was written behind `before` bytes of the ranges of an entry's saved lines up to a place: they are the store's, where that is honest
-pub record ArePutTo (honest : Type 0) (stored : List ℕ) (mark : Mark) (before : ℕ) (d : Done) (w0 w1 : Option (List ℕ)) : Type 0 where
+-- what was written behind `before` bytes of the ranges of an entry's saved lines up to a place: they are the store's, where that is faithful
+pub record ArePutTo (faithful : Type 0) (stored : List ℕ) (mark : Mark) (before : ℕ) (d : Done) (w0 w1 : Option (List ℕ)) : Type 0 where
   pub bytes : List ℕ
-  pub is : honest → bytes ≡ take (d.at - mark.from) (drop mark.from stored)
+  pub is : faithful → bytes ≡ take (d.at - mark.from) (drop mark.from stored)
   pub whole : (split bytes).rest ≡ []
   pub text : List ℕ
   pub put : AreRanged (runs_behind mark.len [] (split bytes).lines) d.ranging text

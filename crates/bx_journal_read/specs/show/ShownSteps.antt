@@ -14,8 +14,8 @@ use Rattle.bx_journal_read.specs.declared.show.fault.ShowFault.{ShowFault}
 use Rattle.bx_journal_read.specs.declared.show.fault.ShowFault.TheVariants.{Text, Io}
 use Rattle.bx_journal_read.specs.show.Stopping.{StopsPrefix}
 use Rattle.bx_journal_read.specs.declared.show.way.Steps.{Steps}
-use Rattle.bx_journal_read.specs.declared.show.way.Way.{Way}
-use Rattle.bx_journal_read.specs.declared.show.way.Way.TheVariants.{Undo, Redo}
+use Rattle.bx_journal_read.specs.declared.show.way.Direction.{Direction}
+use Rattle.bx_journal_read.specs.declared.show.way.Direction.TheVariants.{Undo, Redo}
 use Rattle.bx_journal_model.specs.declared.fault.SessionFault.TheVariants.{Damaged, RedoDamaged, TooFew, NothingToRedo}
 use Rattle.bx_journal_format.specs.declared.read.marks.Mark.{Mark}
 use Rattle.bx_journal_format.specs.count.Mark.{IsMark}
@@ -28,7 +28,7 @@ use Rattle.bx_journal_model.specs.Looking.{LooksAt}
 use Rattle.bx_journal_read.specs.scan.Recovery.{FindFault}
 
 -- the word for a way
-abbrev pub way_word : Way → List ℕ
+abbrev pub way_word : Direction → List ℕ
 way_word Undo = codes "undo"
 way_word Redo = codes "redo"
 
@@ -51,7 +51,7 @@ length_words after len =
     if keeps_length after len then codes "keeps length " ++ decimal len else codes "length " ++ after_text after ++ codes " to " ++ decimal len
 
 -- the heading of a step: the number of the change, the way, what is written, and the length
-abbrev pub heading : Way → ℕ → Entry → List ℕ
+abbrev pub heading : Direction → ℕ → Entry → List ℕ
 heading way n e = codes "# change " ++ decimal n ++ codes ": " ++ way_word way ++ codes " writes " ++ writes_text e.saved ++ codes ", "
     ++ length_words e.after e.saved.len ++ codes "\n"
 
@@ -78,7 +78,7 @@ step_text s image n c = heading s.way n c.entry ++ length_told s c.entry.after c
     ++ lines_text s.compares image c.entry.saved.len c.saved ++ codes "\n"
 
 -- the number of the step behind one: an undo goes down, a redo goes up
-abbrev pub next_number : Way → ℕ → ℕ
+abbrev pub next_number : Direction → ℕ → ℕ
 next_number Undo n = n - 1
 next_number Redo n = suc n
 
@@ -88,7 +88,7 @@ steps_text s image n [] = []
 steps_text s image n (c ∷ older) = step_text s image n c ++ steps_text s image (next_number s.way n) older
 
 -- the number of the first step: an undo takes back the newest change, a redo makes one more
-abbrev pub first_number : Way → ℕ → ℕ → ℕ
+abbrev pub first_number : Direction → ℕ → ℕ → ℕ
 first_number Undo changes entries = entries
 first_number Redo changes entries = suc changes
 
@@ -155,12 +155,12 @@ BeginsLine text at line = line ≡ suc (length (split (take at text)).lines)
 -- which fault a look at steps answers: fewer entries than were asked for, the line at which the text is damaged or, of a redo text,
 -- what is unfinished begins, or one that the text doesn't make
 abbrev pub StopsSteps : Type 0 → List ℕ → Steps → ShowFault → Type 0
-StopsSteps honest text s (Text (TooFew have)) = (s.way ≡ Undo) × (have < s.count) × (honest → HasEntries text have)
-StopsSteps honest text s (Text (NothingToRedo have)) = (s.way ≡ Redo) × (have < s.count) × (honest → HasEntries text have)
-StopsSteps honest text s (Text (Damaged line)) = (s.way ≡ Undo) × (honest → IsDamagedAt (shown text) line)
-StopsSteps honest text s (Text (RedoDamaged line)) = (s.way ≡ Redo) × (honest → IsDamagedAt (shown text) line ⊎ IsLeftAt text line)
-StopsSteps honest text s (Text fault) = DeviceFault fault
-StopsSteps honest text s (Io fault) = PutFault (Io fault)
+StopsSteps faithful text s (Text (TooFew have)) = (s.way ≡ Undo) × (have < s.count) × (faithful → HasEntries text have)
+StopsSteps faithful text s (Text (NothingToRedo have)) = (s.way ≡ Redo) × (have < s.count) × (faithful → HasEntries text have)
+StopsSteps faithful text s (Text (Damaged line)) = (s.way ≡ Undo) × (faithful → IsDamagedAt (shown text) line)
+StopsSteps faithful text s (Text (RedoDamaged line)) = (s.way ≡ Redo) × (faithful → IsDamagedAt (shown text) line ⊎ IsLeftAt text line)
+StopsSteps faithful text s (Text fault) = DeviceFault fault
+StopsSteps faithful text s (Io fault) = PutFault (Io fault)
 
 -- the fault is of the text and the number of steps: nothing is written before it
 abbrev pub RefusesSteps : ShowFault → Type 0
@@ -176,11 +176,11 @@ abbrev pub amount_text : ℕ → List ℕ
 amount_text saved = if saved == 0 then codes "no bytes" else bytes_text saved ++ codes " at "
 
 -- the number of a change, and the way
-abbrev pub heading_front : Way → ℕ → List ℕ
+abbrev pub heading_front : Direction → ℕ → List ℕ
 heading_front way n = codes "# change " ++ decimal n ++ codes ": " ++ way_word way ++ codes " writes "
 
 -- what stands in a heading before the places
-abbrev pub heading_start : Way → ℕ → ℕ → List ℕ
+abbrev pub heading_start : Direction → ℕ → ℕ → List ℕ
 heading_start way n saved = heading_front way n ++ amount_text saved
 
 -- the places, if any
@@ -205,7 +205,7 @@ abbrev pub heading_end : Option ℕ → ℕ → List ℕ
 heading_end after len = codes ", " ++ length_words after len ++ codes "\n"
 
 -- the heading of the step of a mark
-abbrev pub heading_at : List ℕ → Way → ℕ → Mark → List ℕ
+abbrev pub heading_at : List ℕ → Direction → ℕ → Mark → List ℕ
 heading_at text way n mark = heading_start way n mark.saved ++ where_at text mark ++ heading_end mark.after mark.len
 
 -- its saved lines, beside the image where they are compared
@@ -218,7 +218,7 @@ abbrev pub mark_step : Steps → List ℕ → List ℕ → ℕ → Mark → List
 mark_step s image text n mark = heading_at text s.way n mark ++ length_told s mark.after mark.len ++ saved_lines_at s.compares image text mark ++ codes "\n"
 
 -- the number of the step behind i others
-abbrev pub number_at : Way → ℕ → ℕ → ℕ
+abbrev pub number_at : Direction → ℕ → ℕ → ℕ
 number_at Undo first i = first - i
 number_at Redo first i = first + i
 
@@ -256,37 +256,37 @@ StandsBehind text front entries None = text ≡ front
 StandsBehind text front entries (Some torn) = (stage : Stage) × IsUnfinishedBehind text front entries stage × (torn.count ≡ length entries)
     × (mark_word torn.mark ≡ next_word stage) × IsMark text torn.begins (record { entries = map entry_in entries; stage = Between })
 
--- the finished entries of a text, which is the store's where that is honest, have these marks, and behind them stands this
-pub record AreFrontMarks (honest : Type 0) (stored : List ℕ) (marks : List Mark) (torn : Option Torn) : Type 0 where
+-- the finished entries of a text, which is the store's where that is faithful, have these marks, and behind them stands this
+pub record AreFrontMarks (faithful : Type 0) (stored : List ℕ) (marks : List Mark) (torn : Option Torn) : Type 0 where
   pub front : List ℕ
   pub entries : List EntryLines
   pub spelled : IsSpelled front entries
   pub marks_are : marks ≡ marks_of entries
-  pub behind : honest → StandsBehind stored front entries torn
+  pub behind : faithful → StandsBehind stored front entries torn
 
 -- A call that looks for the marks of the finished entries of a text: it answers them, or a fault of reading it
-pub record FindsFront {T A : Type 0} (honest : T → Type 0) (text : T → List ℕ) (failures : T → ℕ) (result : Result (Marked A) SessionFault)
+pub record FindsFront {T A : Type 0} (faithful : T → Type 0) (text : T → List ℕ) (failures : T → ℕ) (result : Result (Marked A) SessionFault)
     (old new : T) : Type 0 where
-  pub marks : IfOk result (λ found. AreFrontMarks (honest old) (text old) found.marks.items found.torn)
-  pub fault : IfErr result (FindFault (honest old) (shown (text old)))
-  pub looks : LooksAt honest text failures result old new
+  pub marks : IfOk result (λ found. AreFrontMarks (faithful old) (text old) found.marks.items found.torn)
+  pub fault : IfErr result (FindFault (faithful old) (shown (text old)))
+  pub looks : LooksAt faithful text failures result old new
 
 -- a fault of reading the text, as the call that steps answers it
-abbrev pub fault_that : Way → SessionFault → SessionFault
+abbrev pub fault_that : Direction → SessionFault → SessionFault
 fault_that Undo fault = fault
 fault_that Redo fault = redo_fault fault
 
 -- what is answered where there are `have` entries, which are too few
-abbrev pub few_that : Way → ℕ → SessionFault
+abbrev pub few_that : Direction → ℕ → SessionFault
 few_that Undo have = TooFew have
 few_that Redo have = NothingToRedo have
 
 -- nothing is unfinished that steps this way don't deal with
-abbrev pub IsSettled : Way → Option Torn → Type 0
+abbrev pub IsSettled : Direction → Option Torn → Type 0
 IsSettled way torn = way ≡ Redo → torn ≡ None
 
 -- what is unfinished, which steps this way don't deal with
-abbrev pub IsLeftIn : Way → Option Torn → Torn → Type 0
+abbrev pub IsLeftIn : Direction → Option Torn → Torn → Type 0
 IsLeftIn way torn left = (way ≡ Redo) × (torn ≡ Some left)
 
 -- there are entries enough, and nothing is unfinished that the steps don't deal with
@@ -302,12 +302,12 @@ abbrev pub CannotStep : {A : Type 0} → Steps → Marked A → SessionFault →
 CannotStep s found fault = (length found.marks.items < s.count) × (fault ≡ few_that s.way (length found.marks.items))
 
 -- A call that looks for the marks of the entries that are to be stepped over: it answers them, or why they aren't
-pub record FindsSteps {T A : Type 0} (honest : T → Type 0) (text : T → List ℕ) (failures : T → ℕ) (s : Steps) (result : Result (Marked A) SessionFault)
+pub record FindsSteps {T A : Type 0} (faithful : T → Type 0) (text : T → List ℕ) (failures : T → ℕ) (s : Steps) (result : Result (Marked A) SessionFault)
     (old new : T) : Type 0 where
-  pub marks : IfOk result (λ found. AreFrontMarks (honest old) (text old) found.marks.items found.torn)
+  pub marks : IfOk result (λ found. AreFrontMarks (faithful old) (text old) found.marks.items found.torn)
   pub can : IfOk result (CanStep s)
-  pub fault : IfErr result (λ e. StopsSteps (honest old) (text old) s (Text e))
-  pub looks : LooksAt honest text failures result old new
+  pub fault : IfErr result (λ e. StopsSteps (faithful old) (text old) s (Text e))
+  pub looks : LooksAt faithful text failures result old new
 
 -- the line on what is unfinished was written, and the steps over what was found
 abbrev pub IsFoundPut : {A : Type 0} → Steps → List ℕ → List ℕ → Marked A → Option (List ℕ) → Option (List ℕ) → Type 0

@@ -103,8 +103,8 @@ pub fn walk_windows<T: TextStore>(
     limit: u32,
 ) -> Result<Option<Walk>, DeviceFailed>
     requires countable { T.failures store.old < u64.MAX }
-    requires within { T.honest store.old → len ≤ length (T.text store.old) }
-    ensures walked { IfOk result (λ found. IfSome found (IsWalkedTo (T.honest store.old) (T.text store.old) only_second len)) }
+    requires within { T.faithful store.old → len ≤ length (T.text store.old) }
+    ensures walked { IfOk result (λ found. IfSome found (IsWalkedTo (T.faithful store.old) (T.text store.old) only_second len)) }
     ensures window { length window.new ≡ length window.old }
     ensures reads { OnlyReadsText T.TextStore (is_err result) store.old store.new }
 {
@@ -135,8 +135,8 @@ pub fn count_windows<T: TextStore>(
     limit: u32,
 ) -> Result<Option<Front>, DeviceFailed>
     requires countable { T.failures store.old < u64.MAX }
-    requires within { T.honest store.old → len ≤ length (T.text store.old) }
-    ensures counted { IfOk result (λ found. IfSome found (IsFrontCounted (T.honest store.old) (T.text store.old) only_second)) }
+    requires within { T.faithful store.old → len ≤ length (T.text store.old) }
+    ensures counted { IfOk result (λ found. IfSome found (IsFrontCounted (T.faithful store.old) (T.text store.old) only_second)) }
     ensures window { length window.new ≡ length window.old }
     ensures within { IfOk result (λ found. IfSome found (λ f. f.at ≤ len)) }
     ensures reads { OnlyReadsText T.TextStore (is_err result) store.old store.new }
@@ -169,8 +169,8 @@ pub fn count_front<T: TextStore, A: Allocator + Clone>(
     limit: u32,
 ) -> Result<Option<Front>, SessionFault>
     requires countable { T.failures store.old < u64.MAX }
-    requires long { T.honest store.old → len ≡ length (T.text store.old) }
-    ensures counted { IfOk result (λ found. IfSome found (IsFrontCounted (T.honest store.old) (T.text store.old) only_second)) }
+    requires long { T.faithful store.old → len ≡ length (T.text store.old) }
+    ensures counted { IfOk result (λ found. IfSome found (IsFrontCounted (T.faithful store.old) (T.text store.old) only_second)) }
     ensures within { IfOk result (λ found. IfSome found (λ f. f.at ≤ len)) }
     ensures reads { LooksThrough T.TextStore result store.old store.new }
 {
@@ -188,10 +188,10 @@ pub fn count_text<T: TextStore, A: Allocator + Clone>(
     only_second: bool,
 ) -> Result<Option<CountedText>, SessionFault>
     requires { T.failures store.old < u64.MAX }
-    ensures counted { IfOk result (λ found. IfSome found (IsAllCounted (T.honest store.old) (T.text store.old) only_second)) }
+    ensures counted { IfOk result (λ found. IfSome found (IsAllCounted (T.faithful store.old) (T.text store.old) only_second)) }
     ensures fault { IfErr result LacksOrFails }
-    ensures looks { LooksAt T.honest T.text T.failures result store.old store.new }
-    ensures survives { T.honest store.old → NoMore (T.survives store.old) (T.survives store.new) }
+    ensures looks { LooksAt T.faithful T.text T.failures result store.old store.new }
+    ensures survives { T.faithful store.old → NoMore (T.survives store.old) (T.survives store.new) }
 {
     let len = store.len()?;
     let found = count_front(alloc, store, len, only_second, ALL)?;

@@ -74,8 +74,8 @@ fn walk_in_place<T: TextStore>(
     len: u64,
 ) -> Result<Option<Walk>, DeviceFailed>
     requires countable { T.failures store.old < u64.MAX }
-    requires within { T.honest store.old → len ≤ length (T.text store.old) }
-    ensures walked { IfOk result (λ found. IfSome found (IsWalkedTo (T.honest store.old) (T.text store.old) false len)) }
+    requires within { T.faithful store.old → len ≤ length (T.text store.old) }
+    ensures walked { IfOk result (λ found. IfSome found (IsWalkedTo (T.faithful store.old) (T.text store.old) false len)) }
     ensures window { length window.new ≡ length window.old }
     ensures reads { OnlyReadsText T.TextStore (is_err result) store.old store.new }
 {
@@ -103,9 +103,9 @@ fn is_damaged_behind<T: TextStore>(
     walk: Walk,
 ) -> Result<bool, DeviceFailed>
     requires countable { T.failures store.old < u64.MAX }
-    requires within { T.honest store.old → len ≤ length (T.text store.old) }
-    requires walked { IsWalkedTo (T.honest store.old) (T.text store.old) false len walk }
-    ensures damaged { IfOk result (λ b. IsTrue b → IsDamagedIn (T.honest store.old) (take len (T.text store.old)) (walk.lines + 1)) }
+    requires within { T.faithful store.old → len ≤ length (T.text store.old) }
+    requires walked { IsWalkedTo (T.faithful store.old) (T.text store.old) false len walk }
+    ensures damaged { IfOk result (λ b. IsTrue b → IsDamagedIn (T.faithful store.old) (take len (T.text store.old)) (walk.lines + 1)) }
     ensures window { length window.new ≡ length window.old }
     ensures reads { OnlyReadsText T.TextStore (is_err result) store.old store.new }
 {
@@ -124,10 +124,10 @@ fn is_endless<T: TextStore>(
     len: u64,
 ) -> Result<bool, DeviceFailed>
     requires countable { T.failures store.old < u64.MAX }
-    requires within { T.honest store.old → len ≤ length (T.text store.old) }
+    requires within { T.faithful store.old → len ≤ length (T.text store.old) }
     requires below { from ≤ len }
     requires some { 0 < length window.old }
-    ensures plain { IfOk result (λ b. IsTrue b → IsPlainTo (T.honest store.old) (T.text store.old) from len) }
+    ensures plain { IfOk result (λ b. IsTrue b → IsPlainTo (T.faithful store.old) (T.text store.old) from len) }
     ensures window { length window.new ≡ length window.old }
     ensures reads { OnlyReadsText T.TextStore (is_err result) store.old store.new }
 {
@@ -143,9 +143,9 @@ fn ends_long<T: TextStore>(
     walk: Walk,
 ) -> Result<bool, DeviceFailed>
     requires countable { T.failures store.old < u64.MAX }
-    requires within { T.honest store.old → len ≤ length (T.text store.old) }
-    requires walked { IsWalkedTo (T.honest store.old) (T.text store.old) false len walk }
-    ensures damaged { IfOk result (λ b. IsTrue b → IsDamagedIn (T.honest store.old) (take len (T.text store.old)) (walk.lines + 1)) }
+    requires within { T.faithful store.old → len ≤ length (T.text store.old) }
+    requires walked { IsWalkedTo (T.faithful store.old) (T.text store.old) false len walk }
+    ensures damaged { IfOk result (λ b. IsTrue b → IsDamagedIn (T.faithful store.old) (take len (T.text store.old)) (walk.lines + 1)) }
     ensures reads { OnlyReadsText T.TextStore (is_err result) store.old store.new }
 {
     if len - walk.at < SURELY_LONG as u64 {
@@ -165,9 +165,9 @@ fn is_damaged_at<T: TextStore>(
     walk: Walk,
 ) -> Result<bool, DeviceFailed>
     requires countable { T.failures store.old < u64.MAX }
-    requires within { T.honest store.old → len ≤ length (T.text store.old) }
-    requires walked { IsWalkedTo (T.honest store.old) (T.text store.old) false len walk }
-    ensures damaged { IfOk result (λ b. IsTrue b → IsDamagedIn (T.honest store.old) (take len (T.text store.old)) (walk.lines + 1)) }
+    requires within { T.faithful store.old → len ≤ length (T.text store.old) }
+    requires walked { IsWalkedTo (T.faithful store.old) (T.text store.old) false len walk }
+    ensures damaged { IfOk result (λ b. IsTrue b → IsDamagedIn (T.faithful store.old) (take len (T.text store.old)) (walk.lines + 1)) }
     ensures reads { OnlyReadsText T.TextStore (is_err result) store.old store.new }
 {
     let damaged = is_damaged_behind(store, window, len, walk)?;
@@ -184,8 +184,8 @@ fn find_line<T: TextStore>(
     len: u64,
 ) -> Result<Option<u64>, DeviceFailed>
     requires countable { T.failures store.old < u64.MAX }
-    requires within { T.honest store.old → len ≤ length (T.text store.old) }
-    ensures line { IfOk result (λ found. IfSome found (IsDamagedIn (T.honest store.old) (take len (T.text store.old)))) }
+    requires within { T.faithful store.old → len ≤ length (T.text store.old) }
+    ensures line { IfOk result (λ found. IfSome found (IsDamagedIn (T.faithful store.old) (take len (T.text store.old)))) }
     ensures reads { OnlyReadsText T.TextStore (is_err result) store.old store.new }
 {
     let found = walk_in_place(store, window, len)?;
@@ -209,8 +209,8 @@ fn find_shown<T: TextStore>(
     len: u64,
 ) -> Result<Option<u64>, DeviceFailed>
     requires countable { T.failures store.old < u64.MAX }
-    requires long { T.honest store.old → len ≡ length (T.text store.old) }
-    ensures line { IfOk result (λ found. IfSome found (IsDamagedIn (T.honest store.old) (shown (T.text store.old)))) }
+    requires long { T.faithful store.old → len ≡ length (T.text store.old) }
+    ensures line { IfOk result (λ found. IfSome found (IsDamagedIn (T.faithful store.old) (shown (T.text store.old)))) }
     ensures reads { OnlyReadsText T.TextStore (is_err result) store.old store.new }
 {
     if window.is_empty() {
@@ -229,8 +229,8 @@ fn find_read<T: TextStore>(
     fades: bool,
 ) -> Result<Option<u64>, DeviceFailed>
     requires countable { T.failures store.old < u64.MAX }
-    requires long { T.honest store.old → len ≡ length (T.text store.old) }
-    ensures line { IfOk result (λ found. IfSome found (IsDamagedIn (T.honest store.old) (read_of fades (T.text store.old)))) }
+    requires long { T.faithful store.old → len ≡ length (T.text store.old) }
+    ensures line { IfOk result (λ found. IfSome found (IsDamagedIn (T.faithful store.old) (read_of fades (T.text store.old)))) }
     ensures reads { OnlyReadsText T.TextStore (is_err result) store.old store.new }
 {
     if fades {
@@ -247,7 +247,7 @@ pub fn text_damage<T: TextStore, A: Allocator + Clone>(
     fades: bool,
 ) -> Result<Option<u64>, SessionFault>
     requires { T.failures store.old < u64.MAX }
-    ensures line { IfOk result (λ found. IfSome found (IsDamagedIn (T.honest store.old) (read_of fades (T.text store.old)))) }
+    ensures line { IfOk result (λ found. IfSome found (IsDamagedIn (T.faithful store.old) (read_of fades (T.text store.old)))) }
     ensures reads { LooksThrough T.TextStore result store.old store.new }
 {
     let len = store.len()?;

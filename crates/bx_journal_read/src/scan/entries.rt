@@ -53,10 +53,10 @@ pub fn read_again<T: TextStore, A: Allocator + Clone>(
     count: u32,
 ) -> Result<FinishedRead<A>, SessionFault>
     requires { T.failures store.old < u64.MAX }
-    ensures read { IfOk result (λ o. IsReadFrom (T.honest store.old) (T.text store.old) o.len o.entries.items count) }
-    ensures fault { IfErr result (AgainFault (T.honest store.old) (T.text store.old) count) }
-    ensures looks { LooksAt T.honest T.text T.failures result store.old store.new }
-    ensures survives { T.honest store.old → NoMore (T.survives store.old) (T.survives store.new) }
+    ensures read { IfOk result (λ o. IsReadFrom (T.faithful store.old) (T.text store.old) o.len o.entries.items count) }
+    ensures fault { IfErr result (AgainFault (T.faithful store.old) (T.text store.old) count) }
+    ensures looks { LooksAt T.faithful T.text T.failures result store.old store.new }
+    ensures survives { T.faithful store.old → NoMore (T.survives store.old) (T.survives store.new) }
 {
     let bytes = match store.read_all(alloc.clone()?) {
         Ok(bytes) => bytes,
@@ -139,9 +139,9 @@ fn read_windows<T: TextStore, A: Allocator + Clone>(
 ) -> Result<Option<LinesRead<A>>, SessionFault>
     requires countable { T.failures store.old < u64.MAX }
     requires within { front.at ≤ len }
-    requires long { T.honest store.old → len ≡ length (T.text store.old) }
-    requires front { IsFrontCounted (T.honest store.old) (T.text store.old) false front }
-    ensures read { IfOk result (λ found. IfSome found (IsReadBehind (T.honest store.old) (T.text store.old) front)) }
+    requires long { T.faithful store.old → len ≡ length (T.text store.old) }
+    requires front { IsFrontCounted (T.faithful store.old) (T.text store.old) false front }
+    ensures read { IfOk result (λ found. IfSome found (IsReadBehind (T.faithful store.old) (T.text store.old) front)) }
     ensures all { IfOk result (λ found. IfSome found (λ r. r.at ≡ len)) }
     ensures reads { LooksThrough T.TextStore result store.old store.new }
 {
@@ -199,8 +199,8 @@ fn read_from<T: TextStore, A: Allocator + Clone>(
 ) -> Result<Option<FinishedRead<A>>, SessionFault>
     requires countable { T.failures store.old < u64.MAX }
     requires within { front.at ≤ len }
-    requires long { T.honest store.old → len ≡ length (T.text store.old) }
-    requires front { IsFrontCounted (T.honest store.old) (T.text store.old) false front }
+    requires long { T.faithful store.old → len ≡ length (T.text store.old) }
+    requires front { IsFrontCounted (T.faithful store.old) (T.text store.old) false front }
     ensures { LooksForLast T.TextStore count k result store.old store.new }
 {
     let size = WINDOW.min(len - front.at) as usize;
@@ -242,11 +242,11 @@ pub fn read_last_of<T: TextStore, A: Allocator + Clone>(
 ) -> Result<FinishedRead<A>, SessionFault>
     requires countable { T.failures store.old < u64.MAX }
     requires few { k ≤ count }
-    ensures read { IfOk result (λ o. IsLastFrom (T.honest store.old) (T.text store.old) o.len o.entries.items count) }
+    ensures read { IfOk result (λ o. IsLastFrom (T.faithful store.old) (T.text store.old) o.len o.entries.items count) }
     ensures few { IfOk result (λ o. k ≤ length o.entries.items) }
-    ensures fault { IfErr result (AgainFault (T.honest store.old) (T.text store.old) count) }
-    ensures looks { LooksAt T.honest T.text T.failures result store.old store.new }
-    ensures survives { T.honest store.old → NoMore (T.survives store.old) (T.survives store.new) }
+    ensures fault { IfErr result (AgainFault (T.faithful store.old) (T.text store.old) count) }
+    ensures looks { LooksAt T.faithful T.text T.failures result store.old store.new }
+    ensures survives { T.faithful store.old → NoMore (T.survives store.old) (T.survives store.new) }
 {
     let found = match find_last(alloc, store, count, k) {
         Ok(found) => found,

@@ -131,8 +131,8 @@ fn find_plain<T: TextStore>(
     len: u64,
 ) -> Result<Option<Found>, DeviceFailed>
     requires countable { T.failures store.old < u64.MAX }
-    requires long { T.honest store.old → len ≡ length (T.text store.old) }
-    ensures found { IfOk result (λ found. IfSome found (IsFoundIn (T.honest store.old) (T.text store.old))) }
+    requires long { T.faithful store.old → len ≡ length (T.text store.old) }
+    ensures found { IfOk result (λ found. IfSome found (IsFoundIn (T.faithful store.old) (T.text store.old))) }
     ensures window { length window.new ≡ length window.old }
     ensures reads { OnlyReadsText T.TextStore (is_err result) store.old store.new }
 {
@@ -162,8 +162,8 @@ fn find_in<T: TextStore>(
     len: u64,
 ) -> Result<Option<Found>, DeviceFailed>
     requires countable { T.failures store.old < u64.MAX }
-    requires long { T.honest store.old → len ≡ length (T.text store.old) }
-    ensures found { IfOk result (λ found. IfSome found (IsFoundIn (T.honest store.old) (T.text store.old))) }
+    requires long { T.faithful store.old → len ≡ length (T.text store.old) }
+    ensures found { IfOk result (λ found. IfSome found (IsFoundIn (T.faithful store.old) (T.text store.old))) }
     ensures reads { OnlyReadsText T.TextStore (is_err result) store.old store.new }
 {
     let plain = find_plain(store, window, len)?;
@@ -186,7 +186,7 @@ fn find_text<T: TextStore, A: Allocator + Clone>(
     store: &mut T,
 ) -> Result<Option<Found>, SessionFault>
     requires { T.failures store.old < u64.MAX }
-    ensures found { IfOk result (λ found. IfSome found (IsFoundIn (T.honest store.old) (T.text store.old))) }
+    ensures found { IfOk result (λ found. IfSome found (IsFoundIn (T.faithful store.old) (T.text store.old))) }
     ensures reads { LooksThrough T.TextStore result store.old store.new }
 {
     let len = store.len()?;

@@ -29,9 +29,9 @@ pub fn newlines_to<T: TextStore>(
     len: u64,
 ) -> Result<u64, DeviceFailed>
     requires countable { T.failures store.old < u64.MAX }
-    requires within { T.honest store.old → len ≤ length (T.text store.old) }
+    requires within { T.faithful store.old → len ≤ length (T.text store.old) }
     requires some { 0 < length window.old }
-    ensures lines { T.honest store.old → IfOk result (λ n. n ≡ length (split (take len (T.text store.old))).lines) }
+    ensures lines { T.faithful store.old → IfOk result (λ n. n ≡ length (split (take len (T.text store.old))).lines) }
     ensures most { IfOk result (λ n. n ≤ len) }
     ensures window { length window.new ≡ length window.old }
     ensures reads { OnlyReadsText T.TextStore (is_err result) store.old store.new }
@@ -55,7 +55,7 @@ fn newlines_before<T: TextStore, A: Allocator + Clone>(
     at: u64,
 ) -> Result<u64, SessionFault>
     requires { T.failures store.old < u64.MAX }
-    ensures lines { T.honest store.old → at ≤ length (T.text store.old) → IfOk result (λ n. n ≡ length (split (take at (T.text store.old))).lines) }
+    ensures lines { T.faithful store.old → at ≤ length (T.text store.old) → IfOk result (λ n. n ≡ length (split (take at (T.text store.old))).lines) }
     ensures reads { LooksThrough T.TextStore result store.old store.new }
 {
     let len = store.len()?;
@@ -75,7 +75,7 @@ pub fn line_from<T: TextStore, A: Allocator + Clone>(
     begins: u64,
 ) -> Result<u64, SessionFault>
     requires { T.failures store.old < u64.MAX }
-    ensures line { T.honest store.old → begins ≤ length (T.text store.old)
+    ensures line { T.faithful store.old → begins ≤ length (T.text store.old)
         → IfOk result (λ n. n ≡ suc (length (split (take begins (T.text store.old))).lines)) }
     ensures reads { LooksThrough T.TextStore result store.old store.new }
 {

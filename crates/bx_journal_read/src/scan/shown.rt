@@ -16,10 +16,10 @@ pub fn zero_from<T: TextStore>(
     len: u64,
 ) -> Result<u64, DeviceFailed>
     requires countable { T.failures store.old < u64.MAX }
-    requires long { T.honest store.old → len ≡ length (T.text store.old) }
+    requires long { T.faithful store.old → len ≡ length (T.text store.old) }
     requires below { from ≤ len }
     requires some { 0 < length window.old }
-    ensures zero { T.honest store.old → IfOk result (λ n. n ≡ from + length (before_zero (drop from (T.text store.old)))) }
+    ensures zero { T.faithful store.old → IfOk result (λ n. n ≡ from + length (before_zero (drop from (T.text store.old)))) }
     ensures within { IfOk result (λ n. n ≤ len) }
     ensures window { length window.new ≡ length window.old }
     ensures reads { OnlyReadsText T.TextStore (is_err result) store.old store.new }
@@ -46,10 +46,10 @@ fn is_torn_from<T: TextStore>(
     len: u64,
 ) -> Result<bool, DeviceFailed>
     requires countable { T.failures store.old < u64.MAX }
-    requires long { T.honest store.old → len ≡ length (T.text store.old) }
+    requires long { T.faithful store.old → len ≡ length (T.text store.old) }
     requires below { from ≤ len }
     requires some { 0 < length window.old }
-    ensures torn { T.honest store.old → IfOk result (λ b. b ≡ is_torn LastLine.Other (drop from (T.text store.old))) }
+    ensures torn { T.faithful store.old → IfOk result (λ b. b ≡ is_torn LastLine.Other (drop from (T.text store.old))) }
     ensures window { length window.new ≡ length window.old }
     ensures reads { OnlyReadsText T.TextStore (is_err result) store.old store.new }
 {
@@ -75,9 +75,9 @@ pub fn shown_in<T: TextStore>(
     len: u64,
 ) -> Result<u64, DeviceFailed>
     requires countable { T.failures store.old < u64.MAX }
-    requires long { T.honest store.old → len ≡ length (T.text store.old) }
+    requires long { T.faithful store.old → len ≡ length (T.text store.old) }
     requires some { 0 < length window.old }
-    ensures shown { T.honest store.old → IfOk result (λ n. take n (T.text store.old) ≡ shown (T.text store.old)) }
+    ensures shown { T.faithful store.old → IfOk result (λ n. take n (T.text store.old) ≡ shown (T.text store.old)) }
     ensures within { IfOk result (λ n. n ≤ len) }
     ensures window { length window.new ≡ length window.old }
     ensures reads { OnlyReadsText T.TextStore (is_err result) store.old store.new }

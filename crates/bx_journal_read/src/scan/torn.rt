@@ -39,10 +39,10 @@ fn may_follow<T: TextStore>(
     walk: Walk,
 ) -> Result<bool, DeviceFailed>
     requires countable { T.failures store.old < u64.MAX }
-    requires within { T.honest store.old → len ≤ length (T.text store.old) }
+    requires within { T.faithful store.old → len ≤ length (T.text store.old) }
     requires below { walk.at ≤ len }
     requires few { walk.tally.count ≤ 65535 }
-    ensures rest { T.honest store.old → (r : Reading) → tally_of r ≡ walk.tally
+    ensures rest { T.faithful store.old → (r : Reading) → tally_of r ≡ walk.tally
         → IfOk result (λ b. IsTrue b → IsRest r.entries r.stage (rest_to len walk.at (T.text store.old)) × HasNoNewline (rest_to len walk.at (T.text store.old))) }
     ensures window { length window.new ≡ length window.old }
     ensures reads { OnlyReadsText T.TextStore (is_err result) store.old store.new }
@@ -67,8 +67,8 @@ fn find_len<T: TextStore>(
 ) -> Result<Option<u64>, DeviceFailed>
     requires countable { T.failures store.old < u64.MAX }
     requires below { begins ≤ walk.at }
-    requires within { T.honest store.old → walk.at ≤ length (T.text store.old) }
-    ensures len { T.honest store.old → (r : Reading) (v : Form) (s : Kept) → IsMark (T.text store.old) begins (record { entries = r.entries; stage = Resting })
+    requires within { T.faithful store.old → walk.at ≤ length (T.text store.old) }
+    ensures len { T.faithful store.old → (r : Reading) (v : Form) (s : Kept) → IsMark (T.text store.old) begins (record { entries = r.entries; stage = Resting })
         → IsMark (T.text store.old) walk.at r → tally_of r ≡ walk.tally → r.stage ≡ Closing v s → IfOk result (λ found. IfSome found (λ n. n ≡ s.len)) }
     ensures window { length window.new ≡ length window.old }
     ensures reads { OnlyReadsText T.TextStore (is_err result) store.old store.new }
@@ -102,8 +102,8 @@ fn find_record<T: TextStore>(
 ) -> Result<Option<Mark>, DeviceFailed>
     requires countable { T.failures store.old < u64.MAX }
     requires below { begins ≤ walk.at }
-    requires within { T.honest store.old → walk.at ≤ length (T.text store.old) }
-    ensures record_ { T.honest store.old → (r : Reading) (s : Kept) → IsMark (T.text store.old) begins (record { entries = r.entries; stage = Resting })
+    requires within { T.faithful store.old → walk.at ≤ length (T.text store.old) }
+    ensures record_ { T.faithful store.old → (r : Reading) (s : Kept) → IsMark (T.text store.old) begins (record { entries = r.entries; stage = Resting })
         → IsMark (T.text store.old) walk.at r → tally_of r ≡ walk.tally → r.stage ≡ Closing version s
         → IfOk result (λ found. IfSome found (λ m. StandsAt (T.text store.old) m s)) }
     ensures order { IfOk result (λ found. IfSome found (λ m. m.lines ≤ m.saved)) }
@@ -135,8 +135,8 @@ fn find_mark<T: TextStore>(
 ) -> Result<Option<Option<Mark>>, DeviceFailed>
     requires countable { T.failures store.old < u64.MAX }
     requires below { begins ≤ walk.at }
-    requires within { T.honest store.old → walk.at ≤ length (T.text store.old) }
-    ensures mark { T.honest store.old → (r : Reading) → IsMark (T.text store.old) begins (record { entries = r.entries; stage = Resting })
+    requires within { T.faithful store.old → walk.at ≤ length (T.text store.old) }
+    ensures mark { T.faithful store.old → (r : Reading) → IsMark (T.text store.old) begins (record { entries = r.entries; stage = Resting })
         → IsMark (T.text store.old) walk.at r → tally_of r ≡ walk.tally → IfOk result (λ found. IfSome found (HasMark (T.text store.old) r.stage)) }
     ensures order { IfOk result (λ found. IfSome found (λ mark. IfSome mark (λ m. m.lines ≤ m.saved))) }
     ensures ends { IfOk result (λ found. IfSome found (λ mark. IfSome mark (λ m. m.saved ≡ walk.at))) }
@@ -165,9 +165,9 @@ pub fn find_end<T: TextStore>(
     walk: Walk,
 ) -> Result<Option<Torn>, DeviceFailed>
     requires countable { T.failures store.old < u64.MAX }
-    requires within { T.honest store.old → len ≤ length (T.text store.old) }
-    requires walked { IsWalkedTo (T.honest store.old) (T.text store.old) false len walk }
-    ensures found { IfOk result (λ found. IfSome found (IsTornFront (T.honest store.old) (T.text store.old) len)) }
+    requires within { T.faithful store.old → len ≤ length (T.text store.old) }
+    requires walked { IsWalkedTo (T.faithful store.old) (T.text store.old) false len walk }
+    ensures found { IfOk result (λ found. IfSome found (IsTornFront (T.faithful store.old) (T.text store.old) len)) }
     ensures window { length window.new ≡ length window.old }
     ensures reads { OnlyReadsText T.TextStore (is_err result) store.old store.new }
 {
@@ -206,10 +206,10 @@ pub fn find_torn<T: TextStore>(
     walk: Walk,
 ) -> Result<Option<Torn>, DeviceFailed>
     requires countable { T.failures store.old < u64.MAX }
-    requires long { T.honest store.old → len ≡ length (T.text store.old) }
+    requires long { T.faithful store.old → len ≡ length (T.text store.old) }
     requires some { 0 < length window.old }
-    requires walked { IsWalkedTo (T.honest store.old) (T.text store.old) false len walk }
-    ensures found { IfOk result (λ found. IfSome found (IsUnfinishedIn (T.honest store.old) (T.text store.old))) }
+    requires walked { IsWalkedTo (T.faithful store.old) (T.text store.old) false len walk }
+    ensures found { IfOk result (λ found. IfSome found (IsUnfinishedIn (T.faithful store.old) (T.text store.old))) }
     ensures window { length window.new ≡ length window.old }
     ensures reads { OnlyReadsText T.TextStore (is_err result) store.old store.new }
 {
@@ -235,9 +235,9 @@ pub fn find_faded<T: TextStore>(
     len: u64,
 ) -> Result<Option<Torn>, DeviceFailed>
     requires countable { T.failures store.old < u64.MAX }
-    requires long { T.honest store.old → len ≡ length (T.text store.old) }
+    requires long { T.faithful store.old → len ≡ length (T.text store.old) }
     requires some { 0 < length window.old }
-    ensures found { IfOk result (λ found. IfSome found (IsUnfinishedIn (T.honest store.old) (T.text store.old))) }
+    ensures found { IfOk result (λ found. IfSome found (IsUnfinishedIn (T.faithful store.old) (T.text store.old))) }
     ensures reads { OnlyReadsText T.TextStore (is_err result) store.old store.new }
 {
     let shown = shown_in(store, window, len)?;

@@ -21,9 +21,9 @@ fn tail_line<T: TextStore>(
     changes: u32,
 ) -> Result<Option<u64>, DeviceFailed>
     requires countable { T.failures store.old < u64.MAX }
-    requires long { T.honest store.old → len ≡ length (T.text store.old) }
+    requires long { T.faithful store.old → len ≡ length (T.text store.old) }
     requires some { 0 < length window.old }
-    ensures line { IfOk result (λ found. IfSome found (IsUnfitIn (T.honest store.old) (T.text store.old) changes)) }
+    ensures line { IfOk result (λ found. IfSome found (IsUnfitIn (T.faithful store.old) (T.text store.old) changes)) }
     ensures window { length window.new ≡ length window.old }
     ensures reads { OnlyReadsText T.TextStore (is_err result) store.old store.new }
 {
@@ -50,7 +50,7 @@ fn told_entries<T: TextStore>(
     count: u32,
 ) -> Result<u32, DeviceFailed>
     requires countable { T.failures store.old < u64.MAX }
-    requires long { T.honest store.old → len ≡ length (T.text store.old) }
+    requires long { T.faithful store.old → len ≡ length (T.text store.old) }
     ensures few { IfOk result (λ n. n ≤ count) }
     ensures window { length window.new ≡ length window.old }
     ensures reads { OnlyReadsText T.TextStore (is_err result) store.old store.new }
@@ -98,9 +98,9 @@ fn untold_behind<T: TextStore>(
     changes: u32,
 ) -> Result<Option<u64>, DeviceFailed>
     requires countable { T.failures store.old < u64.MAX }
-    requires long { T.honest store.old → len ≡ length (T.text store.old) }
+    requires long { T.faithful store.old → len ≡ length (T.text store.old) }
     requires few { told ≤ 65535 }
-    ensures line { IfOk result (λ found. IfSome found (IsUnfitIn (T.honest store.old) (T.text store.old) changes)) }
+    ensures line { IfOk result (λ found. IfSome found (IsUnfitIn (T.faithful store.old) (T.text store.old) changes)) }
     ensures window { length window.new ≡ length window.old }
     ensures reads { OnlyReadsText T.TextStore (is_err result) store.old store.new }
 {
@@ -130,8 +130,8 @@ fn untold_line<T: TextStore>(
     changes: u32,
 ) -> Result<Option<u64>, DeviceFailed>
     requires countable { T.failures store.old < u64.MAX }
-    requires long { T.honest store.old → len ≡ length (T.text store.old) }
-    ensures line { IfOk result (λ found. IfSome found (IsUnfitIn (T.honest store.old) (T.text store.old) changes)) }
+    requires long { T.faithful store.old → len ≡ length (T.text store.old) }
+    ensures line { IfOk result (λ found. IfSome found (IsUnfitIn (T.faithful store.old) (T.text store.old) changes)) }
     ensures window { length window.new ≡ length window.old }
     ensures reads { OnlyReadsText T.TextStore (is_err result) store.old store.new }
 {
@@ -163,9 +163,9 @@ fn beyond_line<T: TextStore>(
     changes: u32,
 ) -> Result<Option<u64>, DeviceFailed>
     requires countable { T.failures store.old < u64.MAX }
-    requires long { T.honest store.old → len ≡ length (T.text store.old) }
+    requires long { T.faithful store.old → len ≡ length (T.text store.old) }
     requires few { changes ≤ 65535 }
-    ensures line { IfOk result (λ found. IfSome found (IsUnfitIn (T.honest store.old) (T.text store.old) changes)) }
+    ensures line { IfOk result (λ found. IfSome found (IsUnfitIn (T.faithful store.old) (T.text store.old) changes)) }
     ensures window { length window.new ≡ length window.old }
     ensures reads { OnlyReadsText T.TextStore (is_err result) store.old store.new }
 {
@@ -192,9 +192,9 @@ fn find_unfit<T: TextStore>(
     changes: u32,
 ) -> Result<Option<u64>, DeviceFailed>
     requires countable { T.failures store.old < u64.MAX }
-    requires long { T.honest store.old → len ≡ length (T.text store.old) }
+    requires long { T.faithful store.old → len ≡ length (T.text store.old) }
     requires few { changes ≤ 65535 }
-    ensures line { IfOk result (λ found. IfSome found (IsUnfitIn (T.honest store.old) (T.text store.old) changes)) }
+    ensures line { IfOk result (λ found. IfSome found (IsUnfitIn (T.faithful store.old) (T.text store.old) changes)) }
     ensures reads { OnlyReadsText T.TextStore (is_err result) store.old store.new }
 {
     if window.is_empty() {
@@ -221,7 +221,7 @@ pub fn unfit_line<T: TextStore, A: Allocator + Clone>(
 ) -> Result<Option<u64>, SessionFault>
     requires countable { T.failures store.old < u64.MAX }
     requires few { changes ≤ 65535 }
-    ensures line { IfOk result (λ found. IfSome found (IsUnfitIn (T.honest store.old) (T.text store.old) changes)) }
+    ensures line { IfOk result (λ found. IfSome found (IsUnfitIn (T.faithful store.old) (T.text store.old) changes)) }
     ensures reads { LooksThrough T.TextStore result store.old store.new }
 {
     let len = store.len()?;

@@ -72,11 +72,11 @@ fn take_some<T: TextStore, S: Scan>(
     len: u64,
 ) -> Result<Result<Option<Reached<S>>, NoMemory>, DeviceFailed>
     requires countable { T.failures store.old < u64.MAX }
-    requires within { T.honest store.old → len ≤ length (T.text store.old) }
+    requires within { T.faithful store.old → len ≤ length (T.text store.old) }
     requires below { at ≤ len }
-    requires led { (first : S) × IsLedTo (T.honest store.old) (T.text store.old) (S.Leads first) at scan }
-    ensures reached { (first : S) → IsLedTo (T.honest store.old) (T.text store.old) (S.Leads first) at scan
-        → IfReached result (IsReached (T.honest store.old) (T.text store.old) (S.Leads first) len) }
+    requires led { (first : S) × IsLedTo (T.faithful store.old) (T.text store.old) (S.Leads first) at scan }
+    ensures reached { (first : S) → IsLedTo (T.faithful store.old) (T.text store.old) (S.Leads first) at scan
+        → IfReached result (IsReached (T.faithful store.old) (T.text store.old) (S.Leads first) len) }
     ensures forth { IfReached result (λ next. at ≤ next.at) }
     ensures window { length window.new ≡ length window.old }
     ensures reads { OnlyReadsText T.TextStore (is_err result) store.old store.new }
@@ -106,12 +106,12 @@ fn take_first<T: TextStore, S: Scan>(
     len: u64,
 ) -> Result<Result<Option<Reached<S>>, NoMemory>, DeviceFailed>
     requires countable { T.failures store.old < u64.MAX }
-    requires within { T.honest store.old → len ≤ length (T.text store.old) }
+    requires within { T.faithful store.old → len ≤ length (T.text store.old) }
     requires below { at ≤ len }
     requires room { 1024 ≤ length window.old }
-    requires led { (first : S) × IsLedTo (T.honest store.old) (T.text store.old) (S.Leads first) at scan }
-    ensures reached { (first : S) → IsLedTo (T.honest store.old) (T.text store.old) (S.Leads first) at scan
-        → IfReached result (IsReached (T.honest store.old) (T.text store.old) (S.Leads first) len) }
+    requires led { (first : S) × IsLedTo (T.faithful store.old) (T.text store.old) (S.Leads first) at scan }
+    ensures reached { (first : S) → IsLedTo (T.faithful store.old) (T.text store.old) (S.Leads first) at scan
+        → IfReached result (IsReached (T.faithful store.old) (T.text store.old) (S.Leads first) len) }
     ensures forth { IfReached result (λ next. at ≤ next.at) }
     ensures window { length window.new ≡ length window.old }
     ensures reads { OnlyReadsText T.TextStore (is_err result) store.old store.new }
@@ -149,11 +149,11 @@ fn take_step<T: TextStore, S: Scan>(
     len: u64,
 ) -> Result<Result<Option<Reached<S>>, NoMemory>, DeviceFailed>
     requires countable { T.failures store.old < u64.MAX }
-    requires within { T.honest store.old → len ≤ length (T.text store.old) }
+    requires within { T.faithful store.old → len ≤ length (T.text store.old) }
     requires below { at ≤ len }
-    requires led { (first : S) × IsLedTo (T.honest store.old) (T.text store.old) (S.Leads first) at scan }
-    ensures reached { (first : S) → IsLedTo (T.honest store.old) (T.text store.old) (S.Leads first) at scan
-        → IfReached result (IsReached (T.honest store.old) (T.text store.old) (S.Leads first) len) }
+    requires led { (first : S) × IsLedTo (T.faithful store.old) (T.text store.old) (S.Leads first) at scan }
+    ensures reached { (first : S) → IsLedTo (T.faithful store.old) (T.text store.old) (S.Leads first) at scan
+        → IfReached result (IsReached (T.faithful store.old) (T.text store.old) (S.Leads first) len) }
     ensures forth { IfReached result (λ next. at ≤ next.at) }
     ensures window { length window.new ≡ length window.old }
     ensures reads { OnlyReadsText T.TextStore (is_err result) store.old store.new }
@@ -186,10 +186,10 @@ pub fn scan_windows<T: TextStore, S: Scan>(
     len: u64,
 ) -> Result<Result<Option<Reached<S>>, NoMemory>, DeviceFailed>
     requires countable { T.failures store.old < u64.MAX }
-    requires within { T.honest store.old → len ≤ length (T.text store.old) }
+    requires within { T.faithful store.old → len ≤ length (T.text store.old) }
     requires below { from ≤ len }
-    requires led { IsLedTo (T.honest store.old) (T.text store.old) (S.Leads scan) from scan }
-    ensures reached { IfReached result (IsReached (T.honest store.old) (T.text store.old) (S.Leads scan) len) }
+    requires led { IsLedTo (T.faithful store.old) (T.text store.old) (S.Leads scan) from scan }
+    ensures reached { IfReached result (IsReached (T.faithful store.old) (T.text store.old) (S.Leads scan) len) }
     ensures window { length window.new ≡ length window.old }
     ensures reads { OnlyReadsText T.TextStore (is_err result) store.old store.new }
 {
@@ -221,9 +221,9 @@ pub fn scan_start<T: TextStore, S: Scan>(
     len: u64,
 ) -> Result<Option<Reached<S>>, DeviceFailed>
     requires countable { T.failures store.old < u64.MAX }
-    requires within { T.honest store.old → len ≤ length (T.text store.old) }
-    requires led { IsLedTo (T.honest store.old) (T.text store.old) (S.Leads scan) 0 scan }
-    ensures reached { IfOk result (λ found. IfSome found (IsReached (T.honest store.old) (T.text store.old) (S.Leads scan) len)) }
+    requires within { T.faithful store.old → len ≤ length (T.text store.old) }
+    requires led { IsLedTo (T.faithful store.old) (T.text store.old) (S.Leads scan) 0 scan }
+    ensures reached { IfOk result (λ found. IfSome found (IsReached (T.faithful store.old) (T.text store.old) (S.Leads scan) len)) }
     ensures window { length window.new ≡ length window.old }
     ensures reads { OnlyReadsText T.TextStore (is_err result) store.old store.new }
 {

@@ -36,12 +36,12 @@ pub fn keep<D: Device>(
     count: usize,
 ) -> Result<Cached, DeviceFailed>
     requires countable { D.failures device.old < u64.MAX }
-    requires cache { IsCache (D.honest device.old) (D.image device.old) page.old cached }
+    requires cache { IsCache (D.faithful device.old) (D.image device.old) page.old cached }
     requires few { count ≤ length page.old }
     requires there { at + count ≤ cached.len }
-    ensures cache { IfOk result (IsCache (D.honest device.old) (D.image device.old) page.new) }
+    ensures cache { IfOk result (IsCache (D.faithful device.old) (D.image device.old) page.new) }
     ensures has { IfOk result (λ now. HasCached now at count) }
-    ensures stays { Stays D.honest D.image D.failures result device.old device.new }
+    ensures stays { Stays D.faithful D.image D.failures result device.old device.new }
     ensures counts { OnErr result (D.failures device.new ≡ D.failures device.old + 1) }
 {
     if has_bytes(cached, at, count) {

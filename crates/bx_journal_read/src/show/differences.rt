@@ -52,12 +52,12 @@ fn push_now<D: Device, A: Allocator>(
     text: &mut Vec<u8, A>,
 ) -> Result<Cached, ShowFault>
     requires countable { D.failures device.old < u64.MAX }
-    requires cache { IsCache (D.honest device.old) (D.image device.old) page.old cached }
+    requires cache { IsCache (D.faithful device.old) (D.image device.old) page.old cached }
     requires few { count ≤ 16 }
-    ensures added { D.honest device.old → OnOk result
+    ensures added { D.faithful device.old → OnOk result
         (text.new.items ≡ text.old.items ++ signed_line (codes "-") at (take count (drop at (D.image device.old)))) }
-    ensures cache { IfOk result (IsCache (D.honest device.old) (D.image device.old) page.new) }
-    ensures puts { WritesFrom D.honest D.image D.failures result device.old device.new }
+    ensures cache { IfOk result (IsCache (D.faithful device.old) (D.image device.old) page.new) }
+    ensures puts { WritesFrom D.faithful D.image D.failures result device.old device.new }
     ensures read { IfErr result IsOfReading }
 {
     if cached.len <= at {
@@ -81,10 +81,10 @@ fn push_beside<D: Device, A: Allocator>(
     text: &mut Vec<u8, A>,
 ) -> Result<Cached, ShowFault>
     requires countable { D.failures device.old < u64.MAX }
-    requires cache { IsCache (D.honest device.old) (D.image device.old) page.old cached }
-    ensures added { D.honest device.old → OnOk result (text.new.items ≡ text.old.items ++ diff_line (D.image device.old) before line.now) }
-    ensures cache { IfOk result (IsCache (D.honest device.old) (D.image device.old) page.new) }
-    ensures puts { WritesFrom D.honest D.image D.failures result device.old device.new }
+    requires cache { IsCache (D.faithful device.old) (D.image device.old) page.old cached }
+    ensures added { D.faithful device.old → OnOk result (text.new.items ≡ text.old.items ++ diff_line (D.image device.old) before line.now) }
+    ensures cache { IfOk result (IsCache (D.faithful device.old) (D.image device.old) page.new) }
+    ensures puts { WritesFrom D.faithful D.image D.failures result device.old device.new }
     ensures read { IfErr result IsOfReading }
 {
     let Some(saved) = saved_in(before, line) else {
@@ -106,12 +106,12 @@ fn push_lines<D: Device, A: Allocator>(
     text: &mut Vec<u8, A>,
 ) -> Result<Taken, ShowFault>
     requires countable { D.failures device.old < u64.MAX }
-    requires cache { IsCache (D.honest device.old) (D.image device.old) page.old cached }
+    requires cache { IsCache (D.faithful device.old) (D.image device.old) page.old cached }
     ensures within { IfOk result (λ lines. lines.taken ≤ length window.now) }
-    ensures added { D.honest device.old → IfOk result (λ lines. AreAdded (diff_line (D.image device.old) before)
+    ensures added { D.faithful device.old → IfOk result (λ lines. AreAdded (diff_line (D.image device.old) before)
         window.now lines.taken text.old.items text.new.items) }
-    ensures cache { IfOk result (λ lines. IsCache (D.honest device.old) (D.image device.old) page.new lines.cached) }
-    ensures puts { WritesFrom D.honest D.image D.failures result device.old device.new }
+    ensures cache { IfOk result (λ lines. IsCache (D.faithful device.old) (D.image device.old) page.new lines.cached) }
+    ensures puts { WritesFrom D.faithful D.image D.failures result device.old device.new }
     ensures read { IfErr result IsOfReading }
 {
     let mut taken: usize = 0;
@@ -140,18 +140,18 @@ fn put_window<D: Device, T: TextStore, A: Allocator, W: Write>(
 ) -> Result<Compared, ShowFault>
     requires countable { D.failures device.old < u64.MAX }
     requires also_countable { T.failures store.old < u64.MAX }
-    requires cache { IsCache (D.honest device.old) (D.image device.old) page.old now.done.cached }
-    requires within { T.honest store.old → now.mark.to ≤ length (T.text store.old) }
+    requires cache { IsCache (D.faithful device.old) (D.image device.old) page.old now.done.cached }
+    requires within { T.faithful store.old → now.mark.to ≤ length (T.text store.old) }
     requires at { now.done.at ≤ now.mark.to }
-    ensures put { D.honest device.old → T.honest store.old → IfOk result (λ next. AreWritten (diff_line (D.image device.old) now.mark.len)
+    ensures put { D.faithful device.old → T.faithful store.old → IfOk result (λ next. AreWritten (diff_line (D.image device.old) now.mark.len)
         (T.text store.old) now.done.at next.at (W.contents out.old) (W.contents out.new)) }
-    ensures counted { D.honest device.old → T.honest store.old → IfOk result (λ next. CountsBytes writing.old.written
+    ensures counted { D.faithful device.old → T.faithful store.old → IfOk result (λ next. CountsBytes writing.old.written
         (shown_between (diff_line (D.image device.old) now.mark.len) (T.text store.old) now.done.at next.at) writing.new.written) }
-    ensures stops { D.honest device.old → T.honest store.old → IfErr result (StopsPrefix writing.old.written
+    ensures stops { D.faithful device.old → T.faithful store.old → IfErr result (StopsPrefix writing.old.written
         (shown_between (diff_line (D.image device.old) now.mark.len) (T.text store.old) now.done.at now.mark.to)
         (W.contents out.old) (W.contents out.new)) }
     ensures on { IfOk result (HasGoneOn now.mark.to now.done) }
-    ensures cache { IfOk result (λ next. IsCache (D.honest device.old) (D.image device.old) page.new next.cached) }
+    ensures cache { IfOk result (λ next. IsCache (D.faithful device.old) (D.image device.old) page.new next.cached) }
     ensures puts { WritesBeside D.Device T.TextStore result device.old device.new store.old store.new }
 {
     let window = writing.window.as_mut_slice();
@@ -181,14 +181,14 @@ fn put_windows<D: Device, T: TextStore, A: Allocator, W: Write>(
 ) -> Result<(), ShowFault>
     requires countable { D.failures device.old < u64.MAX }
     requires also_countable { T.failures store.old < u64.MAX }
-    requires cache { IsCache (D.honest device.old) (D.image device.old) page.old from.done.cached }
-    requires within { T.honest store.old → from.mark.to ≤ length (T.text store.old) }
+    requires cache { IsCache (D.faithful device.old) (D.image device.old) page.old from.done.cached }
+    requires within { T.faithful store.old → from.mark.to ≤ length (T.text store.old) }
     requires at { from.done.at ≤ from.mark.to }
-    ensures put { D.honest device.old → T.honest store.old → OnOk result (AreWritten (diff_line (D.image device.old) from.mark.len)
+    ensures put { D.faithful device.old → T.faithful store.old → OnOk result (AreWritten (diff_line (D.image device.old) from.mark.len)
         (T.text store.old) from.done.at from.mark.to (W.contents out.old) (W.contents out.new)) }
-    ensures counted { D.honest device.old → T.honest store.old → OnOk result (CountsBytes writing.old.written
+    ensures counted { D.faithful device.old → T.faithful store.old → OnOk result (CountsBytes writing.old.written
         (shown_between (diff_line (D.image device.old) from.mark.len) (T.text store.old) from.done.at from.mark.to) writing.new.written) }
-    ensures stops { D.honest device.old → T.honest store.old → IfErr result (StopsPrefix writing.old.written
+    ensures stops { D.faithful device.old → T.faithful store.old → IfErr result (StopsPrefix writing.old.written
         (shown_between (diff_line (D.image device.old) from.mark.len) (T.text store.old) from.done.at from.mark.to)
         (W.contents out.old) (W.contents out.new)) }
     ensures puts { WritesBeside D.Device T.TextStore result device.old device.new store.old store.new }
@@ -221,13 +221,13 @@ pub fn put_differences<D: Device, T: TextStore, A: Allocator + Clone, W: Write>(
 ) -> Result<(), ShowFault>
     requires countable { D.failures device.old < u64.MAX }
     requires also_countable { T.failures store.old < u64.MAX }
-    requires within { T.honest store.old → mark.to ≤ length (T.text store.old) }
+    requires within { T.faithful store.old → mark.to ≤ length (T.text store.old) }
     requires order { mark.from ≤ mark.to }
-    ensures put { D.honest device.old → T.honest store.old → OnOk result (Appends (W.contents out.old) (W.contents out.new)
+    ensures put { D.faithful device.old → T.faithful store.old → OnOk result (Appends (W.contents out.old) (W.contents out.new)
         (diff_text (D.image device.old) mark.len (split (lines_at (T.text store.old) mark)).lines)) }
-    ensures counted { D.honest device.old → T.honest store.old → OnOk result (CountsBytes writing.old.written
+    ensures counted { D.faithful device.old → T.faithful store.old → OnOk result (CountsBytes writing.old.written
         (diff_text (D.image device.old) mark.len (split (lines_at (T.text store.old) mark)).lines) writing.new.written) }
-    ensures stops { D.honest device.old → T.honest store.old → IfErr result (StopsPrefix writing.old.written
+    ensures stops { D.faithful device.old → T.faithful store.old → IfErr result (StopsPrefix writing.old.written
         (diff_text (D.image device.old) mark.len (split (lines_at (T.text store.old) mark)).lines) (W.contents out.old) (W.contents out.new)) }
     ensures puts { WritesBeside D.Device T.TextStore result device.old device.new store.old store.new }
 {

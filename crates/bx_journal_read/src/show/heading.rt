@@ -8,7 +8,7 @@ ghost use Rattle.bx_journal_read.specs.show.Stopping.{CountsBytes, StopsPrefix};
 use crate::show::fault::ShowFault;
 use crate::show::lengths::push_told_length;
 use crate::show::ranges::put_ranges;
-use crate::show::way::{Step, Way};
+use crate::show::way::{Direction, Step};
 use crate::show::writing::{Writing, put};
 use bx_journal_format::Mark;
 use bx_journal_store::TextStore;
@@ -17,12 +17,16 @@ use std::fmt::Write as _;
 use std::io::Write;
 
 /// The number of the change, and which way it is stepped over.
-fn push_front<A: Allocator>(text: &mut String<A>, way: Way, number: u64) -> Result<(), AllocError>
+fn push_front<A: Allocator>(
+    text: &mut String<A>,
+    way: Direction,
+    number: u64,
+) -> Result<(), AllocError>
     ensures { OnOk result (string_bytes text.new ≡ string_bytes text.old ++ heading_front way number) }
 {
     match way {
-        Way::Undo => write!(text, "# change {}: undo writes ", number),
-        Way::Redo => write!(text, "# change {}: redo writes ", number),
+        Direction::Undo => write!(text, "# change {}: undo writes ", number),
+        Direction::Redo => write!(text, "# change {}: redo writes ", number),
     }
 }
 
@@ -92,7 +96,7 @@ fn push_length<A: Allocator>(
 /// Writes what stands before the ranges.
 fn put_start<A: Allocator + Clone, W: Write>(
     alloc: &A,
-    way: Way,
+    way: Direction,
     number: u64,
     saved: u64,
     written: u64,
@@ -120,13 +124,13 @@ fn put_where<T: TextStore, A: Allocator + Clone, W: Write>(
     out: &mut W,
 ) -> Result<u64, ShowFault>
     requires countable { T.failures store.old < u64.MAX }
-    requires within { T.honest store.old → mark.to ≤ length (T.text store.old) }
+    requires within { T.faithful store.old → mark.to ≤ length (T.text store.old) }
     requires order { mark.from ≤ mark.to }
-    ensures put { T.honest store.old → OnOk result (Appends (W.contents out.old) (W.contents out.new) (where_at (T.text store.old) mark)) }
-    ensures counted { T.honest store.old → IfOk result (CountsBytes written (where_at (T.text store.old) mark)) }
-    ensures stops { T.honest store.old → IfErr result
+    ensures put { T.faithful store.old → OnOk result (Appends (W.contents out.old) (W.contents out.new) (where_at (T.text store.old) mark)) }
+    ensures counted { T.faithful store.old → IfOk result (CountsBytes written (where_at (T.text store.old) mark)) }
+    ensures stops { T.faithful store.old → IfErr result
         (StopsPrefix written (where_at (T.text store.old) mark) (W.contents out.old) (W.contents out.new)) }
-    ensures puts { WritesFrom T.honest T.text T.failures result store.old store.new }
+    ensures puts { WritesFrom T.faithful T.text T.failures result store.old store.new }
 {
     if mark.saved == 0 {
         return Ok(written);
@@ -165,18 +169,18 @@ pub fn put_heading<T: TextStore, A: Allocator + Clone, W: Write>(
     out: &mut W,
 ) -> Result<(), ShowFault>
     requires countable { T.failures store.old < u64.MAX }
-    requires within { T.honest store.old → step.mark.to ≤ length (T.text store.old) }
+    requires within { T.faithful store.old → step.mark.to ≤ length (T.text store.old) }
     requires order { step.mark.from ≤ step.mark.to }
-    ensures heading { T.honest store.old → OnOk result
+    ensures heading { T.faithful store.old → OnOk result
         (Appends (W.contents out.old) (W.contents out.new)
         (heading_at (T.text store.old) step.steps.way step.number step.mark ++ length_told step.steps step.mark.after step.mark.len)) }
-    ensures counted { T.honest store.old → OnOk result (CountsBytes writing.old.written
+    ensures counted { T.faithful store.old → OnOk result (CountsBytes writing.old.written
         (heading_at (T.text store.old) step.steps.way step.number step.mark ++ length_told step.steps step.mark.after step.mark.len)
         writing.new.written) }
-    ensures stops { T.honest store.old → IfErr result (StopsPrefix writing.old.written
+    ensures stops { T.faithful store.old → IfErr result (StopsPrefix writing.old.written
         (heading_at (T.text store.old) step.steps.way step.number step.mark ++ length_told step.steps step.mark.after step.mark.len)
         (W.contents out.old) (W.contents out.new)) }
-    ensures puts { WritesFrom T.honest T.text T.failures result store.old store.new }
+    ensures puts { WritesFrom T.faithful T.text T.failures result store.old store.new }
 {
     let alloc = &writing.alloc;
     let way = step.steps.way;

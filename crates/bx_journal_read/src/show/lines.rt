@@ -84,16 +84,16 @@ fn put_window<T: TextStore, A: Allocator, W: Write>(
     out: &mut W,
 ) -> Result<u64, ShowFault>
     requires countable { T.failures store.old < u64.MAX }
-    requires within { T.honest store.old → mark.to ≤ length (T.text store.old) }
+    requires within { T.faithful store.old → mark.to ≤ length (T.text store.old) }
     requires at { at ≤ mark.to }
-    ensures put { T.honest store.old → IfOk result (λ next. AreWritten (made_line mark.len)
+    ensures put { T.faithful store.old → IfOk result (λ next. AreWritten (made_line mark.len)
         (T.text store.old) at next (W.contents out.old) (W.contents out.new)) }
-    ensures counted { T.honest store.old → IfOk result (λ next. CountsBytes writing.old.written
+    ensures counted { T.faithful store.old → IfOk result (λ next. CountsBytes writing.old.written
         (shown_between (made_line mark.len) (T.text store.old) at next) writing.new.written) }
-    ensures stops { T.honest store.old → IfErr result (StopsPrefix writing.old.written
+    ensures stops { T.faithful store.old → IfErr result (StopsPrefix writing.old.written
         (shown_between (made_line mark.len) (T.text store.old) at mark.to) (W.contents out.old) (W.contents out.new)) }
     ensures on { IfOk result (λ next. (at < next) × (next ≤ mark.to)) }
-    ensures puts { WritesFrom T.honest T.text T.failures result store.old store.new }
+    ensures puts { WritesFrom T.faithful T.text T.failures result store.old store.new }
 {
     let window = writing.window.as_mut_slice();
     let cut = read_cut(store, window, at, mark.to)?;
@@ -119,15 +119,15 @@ pub fn put_lines<T: TextStore, A: Allocator, W: Write>(
     out: &mut W,
 ) -> Result<(), ShowFault>
     requires countable { T.failures store.old < u64.MAX }
-    requires within { T.honest store.old → mark.to ≤ length (T.text store.old) }
+    requires within { T.faithful store.old → mark.to ≤ length (T.text store.old) }
     requires order { mark.from ≤ mark.to }
-    ensures put { T.honest store.old → OnOk result
+    ensures put { T.faithful store.old → OnOk result
         (Appends (W.contents out.old) (W.contents out.new) (made_text mark.len (split (lines_at (T.text store.old) mark)).lines)) }
-    ensures counted { T.honest store.old → OnOk result (CountsBytes writing.old.written
+    ensures counted { T.faithful store.old → OnOk result (CountsBytes writing.old.written
         (made_text mark.len (split (lines_at (T.text store.old) mark)).lines) writing.new.written) }
-    ensures stops { T.honest store.old → IfErr result (StopsPrefix writing.old.written
+    ensures stops { T.faithful store.old → IfErr result (StopsPrefix writing.old.written
         (made_text mark.len (split (lines_at (T.text store.old) mark)).lines) (W.contents out.old) (W.contents out.new)) }
-    ensures puts { WritesFrom T.honest T.text T.failures result store.old store.new }
+    ensures puts { WritesFrom T.faithful T.text T.failures result store.old store.new }
 {
     let mut at = mark.from;
     while at < mark.to {

@@ -82,10 +82,10 @@ pub fn marks_to<T: TextStore, A: Allocator + Clone>(
     len: u64,
 ) -> Result<Option<Vec<Mark, A>>, SessionFault>
     requires countable { T.failures store.old < u64.MAX }
-    requires long { T.honest store.old → len ≤ length (T.text store.old) }
-    ensures marks { IfOk result (λ found. IfSome found (λ marks. AreMarksOf (T.honest store.old) (T.text store.old) len marks.items)) }
+    requires long { T.faithful store.old → len ≤ length (T.text store.old) }
+    ensures marks { IfOk result (λ found. IfSome found (λ marks. AreMarksOf (T.faithful store.old) (T.text store.old) len marks.items)) }
     ensures fault { IfErr result LacksOrFails }
-    ensures looks { LooksAt T.honest T.text T.failures result store.old store.new }
+    ensures looks { LooksAt T.faithful T.text T.failures result store.old store.new }
 {
     let size = WINDOW.min(len) as usize;
     let mut window = vec![in alloc.clone()?; 0u8; size]?;
@@ -113,9 +113,9 @@ pub fn marks_in_windows<T: TextStore, A: Allocator + Clone>(
     store: &mut T,
 ) -> Result<Option<Vec<Mark, A>>, SessionFault>
     requires { T.failures store.old < u64.MAX }
-    ensures marks { IfOk result (λ found. IfSome found (λ marks. AreAllMarks (T.honest store.old) (T.text store.old) marks.items)) }
+    ensures marks { IfOk result (λ found. IfSome found (λ marks. AreAllMarks (T.faithful store.old) (T.text store.old) marks.items)) }
     ensures fault { IfErr result LacksOrFails }
-    ensures looks { LooksAt T.honest T.text T.failures result store.old store.new }
+    ensures looks { LooksAt T.faithful T.text T.failures result store.old store.new }
 {
     let len = store.len()?;
     let found = marks_to(alloc, store, len)?;
@@ -128,7 +128,7 @@ fn refuse_marks<T: TextStore, A: Allocator + Clone>(
     store: &mut T,
 ) -> Result<Vec<Mark, A>, SessionFault>
     requires { T.failures store.old < u64.MAX }
-    ensures { FindsMarks T.honest T.text T.failures result store.old store.new }
+    ensures { FindsMarks T.faithful T.text T.failures result store.old store.new }
 {
     match read_text(alloc, store) {
         Ok(_) => Err(SessionFault::NoMemory),
@@ -142,7 +142,7 @@ pub fn all_marks<T: TextStore, A: Allocator + Clone>(
     store: &mut T,
 ) -> Result<Vec<Mark, A>, SessionFault>
     requires { T.failures store.old < u64.MAX }
-    ensures { FindsMarks T.honest T.text T.failures result store.old store.new }
+    ensures { FindsMarks T.faithful T.text T.failures result store.old store.new }
 {
     let found = match marks_in_windows(alloc, store) {
         Ok(found) => found,

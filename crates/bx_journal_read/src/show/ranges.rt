@@ -30,12 +30,12 @@ fn put_window<T: TextStore, A: Allocator + Clone, W: Write>(
     out: &mut W,
 ) -> Result<Done, ShowFault>
     requires countable { T.failures store.old < u64.MAX }
-    requires within { T.honest store.old → mark.to ≤ length (T.text store.old) }
+    requires within { T.faithful store.old → mark.to ≤ length (T.text store.old) }
     requires at { done.at ≤ mark.to }
     requires below { done.ranging.at + done.ranging.count ≤ mark.len }
-    ensures put { IfOk result (λ next. PutsOn (T.honest store.old) (T.text store.old) mark done next (W.contents out.old) (W.contents out.new)) }
-    ensures stops { T.honest store.old → IfErr result (StopsRanges (T.text store.old) mark done (W.contents out.old) (W.contents out.new)) }
-    ensures puts { WritesFrom T.honest T.text T.failures result store.old store.new }
+    ensures put { IfOk result (λ next. PutsOn (T.faithful store.old) (T.text store.old) mark done next (W.contents out.old) (W.contents out.new)) }
+    ensures stops { T.faithful store.old → IfErr result (StopsRanges (T.text store.old) mark done (W.contents out.old) (W.contents out.new)) }
+    ensures puts { WritesFrom T.faithful T.text T.failures result store.old store.new }
 {
     let cut = read_cut(store, window, done.at, mark.to)?;
     let (now, _) = window.split_at(cut.count);
@@ -62,13 +62,13 @@ pub fn put_ranges<T: TextStore, A: Allocator + Clone, W: Write>(
     out: &mut W,
 ) -> Result<u64, ShowFault>
     requires countable { T.failures store.old < u64.MAX }
-    requires within { T.honest store.old → mark.to ≤ length (T.text store.old) }
+    requires within { T.faithful store.old → mark.to ≤ length (T.text store.old) }
     requires order { mark.from ≤ mark.to }
-    ensures put { T.honest store.old → OnOk result (Appends (W.contents out.old) (W.contents out.new) (ranges_at (T.text store.old) mark)) }
-    ensures counted { T.honest store.old → IfOk result (CountsBytes written (ranges_at (T.text store.old) mark)) }
-    ensures stops { T.honest store.old → IfErr result
+    ensures put { T.faithful store.old → OnOk result (Appends (W.contents out.old) (W.contents out.new) (ranges_at (T.text store.old) mark)) }
+    ensures counted { T.faithful store.old → IfOk result (CountsBytes written (ranges_at (T.text store.old) mark)) }
+    ensures stops { T.faithful store.old → IfErr result
         (StopsPrefix written (ranges_at (T.text store.old) mark) (W.contents out.old) (W.contents out.new)) }
-    ensures puts { WritesFrom T.honest T.text T.failures result store.old store.new }
+    ensures puts { WritesFrom T.faithful T.text T.failures result store.old store.new }
 {
     let mut done = Done {
         ranging: nothing_ranged(),

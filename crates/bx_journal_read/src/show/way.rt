@@ -3,7 +3,7 @@ use bx_journal_format::Mark;
 
 /// Which way changes are stepped over.
 #[derive(Clone, Copy, Debug, PartialEq, Eq)]
-pub enum Way {
+pub enum Direction {
     /// Changes are taken back, the newest first.
     Undo,
     /// Undone changes are made again, the one that was undone last first.
@@ -14,7 +14,7 @@ pub enum Way {
 /// `compares` puts beside each saved line what the image has there.
 #[derive(Clone, Copy, Debug)]
 pub struct Steps {
-    pub way: Way,
+    pub way: Direction,
     pub count: u32,
     pub changes: u32,
     pub compares: bool,

@@ -47,9 +47,9 @@ module _ {D A : Type 0} (d : DeviceViews D) where
   abbrev pub image_behind : Changed D A → List ℕ
   image_behind c = effects c.changes (d.image c.device)
 
-  -- the device is honest, and the lengths are those of its image before and behind the changes
-  abbrev pub honest_behind : Changed D A → Type 0
-  honest_behind c = d.honest c.device × AreLengthsOf c.changes (d.image c.device) c.before c.len
+  -- the device is faithful, and the lengths are those of its image before and behind the changes
+  abbrev pub faithful_behind : Changed D A → Type 0
+  faithful_behind c = d.faithful c.device × AreLengthsOf c.changes (d.image c.device) c.before c.len
 
   -- no other image is found after a loss of power
   abbrev pub found_behind : Changed D A → List ℕ → Type 0

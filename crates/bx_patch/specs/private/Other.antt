@@ -5,10 +5,10 @@ use Rattle.bx_patch.specs.declared.other.window.Cached.{Cached}
 use Rattle.bx_patch.specs.Other.{IsFirstOther}
 use Rattle.bx_patch.specs.Patch.{HasPiece, Pieces}
 
--- a page has bytes of the image, which is of this length, where that is honest
-pub record IsImagePage (honest : Type 0) (image page : List ℕ) (c : Cached) : Type 0 where
-  pub long : honest → c.len ≡ length image
-  pub are : honest → take c.count page ≡ take c.count (drop c.at image)
+-- a page has bytes of the image, which is of this length, where that is faithful
+pub record IsImagePage (faithful : Type 0) (image page : List ℕ) (c : Cached) : Type 0 where
+  pub long : faithful → c.len ≡ length image
+  pub are : faithful → take c.count page ≡ take c.count (drop c.at image)
   pub inside : c.count ≤ length page
   pub room : length page ≡ 4096
 

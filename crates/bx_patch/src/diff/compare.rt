@@ -96,22 +96,22 @@ fn put_next<D: Device, E: Device, W: Write, A: Allocator>(
 ) -> Result<(), DiffFault>
     requires old_countable { D.failures old.old < u64.MAX }
     requires new_countable { E.failures new.old < u64.MAX }
-    requires old_len { D.honest old.old → place.lengths.old ≡ length (D.image old.old) }
-    requires new_len { E.honest new.old → place.lengths.new ≡ length (E.image new.old) }
+    requires old_len { D.faithful old.old → place.lengths.old ≡ length (D.image old.old) }
+    requires new_len { E.faithful new.old → place.lengths.new ≡ length (E.image new.old) }
     requires room { length buffer.old ≡ 65536 }
     requires small { place.at ≤ 2 ^ 48 }
-    ensures put { D.honest old.old → E.honest new.old → (lines : List PatchLine) (first : Option (List ℕ))
+    ensures put { D.faithful old.old → E.faithful new.old → (lines : List PatchLine) (first : Option (List ℕ))
         → HasPut place.entry.head.now lines writing.old.number writing.old.written first (W.contents out.old)
         → OnOk result (HasPut place.entry.head.now
         (lines ++ lines_of_window place.entry.extent (D.image old.old) (E.image new.old) place.entry.at)
         writing.new.number writing.new.written first (W.contents out.new)) }
-    ensures part { D.honest old.old → E.honest new.old → (lines : List PatchLine) (first : Option (List ℕ))
+    ensures part { D.faithful old.old → E.faithful new.old → (lines : List PatchLine) (first : Option (List ℕ))
         → HasPut place.entry.head.now lines writing.old.number writing.old.written first (W.contents out.old)
         → IfErr result (WritesUpTo first (W.contents out.new)
         (headed place.entry.head.now (lines ++ lines_of_window place.entry.extent (D.image old.old) (E.image new.old) place.entry.at))) }
     ensures kind { IfErr result IsLate }
-    ensures old { OnlyReads D.honest D.image D.room D.failures D.survives (fails of_old result) old.old old.new }
-    ensures new { OnlyReads E.honest E.image E.room E.failures E.survives (fails of_new result) new.old new.new }
+    ensures old { OnlyReads D.faithful D.image D.room D.failures D.survives (fails of_old result) old.old old.new }
+    ensures new { OnlyReads E.faithful E.image E.room E.failures E.survives (fails of_new result) new.old new.new }
 {
     let (old_window, new_window) = buffer.split_at_mut(WINDOW);
     let Ok(old_count) = fill_window(old, place.lengths.old, place.at, old_window) else {
@@ -136,21 +136,21 @@ fn compare_lines<D: Device, E: Device, W: Write, S: Alike, A: Allocator>(
 ) -> Result<(), DiffFault>
     requires old_countable { D.failures old.old < u64.MAX }
     requires new_countable { E.failures new.old < u64.MAX }
-    requires old_len { D.honest old.old → walk.place.lengths.old ≡ length (D.image old.old) }
-    requires new_len { E.honest new.old → walk.place.lengths.new ≡ length (E.image new.old) }
+    requires old_len { D.faithful old.old → walk.place.lengths.old ≡ length (D.image old.old) }
+    requires new_len { E.faithful new.old → walk.place.lengths.new ≡ length (E.image new.old) }
     requires room { length buffer.old ≡ 65536 }
     requires small { max walk.place.lengths.old walk.place.lengths.new ≤ 2 ^ 48 }
     requires fresh { writing.old.number ≡ 0 }
     requires none { writing.old.written ≡ 0 }
-    ensures put { D.honest old.old → E.honest new.old → S.AreAlike walk.entry.alike.now (D.image old.old) (E.image new.old)
+    ensures put { D.faithful old.old → E.faithful new.old → S.AreAlike walk.entry.alike.now (D.image old.old) (E.image new.old)
         → OnOk result (HasPut walk.entry.place.head.now (patch_lines walk.entry.place.extent (D.image old.old) (E.image new.old))
         writing.new.number writing.new.written (W.contents out.old) (W.contents out.new)) }
-    ensures part { D.honest old.old → E.honest new.old → S.AreAlike walk.entry.alike.now (D.image old.old) (E.image new.old)
+    ensures part { D.faithful old.old → E.faithful new.old → S.AreAlike walk.entry.alike.now (D.image old.old) (E.image new.old)
         → IfErr result (WritesUpTo (W.contents out.old) (W.contents out.new)
         (headed walk.entry.place.head.now (patch_lines walk.entry.place.extent (D.image old.old) (E.image new.old)))) }
     ensures kind { IfErr result IsLate }
-    ensures old { OnlyReads D.honest D.image D.room D.failures D.survives (fails of_old result) old.old old.new }
-    ensures new { OnlyReads E.honest E.image E.room E.failures E.survives (fails of_new result) new.old new.new }
+    ensures old { OnlyReads D.faithful D.image D.room D.failures D.survives (fails of_old result) old.old old.new }
+    ensures new { OnlyReads E.faithful E.image E.room E.failures E.survives (fails of_new result) new.old new.new }
 {
     let Walk { place, alike } = walk;
     let end = place.lengths.old.max(place.lengths.new);
@@ -176,22 +176,22 @@ pub fn compare_devices<D: Device, E: Device, W: Write, S: Alike, A: Allocator>(
 ) -> Result<(), DiffFault>
     requires old_countable { D.failures old.old < u64.MAX }
     requires new_countable { E.failures new.old < u64.MAX }
-    requires old_len { D.honest old.old → walk.place.lengths.old ≡ length (D.image old.old) }
-    requires new_len { E.honest new.old → walk.place.lengths.new ≡ length (E.image new.old) }
+    requires old_len { D.faithful old.old → walk.place.lengths.old ≡ length (D.image old.old) }
+    requires new_len { E.faithful new.old → walk.place.lengths.new ≡ length (E.image new.old) }
     requires room { length buffer.old ≡ 65536 }
     requires small { max walk.place.lengths.old walk.place.lengths.new ≤ 2 ^ 48 }
     requires fresh { writing.old.number ≡ 0 }
     requires none { writing.old.written ≡ 0 }
     requires head { IsLengthHead walk.place.head.now }
-    ensures text { D.honest old.old → E.honest new.old → S.AreAlike walk.entry.alike.now (D.image old.old) (E.image new.old)
+    ensures text { D.faithful old.old → E.faithful new.old → S.AreAlike walk.entry.alike.now (D.image old.old) (E.image new.old)
         → OnOk result (Appends (W.contents out.old) (W.contents out.new)
         (with_end (headed walk.entry.place.head.now (patch_lines walk.entry.place.extent (D.image old.old) (E.image new.old))))) }
-    ensures part { D.honest old.old → E.honest new.old → S.AreAlike walk.entry.alike.now (D.image old.old) (E.image new.old)
+    ensures part { D.faithful old.old → E.faithful new.old → S.AreAlike walk.entry.alike.now (D.image old.old) (E.image new.old)
         → IfErr result (WritesPrefix (W.contents out.old) (W.contents out.new)
         (with_end (headed walk.entry.place.head.now (patch_lines walk.entry.place.extent (D.image old.old) (E.image new.old))))) }
     ensures kind { IfErr result IsLate }
-    ensures old { OnlyReads D.honest D.image D.room D.failures D.survives (fails of_old result) old.old old.new }
-    ensures new { OnlyReads E.honest E.image E.room E.failures E.survives (fails of_new result) new.old new.new }
+    ensures old { OnlyReads D.faithful D.image D.room D.failures D.survives (fails of_old result) old.old old.new }
+    ensures new { OnlyReads E.faithful E.image E.room E.failures E.survives (fails of_new result) new.old new.new }
 {
     match compare_lines(old, new, out, buffer, writing, walk) {
         Ok(()) => put_end(out, writing.number, writing.written),

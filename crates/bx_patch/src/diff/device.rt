@@ -20,13 +20,13 @@ pub struct Lengths {
 pub fn lengths_of<D: Device, E: Device>(old: &mut D, new: &mut E) -> Result<Lengths, DiffFault>
     requires old_countable { D.failures old.old < u64.MAX }
     requires new_countable { E.failures new.old < u64.MAX }
-    ensures old_len { D.honest old.old → IfOk result (λ n. n.old ≡ length (D.image old.old)) }
-    ensures new_len { E.honest new.old → IfOk result (λ n. n.new ≡ length (E.image new.old)) }
+    ensures old_len { D.faithful old.old → IfOk result (λ n. n.old ≡ length (D.image old.old)) }
+    ensures new_len { E.faithful new.old → IfOk result (λ n. n.new ≡ length (E.image new.old)) }
     ensures most { IfOk result (λ n. max n.old n.new ≤ MAX_LEN) }
-    ensures fault { D.honest old.old → E.honest new.old → IfErr result (IsFaultFor (D.image old.old) (E.image new.old)) }
+    ensures fault { D.faithful old.old → E.faithful new.old → IfErr result (IsFaultFor (D.image old.old) (E.image new.old)) }
     ensures untold { IfErr result IsUntold }
-    ensures old { OnlyReads D.honest D.image D.room D.failures D.survives (fails of_old result) old.old old.new }
-    ensures new { OnlyReads E.honest E.image E.room E.failures E.survives (fails of_new result) new.old new.new }
+    ensures old { OnlyReads D.faithful D.image D.room D.failures D.survives (fails of_old result) old.old old.new }
+    ensures new { OnlyReads E.faithful E.image E.room E.failures E.survives (fails of_new result) new.old new.new }
 {
     let Ok(old_len) = old.len() else {
         return Err(DiffFault::OldFailed);
@@ -51,10 +51,10 @@ fn fill<D: Device>(
     window: &mut [u8],
 ) -> Result<usize, DeviceFailed>
     requires countable { D.failures device.old < u64.MAX }
-    requires len { D.honest device.old → len ≡ length (D.image device.old) }
+    requires len { D.faithful device.old → len ≡ length (D.image device.old) }
     ensures within { IfOk result (λ count. count ≤ length window.new) }
-    ensures bytes { D.honest device.old → IfOk result (λ count. take count window.new ≡ take (length window.old) (drop at (D.image device.old))) }
-    ensures reads { OnlyReads D.honest D.image D.room D.failures D.survives (is_err result) device.old device.new }
+    ensures bytes { D.faithful device.old → IfOk result (λ count. take count window.new ≡ take (length window.old) (drop at (D.image device.old))) }
+    ensures reads { OnlyReads D.faithful D.image D.room D.failures D.survives (is_err result) device.old device.new }
 {
     if len <= at {
         return Ok(0);
@@ -75,11 +75,11 @@ pub fn fill_window<D: Device>(
     window: &mut [u8],
 ) -> Result<usize, DeviceFailed>
     requires countable { D.failures device.old < u64.MAX }
-    requires len { D.honest device.old → len ≡ length (D.image device.old) }
+    requires len { D.faithful device.old → len ≡ length (D.image device.old) }
     requires full { length window.old ≡ 32768 }
     ensures within { IfOk result (λ count. count ≤ length window.new) }
-    ensures bytes { D.honest device.old → IfOk result (λ count. take count window.new ≡ part_at (D.image device.old) at) }
-    ensures reads { OnlyReads D.honest D.image D.room D.failures D.survives (is_err result) device.old device.new }
+    ensures bytes { D.faithful device.old → IfOk result (λ count. take count window.new ≡ part_at (D.image device.old) at) }
+    ensures reads { OnlyReads D.faithful D.image D.room D.failures D.survives (is_err result) device.old device.new }
 {
     fill(device, len, at, window)
 }

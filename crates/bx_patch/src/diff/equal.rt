@@ -20,14 +20,14 @@ fn is_same_window<D: Device, E: Device>(
 ) -> Result<bool, DiffFault>
     requires old_countable { D.failures old.old < u64.MAX }
     requires new_countable { E.failures new.old < u64.MAX }
-    requires old_len { D.honest old.old → lengths.old ≡ length (D.image old.old) }
-    requires new_len { E.honest new.old → lengths.new ≡ length (E.image new.old) }
+    requires old_len { D.faithful old.old → lengths.old ≡ length (D.image old.old) }
+    requires new_len { E.faithful new.old → lengths.new ≡ length (E.image new.old) }
     requires room { length buffer.old ≡ 65536 }
-    ensures same { D.honest old.old → E.honest new.old
+    ensures same { D.faithful old.old → E.faithful new.old
         → IfOk result (λ same. IsTrue same ↔ (part_at (D.image old.old) at ≡ part_at (E.image new.old) at)) }
     ensures kind { IfErr result IsLate }
-    ensures old { OnlyReads D.honest D.image D.room D.failures D.survives (fails of_old result) old.old old.new }
-    ensures new { OnlyReads E.honest E.image E.room E.failures E.survives (fails of_new result) new.old new.new }
+    ensures old { OnlyReads D.faithful D.image D.room D.failures D.survives (fails of_old result) old.old old.new }
+    ensures new { OnlyReads E.faithful E.image E.room E.failures E.survives (fails of_new result) new.old new.new }
 {
     let (old_window, new_window) = buffer.split_at_mut(WINDOW);
     let Ok(old_count) = fill_window(old, lengths.old, at, old_window) else {
@@ -49,16 +49,16 @@ fn are_same<D: Device, E: Device, S: Alike>(
 ) -> Result<bool, DiffFault>
     requires old_countable { D.failures old.old < u64.MAX }
     requires new_countable { E.failures new.old < u64.MAX }
-    requires old_len { D.honest old.old → lengths.old ≡ length (D.image old.old) }
-    requires new_len { E.honest new.old → lengths.new ≡ length (E.image new.old) }
+    requires old_len { D.faithful old.old → lengths.old ≡ length (D.image old.old) }
+    requires new_len { E.faithful new.old → lengths.new ≡ length (E.image new.old) }
     requires room { length buffer.old ≡ 65536 }
     requires equal { lengths.old ≡ lengths.new }
     requires small { lengths.old ≤ 2 ^ 48 }
-    ensures same { D.honest old.old → E.honest new.old → S.AreAlike alike.now (D.image old.old) (E.image new.old)
+    ensures same { D.faithful old.old → E.faithful new.old → S.AreAlike alike.now (D.image old.old) (E.image new.old)
         → IfOk result (λ same. IsTrue same ↔ (D.image old.old ≡ E.image new.old)) }
     ensures kind { IfErr result IsLate }
-    ensures old { OnlyReads D.honest D.image D.room D.failures D.survives (fails of_old result) old.old old.new }
-    ensures new { OnlyReads E.honest E.image E.room E.failures E.survives (fails of_new result) new.old new.new }
+    ensures old { OnlyReads D.faithful D.image D.room D.failures D.survives (fails of_old result) old.old old.new }
+    ensures new { OnlyReads E.faithful E.image E.room E.failures E.survives (fails of_new result) new.old new.new }
 {
     let end = lengths.old;
     let mut at = next_window(alike, 0, end);
@@ -93,14 +93,14 @@ pub fn are_equal<D: Device, E: Device, S: Alike, A: Allocator + Clone>(
     requires old_countable { D.failures old.old < u64.MAX }
     requires new_countable { E.failures new.old < u64.MAX }
     // It is true exactly where they are equal, if the two images are as is known of them.
-    ensures equal { D.honest old.old → E.honest new.old → S.AreAlike alike.now (D.image old.old) (E.image new.old)
+    ensures equal { D.faithful old.old → E.faithful new.old → S.AreAlike alike.now (D.image old.old) (E.image new.old)
         → IfOk result (λ equal. IsTrue equal ↔ (D.image old.old ≡ E.image new.old)) }
     // It is too large exactly where one of the two is, unless a length couldn't be read.
-    ensures fault { D.honest old.old → E.honest new.old
+    ensures fault { D.faithful old.old → E.faithful new.old
         → MatchResult result (λ _. AreShort (D.image old.old) (E.image new.old)) (IsFaultFor (D.image old.old) (E.image new.old)) }
     // Each of the two counts a failure exactly where the fault says that it failed.
-    ensures old { OnlyReads D.honest D.image D.room D.failures D.survives (fails of_old result) old.old old.new }
-    ensures new { OnlyReads E.honest E.image E.room E.failures E.survives (fails of_new result) new.old new.new }
+    ensures old { OnlyReads D.faithful D.image D.room D.failures D.survives (fails of_old result) old.old old.new }
+    ensures new { OnlyReads E.faithful E.image E.room E.failures E.survives (fails of_new result) new.old new.new }
 {
     let lengths = match lengths_of(old, new) {
         Ok(lengths) => lengths,

@@ -39,14 +39,14 @@ fn count_in_page<D: Device>(
     bytes: &[u8],
 ) -> Result<Looked, DeviceFailed>
     requires countable { D.failures device.old < u64.MAX }
-    requires cache { IsImagePage (D.honest device.old) (D.image device.old) page.old cached }
+    requires cache { IsImagePage (D.faithful device.old) (D.image device.old) page.old cached }
     ensures most { IfOk result (λ looked. looked.same ≤ length bytes.now) }
-    ensures has { D.honest device.old → IfOk result (λ looked. HasFirstBytes (D.image device.old) (at, bytes.now) looked.same) }
-    ensures other { D.honest device.old
+    ensures has { D.faithful device.old → IfOk result (λ looked. HasFirstBytes (D.image device.old) (at, bytes.now) looked.same) }
+    ensures other { D.faithful device.old
         → IfOk result (λ looked. looked.same ≡ 0 → 0 < length bytes.now → has_other (D.image device.old) (at, bytes.now) 0 ≡ true) }
     ensures below { IfOk result (λ looked. at + looked.same < 2 ^ 64) }
-    ensures cache { IfOk result (λ looked. IsImagePage (D.honest device.old) (D.image device.old) page.new looked.cached) }
-    ensures reads { OnlyReads D.honest D.image D.room D.failures D.survives (is_err result) device.old device.new }
+    ensures cache { IfOk result (λ looked. IsImagePage (D.faithful device.old) (D.image device.old) page.new looked.cached) }
+    ensures reads { OnlyReads D.faithful D.image D.room D.failures D.survives (is_err result) device.old device.new }
 {
     if cached.len <= at {
         return Ok(Looked { cached, same: 0 });
@@ -71,14 +71,14 @@ pub fn count_in_piece<D: Device>(
     bytes: &[u8],
 ) -> Result<Looked, DeviceFailed>
     requires countable { D.failures device.old < u64.MAX }
-    requires cache { IsImagePage (D.honest device.old) (D.image device.old) page.old cached }
+    requires cache { IsImagePage (D.faithful device.old) (D.image device.old) page.old cached }
     ensures most { IfOk result (λ looked. looked.same ≤ length bytes.now) }
-    ensures has { D.honest device.old → IfOk result (λ looked. HasFirstBytes (D.image device.old) (at, bytes.now) looked.same) }
-    ensures other { D.honest device.old
+    ensures has { D.faithful device.old → IfOk result (λ looked. HasFirstBytes (D.image device.old) (at, bytes.now) looked.same) }
+    ensures other { D.faithful device.old
         → IfOk result (λ looked. looked.same < length bytes.now → has_other (D.image device.old) (at, bytes.now) looked.same ≡ true) }
     ensures below { IfOk result (λ looked. at + looked.same < 2 ^ 64) }
-    ensures cache { IfOk result (λ looked. IsImagePage (D.honest device.old) (D.image device.old) page.new looked.cached) }
-    ensures reads { OnlyReads D.honest D.image D.room D.failures D.survives (is_err result) device.old device.new }
+    ensures cache { IfOk result (λ looked. IsImagePage (D.faithful device.old) (D.image device.old) page.new looked.cached) }
+    ensures reads { OnlyReads D.faithful D.image D.room D.failures D.survives (is_err result) device.old device.new }
 {
     let mut kept = cached;
     let mut done: usize = 0;

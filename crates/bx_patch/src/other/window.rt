@@ -39,14 +39,14 @@ pub fn keep<D: Device>(
     count: usize,
 ) -> Result<Cached, DeviceFailed>
     requires countable { D.failures device.old < u64.MAX }
-    requires cache { IsImagePage (D.honest device.old) (D.image device.old) page.old cached }
+    requires cache { IsImagePage (D.faithful device.old) (D.image device.old) page.old cached }
     requires few { count ≤ length page.old }
     requires there { at + count ≤ cached.len }
-    ensures cache { IfOk result (IsImagePage (D.honest device.old) (D.image device.old) page.new) }
+    ensures cache { IfOk result (IsImagePage (D.faithful device.old) (D.image device.old) page.new) }
     ensures len { IfOk result (λ now. now.len ≡ cached.len) }
     ensures has { IfOk result (λ now. HasPage now at count) }
     ensures room { length page.new ≡ length page.old }
-    ensures reads { OnlyReads D.honest D.image D.room D.failures D.survives (is_err result) device.old device.new }
+    ensures reads { OnlyReads D.faithful D.image D.room D.failures D.survives (is_err result) device.old device.new }
 {
     if has_bytes(cached, at, count) {
         return Ok(cached);

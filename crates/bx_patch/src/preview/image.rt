@@ -13,7 +13,7 @@ use std::marker::Model;
 use window::{put_changes, read_window};
 
 /// An image behind changes that aren't made: a device that is only read, and has the bytes that the changes would make, one after
-/// another. It is honest where the device within is, and `faults` counts its own failed calls from 0. Calls that would write fail.
+/// another. It is faithful where the device within is, and `faults` counts its own failed calls from 0. Calls that would write fail.
 #[derive(Drop)]
 pub struct ChangedImage<'a, D: Device, A: Allocator = Global> {
     device: D,
@@ -32,7 +32,7 @@ impl<'a, D: Device, A: Allocator> Model for ChangedImage<'a, D, A> {
 
     ghost view = { λ c. record { device = c.device; changes = c.known.changes.now; before = c.known.before; len = c.len; failures = c.failures } };
 
-    ghost invariant = { λ c. (D.failures c.device ≤ c.failures) × (D.honest c.device
+    ghost invariant = { λ c. (D.failures c.device ≤ c.failures) × (D.faithful c.device
         → AreLengthsOf c.known.changes.now (D.image c.device) c.known.before c.len) };
 }
 
@@ -45,18 +45,18 @@ impl<'a, D: Device, A: Allocator> ChangedImage<'a, D, A> {
     /// `DeviceFailed`. The device is given back then.
     pub fn new(device: D, changes: &'a [Change<A>]) -> Result<Self, (D, ImageFault)>
         requires { D.failures device ≡ 0 }
-        ensures image { D.honest device
+        ensures image { D.faithful device
             → IfOk result (λ c. ⟦<ChangedImage<'a, D, A> as Device>⟧.image c ≡ effects changes.now (D.image device)) }
-        ensures behind { D.honest device
+        ensures behind { D.faithful device
             → IfOk result (λ c. AreBeforeAndBehind c.changes c.before (D.image device) (⟦<ChangedImage<'a, D, A> as Device>⟧.image c)) }
-        ensures honest { D.honest device → IfOk result ⟦<ChangedImage<'a, D, A> as Device>⟧.honest }
+        ensures faithful { D.faithful device → IfOk result ⟦<ChangedImage<'a, D, A> as Device>⟧.faithful }
         ensures failures { IfOk result (λ c. ⟦<ChangedImage<'a, D, A> as Device>⟧.failures c ≡ 0) }
-        ensures fault { D.honest device → IfErr result (λ e. (e.1 ≡ ImageFault.DeviceFailed)
+        ensures fault { D.faithful device → IfErr result (λ e. (e.1 ≡ ImageFault.DeviceFailed)
             ⊎ ((e.1 ≡ ImageFault.TooLarge) × (FitInTurn changes.now (D.image device) MAX_LEN → ⊥))) }
 
         // The device is only read, and its failures rise exactly where the fault says that it failed.
-        ensures device { MatchResult result (λ c. OnlyReads D.honest D.image D.room D.failures D.survives false device c.device)
-            (λ e. OnlyReads D.honest D.image D.room D.failures D.survives (is_of_device e.1) device e.0) }
+        ensures device { MatchResult result (λ c. OnlyReads D.faithful D.image D.room D.failures D.survives false device c.device)
+            (λ e. OnlyReads D.faithful D.image D.room D.failures D.survives (is_of_device e.1) device e.0) }
     {
         let mut device = device;
         let Ok(before) = device.len() else {
@@ -125,10 +125,10 @@ fn read_changed<D: Device, A: Allocator>(
     buf: &mut [u8],
 ) -> Result<(), DeviceFailed>
     requires countable { D.failures device.old < u64.MAX }
-    requires before { D.honest device.old → known.now.before ≡ length (D.image device.old) }
-    ensures bytes { D.honest device.old → at + length buf.old ≤ length (effects known.now.changes.now (D.image device.old))
+    requires before { D.faithful device.old → known.now.before ≡ length (D.image device.old) }
+    ensures bytes { D.faithful device.old → at + length buf.old ≤ length (effects known.now.changes.now (D.image device.old))
         → OnOk result (buf.new ≡ take (length buf.old) (drop at (effects known.now.changes.now (D.image device.old)))) }
-    ensures reads { OnlyReads D.honest D.image D.room D.failures D.survives (is_err result) device.old device.new }
+    ensures reads { OnlyReads D.faithful D.image D.room D.failures D.survives (is_err result) device.old device.new }
 {
     match read_window(device, known.before, at, buf) {
         Ok(()) => {
@@ -144,11 +144,11 @@ impl<D: Device, A: Allocator> Device for ChangedImage<'_, D, A> {
     ghost use Rattle.bx_image.specs.Device.{GoesOn, IsPartlyCut, IsPartlyWritten};
     ghost use Rattle.bx_image.specs.Image.{cut, place};
     ghost use Rattle.bx_image.specs.Power.{Follows, KeepsBelow, KeepsOutside, NoMore, Only};
-    ghost use Rattle.bx_patch.specs.preview.Changed.{failures_behind, found_behind, honest_behind, image_behind, room_behind};
+    ghost use Rattle.bx_patch.specs.preview.Changed.{failures_behind, found_behind, faithful_behind, image_behind, room_behind};
 
     ghost image = { image_behind D.Device };
 
-    ghost honest = { honest_behind D.Device };
+    ghost faithful = { faithful_behind D.Device };
 
     ghost room = { room_behind };
 
@@ -156,16 +156,16 @@ impl<D: Device, A: Allocator> Device for ChangedImage<'_, D, A> {
 
     ghost survives = { found_behind D.Device };
 
-    ghost within_room = { λ c honest. honest.1.within };
+    ghost within_room = { λ c faithful. faithful.1.within };
 
     ghost present = { λ c _. refl };
 
     fn len(&mut self) -> Result<u64, DeviceFailed>
         requires { failures_behind self.old < u64.MAX }
-        ensures len { honest_behind D.Device self.old → IfOk result (λ n. n ≡ length (image_behind D.Device self.old)) }
-        ensures image { honest_behind D.Device self.old → image_behind D.Device self.new ≡ image_behind D.Device self.old }
-        ensures survives { honest_behind D.Device self.old → NoMore (found_behind D.Device self.old) (found_behind D.Device self.new) }
-        ensures goes_on { GoesOn (honest_behind D.Device) room_behind failures_behind (is_err result) self.old self.new }
+        ensures len { faithful_behind D.Device self.old → IfOk result (λ n. n ≡ length (image_behind D.Device self.old)) }
+        ensures image { faithful_behind D.Device self.old → image_behind D.Device self.new ≡ image_behind D.Device self.old }
+        ensures survives { faithful_behind D.Device self.old → NoMore (found_behind D.Device self.old) (found_behind D.Device self.new) }
+        ensures goes_on { GoesOn (faithful_behind D.Device) room_behind failures_behind (is_err result) self.old self.new }
         ensures device { self.new.device ≡ self.old.device }
     {
         Ok(self.len)
@@ -173,13 +173,13 @@ impl<D: Device, A: Allocator> Device for ChangedImage<'_, D, A> {
 
     fn read_at(&mut self, at: u64, buf: &mut [u8]) -> Result<(), DeviceFailed>
         requires countable { failures_behind self.old < u64.MAX }
-        requires range { honest_behind D.Device self.old → at + length buf.old ≤ length (image_behind D.Device self.old) }
-        ensures bytes { honest_behind D.Device self.old
+        requires range { faithful_behind D.Device self.old → at + length buf.old ≤ length (image_behind D.Device self.old) }
+        ensures bytes { faithful_behind D.Device self.old
             → OnOk result (buf.new ≡ take (length buf.old) (drop at (image_behind D.Device self.old))) }
-        ensures image { honest_behind D.Device self.old → image_behind D.Device self.new ≡ image_behind D.Device self.old }
-        ensures survives { honest_behind D.Device self.old → NoMore (found_behind D.Device self.old) (found_behind D.Device self.new) }
-        ensures goes_on { GoesOn (honest_behind D.Device) room_behind failures_behind (is_err result) self.old self.new }
-        ensures device { OnlyReads D.honest D.image D.room D.failures D.survives (is_err result) self.old.device self.new.device }
+        ensures image { faithful_behind D.Device self.old → image_behind D.Device self.new ≡ image_behind D.Device self.old }
+        ensures survives { faithful_behind D.Device self.old → NoMore (found_behind D.Device self.old) (found_behind D.Device self.new) }
+        ensures goes_on { GoesOn (faithful_behind D.Device) room_behind failures_behind (is_err result) self.old self.new }
+        ensures device { OnlyReads D.faithful D.image D.room D.failures D.survives (is_err result) self.old.device self.new.device }
     {
         match read_changed(&mut self.device, &self.known, at, buf) {
             Ok(()) => Ok(()),
@@ -190,13 +190,13 @@ impl<D: Device, A: Allocator> Device for ChangedImage<'_, D, A> {
     fn write_at(&mut self, at: u64, bytes: &[u8]) -> Result<(), DeviceFailed>
         requires countable { failures_behind self.old < u64.MAX }
         requires range { at + length bytes.now ≤ room_behind self.old }
-        ensures ok { honest_behind D.Device self.old
+        ensures ok { faithful_behind D.Device self.old
             → OnOk result (image_behind D.Device self.new ≡ place (image_behind D.Device self.old) at bytes.now) }
-        ensures failed { honest_behind D.Device self.old
+        ensures failed { faithful_behind D.Device self.old
             → OnErr result (IsPartlyWritten at (length bytes.now) (image_behind D.Device self.old) (image_behind D.Device self.new)) }
-        ensures survives { honest_behind D.Device self.old
+        ensures survives { faithful_behind D.Device self.old
             → Follows (KeepsOutside at (length bytes.now)) (found_behind D.Device self.old) (found_behind D.Device self.new) }
-        ensures goes_on { GoesOn (honest_behind D.Device) room_behind failures_behind (is_err result) self.old self.new }
+        ensures goes_on { GoesOn (faithful_behind D.Device) room_behind failures_behind (is_err result) self.old self.new }
         ensures device { self.new.device ≡ self.old.device }
     {
         Err(failed(&mut self.failures))
@@ -205,13 +205,13 @@ impl<D: Device, A: Allocator> Device for ChangedImage<'_, D, A> {
     fn set_len(&mut self, n: u64) -> Result<(), DeviceFailed>
         requires countable { failures_behind self.old < u64.MAX }
         requires range { n ≤ room_behind self.old }
-        ensures ok { honest_behind D.Device self.old
+        ensures ok { faithful_behind D.Device self.old
             → OnOk result (image_behind D.Device self.new ≡ cut (image_behind D.Device self.old) n) }
-        ensures failed { honest_behind D.Device self.old
+        ensures failed { faithful_behind D.Device self.old
             → OnErr result (IsPartlyCut n (image_behind D.Device self.old) (image_behind D.Device self.new)) }
-        ensures survives { honest_behind D.Device self.old
+        ensures survives { faithful_behind D.Device self.old
             → Follows (KeepsBelow (min n (length (image_behind D.Device self.old)))) (found_behind D.Device self.old) (found_behind D.Device self.new) }
-        ensures goes_on { GoesOn (honest_behind D.Device) room_behind failures_behind (is_err result) self.old self.new }
+        ensures goes_on { GoesOn (faithful_behind D.Device) room_behind failures_behind (is_err result) self.old self.new }
         ensures device { self.new.device ≡ self.old.device }
     {
         Err(failed(&mut self.failures))
@@ -219,10 +219,10 @@ impl<D: Device, A: Allocator> Device for ChangedImage<'_, D, A> {
 
     fn sync(&mut self) -> Result<(), DeviceFailed>
         requires { failures_behind self.old < u64.MAX }
-        ensures settled { honest_behind D.Device self.old → OnOk result (Only (image_behind D.Device self.old) (found_behind D.Device self.new)) }
-        ensures image { honest_behind D.Device self.old → image_behind D.Device self.new ≡ image_behind D.Device self.old }
-        ensures survives { honest_behind D.Device self.old → NoMore (found_behind D.Device self.old) (found_behind D.Device self.new) }
-        ensures goes_on { GoesOn (honest_behind D.Device) room_behind failures_behind (is_err result) self.old self.new }
+        ensures settled { faithful_behind D.Device self.old → OnOk result (Only (image_behind D.Device self.old) (found_behind D.Device self.new)) }
+        ensures image { faithful_behind D.Device self.old → image_behind D.Device self.new ≡ image_behind D.Device self.old }
+        ensures survives { faithful_behind D.Device self.old → NoMore (found_behind D.Device self.old) (found_behind D.Device self.new) }
+        ensures goes_on { GoesOn (faithful_behind D.Device) room_behind failures_behind (is_err result) self.old self.new }
         ensures device { self.new.device ≡ self.old.device }
     {
         Ok(())
@@ -232,9 +232,9 @@ impl<D: Device, A: Allocator> Device for ChangedImage<'_, D, A> {
         ensures within { n ≤ room_behind self.old → IsOk result }
         ensures ok { OnOk result (n ≤ room_behind self.new) }
         ensures err { OnErr result (room_behind self.new ≡ room_behind self.old) }
-        ensures image { honest_behind D.Device self.old → image_behind D.Device self.new ≡ image_behind D.Device self.old }
-        ensures survives { honest_behind D.Device self.old → NoMore (found_behind D.Device self.old) (found_behind D.Device self.new) }
-        ensures goes_on { GoesOn (honest_behind D.Device) room_behind failures_behind false self.old self.new }
+        ensures image { faithful_behind D.Device self.old → image_behind D.Device self.new ≡ image_behind D.Device self.old }
+        ensures survives { faithful_behind D.Device self.old → NoMore (found_behind D.Device self.old) (found_behind D.Device self.new) }
+        ensures goes_on { GoesOn (faithful_behind D.Device) room_behind failures_behind false self.old self.new }
         ensures device { self.new.device ≡ self.old.device }
     {
         if n <= self.len { Ok(()) } else { Err(NoMemory) }

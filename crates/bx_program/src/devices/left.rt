@@ -5,12 +5,12 @@ use crate::files::unopened::{Blame, another, not_opened, number_of};
 use bx_cli::{Fault, Target};
 use bx_hints::{Reason, Row, STANDARD_OUTPUT, Stopped};
 use bx_image::FailedCall;
-use bx_journal::{How, SessionFault};
+use bx_journal::{RecoveryOutcome, SessionFault};
 use bx_patch::Other;
-use bx_run::{Cause, Done, Failure, FileRole, Stop};
+use bx_run::{Cause, CommandFile, Done, Failure, Stop};
 use bx_system::{Left, SystemWorld, open_to_read};
 use bx_text::IoFault;
-use bx_world::{Outgrown, Unopened, Which};
+use bx_world::{FileRole, OpenError, Outgrown};
 use std::fs::File;
 use std::io::{self, ErrorKind, Seek, SeekFrom};
 use std::os::unix::fs::FileExt;
@@ -50,7 +50,7 @@ where
     let reason = match stop.cause {
         Cause::Unopened(why) => {
             let which = which_of(stop.file);
-            return not_opened(rt, target, Unopened { which, why }, world);
+            return not_opened(rt, target, OpenError { which, why }, world);
         }
         Cause::Unplaced(refusal) => return Blame::by(image, number_of(refusal)),
         Cause::Failed => reason_of(world.left.image.call),
@@ -65,11 +65,11 @@ where
 }
 
 /// Which file of an image has a part in a command.
-fn which_of(file: FileRole) -> Which {
+fn which_of(file: CommandFile) -> FileRole {
     match file {
-        FileRole::Image | FileRole::Old | FileRole::New => Which::Image,
-        FileRole::Journal => Which::Journal,
-        FileRole::Redo => Which::Redo,
+        CommandFile::Image | CommandFile::Old | CommandFile::New => FileRole::Image,
+        CommandFile::Journal => FileRole::Journal,
+        CommandFile::Redo => FileRole::Redo,
     }
 }
 
@@ -118,7 +118,7 @@ pub fn is_unfinished(failure: Failure) -> bool {
 }
 
 /// What a command recovered of the image.
-pub fn recovered(answer: &Result<Done, Failure>) -> Option<How> {
+pub fn recovered(answer: &Result<Done, Failure>) -> Option<RecoveryOutcome> {
     match answer {
         Ok(done) => done.how,
         Err(failure) => failure.how,

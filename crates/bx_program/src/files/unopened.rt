@@ -7,7 +7,7 @@ use bx_hints::{Reason, Stopped};
 use bx_system::{
     Misplaced, SystemWorld, Unknown, folder_of, is_among_devices, is_mounted, stat_of,
 };
-use bx_world::{Refusal, Unfit, Unopened, Which, Why};
+use bx_world::{FileRole, OpenError, OpenFailure, Refusal, Unfit};
 use std::fs::{self, File};
 use std::rt::Files;
 
@@ -86,30 +86,43 @@ impl<'a> Blame<'a> {
 pub fn not_opened<'a, R>(
     rt: &R,
     target: &'a Target,
-    unopened: Unopened,
+    unopened: OpenError,
     world: &SystemWorld<'_, '_, R>,
 ) -> Blame<'a>
 where
     R: Files<File = File> + AllocGlobal,
 {
     let name = match unopened.which {
-        Which::Image => target.image.as_str(),
-        Which::Journal => target.texts.journal.as_str(),
-        Which::Redo => target.texts.redo.as_str(),
+        FileRole::Image => target.image.as_str(),
+        FileRole::Journal => target.texts.journal.as_str(),
+        FileRole::Redo => target.texts.redo.as_str(),
     };
     match unopened.why {
-        Why::System(Refusal::Missing) if is_gone(rt, target, unopened.which) => {
+        OpenFailure::System(Refusal::Missing) if is_gone(rt, target, unopened.which) => {
             Blame {
                 file: name,
                 reason: Reason::Gone,
             }
         }
-        Why::System(Refusal::Other(code)) if world.is_unkept => { Blame::by(folder_of(name), code) }
-        Why::System(Refusal::Other(None)) => unmade(rt, name, unopened.which, world.misplaced),
-        Why::System(refusal) => refused(rt, name, unopened.which, refusal),
-        Why::Unfit(unfit) => unfit_file(rt, target.image.as_str(), name, unopened.which, unfit),
-        Why::Alias => Blame::told(name, IS_ALIAS),
-        Why::Another => another(name),
+        OpenFailure::System(Refusal::Other(code)) if world.is_unkept => {
+            Blame::by(folder_of(name), code)
+        }
+        OpenFailure::System(Refusal::Other(None)) => unmade(
+            rt,
+            name,
+            unopened.which,
+            world.misplaced,
+        ),
+        OpenFailure::System(refusal) => refused(rt, name, unopened.which, refusal),
+        OpenFailure::Unfit(unfit) => unfit_file(
+            rt,
+            target.image.as_str(),
+            name,
+            unopened.which,
+            unfit,
+        ),
+        OpenFailure::Alias => Blame::told(name, IS_ALIAS),
+        OpenFailure::Another => another(name),
     }
 }
 
@@ -122,24 +135,24 @@ pub fn another(image: &str) -> Blame<'_> {
 }
 
 /// Whether the file is the image, and changes of it are kept in its journal.
-fn is_gone<R: Files<File = File>>(rt: &R, target: &Target, which: Which) -> bool {
+fn is_gone<R: Files<File = File>>(rt: &R, target: &Target, which: FileRole) -> bool {
     let journal = target.texts.journal.as_str();
-    which == Which::Image && fs::metadata(rt, journal).is_ok_and(|found| found.len() > 0)
+    which == FileRole::Image && fs::metadata(rt, journal).is_ok_and(|found| found.len() > 0)
 }
 
 /// A file that wasn't opened, which is only read and no file of a session.
-pub fn not_opened_alone<'a, R>(rt: &R, name: &'a str, why: Why) -> Blame<'a>
+pub fn not_opened_alone<'a, R>(rt: &R, name: &'a str, why: OpenFailure) -> Blame<'a>
 where
     R: Files<File = File> + AllocGlobal,
 {
     match why {
-        Why::System(refusal) => refused(rt, name, Which::Image, refusal),
-        Why::Unfit(unfit) => Blame {
+        OpenFailure::System(refusal) => refused(rt, name, FileRole::Image, refusal),
+        OpenFailure::Unfit(unfit) => Blame {
             file: name,
             reason: unfit_image(unfit),
         },
-        Why::Alias => Blame::told(name, IS_ALIAS),
-        Why::Another => another(name),
+        OpenFailure::Alias => Blame::told(name, IS_ALIAS),
+        OpenFailure::Another => another(name),
     }
 }
 
@@ -154,12 +167,12 @@ pub fn number_of(refusal: Refusal) -> Option<i32> {
 }
 
 /// A file that the system refused, or has none of this name.
-fn refused<'a, R>(rt: &R, name: &'a str, which: Which, refusal: Refusal) -> Blame<'a>
+fn refused<'a, R>(rt: &R, name: &'a str, which: FileRole, refusal: Refusal) -> Blame<'a>
 where
     R: Files<File = File> + AllocGlobal,
 {
     match refusal {
-        Refusal::Missing if which == Which::Journal => Blame::told(name, NO_JOURNAL),
+        Refusal::Missing if which == FileRole::Journal => Blame::told(name, NO_JOURNAL),
         Refusal::Missing => Blame::by(name, Some(MISSING)),
         Refusal::Taken => Blame::by(name, Some(IS_THERE)),
         Refusal::Locked => Blame::told(name, HELD),
@@ -169,16 +182,16 @@ where
 }
 
 /// A file that is missing and isn't made, since its place is none for it.
-fn unmade<'a, R>(rt: &R, name: &'a str, which: Which, misplaced: Option<Misplaced>) -> Blame<'a>
+fn unmade<'a, R>(rt: &R, name: &'a str, which: FileRole, misplaced: Option<Misplaced>) -> Blame<'a>
 where
     R: Files<File = File> + AllocGlobal,
 {
     match (which, misplaced) {
-        (Which::Image, Some(misplaced)) => Blame::told(name, told(misplaced)),
-        (Which::Journal | Which::Redo, _) if is_among_devices(rt, folder_of(name)) => {
+        (FileRole::Image, Some(misplaced)) => Blame::told(name, told(misplaced)),
+        (FileRole::Journal | FileRole::Redo, _) if is_among_devices(rt, folder_of(name)) => {
             Blame::told(name, NO_TEXT)
         }
-        (Which::Image | Which::Journal | Which::Redo, _) => Blame::by(name, None),
+        (FileRole::Image | FileRole::Journal | FileRole::Redo, _) => Blame::by(name, None),
     }
 }
 
@@ -191,16 +204,16 @@ fn told(misplaced: Misplaced) -> &'static str {
 }
 
 /// A file that may not be opened; `image` is the name of the image.
-fn unfit_file<'a, R>(rt: &R, image: &str, name: &'a str, which: Which, unfit: Unfit) -> Blame<'a>
+fn unfit_file<'a, R>(rt: &R, image: &str, name: &'a str, which: FileRole, unfit: Unfit) -> Blame<'a>
 where
     R: Files<File = File> + AllocGlobal,
 {
     let reason = match which {
-        Which::Image if unfit == Unfit::Mounted && is_unknown(rt, name) => {
+        FileRole::Image if unfit == Unfit::Mounted && is_unknown(rt, name) => {
             Reason::Told(IS_UNKNOWN)
         }
-        Which::Image => unfit_image(unfit),
-        Which::Journal | Which::Redo => unfit_text(unfit, bits_of(rt, image, name)),
+        FileRole::Image => unfit_image(unfit),
+        FileRole::Journal | FileRole::Redo => unfit_text(unfit, bits_of(rt, image, name)),
     };
     Blame { file: name, reason }
 }

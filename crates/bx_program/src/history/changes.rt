@@ -8,10 +8,10 @@ use crate::history::take_empty;
 use crate::history::told::told;
 use bx_cli::{Fault, Target};
 use bx_hints::{Remarks, Stopped};
-use bx_journal::{How, SessionFault, Way};
+use bx_journal::{Direction, RecoveryOutcome, SessionFault};
 use bx_run::{Done, Edit, Failure, Request, Step, run_request};
 use bx_system::{OpenFile, Progress, SystemWorld};
-use bx_world::{Names, Which, World};
+use bx_world::{FileRole, Names, World};
 use std::fs::{self, File};
 use std::io::{self, Empty, ErrorKind, Read};
 use std::rt::Files;
@@ -67,8 +67,8 @@ fn is_refused(answer: &Result<Done, Failure>) -> bool {
         return false;
     };
     let is_clean = match failure.how {
-        None | Some(How::Clean) => true,
-        Some(How::Dropped | How::Restored { .. }) => false,
+        None | Some(RecoveryOutcome::Clean) => true,
+        Some(RecoveryOutcome::Dropped | RecoveryOutcome::Restored { .. }) => false,
     };
     is_clean && !is_interrupted(failure.fault)
 }
@@ -92,7 +92,12 @@ where
             if is_missing(rt, target.texts.journal.as_str()) {
                 let _ = world.put_note(&[], false);
             }
-            Err(told(rt, target, Way::Undo, stopped(rt, target, world, failure)))
+            Err(told(
+                rt,
+                target,
+                Direction::Undo,
+                stopped(rt, target, world, failure),
+            ))
         }
     }
 }
@@ -183,7 +188,7 @@ where
         Err(failure) if failure.step == Step::Dropping => Err(told(
             rt,
             target,
-            Way::Undo,
+            Direction::Undo,
             stopped(rt, target, &world, failure),
         )),
         answer => answered(rt, target, &mut world, answer, remarks),
@@ -228,7 +233,7 @@ where
     match world.make_image(image) {
         Ok(file) => Ok(Some(file)),
         Err(refusal) => {
-            let unopened = Which::Image.refused(refusal);
+            let unopened = FileRole::Image.refused(refusal);
             Err(not_opened(rt, target, unopened, &world).with(Fault::OpenFailed))
         }
     }

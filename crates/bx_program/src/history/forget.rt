@@ -6,10 +6,12 @@ use crate::history::recover_image;
 use crate::history::told::told;
 use bx_cli::Target;
 use bx_hints::Stopped;
-use bx_journal::Way;
+use bx_journal::Direction;
 use bx_run::{Request, run_request};
 use bx_system::{Progress, SystemWorld};
-use bx_world::{Names, Refusal, Unopened, Which, Why, World, open_redo_to_forget, open_to_look};
+use bx_world::{
+    FileRole, Names, OpenError, OpenFailure, Refusal, World, open_redo_to_forget, open_to_look,
+};
 use std::fs::File;
 use std::io::{self, Empty};
 use std::rt::Files;
@@ -83,7 +85,12 @@ where
             Ok(Dropped::Whole)
         }
         Err(failure) if may_recover && is_unfinished(failure) => Ok(Dropped::Unfinished),
-        Err(failure) => Err(told(rt, target, Way::Undo, stopped(rt, target, &world, failure))),
+        Err(failure) => Err(told(
+            rt,
+            target,
+            Direction::Undo,
+            stopped(rt, target, &world, failure),
+        )),
     }
 }
 
@@ -105,9 +112,9 @@ where
             }
         }
         Err(
-            Unopened {
-                which: Which::Journal,
-                why: Why::System(Refusal::Missing),
+            OpenError {
+                which: FileRole::Journal,
+                why: OpenFailure::System(Refusal::Missing),
             },
         ) => forget_line_alone(world, names),
         Err(_) => {}

@@ -5,13 +5,13 @@ use crate::advice::Advice;
 use crate::files::look::is_missing;
 use bx_cli::{Fault, Target};
 use bx_hints::{Reason, Remarks, Stopped};
-use bx_journal::Way;
+use bx_journal::Direction;
 use std::fs::File;
 use std::rt::Files;
 use std::time::Clock;
 
 /// The same of what stopped a command that goes this way, with what is known of the image, where that is another one.
-pub fn told<'a, R>(rt: &R, target: &'a Target, way: Way, stopped: Stopped<'a>) -> Stopped<'a>
+pub fn told<'a, R>(rt: &R, target: &'a Target, way: Direction, stopped: Stopped<'a>) -> Stopped<'a>
 where
     R: Files<File = File> + Print + Eprint + Clock + AllocGlobal,
     ensures { result.fault ≡ stopped.entry.fault }

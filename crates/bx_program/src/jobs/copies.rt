@@ -8,7 +8,7 @@ use crate::history::told::look_for_others;
 use crate::jobs::copies::device::{copy_to_device, goes_to_device};
 use crate::jobs::kept::{Manner, put_change};
 use crate::jobs::ready::{Ready, most_of_dd, plan_behind};
-use crate::jobs::sights::tell_before_copy;
+use crate::jobs::states::tell_before_copy;
 use crate::progress::progress_of_copy;
 use crate::streams::input::{Placed, file, standard};
 use bx_cli::{DdImageJob, Fault};

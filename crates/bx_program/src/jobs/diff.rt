@@ -6,7 +6,7 @@ use bx_cli::DiffJob;
 use bx_hints::{Reason, Remarks, Stopped};
 use bx_image::FailedCall;
 use bx_patch::Extent;
-use bx_run::{Cause, Failure, FileRole, Request, Stop, run_request};
+use bx_run::{Cause, CommandFile, Failure, Request, Stop, run_request};
 use bx_system::SystemWorld;
 use std::fs::File;
 use std::io::{self, Empty, ErrorKind, Write};
@@ -34,7 +34,7 @@ fn blamed<'a, R>(rt: &R, job: &'a DiffJob, call: Option<FailedCall>, stop: Stop)
 where
     R: Files<File = File> + AllocGlobal,
 {
-    let file = if stop.file == FileRole::New {
+    let file = if stop.file == CommandFile::New {
         job.new.as_str()
     } else {
         job.old.as_str()

@@ -8,7 +8,7 @@ use crate::progress::progress_of_input;
 use crate::streams::paged::Paged;
 use bx_cli::{Fault, LogJob, LookJob, ShowJob, Target};
 use bx_hints::{Remarks, Stopped};
-use bx_journal::{SessionFault, Steps, Way};
+use bx_journal::{Direction, SessionFault, Steps};
 use bx_run::{Done, Failure, Report, Request, run_request};
 use bx_system::{Progress, SystemWorld};
 use bx_text::IoFault;
@@ -190,7 +190,7 @@ where
     let mut page = page;
     page.put_behind_line(another_line(rt, &job.target));
     let steps = steps_of(job);
-    let mut outcome = if steps.way == Way::Redo && steps.count > 0 {
+    let mut outcome = if steps.way == Direction::Redo && steps.count > 0 {
         let fault = SessionFault::NothingToRedo { have: 0 };
         Err(Stopped::from(Fault::Session(fault)))
     } else {

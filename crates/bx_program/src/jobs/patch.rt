@@ -4,7 +4,7 @@ use crate::files::look::is_device;
 use crate::history::told::look_for_others;
 use crate::jobs::kept::{Manner, put_patch};
 use crate::jobs::previews::preview_patch;
-use crate::jobs::sights::tell_before_patch;
+use crate::jobs::states::tell_before_patch;
 use crate::progress::{progress_of_input, progress_of_standard};
 use crate::streams::input::{MOST_INPUT, Placed, whole};
 use bx_cli::{Fault, PatchJob, read_patch_of};

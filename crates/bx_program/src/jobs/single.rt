@@ -8,7 +8,7 @@ use bx_cli::DumpJob;
 use bx_hints::{Remarks, STANDARD_INPUT, Stopped};
 use bx_run::{Cause, Done, Failure, Request, run_request};
 use bx_system::{Counted, Noted, SystemWorld};
-use bx_world::Why;
+use bx_world::OpenFailure;
 use std::fs::File;
 use std::io::{Empty, Write};
 use std::rt::Files;
@@ -40,7 +40,7 @@ pub fn cut_off(name: &str, unread: Option<i32>, failure: Failure) -> Stopped<'_>
 {
     let fault = failure.fault;
     let by = match failure.stop.map(|stop| stop.cause) {
-        Some(Cause::Unopened(Why::System(refusal)) | Cause::Unplaced(refusal)) => {
+        Some(Cause::Unopened(OpenFailure::System(refusal)) | Cause::Unplaced(refusal)) => {
             Stopped::by(fault, name, number_of(refusal))
         }
         Some(_) | None => Stopped::from(fault).on_input(name, unread),

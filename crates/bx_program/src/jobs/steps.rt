@@ -6,7 +6,7 @@ use crate::history::told::told;
 use crate::progress::progress_of_input;
 use bx_cli::StepsJob;
 use bx_hints::{Remarks, Stopped};
-use bx_journal::Way;
+use bx_journal::Direction;
 use bx_run::{Request, run_request};
 use std::fs::File;
 use std::io::{self, Empty};
@@ -16,7 +16,7 @@ use std::time::Clock;
 /// Takes changes back or makes undone ones again, and shows how many changes then stand.
 pub fn take_steps<'a, R>(
     rt: &R,
-    way: Way,
+    way: Direction,
     job: &'a StepsJob,
     remarks: &mut Remarks,
 ) -> Result<(), Stopped<'a>>

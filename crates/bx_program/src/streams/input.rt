@@ -111,7 +111,7 @@ where
     Placed {
         name: STANDARD_INPUT,
         reader: rt.reader(),
-        passed: skip.passable(0),
+        passed: skip.seekable(0),
         left: None,
     }
 }
@@ -126,8 +126,8 @@ fn place<'a, S: Seek + Drop>(
 ) -> Result<Placed<'a, S>, Stopped<'a>>
     ensures { IfOk result (λ input. CanPass input.passed skip) }
 {
-    if !movable || skip.passable(u64::MAX) == 0 {
-        let passed = skip.passable(0);
+    if !movable || skip.seekable(u64::MAX) == 0 {
+        let passed = skip.seekable(0);
         return Ok(Placed {
             name,
             reader,
@@ -155,12 +155,12 @@ fn pass<S: Seek>(reader: &mut S, skip: Skip) -> io::Result<u64>
     ensures { IfOk result (λ passed. CanPass passed skip) }
 {
     let Ok(at) = reader.seek(SeekFrom::Current(0)) else {
-        return Ok(skip.passable(0));
+        return Ok(skip.seekable(0));
     };
     let Ok(end) = reader.seek(SeekFrom::End(0)) else {
-        return Ok(skip.passable(0));
+        return Ok(skip.seekable(0));
     };
-    let passed = skip.passable(end.saturating_sub(at));
+    let passed = skip.seekable(end.saturating_sub(at));
     reader.seek(SeekFrom::Start(at.saturating_add(passed)))?;
     Ok(passed)
 }

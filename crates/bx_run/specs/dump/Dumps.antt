@@ -5,7 +5,7 @@ use Rattle.bx_cli_commands.specs.declared.jobs.dump.Done.{Done}
 use Rattle.bx_cli_commands.specs.declared.jobs.dumps.DumpJob.{DumpJob}
 use Rattle.bx_cli_commands.specs.jobs.JobDump.{StopsJob}
 use Rattle.bx_cli_commands.specs.jobs.Passing.{CanPass, skip_of}
-use Rattle.bx_world.specs.World.{Sight}
+use Rattle.bx_world.specs.World.{SystemState}
 use Rattle.bx_world.specs.declared.world.Refusal.TheVariants.{Missing}
 use Rattle.bx_run.specs.dump.Texts.{DumpsWhole}
 use Rattle.bx_run.specs.declared.dump.error.DumpError.{DumpError}
@@ -49,14 +49,14 @@ StopsOpened job bytes (Unopened refusal) old new = ⊥
 -- ---- a file by its name
 
 -- the name leads to a file, and what the job makes of all its bytes was written
-abbrev pub DumpsNamed : DumpJob → List ℕ → Sight → Done → Option (List ℕ) → Option (List ℕ) → Type 0
-DumpsNamed job name sight done old new = (n : ℕ) × (sight.named name ≡ Some n) × DumpsWhole job (sight.bytes n) done old new
+abbrev pub DumpsNamed : DumpJob → List ℕ → SystemState → Done → Option (List ℕ) → Option (List ℕ) → Type 0
+DumpsNamed job name state done old new = (n : ℕ) × (state.named name ≡ Some n) × DumpsWhole job (state.bytes n) done old new
 
 -- no file was opened, and nothing was written; or it was opened, and could not be placed, or its dump stopped
-abbrev pub StopsNamed : DumpJob → List ℕ → Sight → DumpError → Option (List ℕ) → Option (List ℕ) → Type 0
-StopsNamed job name sight (Unopened Missing) old new = (sight.named name ≡ None) × (new ≡ old)
-StopsNamed job name sight (Unopened refusal) old new = new ≡ old
-StopsNamed job name sight e old new = (n : ℕ) × (sight.named name ≡ Some n) × StopsOpened job (sight.bytes n) e old new
+abbrev pub StopsNamed : DumpJob → List ℕ → SystemState → DumpError → Option (List ℕ) → Option (List ℕ) → Type 0
+StopsNamed job name state (Unopened Missing) old new = (state.named name ≡ None) × (new ≡ old)
+StopsNamed job name state (Unopened refusal) old new = new ≡ old
+StopsNamed job name state e old new = (n : ℕ) × (state.named name ≡ Some n) × StopsOpened job (state.bytes n) e old new
 
 -- a file that was not opened or placed was refused by the system, unless it is missing; else nothing was
 abbrev pub CountsUndumped : Result Done DumpError → ℕ → ℕ → Type 0

@@ -15,7 +15,7 @@ use Rattle.bx_journal_image.specs.declared.judging.judge.Verdict.{Verdict}
 use Rattle.bx_journal_image.specs.declared.judging.judge.Verdict.TheVariants.{Same, Other, Untold}
 use Rattle.bx_journal_image.specs.declared.line.form.ImageLine.{ImageLine}
 use Rattle.bx_cli_commands.specs.declared.fault.Fault.TheVariants.{Session}
-use Rattle.bx_world.specs.World.{IsNoText, NothingNewFound, ReadFiles, Sight, Spares, bytes_if, held}
+use Rattle.bx_world.specs.World.{IsNoText, NothingNewFound, ReadFiles, SystemState, Spares, bytes_if, held}
 use Rattle.bx_world.specs.files.Reading.{AreReadable, LeadToRead, MayRefuseForgetting}
 use Rattle.bx_world.specs.declared.files.guard.Guard.{Guard}
 use Rattle.bx_world.specs.declared.files.names.Names.{Names}
@@ -58,7 +58,7 @@ MayForget guard note image journal redo = IsClean journal ⊎ ((fault : SessionF
     ⊎ ((verdict : Verdict) × IsNotedAs note image journal verdict × (drops guard verdict ≡ true))
 
 -- the same of files of these names
-abbrev pub MayForgetNamed : Guard → List ℕ → Names → Sight → Type 0
+abbrev pub MayForgetNamed : Guard → List ℕ → Names → SystemState → Type 0
 MayForgetNamed guard note names w = MayForget guard note (held w names.image) (held w names.journal) (held w names.redo)
 
 -- the text ends in the line that ends an entry
@@ -83,7 +83,7 @@ KeepsHistory guard note image journal redo Another =
 KeepsHistory guard note image journal redo unseen = HidesChanges image journal redo unseen
 
 -- the file is none that the names of the texts lead to
-abbrev pub IsNoTextNamed : Names → Sight → ℕ → Type 0
+abbrev pub IsNoTextNamed : Names → SystemState → ℕ → Type 0
 IsNoTextNamed names w n = (w.named names.journal ≡ Some n → ⊥) × (w.named names.redo ≡ Some n → ⊥)
 
 -- What an image, its journal and its redo text hold
@@ -93,7 +93,7 @@ pub record Held : Type 0 where
   pub redo : List ℕ
 
 -- what the files of these names hold; one that is missing holds nothing
-abbrev pub held_by_names : Names → Sight → Held
+abbrev pub held_by_names : Names → SystemState → Held
 held_by_names names w = record { image = held w names.image; journal = held w names.journal; redo = held w names.redo }
 
 -- An image and the texts that are emptied beside it, by their numbers; a text that is missing has none
@@ -103,7 +103,7 @@ pub record TextFiles : Type 0 where
   pub redo : Option ℕ
 
 -- the names lead to these files
-pub record LeadToTexts (names : Names) (f : TextFiles) (w : Sight) : Type 0 where
+pub record LeadToTexts (names : Names) (f : TextFiles) (w : SystemState) : Type 0 where
   pub image : w.named names.image ≡ Some f.image
   pub journal : w.named names.journal ≡ f.journal
   pub redo : w.named names.redo ≡ f.redo
@@ -117,7 +117,7 @@ texts_of exchanged f = record {
 }
 
 -- what the files of these numbers hold
-abbrev pub held_by_numbers : TextFiles → Sight → Held
+abbrev pub held_by_numbers : TextFiles → SystemState → Held
 held_by_numbers f w = record { image = w.bytes f.image; journal = bytes_if w f.journal; redo = bytes_if w f.redo }
 
 -- Both texts are empty, and the image is as it was, and stands alone, with nothing undone
@@ -141,12 +141,12 @@ pub record ForgetsPart (old new : Held) : Type 0 where
   pub finds : FindsDropped old new
 
 -- all is as it was
-abbrev pub IsUntouched : Sight → Sight → Type 0
+abbrev pub IsUntouched : SystemState → SystemState → Type 0
 IsUntouched old new = Spares (λ n. Unit {0}) old new
 
 -- Why a history is not dropped: a file may not be opened, something is unfinished that is recovered first, it may be another image's, a text is
 -- damaged, or memory or a device fails, and all is as it was; or the dropping was stopped in the middle
-abbrev pub StopsForgetting : Guard → List ℕ → Names → Type 0 → Sight → Sight → ReportError → Type 0
+abbrev pub StopsForgetting : Guard → List ℕ → Names → Type 0 → SystemState → SystemState → ReportError → Type 0
 StopsForgetting guard note names counted old new (Unopened file) = MayRefuseForgetting names counted old file × IsUntouched old new
 StopsForgetting guard note names counted old new (Stopped (Session Interrupted)) =
     MayForgetNamed guard note names old × ForgetsPart (held_by_names names old) (held_by_names names new)
@@ -172,7 +172,7 @@ pub record LosesPart (old : Held) (image journal redo : List ℕ → Type 0) : T
       → FindsDropped old (record { image = x; journal = text; redo = redo_text })
 
 -- what is found of the three files after a loss of power, by the answer; where all is as it was, nothing that wasn't to be found before
-abbrev pub SurvivesForgetting : Names → Result (Unit {0}) ReportError → Sight → (ℕ → List ℕ → Type 0) → (ℕ → List ℕ → Type 0) → Type 0
+abbrev pub SurvivesForgetting : Names → Result (Unit {0}) ReportError → SystemState → (ℕ → List ℕ → Type 0) → (ℕ → List ℕ → Type 0) → Type 0
 SurvivesForgetting names (Ok done) old found left =
     (f : TextFiles) → LeadToTexts names f old → LosesAll (held_by_names names old) (left f.image) (found_if left f.journal) (found_if left f.redo)
 SurvivesForgetting names (Err (Stopped (Session Interrupted))) old found left =
@@ -184,14 +184,14 @@ abbrev pub IsAlone : ReadFiles → Type 0
 IsAlone f = IsNoText f f.image
 
 -- the names lead to files that may be read, and the image is neither of its texts
-pub record AreLent (names : Names) (w : Sight) : Type 0 where
+pub record AreLent (names : Names) (w : SystemState) : Type 0 where
   pub files : ReadFiles
   pub named : LeadToRead names files w
   pub alone : IsAlone files
   pub fit : AreReadable names w
 
 -- The files that are lent, where the redo text stands in the place of a journal that is missing or not, and the names lead to them; they may be read
-pub record AreLentTexts (names : Names) (exchanged : Bool) (beside : Option ReadFiles) (w : Sight) : Type 0 where
+pub record AreLentTexts (names : Names) (exchanged : Bool) (beside : Option ReadFiles) (w : SystemState) : Type 0 where
   pub files : ReadFiles
   pub lent : beside ≡ Some files
   pub named : LeadToTexts names (texts_of exchanged files) w
@@ -199,18 +199,18 @@ pub record AreLentTexts (names : Names) (exchanged : Bool) (beside : Option Read
   pub fit : AreReadable names w
 
 -- what may be found of a device is what may be found of the image to which the name leads
-abbrev pub IsFoundOf : List ℕ → Sight → (ℕ → List ℕ → Type 0) → (List ℕ → Type 0) → Type 0
+abbrev pub IsFoundOf : List ℕ → SystemState → (ℕ → List ℕ → Type 0) → (List ℕ → Type 0) → Type 0
 IsFoundOf name w found device = (n : ℕ) → w.named name ≡ Some n → NoMore (found n) device
 
 -- What emptying the texts of files that are lent leaves: empty texts; fronts of them, where it was stopped in the middle; or all as it was
-abbrev pub Empties : TextFiles → Result (Unit {0}) SessionFault → Sight → Sight → Type 0
+abbrev pub Empties : TextFiles → Result (Unit {0}) SessionFault → SystemState → SystemState → Type 0
 Empties f (Ok done) old new = HasForgotten (held_by_numbers f old) (held_by_numbers f new)
 Empties f (Err Interrupted) old new = ForgetsPart (held_by_numbers f old) (held_by_numbers f new)
 Empties f (Err DeviceFailed) old new = IsUntouched old new
 Empties f (Err fault) old new = ⊥
 
 -- and what is found of them after a loss of power, where `image` is what may be found of the image's device
-abbrev pub SurvivesEmptying : TextFiles → Result (Unit {0}) SessionFault → Sight → (List ℕ → Type 0) → (ℕ → List ℕ → Type 0)
+abbrev pub SurvivesEmptying : TextFiles → Result (Unit {0}) SessionFault → SystemState → (List ℕ → Type 0) → (ℕ → List ℕ → Type 0)
     → (ℕ → List ℕ → Type 0) → Type 0
 SurvivesEmptying f (Ok done) old image found left =
     LosesAll (held_by_numbers f old) (left f.image) (found_if left f.journal) (found_if left f.redo)

@@ -7,7 +7,7 @@ use Rattle.bx_cli_commands.specs.Replies.{stands_by}
 use Rattle.bx_cli_commands.specs.Run.{Unfailed}
 use Rattle.bx_cli_commands.specs.declared.command.Reply.TheVariants.{Refused}
 use Rattle.bx_cli_commands.specs.declared.fault.Fault.TheVariants.{Session}
-use Rattle.bx_world.specs.World.{Sight}
+use Rattle.bx_world.specs.World.{SystemState}
 use Rattle.bx_world.specs.declared.files.guard.Guard.{Guard}
 use Rattle.bx_world.specs.declared.files.names.Names.{Names}
 use Rattle.bx_run.specs.session.Changes.{Changes, InterruptsChange, RefusesChange}
@@ -17,13 +17,13 @@ use Rattle.bx_run.specs.declared.session.named.Answer.{Answer}
 use Rattle.bx_run.specs.declared.session.task.Task.{Task}
 use Rattle.bx_run.specs.forget.Forgetting.{HasForgotten, MayForgetNamed, StopsForgetting, held_by_names}
 use Rattle.bx_run.specs.declared.report.error.ReportError.{ReportError}
-use Rattle.bx_run.specs.Scene.{Scene}
+use Rattle.bx_run.specs.RunState.{RunState}
 
 -- Of files that hold images a change leaves those of the machine's next step, or, where it was interrupted, files in which opening finds the images
 -- before or behind it; after a crash it is done on what is recovered. One that is refused leaves all files as they were, whatever they held, or what
 -- was recovered; what was unfinished is said; and one that opening took and no device's failure refused makes the machine's step on the images for
 -- which the files stand, sound or not
-pub record DoesChange {R : Type 0} (remaining : R → Option (List ℕ)) (names : Names) (task : Task R) (answer : Answer) (old new : Sight) : Type 0 where
+pub record DoesChange {R : Type 0} (remaining : R → Option (List ℕ)) (names : Names) (task : Task R) (answer : Answer) (old new : SystemState) : Type 0 where
   pub done : (s : Images) → Holds (contents_of names old) s
       → IfOk (stands_by answer.reply) (Changes remaining s task answer.reply (contents_of names new))
   pub refused : IsWholeRefusal answer.reply → RefusesChange remaining names task answer old new
@@ -36,7 +36,7 @@ pub record DoesChange {R : Type 0} (remaining : R → Option (List ℕ)) (names 
 
 -- Dropping a history leaves empty texts and the image as it was, where nothing was unfinished, or the texts don't fit the image, or what is unfinished
 -- is another image's, by the note; else all is as it was, and there is a reason, or it was stopped in the middle: of files in which opening finds images it then finds these, or fewer
-pub record DoesForget (guard : Guard) (names : Names) (outcome : Result (Unit {0}) ReportError) (old new : Scene) : Type 0 where
-  pub may : OnOk outcome (MayForgetNamed guard old.note names old.sight)
-  pub done : OnOk outcome (HasForgotten (held_by_names names old.sight) (held_by_names names new.sight))
-  pub stopped : IfErr outcome (StopsForgetting guard old.note names (old.refusals < new.refusals) old.sight new.sight)
+pub record DoesForget (guard : Guard) (names : Names) (outcome : Result (Unit {0}) ReportError) (old new : RunState) : Type 0 where
+  pub may : OnOk outcome (MayForgetNamed guard old.note names old.state)
+  pub done : OnOk outcome (HasForgotten (held_by_names names old.state) (held_by_names names new.state))
+  pub stopped : IfErr outcome (StopsForgetting guard old.note names (old.refusals < new.refusals) old.state new.state)

@@ -18,13 +18,13 @@ use Rattle.bx_cli_commands.specs.declared.command.Reply.{Reply}
 use Rattle.bx_cli_commands.specs.declared.command.Reply.TheVariants as reply
 use Rattle.bx_cli_commands.specs.declared.fault.Fault.{Fault}
 use Rattle.bx_cli_commands.specs.declared.fault.Fault.TheVariants.{Dd, Disagrees, Grows, Read, Session}
-use Rattle.bx_world.specs.World.{MayBeRead, Sight, held, stat_named}
+use Rattle.bx_world.specs.World.{MayBeRead, SystemState, held, stat_named}
 use Rattle.bx_world.specs.declared.stat.Kind.{Kind}
 use Rattle.bx_world.specs.declared.stat.Kind.TheVariants.{Block, Other, Regular}
 use Rattle.bx_world.specs.declared.stat.Stat.{Stat}
 use Rattle.bx_world.specs.files.Reading.{IsUnfitToRead}
 use Rattle.bx_world.specs.files.Reasons.{IsReason}
-use Rattle.bx_world.specs.declared.files.unopened.Why.{Why}
+use Rattle.bx_world.specs.declared.files.unopened.OpenFailure.{OpenFailure}
 use Rattle.bx_run.specs.session.Task.{TaskStep}
 use Rattle.bx_run.specs.Edit.{asked}
 use Rattle.bx_run.specs.declared.edit.Edit.{Edit}
@@ -96,17 +96,17 @@ abbrev pub has_fixed_length : Option Stat → Bool
 has_fixed_length found = option_map_or (λ (image : Stat). is_block image.kind) found false
 
 -- why a file that is there is not opened: it may not be read by the rule, or the system counted a call that it refused
-abbrev pub MayNotOpen : List ℕ → Type 0 → Sight → Why → Type 0
+abbrev pub MayNotOpen : List ℕ → Type 0 → SystemState → OpenFailure → Type 0
 MayNotOpen name counted w why = IsReason ⊥ (IsUnfitToRead w name) ⊥ counted why
 
 module _ {R : Type 0} (remaining : R → Option (List ℕ)) (name : List ℕ) (edit : Edit R) where
   -- what the name leads to may be read, and the patch was written from what it holds, which is nothing where it is missing
-  abbrev pub WritesPreview : Sight → Option Counts → Option (List ℕ) → Option (List ℕ) → Type 0
+  abbrev pub WritesPreview : SystemState → Option Counts → Option (List ℕ) → Option (List ℕ) → Type 0
   WritesPreview w counts old new =
       MayBeRead w name × WritesChange remaining edit (has_fixed_length (stat_named w name)) (held w name) counts old new
 
   -- why it was not: the file was not opened, and nothing was written; or the patch is not whole
-  abbrev pub StopsPreview : Type 0 → Sight → Option (List ℕ) → Option (List ℕ) → PreviewError → Type 0
+  abbrev pub StopsPreview : Type 0 → SystemState → Option (List ℕ) → Option (List ℕ) → PreviewError → Type 0
   StopsPreview counted w old new (Unopened why) = MayNotOpen name counted w why × (new ≡ old)
   StopsPreview counted w old new unpreviewed =
       MayBeRead w name × StopsChange remaining edit (has_fixed_length (stat_named w name)) (held w name) old new unpreviewed

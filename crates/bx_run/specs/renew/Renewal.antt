@@ -3,7 +3,7 @@ use Rattle.std.specs.Prelude.{◌≡◌, ◌⊎◌, ◌<◌, ℕ, true, false, L
 use Rattle.bx_journal.specs.Forgotten.{only}
 use Rattle.bx_journal.specs.Images.{Images}
 use Rattle.bx_journal.specs.Machine.{top}
-use Rattle.bx_journal.specs.How.{How}
+use Rattle.bx_journal.specs.RecoveryOutcome.{RecoveryOutcome}
 use Rattle.bx_journal.specs.Power.{Found}
 use Rattle.bx_journal.specs.SessionFault.TheVariants.{Interrupted}
 use Rattle.bx_cli_commands.specs.Refusal.{IsWholeRefusal}
@@ -12,11 +12,11 @@ use Rattle.bx_cli_commands.specs.declared.command.Command.TheVariants.{Undo}
 use Rattle.bx_cli_commands.specs.declared.command.Reply.{Reply}
 use Rattle.bx_cli_commands.specs.declared.command.Reply.TheVariants.{Refused}
 use Rattle.bx_cli_commands.specs.declared.fault.Fault.TheVariants.{Session}
-use Rattle.bx_world.specs.World.{Sight, Spares, Trio, held}
+use Rattle.bx_world.specs.World.{SystemState, Spares, Trio, held}
 use Rattle.bx_world.specs.files.Files.{LeadsToMade, LeavesFiles}
 use Rattle.bx_world.specs.declared.files.guard.Guard.{Guard}
 use Rattle.bx_world.specs.declared.files.names.Names.{Names}
-use Rattle.bx_world.specs.declared.files.unopened.Unopened.{Unopened}
+use Rattle.bx_world.specs.declared.files.unopened.OpenError.{OpenError}
 use Rattle.bx_run.specs.session.Changes.{Changes, InterruptsChange, RefusesChange, SaysRecovered}
 use Rattle.bx_run.specs.session.Contents.{FoundIn, Holds, Survives, recovered_as}
 use Rattle.bx_run.specs.session.Guarded.{WasJudged, another}
@@ -29,7 +29,7 @@ use Rattle.bx_run.specs.declared.report.error.ReportError.{ReportError}
 use Rattle.bx_run.specs.declared.report.error.ReportError.TheVariants.{Stopped}
 use Rattle.bx_run.specs.preview.Changing.{DoesChange, DoesForget}
 use Rattle.bx_run.specs.run.Outcome.{renewed_end, unopened_fault}
-use Rattle.bx_run.specs.Scene.{Scene}
+use Rattle.bx_run.specs.RunState.{RunState}
 use Rattle.bx_run.specs.declared.renew.Renewed.{Renewed}
 use Rattle.bx_run.specs.declared.renew.Renewed.TheVariants.{Kept, Undropped, Changed}
 
@@ -44,7 +44,7 @@ IsDroppable (Refused fault) = ⊥
 IsDroppable reply = Unit {0}
 
 -- a task wasn't begun as the image is another one
-abbrev pub IsOfAnother : Option Unopened → Type 0
+abbrev pub IsOfAnother : Option OpenError → Type 0
 IsOfAnother None = ⊥
 IsOfAnother (Some u) = u ≡ another
 
@@ -57,17 +57,17 @@ abbrev pub only_told : Guard → Guard
 only_told guard = record { mounted = guard.mounted; anyway = false; told = true; named = guard.named }
 
 -- the image was judged by the line that the note had, before what is unfinished was recovered onto it: only where that tells that it is the one
-abbrev pub JudgesOpening : {R : Type 0} → (R → Option (List ℕ)) → Guard → List ℕ → Names → Sight → Answer → Type 0
+abbrev pub JudgesOpening : {R : Type 0} → (R → Option (List ℕ)) → Guard → List ℕ → Names → SystemState → Answer → Type 0
 JudgesOpening {R = R} remaining guard note names w answer =
     WasJudged (only_told guard) (is_missing names.image w) note (contents_of names w) (no_change {R = R}) answer.unopened answer.how
 
 -- why such an opening isn't begun
-abbrev pub MayNotOpen : {R : Type 0} → (R → Option (List ℕ)) → Guard → List ℕ → Names → Type 0 → Sight → Unopened → Type 0
+abbrev pub MayNotOpen : {R : Type 0} → (R → Option (List ℕ)) → Guard → List ℕ → Names → Type 0 → SystemState → OpenError → Type 0
 MayNotOpen {R = R} remaining guard note names counted w u = MayRefuseTask (only_told guard) true note (no_change {R = R}) names counted w u
 
 -- Files were opened to be changed, and their history may be dropped: they hold the images that they held, and of files in which opening found
 -- images, as after a crash, the image is then the newest of these; whatever they held, an opening that was refused leaves the image
-pub record OpensToDrop {R : Type 0} (remaining : R → Option (List ℕ)) (names : Names) (answer : Answer) (old new : Sight) : Type 0 where
+pub record OpensToDrop {R : Type 0} (remaining : R → Option (List ℕ)) (names : Names) (answer : Answer) (old new : SystemState) : Type 0 where
   pub may : MayDrop answer
   pub does : DoesChange remaining names no_change answer old new
   pub others : KeepsOthers names old new
@@ -76,34 +76,34 @@ pub record OpensToDrop {R : Type 0} (remaining : R → Option (List ℕ)) (names
   pub image : IsWholeRefusal answer.reply → IsUnrecovered answer.how → held new names.image ≡ held old names.image
 
 -- a history is dropped, or why not, and no file is changed but its texts
-pub record DropsTexts (guard : Guard) (names : Names) (outcome : Result (Unit {0}) ReportError) (old new : Scene) : Type 0 where
+pub record DropsTexts (guard : Guard) (names : Names) (outcome : Result (Unit {0}) ReportError) (old new : RunState) : Type 0 where
   pub does : DoesForget guard names outcome old new
-  pub others : Spares (IsNoTextNamed names old.sight) old.sight new.sight
+  pub others : Spares (IsNoTextNamed names old.state) old.state new.state
 
 -- The three steps: the files are opened, the history is dropped, and the change is asked for, each with what it leaves
 pub record TakesSteps {R : Type 0} (remaining : R → Option (List ℕ)) (names : Names) (guard : Guard) (task : Task R) (answer : Answer)
-    (old new : Scene) : Type 0 where
+    (old new : RunState) : Type 0 where
   pub opened : Answer
-  pub first : Scene
-  pub second : Scene
-  pub opens : OpensToDrop remaining names opened old.sight first.sight
-  pub judged : JudgesOpening remaining guard old.note names old.sight opened
+  pub first : RunState
+  pub second : RunState
+  pub opens : OpensToDrop remaining names opened old.state first.state
+  pub judged : JudgesOpening remaining guard old.note names old.state opened
   pub drops : DropsTexts guard names (Ok tt) first second
-  pub changes : DoesChange remaining names task answer second.sight new.sight
-  pub others : KeepsOthers names second.sight new.sight
-  pub unopened : IfSome answer.unopened (MayRefuseTask guard true second.note task names (second.refusals < new.refusals) second.sight)
+  pub changes : DoesChange remaining names task answer second.state new.state
+  pub others : KeepsOthers names second.state new.state
+  pub unopened : IfSome answer.unopened (MayRefuseTask guard true second.note task names (second.refusals < new.refusals) second.state)
 
 -- A change of an image alone was refused: the files are as they were when the history was dropped, and hold the image alone
 pub record RefusesAlone {R : Type 0} (remaining : R → Option (List ℕ)) (names : Names) (image : List ℕ) (task : Task R) (answer : Answer)
-    (new : Sight) : Type 0 where
-  pub dropped : Sight
+    (new : SystemState) : Type 0 where
+  pub dropped : SystemState
   pub alone : Holds (contents_of names dropped) (only image)
   pub refuses : RefusesChange remaining names task answer dropped new
 
 -- What a change leaves of an image alone: the history is this change; or, where it was refused, none; or, where it was interrupted, opening finds
 -- the image before or behind it
 pub record ChangesAlone {R : Type 0} (remaining : R → Option (List ℕ)) (names : Names) (image : List ℕ) (task : Task R) (answer : Answer)
-    (new : Sight) : Type 0 where
+    (new : SystemState) : Type 0 where
   pub done : IfOk (stands_by answer.reply) (Changes remaining (only image) task answer.reply (contents_of names new))
   pub refused : IsWholeRefusal answer.reply → RefusesAlone remaining names image task answer new
   pub interrupted : answer.reply ≡ Refused (Session Interrupted) → InterruptsChange remaining (only image) task (contents_of names new)
@@ -112,30 +112,30 @@ pub record ChangesAlone {R : Type 0} (remaining : R → Option (List ℕ)) (name
 -- The history was dropped, and the change was asked for on the image alone, which is the newest of those that the files held, or, where their texts don't
 -- fit it, the image that was there
 pub record Renews {R : Type 0} (remaining : R → Option (List ℕ)) (names : Names) (guard : Guard) (task : Task R) (answer : Answer)
-    (old new : Scene) : Type 0 where
+    (old new : RunState) : Type 0 where
   pub steps : TakesSteps remaining names guard task answer old new
   pub image : List ℕ
-  pub newest : (s : Images) → Holds (contents_of names old.sight) s → image ≡ top s.stack
-  pub found : (s : Images) → FoundIn (contents_of names old.sight) s → OnOk (stands_by steps.opened.reply) (image ≡ top s.stack)
-  pub spared : IsWholeRefusal steps.opened.reply → IsUnrecovered steps.opened.how → image ≡ held old.sight names.image
-  pub alone : ChangesAlone remaining names image task answer new.sight
+  pub newest : (s : Images) → Holds (contents_of names old.state) s → image ≡ top s.stack
+  pub found : (s : Images) → FoundIn (contents_of names old.state) s → OnOk (stands_by steps.opened.reply) (image ≡ top s.stack)
+  pub spared : IsWholeRefusal steps.opened.reply → IsUnrecovered steps.opened.how → image ≡ held old.state names.image
+  pub alone : ChangesAlone remaining names image task answer new.state
 
 -- The files were opened, but their history was not dropped, and why: they hold the images that they held, unless the dropping was stopped in the
 -- middle
-pub record StaysUndropped {R : Type 0} (remaining : R → Option (List ℕ)) (names : Names) (guard : Guard) (unseen : ReportError) (old new : Scene) : Type 0 where
+pub record StaysUndropped {R : Type 0} (remaining : R → Option (List ℕ)) (names : Names) (guard : Guard) (unseen : ReportError) (old new : RunState) : Type 0 where
   pub opened : Answer
-  pub first : Scene
-  pub opens : OpensToDrop remaining names opened old.sight first.sight
-  pub judged : JudgesOpening remaining guard old.note names old.sight opened
+  pub first : RunState
+  pub opens : OpensToDrop remaining names opened old.state first.state
+  pub judged : JudgesOpening remaining guard old.note names old.state opened
   pub stops : DropsTexts guard names (Err unseen) first new
-  pub same : (s : Images) → Holds (contents_of names old.sight) s → (unseen ≡ Stopped (Session Interrupted) → ⊥)
-      → Holds (contents_of names new.sight) s
+  pub same : (s : Images) → Holds (contents_of names old.state) s → (unseen ≡ Stopped (Session Interrupted) → ⊥)
+      → Holds (contents_of names new.state) s
 
 -- what a change with which the history begins anew leaves; where the files can't be opened to be changed all is as an opening that was refused leaves it
-abbrev pub DoesRenew : {R : Type 0} → (R → Option (List ℕ)) → Names → Guard → Task R → Renewed → Scene → Scene → Type 0
+abbrev pub DoesRenew : {R : Type 0} → (R → Option (List ℕ)) → Names → Guard → Task R → Renewed → RunState → RunState → Type 0
 DoesRenew remaining names guard task (Kept answer) old new =
-    (MayDrop answer → ⊥) × DoesChange remaining names no_change answer old.sight new.sight
-    × JudgesOpening remaining guard old.note names old.sight answer
+    (MayDrop answer → ⊥) × DoesChange remaining names no_change answer old.state new.state
+    × JudgesOpening remaining guard old.note names old.state answer
 DoesRenew remaining names guard task (Undropped unseen) old new = StaysUndropped remaining names guard unseen old new
 DoesRenew remaining names guard task (Changed answer) old new = Renews remaining names guard task answer old new
 
@@ -146,10 +146,10 @@ LosesUndropped (Stopped (Session Interrupted)) first s image journal redo = Lose
 LosesUndropped unseen first s image journal redo = (x text redo_text : List ℕ) → image x → journal text → redo redo_text → Found text x redo_text s
 
 -- The same by name, where the files held images, as they did when the dropping began, or the opening before it recovered images that it found
-pub record SurvivesUndropped {R : Type 0} (remaining : R → Option (List ℕ)) (names : Names) (unseen : ReportError) (old new : Sight)
+pub record SurvivesUndropped {R : Type 0} (remaining : R → Option (List ℕ)) (names : Names) (unseen : ReportError) (old new : SystemState)
     (left : ℕ → List ℕ → Type 0) : Type 0 where
   pub opened : Answer
-  pub first : Sight
+  pub first : SystemState
   pub opens : OpensToDrop remaining names opened old first
   pub found : (s : Images) → Holds (contents_of names old) s → (t : Trio) → LeadTo names t new
       → LosesUndropped unseen (held_by_names names first) s (left t.image) (left t.journal) (left t.redo)
@@ -157,17 +157,17 @@ pub record SurvivesUndropped {R : Type 0} (remaining : R → Option (List ℕ)) 
       → IfSome opened.how (λ how. LosesUndropped unseen (held_by_names names first) (recovered_as how s) (left t.image) (left t.journal) (left t.redo))
 
 -- After a loss of power behind the change opening finds the images of an end of it, done alone on the image that the opening before it left
-pub record SurvivesAlone {R : Type 0} (remaining : R → Option (List ℕ)) (names : Names) (task : Task R) (reply : Reply) (old new : Sight)
+pub record SurvivesAlone {R : Type 0} (remaining : R → Option (List ℕ)) (names : Names) (task : Task R) (reply : Reply) (old new : SystemState)
     (left : ℕ → List ℕ → Type 0) : Type 0 where
   pub opened : Answer
-  pub first : Sight
+  pub first : SystemState
   pub opens : OpensToDrop remaining names opened old first
   pub newest : (s : Images) → Holds (contents_of names old) s → held first names.image ≡ top s.stack
   pub found : (IsWholeRefusal reply → ⊥) → (t : Trio) → LeadTo names t new
       → Survives remaining (only (held first names.image)) task reply (left t.image) (left t.journal) (left t.redo)
 
 -- what is found after a loss of power, by the step that the answer is of
-abbrev pub SurvivesRenewal : {R : Type 0} → (R → Option (List ℕ)) → Names → Task R → Renewed → Sight → Sight
+abbrev pub SurvivesRenewal : {R : Type 0} → (R → Option (List ℕ)) → Names → Task R → Renewed → SystemState → SystemState
     → (ℕ → List ℕ → Type 0) → (ℕ → List ℕ → Type 0) → Type 0
 SurvivesRenewal remaining names task (Kept answer) old new found left = SurvivesTask remaining names no_change answer old new found left
 SurvivesRenewal remaining names task (Undropped unseen) old new found left = SurvivesUndropped remaining names unseen old new left
@@ -176,7 +176,7 @@ SurvivesRenewal remaining names task (Changed answer) old new found left = Survi
 -- No file that a name led to holds other bytes but those that these names lead to by now, none has another owner or other permissions, and each name
 -- leads where it led. No other name leads to a file that was made, unless the system refused to take one away; or it was a link to one of these that was
 -- missing
-pub record KeepsNamed (names : Names) (old new : Sight) : Type 0 where
+pub record KeepsNamed (names : Names) (old new : SystemState) : Type 0 where
   pub bytes : (m : List ℕ) (n : ℕ) → old.named m ≡ Some n → (new.named names.image ≡ Some n → ⊥) → (new.named names.journal ≡ Some n → ⊥)
       → (new.named names.redo ≡ Some n → ⊥) → new.bytes n ≡ old.bytes n
   pub stat : (m : List ℕ) (n : ℕ) → old.named m ≡ Some n → new.stat n ≡ old.stat n
@@ -184,10 +184,10 @@ pub record KeepsNamed (names : Names) (old new : Sight) : Type 0 where
   pub made : new.stuck ≡ old.stuck → (m : List ℕ) → LeadsToMade (IsNamedBy names new) (old.named m) (new.named m)
 
 -- a file wasn't opened: the fault says so, and all files are as they were
-abbrev pub NothingRenewed : Renewed → Sight → Sight → Unopened → Type 0
+abbrev pub NothingRenewed : Renewed → SystemState → SystemState → OpenError → Type 0
 NothingRenewed renewed old new file = (renewed_end renewed ≡ Err (unopened_fault file.why)) × LeavesFiles old new
 
 -- nothing is written but what the first step recovered
-abbrev pub TellsOpening : Renewed → Sight → Sight → Type 0
+abbrev pub TellsOpening : Renewed → SystemState → SystemState → Type 0
 TellsOpening (Kept answer) old new = SaysRecovered answer.how old new
-TellsOpening renewed old new = (how : Option How) × SaysRecovered how old new
+TellsOpening renewed old new = (how : Option RecoveryOutcome) × SaysRecovered how old new

@@ -10,26 +10,26 @@ use Rattle.bx_journal.specs.ShownSteps.{HasEntries}
 use Rattle.bx_journal.specs.ThreeDevices.{AreBelow}
 use Rattle.bx_journal.specs.Undoing.{HasCount}
 use Rattle.bx_cli_commands.specs.declared.fault.Fault.TheVariants.{Io, Session}
-use Rattle.bx_world.specs.World.{ReadFiles, Sight, bytes_if, held}
+use Rattle.bx_world.specs.World.{ReadFiles, SystemState, bytes_if, held}
 use Rattle.bx_world.specs.declared.files.names.Names.{Names}
 use Rattle.bx_run.specs.declared.report.error.ReportError.{ReportError}
 use Rattle.bx_run.specs.declared.report.error.ReportError.TheVariants.{Stopped}
 
 -- The devices are faithful, and hold these bytes
 pub record HoldBytes {D T : Type 0} (d : DeviceViews D) (t : StoreViews T) (image journal redo : List ℕ) (x : Devices D T) : Type 0 where
-  pub image_honest : d.honest x.image
-  pub journal_honest : t.honest x.journal
-  pub redo_honest : t.honest x.redo
+  pub image_faithful : d.faithful x.image
+  pub journal_faithful : t.faithful x.journal
+  pub redo_faithful : t.faithful x.redo
   pub image_is : d.image x.image ≡ image
   pub journal_is : t.text x.journal ≡ journal
   pub redo_is : t.text x.redo ≡ redo
 
 -- the devices hold what the files of these names do
-abbrev pub HoldFiles : {D T : Type 0} → DeviceViews D → StoreViews T → Names → Sight → Devices D T → Type 0
+abbrev pub HoldFiles : {D T : Type 0} → DeviceViews D → StoreViews T → Names → SystemState → Devices D T → Type 0
 HoldFiles d t names w x = HoldBytes d t (held w names.image) (held w names.journal) (held w names.redo) x
 
 -- the same of the files of these numbers
-abbrev pub HoldNumbered : {D T : Type 0} → DeviceViews D → StoreViews T → ReadFiles → Sight → Devices D T → Type 0
+abbrev pub HoldNumbered : {D T : Type 0} → DeviceViews D → StoreViews T → ReadFiles → SystemState → Devices D T → Type 0
 HoldNumbered d t f w x = HoldBytes d t (w.bytes f.image) (w.bytes f.journal) (bytes_if w f.redo) x
 
 -- the counts of failed calls of a session's devices are below a limit, and none broke the session

@@ -13,15 +13,15 @@ use Rattle.bx_journal.specs.Stack.{image_at}
 use Rattle.bx_journal.specs.Steps.{Steps}
 use Rattle.bx_journal.specs.SessionFault.{SessionFault}
 use Rattle.bx_journal.specs.SessionFault.TheVariants.{Damaged, Interrupted, LengthDiffers, RedoDamaged}
-use Rattle.bx_journal.specs.Way.{Way}
-use Rattle.bx_journal.specs.Way.TheVariants.{Undo, Redo}
+use Rattle.bx_journal.specs.Direction.{Direction}
+use Rattle.bx_journal.specs.Direction.TheVariants.{Undo, Redo}
 use Rattle.bx_cli_commands.specs.Listing.{RefusesShowing, StopsListed, StopsListing, StopsShowing, StopsShownList, log_line}
 use Rattle.bx_cli_commands.specs.declared.fault.Fault.{Fault}
 use Rattle.bx_cli_commands.specs.declared.fault.Fault.TheVariants.{Io, Session}
-use Rattle.bx_world.specs.World.{Sight, held}
+use Rattle.bx_world.specs.World.{SystemState, held}
 use Rattle.bx_world.specs.files.Reading.{MayRefuseReading}
 use Rattle.bx_world.specs.declared.files.names.Names.{Names}
-use Rattle.bx_world.specs.declared.files.unopened.Unopened.{Unopened as UnopenedFile}
+use Rattle.bx_world.specs.declared.files.unopened.OpenError.{OpenError as UnopenedFile}
 use Rattle.bx_run.specs.declared.report.error.ReportError.{ReportError}
 use Rattle.bx_run.specs.declared.report.error.ReportError.TheVariants.{Unopened, Unfinished, Another, Stopped}
 
@@ -30,7 +30,7 @@ abbrev pub IsLogOf : List ℕ → List ℕ → Type 0
 IsLogOf journal log = (whole : IsClean journal) × (log ≡ flat_map log_line (rows_of whole.0))
 
 -- the text whose entries are stepped over: an undo steps over those of the journal, a redo over those of the redo text
-abbrev pub stepped_text : Way → List ℕ → List ℕ → List ℕ
+abbrev pub stepped_text : Direction → List ℕ → List ℕ → List ℕ
 stepped_text Undo journal redo = journal
 stepped_text Redo journal redo = redo
 
@@ -76,7 +76,7 @@ HidesChanges image journal redo (Stopped fault) = StopsLook image journal redo f
 
 -- Why the changes of an image are not seen: a file may not be opened, something is unfinished, or a text is damaged, the image has another
 -- length, or memory or a device fails
-abbrev pub MayNotLook : Names → Type 0 → Sight → ReportError → Type 0
+abbrev pub MayNotLook : Names → Type 0 → SystemState → ReportError → Type 0
 MayNotLook names counted w (Unopened file) = MayRefuseReading names counted w file
 MayNotLook names counted w unseen = HidesChanges (held w names.image) (held w names.journal) (held w names.redo) unseen
 
@@ -106,21 +106,21 @@ unopened_in (Err (Unopened file)) = Some file
 unopened_in outcome = None
 
 -- Why a log with ranges is stopped: the changes are not seen, and nothing is written; or a front of it is
-abbrev pub StopsRangesOf : Names → Type 0 → Sight → Option (List ℕ) → Option (List ℕ) → ReportError → Type 0
+abbrev pub StopsRangesOf : Names → Type 0 → SystemState → Option (List ℕ) → Option (List ℕ) → ReportError → Type 0
 StopsRangesOf names counted w old new unseen =
     IsUnseenOr (MayNotLook names counted w unseen) old new (IsListCut (held w names.journal) old new unseen)
 
 -- Why the next steps are not shown: the changes are not seen, and nothing is written; or a front of the steps is
-abbrev pub StopsNextSteps : Names → Type 0 → Sight → Steps → Option (List ℕ) → Option (List ℕ) → ReportError → Type 0
+abbrev pub StopsNextSteps : Names → Type 0 → SystemState → Steps → Option (List ℕ) → Option (List ℕ) → ReportError → Type 0
 StopsNextSteps names counted w s old new unseen = IsUnseenOr (MayNotLook names counted w unseen) old new
     (IsNextCut (held w names.image) (held w names.journal) (held w names.redo) s old new unseen)
 
 -- a file may not be opened
-abbrev pub IsNotOpened : Names → Type 0 → Sight → ReportError → Type 0
+abbrev pub IsNotOpened : Names → Type 0 → SystemState → ReportError → Type 0
 IsNotOpened names counted w (Unopened file) = MayRefuseReading names counted w file
 IsNotOpened names counted w unseen = ⊥
 
 -- Why the undos of an unfinished journal are not shown: a file may not be opened, and nothing is written; or a front of them is
-abbrev pub StopsUndos : Names → Type 0 → Sight → Steps → Option (List ℕ) → Option (List ℕ) → ReportError → Type 0
+abbrev pub StopsUndos : Names → Type 0 → SystemState → Steps → Option (List ℕ) → Option (List ℕ) → ReportError → Type 0
 StopsUndos names counted w s old new unseen = IsUnseenOr (IsNotOpened names counted w unseen) old new
     (AreStepsCut (held w names.journal) (held w names.image) (undos s) old new unseen)

@@ -6,14 +6,14 @@ use Rattle.bx_text.specs.Writing.{WritesFront}
 use Rattle.bx_journal.specs.Showing.{RangesOf}
 use Rattle.bx_journal.specs.ShownText.{ShowsText}
 use Rattle.bx_cli_commands.specs.declared.fault.Fault.TheVariants.{Io}
-use Rattle.bx_world.specs.World.{Sight, held}
+use Rattle.bx_world.specs.World.{SystemState, held}
 use Rattle.bx_world.specs.declared.files.names.Names.{Names}
 use Rattle.bx_run.specs.report.Looks.{IsLogOf, IsNextShown, IsUnseenOr, MayNotLook, StopsNextSteps, StopsRangesOf, StopsUndos, undos}
 use Rattle.bx_run.specs.report.Stepped.{OfNamed, StopsPatch, WritesSteps}
 use Rattle.bx_run.specs.report.Unfinished.{ListsFront, StopsFrontOf}
 use Rattle.bx_run.specs.declared.report.error.ReportError.{ReportError}
 use Rattle.bx_run.specs.declared.report.error.ReportError.TheVariants.{Stopped}
-use Rattle.bx_run.specs.Scene.{Scene}
+use Rattle.bx_run.specs.RunState.{RunState}
 use Rattle.bx_run.specs.declared.report.kinds.Report.{Report}
 use Rattle.bx_run.specs.declared.report.kinds.Report.TheVariants.{Log, LogUnfinished, LogWithRanges, Patch, Show, ShowUnfinished}
 
@@ -27,11 +27,11 @@ IsLogCut journal old new (Stopped (Io fault)) = (log : List ℕ) × IsLogOf jour
 IsLogCut journal old new unseen = ⊥
 
 -- Why a log is stopped: the changes are not seen, and nothing is written; or a front of it is
-abbrev pub StopsLogOf : Names → Type 0 → Sight → Option (List ℕ) → Option (List ℕ) → ReportError → Type 0
+abbrev pub StopsLogOf : Names → Type 0 → SystemState → Option (List ℕ) → Option (List ℕ) → ReportError → Type 0
 StopsLogOf names counted w old new unseen = IsUnseenOr (MayNotLook names counted w unseen) old new (IsLogCut (held w names.journal) old new unseen)
 
 -- what a report that is whole wrote, by what the files hold
-abbrev pub WritesReport : Names → Report → Sight → Option (List ℕ) → Option (List ℕ) → Type 0
+abbrev pub WritesReport : Names → Report → SystemState → Option (List ℕ) → Option (List ℕ) → Type 0
 WritesReport names Log w old new = WritesLog (held w names.journal) old new
 WritesReport names LogWithRanges w old new = RangesOf (held w names.journal) old new
 WritesReport names (LogUnfinished verbose) w old new = ListsFront verbose (held w names.journal) old new
@@ -40,7 +40,7 @@ WritesReport names (ShowUnfinished steps) w old new = ShowsText (held w names.jo
 WritesReport names (Patch way count) w old new = OfNamed names w (λ s. WritesSteps way count s old new)
 
 -- why a report is not whole: nothing is seen, and nothing is written; or a front of it is
-abbrev pub StopsReport : Names → Report → Type 0 → Sight → Option (List ℕ) → Option (List ℕ) → ReportError → Type 0
+abbrev pub StopsReport : Names → Report → Type 0 → SystemState → Option (List ℕ) → Option (List ℕ) → ReportError → Type 0
 StopsReport names Log counted w old new unseen = StopsLogOf names counted w old new unseen
 StopsReport names LogWithRanges counted w old new unseen = StopsRangesOf names counted w old new unseen
 StopsReport names (LogUnfinished verbose) counted w old new unseen = StopsFrontOf names counted w verbose old new unseen
@@ -49,6 +49,6 @@ StopsReport names (ShowUnfinished steps) counted w old new unseen = StopsUndos n
 StopsReport names (Patch way count) counted w old new unseen = StopsPatch names counted w way count old new unseen
 
 -- a report was written, or why not
-abbrev pub Reports : Names → Report → Result (Unit {0}) ReportError → Scene → Scene → Type 0
-Reports names report outcome old new = MatchResult outcome (λ _. WritesReport names report old.sight old.written new.written)
-    (StopsReport names report (old.refusals < new.refusals) old.sight old.written new.written)
+abbrev pub Reports : Names → Report → Result (Unit {0}) ReportError → RunState → RunState → Type 0
+Reports names report outcome old new = MatchResult outcome (λ _. WritesReport names report old.state old.written new.written)
+    (StopsReport names report (old.refusals < new.refusals) old.state old.written new.written)

@@ -15,10 +15,10 @@ use Rattle.bx_journal.specs.Redo.{IsRedoOf}
 use Rattle.bx_journal.specs.SessionFault.TheVariants as session
 use Rattle.bx_journal.specs.SessionView.{SessionView, devices_of}
 use Rattle.bx_journal.specs.Stack.{StandsFor}
-use Rattle.bx_journal.specs.Way.{Way}
-use Rattle.bx_journal.specs.Way.TheVariants.{Undo, Redo}
+use Rattle.bx_journal.specs.Direction.{Direction}
+use Rattle.bx_journal.specs.Direction.TheVariants.{Undo, Redo}
 use Rattle.bx_cli_commands.specs.declared.fault.Fault.TheVariants.{Io, Session}
-use Rattle.bx_world.specs.World.{Sight, held}
+use Rattle.bx_world.specs.World.{SystemState, held}
 use Rattle.bx_world.specs.declared.files.names.Names.{Names}
 use Rattle.bx_run.specs.report.Devices.{HoldBytes}
 use Rattle.bx_run.specs.report.Looks.{IsUnseenOr, MayNotLook}
@@ -36,26 +36,26 @@ pub record OfImages (image journal redo : List ℕ) (holds : Images → Type 0) 
   pub each : (s : Images) → HoldImages image journal redo s → holds s
 
 -- how many changes can be taken back, or made again
-abbrev pub steps_in : Way → Images → ℕ
+abbrev pub steps_in : Direction → Images → ℕ
 steps_in Undo s = changes_of s.stack
 steps_in Redo s = length s.undone
 
 -- the images behind the machine's undo of k, or its redo of k
-abbrev pub behind_steps : Way → ℕ → Images → Images
+abbrev pub behind_steps : Direction → ℕ → Images → Images
 behind_steps Undo k s = undo_of k s
 behind_steps Redo k s = redo_of k s
 
 -- the patch between the image that is there and the one behind the steps: it makes the newer one of the older one
-abbrev pub patch_between : Way → List ℕ → List ℕ → List ℕ
+abbrev pub patch_between : Direction → List ℕ → List ℕ → List ℕ
 patch_between Undo there behind = patch_text Bytes behind there
 patch_between Redo there behind = patch_text Bytes there behind
 
 -- the patch of k steps
-abbrev pub steps_patch : Way → ℕ → Images → List ℕ
+abbrev pub steps_patch : Direction → ℕ → Images → List ℕ
 steps_patch way k s = patch_between way (top s.stack) (top (behind_steps way k s).stack)
 
 -- the patch of k steps is written, and there are as many
-abbrev pub WritesSteps : Way → ℕ → Images → Option (List ℕ) → Option (List ℕ) → Type 0
+abbrev pub WritesSteps : Direction → ℕ → Images → Option (List ℕ) → Option (List ℕ) → Type 0
 WritesSteps way k s old new = (k ≤ steps_in way s) × Appends old new (steps_patch way k s)
 
 -- what is said where a patch isn't written whole
@@ -67,7 +67,7 @@ stopped_by NewFailed = Stopped (Session session.DeviceFailed)
 stopped_by (WriteFailed written) = Stopped (Io (stream.WriteFailed written))
 
 -- what is said where there are too few changes
-abbrev pub too_few : Way → ℕ → ReportError
+abbrev pub too_few : Direction → ℕ → ReportError
 too_few Undo have = Stopped (Session (session.TooFew have))
 too_few Redo have = Stopped (Session (session.NothingToRedo have))
 
@@ -76,11 +76,11 @@ abbrev pub IsPatchCut : List ℕ → Option (List ℕ) → Option (List ℕ) →
 IsPatchCut text old new unseen = (fault : DiffFault) × (unseen ≡ stopped_by fault) × WritesPrefix old new text fault
 
 -- there are fewer changes, and it is said how many
-abbrev pub AreTooFew : Way → ℕ → Images → ReportError → Type 0
+abbrev pub AreTooFew : Direction → ℕ → Images → ReportError → Type 0
 AreTooFew way k s unseen = (steps_in way s < k) × (unseen ≡ too_few way (steps_in way s))
 
 -- The patch of k steps isn't written whole: there are fewer changes, and nothing is written; or a prefix of it is
-abbrev pub IsStepsCut : Way → ℕ → Images → Option (List ℕ) → Option (List ℕ) → ReportError → Type 0
+abbrev pub IsStepsCut : Direction → ℕ → Images → Option (List ℕ) → Option (List ℕ) → ReportError → Type 0
 IsStepsCut way k s old new unseen =
     IsUnseenOr (AreTooFew way k s unseen) old new ((k ≤ steps_in way s) × IsPatchCut (steps_patch way k s) old new unseen)
 
@@ -91,7 +91,7 @@ pub record CountsImages {D T : Type 0} (s : Images) (v : SessionView D T) : Type
 
 -- a device is faithful, and holds this image
 abbrev pub HoldsImage : {D : Type 0} → DeviceViews D → List ℕ → D → Type 0
-HoldsImage d x device = d.honest device × (d.image device ≡ x)
+HoldsImage d x device = d.faithful device × (d.image device ≡ x)
 
 -- The devices of a session, and one more of the image, hold these images, and the session counts them
 pub record HoldCounted {D T : Type 0} (d : DeviceViews D) (t : StoreViews T) (image journal redo : List ℕ) (s : Images) (v : SessionView D T)
@@ -106,10 +106,10 @@ abbrev pub CountsHeld : {D T : Type 0} → List ℕ → List ℕ → List ℕ �
 CountsHeld image journal redo v = (s : Images) × HoldImages image journal redo s × CountsImages s v
 
 -- it is so of the images that the files of these names hold
-abbrev pub OfNamed : Names → Sight → (Images → Type 0) → Type 0
+abbrev pub OfNamed : Names → SystemState → (Images → Type 0) → Type 0
 OfNamed names w holds = OfImages (held w names.image) (held w names.journal) (held w names.redo) holds
 
 -- Why the patch of the next steps isn't shown: the changes are not seen, and nothing is written; or it isn't written whole
-abbrev pub StopsPatch : Names → Type 0 → Sight → Way → ℕ → Option (List ℕ) → Option (List ℕ) → ReportError → Type 0
+abbrev pub StopsPatch : Names → Type 0 → SystemState → Direction → ℕ → Option (List ℕ) → Option (List ℕ) → ReportError → Type 0
 StopsPatch names counted w way k old new unseen =
     IsUnseenOr (MayNotLook names counted w unseen) old new (OfNamed names w (λ s. IsStepsCut way k s old new unseen))

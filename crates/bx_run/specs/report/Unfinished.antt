@@ -13,7 +13,7 @@ use Rattle.bx_journal.specs.ShownSteps.{HasFront, IsUnfinishedBehind, unfinished
 use Rattle.bx_cli_commands.specs.Listing.{StopsListing, log_line}
 use Rattle.bx_cli_commands.specs.declared.fault.Fault.{Fault}
 use Rattle.bx_cli_commands.specs.declared.fault.Fault.TheVariants.{Io, Session}
-use Rattle.bx_world.specs.World.{Sight, held}
+use Rattle.bx_world.specs.World.{SystemState, held}
 use Rattle.bx_world.specs.declared.files.names.Names.{Names}
 use Rattle.bx_run.specs.report.Looks.{IsNotOpened, IsUnseenOr}
 use Rattle.bx_run.specs.declared.report.error.ReportError.{ReportError}
@@ -55,7 +55,7 @@ IsFrontCut verbose text old new (Stopped fault) = StopsListing (Unit {0}) text f
 IsFrontCut verbose text old new unseen = ⊥
 
 -- Why it is stopped for files of these names: a file may not be opened, and nothing is written; or a front of it is
-abbrev pub StopsFrontOf : Names → Type 0 → Sight → Bool → Option (List ℕ) → Option (List ℕ) → ReportError → Type 0
+abbrev pub StopsFrontOf : Names → Type 0 → SystemState → Bool → Option (List ℕ) → Option (List ℕ) → ReportError → Type 0
 StopsFrontOf names counted w verbose old new unseen =
     IsUnseenOr (IsNotOpened names counted w unseen) old new (IsFrontCut verbose (held w names.journal) old new unseen)
 

@@ -2,17 +2,17 @@
 use Rattle.std.specs.Prelude.{ℕ, Option, None, Some, Result, Ok, Err}
 use Rattle.bx_dd.specs.declared.counts.Counts.{Counts}
 use Rattle.bx_patch.specs.declared.diff.fault.DiffFault.TheVariants.{OldFailed, NewFailed}
-use Rattle.bx_journal.specs.How.{How}
+use Rattle.bx_journal.specs.RecoveryOutcome.{RecoveryOutcome}
 use Rattle.bx_journal.specs.SessionFault.TheVariants.{NoMemory}
 use Rattle.bx_cli_commands.specs.Replies.{counted_by, stands_by}
 use Rattle.bx_cli_commands.specs.declared.fault.Fault.{Fault}
 use Rattle.bx_cli_commands.specs.declared.fault.Fault.TheVariants.{Session}
 use Rattle.bx_cli_commands.specs.declared.jobs.dump.Done.TheVariants as dump_done
 use Rattle.bx_world.specs.declared.world.Outgrown.{Outgrown}
-use Rattle.bx_world.specs.declared.files.unopened.Unopened.{Unopened}
-use Rattle.bx_world.specs.declared.files.unopened.Which.{Which}
-use Rattle.bx_world.specs.declared.files.unopened.Which.TheVariants as which
-use Rattle.bx_world.specs.declared.files.unopened.Why.TheVariants.{System}
+use Rattle.bx_world.specs.declared.files.unopened.OpenError.{OpenError}
+use Rattle.bx_world.specs.declared.files.unopened.FileRole.{FileRole}
+use Rattle.bx_world.specs.declared.files.unopened.FileRole.TheVariants as which
+use Rattle.bx_world.specs.declared.files.unopened.OpenFailure.TheVariants.{System}
 use Rattle.bx_run.specs.declared.dump.error.DumpError.{DumpError}
 use Rattle.bx_run.specs.declared.dump.error.DumpError.TheVariants as dump
 use Rattle.bx_run.specs.declared.report.error.ReportError.{ReportError}
@@ -21,8 +21,8 @@ use Rattle.bx_run.specs.run.Outcome.{ended_by, grown_fault}
 use Rattle.bx_run.specs.declared.run.answer.Cause.TheVariants as cause
 use Rattle.bx_run.specs.declared.run.answer.Done.{Done}
 use Rattle.bx_run.specs.declared.run.answer.Failure.{Failure}
-use Rattle.bx_run.specs.declared.run.answer.FileRole.{FileRole}
-use Rattle.bx_run.specs.declared.run.answer.FileRole.TheVariants.{Image, Journal, Redo, Old, New}
+use Rattle.bx_run.specs.declared.run.answer.CommandFile.{CommandFile}
+use Rattle.bx_run.specs.declared.run.answer.CommandFile.TheVariants.{Image, Journal, Redo, Old, New}
 use Rattle.bx_run.specs.declared.run.answer.Step.{Step}
 use Rattle.bx_run.specs.declared.run.answer.Step.TheVariants.{Opening, Dropping, Work}
 use Rattle.bx_run.specs.declared.run.answer.Stop.{Stop}
@@ -36,7 +36,7 @@ use Rattle.bx_run.specs.declared.renew.Renewed.{Renewed as Renewal}
 use Rattle.bx_run.specs.declared.renew.Renewed.TheVariants as renewal
 
 -- what opening the image found unfinished; none of a command that changes no image
-abbrev pub how_by : Outcome → Option How
+abbrev pub how_by : Outcome → Option RecoveryOutcome
 how_by (Moved moved) = moved.how
 how_by (Changed answer) = answer.how
 how_by (Renewed (renewal.Kept answer)) = answer.how
@@ -76,13 +76,13 @@ step_by (Renewed (renewal.Undropped unseen)) = Dropping
 step_by outcome = Work
 
 -- what one of the three files of an image is to a command
-abbrev pub role_of : Which → FileRole
+abbrev pub role_of : FileRole → CommandFile
 role_of which.Image = Image
 role_of which.Journal = Journal
 role_of which.Redo = Redo
 
 -- the file of an image that wasn't opened, where one wasn't
-abbrev pub task_stop : Option Unopened → Option Stop
+abbrev pub task_stop : Option OpenError → Option Stop
 task_stop None = None
 task_stop (Some file) = Some (record { file = role_of file.which; cause = cause.Unopened file.why })
 

@@ -4,17 +4,17 @@ use Rattle.std.specs.Result.{MatchResult}
 use Rattle.bx_dd.specs.declared.counts.Counts.{Counts}
 use Rattle.bx_patch.specs.declared.diff.row.Extent.{Extent}
 use Rattle.bx_journal.specs.Images.{Images}
-use Rattle.bx_journal.specs.Way.{Way}
+use Rattle.bx_journal.specs.Direction.{Direction}
 use Rattle.bx_cli_commands.specs.declared.jobs.dump.Done.{Done as DumpDone}
 use Rattle.bx_cli_commands.specs.declared.jobs.dumps.DumpJob.{DumpJob}
-use Rattle.bx_world.specs.World.{NothingNewFound, Sight, Spares}
+use Rattle.bx_world.specs.World.{NothingNewFound, SystemState, Spares}
 use Rattle.bx_world.specs.declared.world.Outgrown.{Outgrown}
 use Rattle.bx_world.specs.files.Files.{LeavesFiles}
 use Rattle.bx_world.specs.files.Fit.{AreFit}
 use Rattle.bx_world.specs.files.Reading.{AreReadable, MayRefuseForgetting, MayRefuseReading}
 use Rattle.bx_world.specs.files.Reasons.{MayRefuseOpening}
 use Rattle.bx_world.specs.declared.files.names.Names.{Names}
-use Rattle.bx_world.specs.declared.files.unopened.Unopened.{Unopened}
+use Rattle.bx_world.specs.declared.files.unopened.OpenError.{OpenError}
 use Rattle.bx_run.specs.session.Changes.{SaysRecovered}
 use Rattle.bx_run.specs.session.Contents.{FoundIn, Holds, TellsUnfinished}
 use Rattle.bx_run.specs.session.Moves.{Moves, MovesFound, MovesRead, SparesMove, StopsMove, SurvivesMoving, TellsRecovered, stepped, task_of}
@@ -33,7 +33,7 @@ use Rattle.bx_run.specs.preview.Previews.{StopsPreview, WritesPreview}
 use Rattle.bx_run.specs.renew.Renewal.{DoesRenew, KeepsNamed, SurvivesRenewal, TellsOpening, no_change}
 use Rattle.bx_run.specs.report.Reports.{Reports}
 use Rattle.bx_run.specs.Edit.{asked}
-use Rattle.bx_run.specs.Scene.{Scene}
+use Rattle.bx_run.specs.RunState.{RunState}
 use Rattle.bx_run.specs.declared.run.answer.Done.{Done}
 use Rattle.bx_run.specs.declared.run.answer.Failure.{Failure}
 use Rattle.bx_run.specs.declared.preview.diff.DiffError.{DiffError}
@@ -47,7 +47,7 @@ use Rattle.bx_run.specs.declared.run.request.Request.TheVariants.{Move, Change, 
 -- Of files that hold images an undo or a redo leaves those with `count` changes moved and writes how many stand, or it stops and says why; of
 -- files in which opening finds images, as after a crash, it does so on what is recovered. One that is refused leaves all files as they were, whatever
 -- they held, or what was recovered; what was unfinished is said; and one that is done moves the images for which the files stand, sound or not
-pub record DoesMove (names : Names) (way : Way) (count : ℕ) (moved : Moved (Unit {0})) (old new : Sight) : Type 0 where
+pub record DoesMove (names : Names) (way : Direction) (count : ℕ) (moved : Moved (Unit {0})) (old new : SystemState) : Type 0 where
   pub done : (s : Images) → Holds (contents_of names old) s → OnOk moved.outcome (Moves names count (stepped way s) old new)
   pub stopped : (s : Images) → Holds (contents_of names old) s → IfErr moved.outcome (StopsMove names count (stepped way s) moved.unopened old new)
   pub spares : IfErr moved.outcome (SparesMove names moved.unopened moved.how old new)
@@ -58,29 +58,29 @@ pub record DoesMove (names : Names) (way : Way) (count : ℕ) (moved : Moved (Un
 
 -- A dump writes the job's text of all bytes of the file, or a front of it and says why; a file that isn't opened is missing, or the system counted
 -- a call that it refused
-pub record DoesDump (job : DumpJob) (name : List ℕ) (outcome : Result DumpDone DumpError) (old new : Scene) : Type 0 where
-  pub text : MatchResult outcome (λ done. DumpsNamed job name old.sight done old.written new.written)
-      (λ e. StopsNamed job name old.sight e old.written new.written)
+pub record DoesDump (job : DumpJob) (name : List ℕ) (outcome : Result DumpDone DumpError) (old new : RunState) : Type 0 where
+  pub text : MatchResult outcome (λ done. DumpsNamed job name old.state done old.written new.written)
+      (λ e. StopsNamed job name old.state e old.written new.written)
   pub counted : CountsUndumped outcome old.refusals new.refusals
 
 -- A dump of an input writes the job's text of all bytes that it gives from where it stands, or a front of it and says why
-pub record DoesDumpInput (job : DumpJob) (input : Option (List ℕ)) (outcome : Result DumpDone DumpError) (old new : Scene) : Type 0 where
+pub record DoesDumpInput (job : DumpJob) (input : Option (List ℕ)) (outcome : Result DumpDone DumpError) (old new : RunState) : Type 0 where
   pub text : MatchResult outcome (λ done. DumpsInput job input done old.written new.written) (StopsInput job input old.written new.written)
   pub counted : new.refusals ≡ old.refusals
 
 -- A comparison writes the patch from the bytes of one file to those of another, or a front of it and says why; a file that isn't opened is missing,
 -- may not be read by the rule, or the system counted a call that it refused
-abbrev pub DoesDiff : Extent → List ℕ → List ℕ → Result (Unit {0}) DiffError → Scene → Scene → Type 0
+abbrev pub DoesDiff : Extent → List ℕ → List ℕ → Result (Unit {0}) DiffError → RunState → RunState → Type 0
 DoesDiff extent old_name new_name outcome old new =
-    MatchResult outcome (λ _. WritesDiff extent old_name new_name old.sight old.written new.written)
-    (StopsDiff extent old_name new_name (old.refusals < new.refusals) old.sight old.written new.written)
+    MatchResult outcome (λ _. WritesDiff extent old_name new_name old.state old.written new.written)
+    (StopsDiff extent old_name new_name (old.refusals < new.refusals) old.state old.written new.written)
 
 -- A preview writes the patch from what the image has, nothing where it is missing, to what the machine's step would make of it, or a front of it and
 -- says why; an image that isn't opened may not be read by the rule, or the system counted a call that it refused
-abbrev pub DoesPreview : {R : Type 0} → (R → Option (List ℕ)) → List ℕ → Edit R → Result (Option Counts) PreviewError → Scene → Scene → Type 0
+abbrev pub DoesPreview : {R : Type 0} → (R → Option (List ℕ)) → List ℕ → Edit R → Result (Option Counts) PreviewError → RunState → RunState → Type 0
 DoesPreview remaining name edit outcome old new =
-    MatchResult outcome (λ counts. WritesPreview remaining name edit old.sight counts old.written new.written)
-    (StopsPreview remaining name edit (old.refusals < new.refusals) old.sight old.written new.written)
+    MatchResult outcome (λ counts. WritesPreview remaining name edit old.state counts old.written new.written)
+    (StopsPreview remaining name edit (old.refusals < new.refusals) old.state old.written new.written)
 
 -- each command has an answer of its own; an input is open, and no seek places it
 abbrev pub Answers : {R : Type 0} → Request R → Outcome → Type 0
@@ -97,10 +97,10 @@ Answers (Renew names guard edit) (of.Renewed renewed) = Unit {0}
 Answers request outcome = ⊥
 
 -- what each command does
-abbrev pub Fulfills : {R : Type 0} → (R → Option (List ℕ)) → Request R → Outcome → Scene → Scene → Type 0
-Fulfills remaining (Move names guard way count) (of.Moved moved) old new = DoesMove names.now way count moved old.sight new.sight
-Fulfills remaining (Change names guard edit) (of.Changed answer) old new = DoesChange remaining names.now (asked edit) answer old.sight new.sight
-Fulfills remaining (Recover names guard) (of.Changed answer) old new = DoesChange remaining names.now no_change answer old.sight new.sight
+abbrev pub Fulfills : {R : Type 0} → (R → Option (List ℕ)) → Request R → Outcome → RunState → RunState → Type 0
+Fulfills remaining (Move names guard way count) (of.Moved moved) old new = DoesMove names.now way count moved old.state new.state
+Fulfills remaining (Change names guard edit) (of.Changed answer) old new = DoesChange remaining names.now (asked edit) answer old.state new.state
+Fulfills remaining (Recover names guard) (of.Changed answer) old new = DoesChange remaining names.now no_change answer old.state new.state
 Fulfills remaining (Dump job name) (of.Dumped outcome) old new = DoesDump job.now name.now outcome old new
 Fulfills remaining (DumpInput job input) (of.Dumped outcome) old new = DoesDumpInput job.now (remaining input) outcome old new
 Fulfills remaining (Diff old_name new_name extent) (of.Compared outcome) old new = DoesDiff extent old_name.now new_name.now outcome old new
@@ -113,7 +113,7 @@ Fulfills remaining request outcome old new = ⊥
 -- whatever is found of the files after a loss of power: behind an undo, a redo and a change opening finds the images behind some of its steps, or
 -- of an end of it, and behind a history that was dropped the image, with all changes or fewer; behind a dump, a comparison, a preview and a report nothing
 -- is found that wasn't before
-abbrev pub SurvivesLoss : {R : Type 0} → (R → Option (List ℕ)) → Request R → Outcome → Sight → Sight
+abbrev pub SurvivesLoss : {R : Type 0} → (R → Option (List ℕ)) → Request R → Outcome → SystemState → SystemState
     → (ℕ → List ℕ → Type 0) → (ℕ → List ℕ → Type 0) → Type 0
 SurvivesLoss remaining (Move names guard way count) (of.Moved moved) old new found left =
     SurvivesMoving names.now count way moved old new found left
@@ -128,7 +128,7 @@ SurvivesLoss remaining request outcome old new found left = NothingNewFound foun
 
 -- no file is changed but the three of an undo, a redo or a change, and the texts of a history that is dropped; each name leads where it led
 -- (behind a change with which the history begins anew this is said of files that a name led to)
-abbrev pub LeavesOthers : {R : Type 0} → Request R → Sight → Sight → Type 0
+abbrev pub LeavesOthers : {R : Type 0} → Request R → SystemState → SystemState → Type 0
 LeavesOthers (Move names guard way count) old new = KeepsOthers names.now old new
 LeavesOthers (Change names guard edit) old new = KeepsOthers names.now old new
 LeavesOthers (Recover names guard) old new = KeepsOthers names.now old new
@@ -138,7 +138,7 @@ LeavesOthers request old new = new ≡ old
 
 -- what stands under the names may be opened, by the rule: to be changed, or to be read; a dump is of any file, and a comparison and a preview say themselves which
 -- they are of
-abbrev pub MayOpen : {R : Type 0} → Request R → Sight → Type 0
+abbrev pub MayOpen : {R : Type 0} → Request R → SystemState → Type 0
 MayOpen (Move names guard way count) w = AreFit names.now guard.mounted w
 MayOpen (Change names guard edit) w = AreFit names.now guard.mounted w
 MayOpen (Recover names guard) w = AreFit names.now guard.mounted w
@@ -151,7 +151,7 @@ MayOpen (Forget names guard) w = AreReadable names.now w
 MayOpen (Renew names guard edit) w = AreFit names.now guard.mounted w
 
 -- why a file of an image may not be opened, or a task not begun on another image
-abbrev pub MayRefuseFile : {R : Type 0} → Request R → Type 0 → List ℕ → Sight → Unopened → Type 0
+abbrev pub MayRefuseFile : {R : Type 0} → Request R → Type 0 → List ℕ → SystemState → OpenError → Type 0
 MayRefuseFile (Move names guard way count) counted note w file = MayRefuseTask guard false note (task_of way count) names.now counted w file
 MayRefuseFile (Change names guard edit) counted note w file = MayRefuseTask guard true note (asked edit) names.now counted w file
 MayRefuseFile {R = R} (Recover names guard) counted note w file = MayRefuseTask {R = R} guard true note no_change names.now counted w file
@@ -164,39 +164,39 @@ MayRefuseFile (Forget names guard) counted note w file = MayRefuseForgetting nam
 MayRefuseFile (Renew names guard edit) counted note w file = MayRefuseOpening names.now guard.mounted true counted w file
 
 -- what an undo, a redo and a change did they did behind a judgement of the image, by the line that the note had
-abbrev pub WereJudged : {R : Type 0} → Request R → Outcome → Scene → Type 0
-WereJudged (Move names guard way count) (of.Moved moved) old = WasJudged guard (is_missing names.now.image old.sight) old.note
-    (contents_of names.now old.sight) (task_of way count) moved.unopened moved.how
-WereJudged (Change names guard edit) (of.Changed answer) old = WasJudged guard (is_missing names.now.image old.sight) old.note
-    (contents_of names.now old.sight) (asked edit) answer.unopened answer.how
-WereJudged {R = R} (Recover names guard) (of.Changed answer) old = WasJudged guard (is_missing names.now.image old.sight) old.note
-    (contents_of names.now old.sight) (no_change {R = R}) answer.unopened answer.how
+abbrev pub WereJudged : {R : Type 0} → Request R → Outcome → RunState → Type 0
+WereJudged (Move names guard way count) (of.Moved moved) old = WasJudged guard (is_missing names.now.image old.state) old.note
+    (contents_of names.now old.state) (task_of way count) moved.unopened moved.how
+WereJudged (Change names guard edit) (of.Changed answer) old = WasJudged guard (is_missing names.now.image old.state) old.note
+    (contents_of names.now old.state) (asked edit) answer.unopened answer.how
+WereJudged {R = R} (Recover names guard) (of.Changed answer) old = WasJudged guard (is_missing names.now.image old.state) old.note
+    (contents_of names.now old.state) (no_change {R = R}) answer.unopened answer.how
 WereJudged request outcome old = Unit {0}
 
 -- A file of an image wasn't opened, or it isn't the image: the fault says so, all files are as they were, nothing is written, and there is a reason
-pub record StopsUnopened {R : Type 0} (request : Request R) (outcome : Outcome) (old new : Scene) (file : Unopened) : Type 0 where
+pub record StopsUnopened {R : Type 0} (request : Request R) (outcome : Outcome) (old new : RunState) (file : OpenError) : Type 0 where
   pub fault : ended_by outcome ≡ Err (unopened_fault file.why)
-  pub files : LeavesFiles old.sight new.sight
-  pub why : MayRefuseFile request (old.refusals < new.refusals) old.note old.sight file
+  pub files : LeavesFiles old.state new.state
+  pub why : MayRefuseFile request (old.refusals < new.refusals) old.note old.state file
 
 -- What is written: what was recovered on standard error; of an undo and a redo a number on standard output; of a dump, a comparison, a preview and a report
 -- what stands in the output that they are given
-abbrev pub Writes : {R : Type 0} → Request R → Outcome → Scene → Scene → Type 0
+abbrev pub Writes : {R : Type 0} → Request R → Outcome → RunState → RunState → Type 0
 Writes (Move names guard way count) (of.Moved moved) old new =
-    TellsRecovered moved.how old.sight.errors new.sight.errors × (new.written ≡ old.written)
-Writes (Change names guard edit) (of.Changed answer) old new = SaysRecovered answer.how old.sight new.sight × (new.written ≡ old.written)
-Writes (Recover names guard) (of.Changed answer) old new = SaysRecovered answer.how old.sight new.sight × (new.written ≡ old.written)
-Writes (Renew names guard edit) (of.Renewed renewed) old new = TellsOpening renewed old.sight new.sight × (new.written ≡ old.written)
-Writes request outcome old new = (new.sight.output ≡ old.sight.output) × (new.sight.errors ≡ old.sight.errors)
+    TellsRecovered moved.how old.state.errors new.state.errors × (new.written ≡ old.written)
+Writes (Change names guard edit) (of.Changed answer) old new = SaysRecovered answer.how old.state new.state × (new.written ≡ old.written)
+Writes (Recover names guard) (of.Changed answer) old new = SaysRecovered answer.how old.state new.state × (new.written ≡ old.written)
+Writes (Renew names guard edit) (of.Renewed renewed) old new = TellsOpening renewed old.state new.state × (new.written ≡ old.written)
+Writes request outcome old new = (new.state.output ≡ old.state.output) × (new.state.errors ≡ old.state.errors)
 
 -- What a command did that ended so, on the files as they were before it: it did what it is to do, on an image that was judged, in a way that a loss of
 -- power leaves to be found, on files that may be opened; where one wasn't opened all are as they were; and what it wrote stands where it is to
-pub record HasRun {R : Type 0} (remaining : R → Option (List ℕ)) (request : Request R) (outcome : Outcome) (old new : Scene)
+pub record HasRun {R : Type 0} (remaining : R → Option (List ℕ)) (request : Request R) (outcome : Outcome) (old new : RunState)
     (found left : ℕ → List ℕ → Type 0) : Type 0 where
   pub does : Fulfills remaining request outcome old new
   pub judged : WereJudged request outcome old
-  pub survives : SurvivesLoss remaining request outcome old.sight new.sight found left
-  pub fit : unopened_by outcome ≡ None → MayOpen request old.sight
+  pub survives : SurvivesLoss remaining request outcome old.state new.state found left
+  pub fit : unopened_by outcome ≡ None → MayOpen request old.state
   pub unopened : IfSome (unopened_by outcome) (StopsUnopened request outcome old new)
   pub streams : Writes request outcome old new
 

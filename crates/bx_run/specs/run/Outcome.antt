@@ -9,9 +9,9 @@ use Rattle.bx_cli_commands.specs.declared.fault.Fault.{Fault}
 use Rattle.bx_cli_commands.specs.declared.fault.Fault.TheVariants.{ChangedSince, Io, OpenFailed, Session}
 use Rattle.bx_run.specs.declared.dump.error.DumpError.{DumpError}
 use Rattle.bx_run.specs.declared.dump.error.DumpError.TheVariants as dump
-use Rattle.bx_world.specs.declared.files.unopened.Unopened.{Unopened}
-use Rattle.bx_world.specs.declared.files.unopened.Why.{Why}
-use Rattle.bx_world.specs.declared.files.unopened.Why.TheVariants.{System, Unfit, Alias, Another}
+use Rattle.bx_world.specs.declared.files.unopened.OpenError.{OpenError}
+use Rattle.bx_world.specs.declared.files.unopened.OpenFailure.{OpenFailure}
+use Rattle.bx_world.specs.declared.files.unopened.OpenFailure.TheVariants.{System, Unfit, Alias, Another}
 use Rattle.bx_world.specs.declared.world.Outgrown.{Outgrown}
 use Rattle.bx_run.specs.report.Looks.{unopened_in}
 use Rattle.bx_run.specs.declared.report.error.ReportError.{ReportError}
@@ -26,14 +26,14 @@ use Rattle.bx_run.specs.declared.renew.Renewed.{Renewed as Renewal}
 use Rattle.bx_run.specs.declared.renew.Renewed.TheVariants as renewal
 
 -- the fault of a file that wasn't opened, or isn't the image that its journal was written beside
-abbrev pub unopened_fault : Why → Fault
+abbrev pub unopened_fault : OpenFailure → Fault
 unopened_fault (System refusal) = OpenFailed
 unopened_fault (Unfit unfit) = OpenFailed
 unopened_fault Alias = OpenFailed
 unopened_fault Another = ChangedSince
 
 -- the fault of a task on files, which is that of a file that wasn't opened, where one wasn't
-abbrev pub task_fault : Option Unopened → Fault → Fault
+abbrev pub task_fault : Option OpenError → Fault → Fault
 task_fault None fault = fault
 task_fault (Some file) fault = unopened_fault file.why
 
@@ -103,12 +103,12 @@ ended_by (Forgotten outcome) = ended_with look_fault outcome
 ended_by (Renewed renewed) = renewed_end renewed
 
 -- the file that wasn't opened to be changed, so that nothing was done; a later step says itself which it didn't open
-abbrev pub first_unopened : Renewal → Option Unopened
+abbrev pub first_unopened : Renewal → Option OpenError
 first_unopened (renewal.Kept answer) = answer.unopened
 first_unopened renewed = None
 
 -- the file of an image that wasn't opened, and why, before anything was done; none where all were, or a dump, a comparison or a preview was asked for
-abbrev pub unopened_by : Outcome → Option Unopened
+abbrev pub unopened_by : Outcome → Option OpenError
 unopened_by (Moved moved) = moved.unopened
 unopened_by (Changed answer) = answer.unopened
 unopened_by (Dumped outcome) = None

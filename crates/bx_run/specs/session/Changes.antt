@@ -1,8 +1,8 @@
 -- What a person sees of a change of files.
 use Rattle.std.specs.Prelude.{◌≡◌, ℕ, Option, None, List}
-use Rattle.bx_world.specs.World.{Sight}
+use Rattle.bx_world.specs.World.{SystemState}
 use Rattle.bx_world.specs.declared.files.names.Names.{Names}
-use Rattle.bx_journal.specs.How.{How}
+use Rattle.bx_journal.specs.RecoveryOutcome.{RecoveryOutcome}
 use Rattle.bx_journal.specs.Images.{Images}
 use Rattle.bx_journal.specs.Machine.{changes_of}
 use Rattle.bx_cli_commands.specs.declared.command.Reply.{Reply}
@@ -23,7 +23,7 @@ pub record Changes {R : Type 0} (remaining : R → Option (List ℕ)) (s : Image
 
 -- A task was refused: all files are as they were, byte for byte, whatever they held, or, where something was recovered, the three hold what that left;
 -- and of files that were opened and hold images there is a reason
-pub record RefusesChange {R : Type 0} (remaining : R → Option (List ℕ)) (names : Names) (task : Task R) (answer : Answer) (old new : Sight) : Type 0 where
+pub record RefusesChange {R : Type 0} (remaining : R → Option (List ℕ)) (names : Names) (task : Task R) (answer : Answer) (old new : SystemState) : Type 0 where
   pub why : (s : Images) → Holds (contents_of names old) s → answer.unopened ≡ None → MayRefuse remaining s task answer.reply
   pub left : LeavesRefused names answer.unopened answer.how old new
 
@@ -34,7 +34,7 @@ pub record InterruptsChange {R : Type 0} (remaining : R → Option (List ℕ)) (
   pub finds : FindsIn new found
 
 -- nothing is written but what is said on standard error of what opening found unfinished, and no file is lent that wasn't
-pub record SaysRecovered (how : Option How) (old new : Sight) : Type 0 where
+pub record SaysRecovered (how : Option RecoveryOutcome) (old new : SystemState) : Type 0 where
   pub output : new.output ≡ old.output
   pub errors : TellsRecovered how old.errors new.errors
   pub lent : new.lent ≡ old.lent

@@ -14,8 +14,8 @@ use Rattle.bx_journal.specs.Phase.{IsAtRest}
 use Rattle.bx_journal.specs.Power.{Found, FoundBefore}
 use Rattle.bx_journal.specs.Redo.{Finds, IsRedoOf, found_undone}
 use Rattle.bx_journal.specs.Text.{Reading, Reads}
-use Rattle.bx_journal.specs.How.{How}
-use Rattle.bx_journal.specs.How.TheVariants.{Clean}
+use Rattle.bx_journal.specs.RecoveryOutcome.{RecoveryOutcome}
+use Rattle.bx_journal.specs.RecoveryOutcome.TheVariants.{Clean}
 use Rattle.bx_journal.specs.SessionFault.{SessionFault}
 use Rattle.bx_journal.specs.Devices.{Devices}
 use Rattle.bx_cli_commands.specs.Power.{images_of}
@@ -63,18 +63,18 @@ abbrev pub Does : {R : Type 0} → (R → Option (List ℕ)) → Images → Task
 Does remaining s task reply new = (IsUnopened reply × Holds new s) ⊎ StepsTo remaining s task reply new
 
 -- the images that opening makes of those that it finds: where something is unfinished nothing is undone any more
-abbrev pub recovered_as : How → Images → Images
+abbrev pub recovered_as : RecoveryOutcome → Images → Images
 recovered_as how s = record { stack = s.stack; undone = found_undone how s.undone }
 
 -- A task on three contents in which opening finds images: it made the machine's step from what was recovered, or opening was refused, and
 -- finds them again, behind an interruption without those that were undone
-abbrev pub DoesFound : {R : Type 0} → (R → Option (List ℕ)) → Images → Task R → Option How → Reply → Contents → Type 0
+abbrev pub DoesFound : {R : Type 0} → (R → Option (List ℕ)) → Images → Task R → Option RecoveryOutcome → Reply → Contents → Type 0
 DoesFound remaining s task (Some how) reply new = StepsTo remaining (recovered_as how s) task reply new
 DoesFound remaining s task None reply new =
     (e : SessionFault) × (reply ≡ Refused (Session e)) × AfterFault e (FoundIn new (record { stack = s.stack; undone = [] })) (FoundIn new s)
 
 -- Opening found something unfinished and dropped it, or took it back: what is left stands for what the journal reads as, and nothing is undone
-pub record IsRecovered (how : How) (old new : Contents) : Type 0 where
+pub record IsRecovered (how : RecoveryOutcome) (old new : Contents) : Type 0 where
   pub reading : Reading
   pub reads : Reads (shown old.journal) reading
   pub changes : ℕ
@@ -83,7 +83,7 @@ pub record IsRecovered (how : How) (old new : Contents) : Type 0 where
 
 -- A task that was refused leaves the three as they were, byte for byte, whatever they hold; or, where opening found something unfinished, as that
 -- left them
-abbrev pub Spared : Option How → Contents → Contents → Type 0
+abbrev pub Spared : Option RecoveryOutcome → Contents → Contents → Type 0
 Spared None old new = new ≡ old
 Spared (Some Clean) old new = new ≡ old
 Spared (Some how) old new = IsRecovered how old new
@@ -93,7 +93,7 @@ abbrev pub StandsIn : Contents → Images → Type 0
 StandsIn c s = StandsFor c.journal c.image s.stack × IsRedoOf c.redo c.image (changes_of s.stack) s.undone
 
 -- The images for which the three stand as their texts read, be they sound or not, once what is unfinished is recovered
-pub record ReadAs (how : How) (c : Contents) (s : Images) : Type 0 where
+pub record ReadAs (how : RecoveryOutcome) (c : Contents) (s : Images) : Type 0 where
   pub reading : Reading
   pub reads : Reads (shown c.journal) reading
   pub stack_is : s.stack ≡ recovered reading c.image
@@ -101,7 +101,7 @@ pub record ReadAs (how : How) (c : Contents) (s : Images) : Type 0 where
   pub none : (how ≡ Clean → ⊥) → s.undone ≡ []
 
 -- A task that no device's failure refused, on three that opening took: it made the machine's step on the images for which they stand
-pub record StepsRead {R : Type 0} (remaining : R → Option (List ℕ)) (task : Task R) (how : How) (reply : Reply) (old new : Contents) : Type 0 where
+pub record StepsRead {R : Type 0} (remaining : R → Option (List ℕ)) (task : Task R) (how : RecoveryOutcome) (reply : Reply) (old new : Contents) : Type 0 where
   pub before : Images
   pub next : Images
   pub read : ReadAs how old before
@@ -110,7 +110,7 @@ pub record StepsRead {R : Type 0} (remaining : R → Option (List ℕ)) (task : 
 
 -- What opening found unfinished is said, as the journal reads, whatever it holds; of three that hold images nothing is. A task that is done always tells
 -- what was found
-pub record TellsUnfinished {V : Type 0} (old : Contents) (how : Option How) (outcome : Result V Fault) : Type 0 where
+pub record TellsUnfinished {V : Type 0} (old : Contents) (how : Option RecoveryOutcome) (outcome : Result V Fault) : Type 0 where
   pub told : (r : Reading) → Reads (shown old.journal) r → IfSome how (λ h. h ≡ how_of r (left_over old.journal))
   pub none : (s : Images) → Holds old s → IfSome how (λ h. h ≡ Clean)
   pub some : OnOk outcome (how ≡ None → ⊥)
@@ -128,7 +128,7 @@ Survives remaining s task reply image journal redo = (x text redo_text : List �
 
 -- the same of three in which opening finds images: of an end of the task from what was recovered, or, where opening was stopped in the middle, those
 -- that it found, and none that is undone
-abbrev pub SurvivesFound : {R : Type 0} → (R → Option (List ℕ)) → Images → Task R → Option How → Reply
+abbrev pub SurvivesFound : {R : Type 0} → (R → Option (List ℕ)) → Images → Task R → Option RecoveryOutcome → Reply
     → (List ℕ → Type 0) → (List ℕ → Type 0) → (List ℕ → Type 0) → Type 0
 SurvivesFound remaining s task (Some how) reply image journal redo = Survives remaining (recovered_as how s) task reply image journal redo
 SurvivesFound remaining s task None reply image journal redo = LosesUndone s image journal redo
@@ -137,13 +137,13 @@ SurvivesFound remaining s task None reply image journal redo = LosesUndone s ima
 abbrev pub held_by : {D T : Type 0} → DeviceViews D → StoreViews T → Devices D T → Contents
 held_by d t x = record { image = d.image x.image; journal = t.text x.journal; redo = t.text x.redo }
 
--- the three devices are honest
+-- the three devices are faithful
 abbrev pub AreHonest : {D T : Type 0} → DeviceViews D → StoreViews T → Devices D T → Type 0
-AreHonest d t x = d.honest x.image × t.honest x.journal × t.honest x.redo
+AreHonest d t x = d.faithful x.image × t.faithful x.journal × t.faithful x.redo
 
--- each device is honest if it was
+-- each device is faithful if it was
 abbrev pub KeepHonesty : {D T : Type 0} → DeviceViews D → StoreViews T → Devices D T → Devices D T → Type 0
-KeepHonesty d t old new = (d.honest new.image ↔ d.honest old.image) × (t.honest new.journal ↔ t.honest old.journal) × (t.honest new.redo ↔ t.honest old.redo)
+KeepHonesty d t old new = (d.faithful new.image ↔ d.faithful old.image) × (t.faithful new.journal ↔ t.faithful old.journal) × (t.faithful new.redo ↔ t.faithful old.redo)
 
 -- no call of the three failed: failures count from 0, those of the redo text from 2 ^ 32
 abbrev pub AreFresh : {D T : Type 0} → DeviceViews D → StoreViews T → Devices D T → Type 0
@@ -160,6 +160,6 @@ pub record StayOnDisk (c : Contents) (found found_journal found_redo : List ℕ 
   pub redo : Only c.redo found_redo
 
 -- After a loss of power no more is found of three devices that a refused task left than before, whatever they hold; what was recovered is on the disk
-pub record SparesDisk {D T : Type 0} (d : DeviceViews D) (t : StoreViews T) (how : Option How) (old new : Devices D T) : Type 0 where
+pub record SparesDisk {D T : Type 0} (d : DeviceViews D) (t : StoreViews T) (how : Option RecoveryOutcome) (old new : Devices D T) : Type 0 where
   pub before : IfSome how (λ h. h ≡ Clean) → FoundBefore d t old new
   pub settled : (IfSome how (λ h. h ≡ Clean) → ⊥) → StayOnDisk (held_by d t new) (d.survives new.image) (t.survives new.journal) (t.survives new.redo)

@@ -6,12 +6,12 @@ use Rattle.bx_journal_store.specs.declared.store.TextStore.{Ghosts as StoreViews
 use Rattle.bx_journal_format.specs.Shown.{shown}
 use Rattle.bx_journal_format.specs.Text.{IsAccepted}
 use Rattle.bx_journal.specs.Devices.{Devices}
-use Rattle.bx_journal.specs.How.{How}
+use Rattle.bx_journal.specs.RecoveryOutcome.{RecoveryOutcome}
 use Rattle.bx_journal.specs.Opening.{ThreeCounts}
 use Rattle.bx_journal.specs.Power.{FoundBefore}
 use Rattle.bx_journal.specs.SessionFault.{SessionFault}
-use Rattle.bx_journal.specs.Way.{Way}
-use Rattle.bx_journal.specs.Way.TheVariants.{Redo as Onward, Undo as Backward}
+use Rattle.bx_journal.specs.Direction.{Direction}
+use Rattle.bx_journal.specs.Direction.TheVariants.{Redo as Onward, Undo as Backward}
 use Rattle.bx_journal_image.specs.declared.judging.judge.Verdict.{Verdict}
 use Rattle.bx_journal_image.specs.declared.judging.judge.Verdict.TheVariants.{Other, Same, Untold}
 use Rattle.bx_journal_image.specs.declared.line.form.ImageLine.{ImageLine}
@@ -27,9 +27,9 @@ use Rattle.bx_journal_image.specs.Ranges.{ending_line}
 use Rattle.bx_journal_image.specs.Unfinished.{IsOpenJudged, IsUnfinishedJudged, LeavesImage}
 use Rattle.bx_cli_commands.specs.declared.command.Command.TheVariants.{Redo, Undo}
 use Rattle.bx_world.specs.declared.files.guard.Guard.{Guard}
-use Rattle.bx_world.specs.declared.files.unopened.Unopened.{Unopened}
-use Rattle.bx_world.specs.declared.files.unopened.Which.TheVariants.{Image}
-use Rattle.bx_world.specs.declared.files.unopened.Why.TheVariants.{Another as OtherImage}
+use Rattle.bx_world.specs.declared.files.unopened.OpenError.{OpenError}
+use Rattle.bx_world.specs.declared.files.unopened.FileRole.TheVariants.{Image}
+use Rattle.bx_world.specs.declared.files.unopened.OpenFailure.TheVariants.{Another as OtherImage}
 use Rattle.bx_run.specs.declared.session.looked.Looked.{Looked}
 use Rattle.bx_run.specs.declared.session.looked.Looked.TheVariants.{Another, Goes}
 use Rattle.bx_run.specs.declared.session.looked.Ready.{Ready}
@@ -103,7 +103,7 @@ is_too_many (Run (Redo j)) (Some found) = nat_lt found.standing.undone j
 is_too_many task (Some found) = false
 
 -- which way a task goes by more than one step
-abbrev pub steps_of : {R : Type 0} → Task R → Option Way
+abbrev pub steps_of : {R : Type 0} → Task R → Option Direction
 steps_of (Run (Undo k)) = if nat_lt 1 k then Some Backward else None
 steps_of (Run (Redo j)) = if nat_lt 1 j then Some Onward else None
 steps_of task = None
@@ -145,11 +145,11 @@ abbrev pub RefusesOther : {R : Type 0} → Terms → Contents → Task R → Typ
 RefusesOther terms old task = IsKeptOff terms old ⊎ IsMovedOff terms old task
 
 -- the image isn't the one that the journal was written beside
-abbrev pub another : Unopened
+abbrev pub another : OpenError
 another = record { which = Image; why = OtherImage }
 
 -- the files were opened: no reason says why not, or it is that of another image
-abbrev pub WereOpened : Option Unopened → Type 0
+abbrev pub WereOpened : Option OpenError → Type 0
 WereOpened unopened = IfSome unopened (λ u. u ≡ another)
 
 -- the line is the note, or none is
@@ -165,8 +165,8 @@ pub record AreTermsOf (guard : Guard) (missing : Bool) (note : List ℕ) (terms 
 
 -- What a task did it did behind a judgement of its image, by what it went by: it opened what is on the image only where that kept nothing off, and was
 -- refused for another image only for a reason
-pub record WasJudged {R : Type 0} (guard : Guard) (missing : Bool) (note : List ℕ) (old : Contents) (task : Task R) (unopened : Option Unopened)
-    (how : Option How) : Type 0 where
+pub record WasJudged {R : Type 0} (guard : Guard) (missing : Bool) (note : List ℕ) (old : Contents) (task : Task R) (unopened : Option OpenError)
+    (how : Option RecoveryOutcome) : Type 0 where
   pub terms : Terms
   pub told : AreTermsOf guard missing note terms
   pub opened : IfSome how (λ _. IsSure terms old)
@@ -178,12 +178,12 @@ pub record MayBeAnother {R : Type 0} (guard : Guard) (missing : Bool) (note : Li
   pub told : AreTermsOf guard missing note terms
   pub why : RefusesOther terms old task
 
--- Calls that only look at three devices: each has what it had, a loss of power finds no more than before, and each is honest if it was
+-- Calls that only look at three devices: each has what it had, a loss of power finds no more than before, and each is faithful if it was
 pub record LookAt {D T : Type 0} (d : DeviceViews D) (t : StoreViews T) (old new : Devices D T) : Type 0 where
   pub same : AreHonest d t old → held_by d t new ≡ held_by d t old
-  pub journal_same : t.honest old.journal → t.text new.journal ≡ t.text old.journal
+  pub journal_same : t.faithful old.journal → t.text new.journal ≡ t.text old.journal
   pub before : FoundBefore d t old new
-  pub honesty : KeepHonesty d t old new
+  pub faith : KeepHonesty d t old new
 
 -- how their failed calls count: one of the three counts one more where one of them failed, and else none does
 abbrev pub CountLooks : {D T V : Type 0} → DeviceViews D → StoreViews T → Result V SessionFault → Devices D T → Devices D T → Type 0
@@ -209,7 +209,7 @@ Spans n span = (span.least ≤ n) × (n ≤ span.most)
 
 -- The line on an image as it is, with what it tells of its texts: before steps over the entries of a text without the blocks that their saved lines
 -- touch, and before one step between lengths among which the image's is
-abbrev pub IsLineOn : Option Way → Contents → Option AtRest → Standing → ℕ → ImageLine → Type 0
+abbrev pub IsLineOn : Option Direction → Contents → Option AtRest → Standing → ℕ → ImageLine → Type 0
 IsLineOn None old found now others line = (span : Span) × IfSome found (λ f. Spans f.standing.length span) × IsSealOf old.image now others span line
 IsLineOn (Some Backward) old found now others line = IsStepsSealOf old.image old.journal now others line
 IsLineOn (Some Onward) old found now others line = IsStepsSealOf old.image old.redo now others line

@@ -5,14 +5,14 @@ use Rattle.bx_journal_store.specs.declared.store.TextStore.{Ghosts as StoreViews
 use Rattle.bx_journal_format.specs.Shown.{shown}
 use Rattle.bx_journal_format.specs.Text.{IsAccepted}
 use Rattle.bx_journal.specs.Devices.{Devices}
-use Rattle.bx_journal.specs.How.{How}
+use Rattle.bx_journal.specs.RecoveryOutcome.{RecoveryOutcome}
 use Rattle.bx_journal.specs.Images.{Images}
 use Rattle.bx_cli_commands.specs.Refusal.{IsWholeRefusal}
 use Rattle.bx_cli_commands.specs.Replies.{stands_by}
 use Rattle.bx_cli_commands.specs.Run.{Unfailed}
 use Rattle.bx_cli_commands.specs.declared.command.Reply.TheVariants.{Refused}
 use Rattle.bx_cli_commands.specs.declared.fault.Fault.TheVariants.{OpenFailed}
-use Rattle.bx_world.specs.declared.files.unopened.Unopened.{Unopened}
+use Rattle.bx_world.specs.declared.files.unopened.OpenError.{OpenError}
 use Rattle.bx_run.specs.declared.session.guarded.Ended.{Ended}
 use Rattle.bx_run.specs.declared.session.looked.Looked.{Looked}
 use Rattle.bx_run.specs.declared.session.looked.Looked.TheVariants.{Another, Goes}
@@ -20,7 +20,7 @@ use Rattle.bx_run.specs.declared.session.task.Task.{Task}
 use Rattle.bx_run.specs.session.Contents.{AreHonest, Does, DoesFound, FoundIn, Holds, Spared, SparesDisk, StepsRead, Survives, SurvivesFound, TellsUnfinished, held_by}
 use Rattle.bx_run.specs.session.Guarded.{LookAt, another}
 
--- What a task on three honest devices makes of them: what `open_and_run` promises, where it is begun, and one that isn't leaves them
+-- What a task on three faithful devices makes of them: what `open_and_run` promises, where it is begun, and one that isn't leaves them
 pub record RunsTask {D T R : Type 0} (d : DeviceViews D) (t : StoreViews T) (remaining : R → Option (List ℕ)) (old : Devices D T) (task : Task R)
     (ended : Ended D T) : Type 0 where
   pub accepted : AreHonest d t old → IfSome ended.how (λ _. IsAccepted (shown (t.text old.journal)))
@@ -39,13 +39,13 @@ pub record RunsTask {D T R : Type 0} (d : DeviceViews D) (t : StoreViews T) (rem
   pub spares : AreHonest d t old → IsWholeRefusal ended.reply → SparesDisk d t ended.how old ended.devices
 
 -- a task that wasn't begun: it is refused for that, nothing was recovered, and the three devices are as they were
-pub record IsUnbegun {D T : Type 0} (d : DeviceViews D) (t : StoreViews T) (old : Devices D T) (ended : Ended D T) (u : Unopened) : Type 0 where
+pub record IsUnbegun {D T : Type 0} (d : DeviceViews D) (t : StoreViews T) (old : Devices D T) (ended : Ended D T) (u : OpenError) : Type 0 where
   pub why : u ≡ another
   pub reply_is : ended.reply ≡ Refused OpenFailed
   pub how_is : ended.how ≡ None
   pub looks : LookAt d t old ended.devices
 
 -- a task isn't begun exactly where the image was found to be another one, and opens nothing then
-abbrev pub EndsAs : Looked → Option Unopened → Option How → Type 0
+abbrev pub EndsAs : Looked → Option OpenError → Option RecoveryOutcome → Type 0
 EndsAs Another unopened how = (unopened ≡ Some another) × (how ≡ None)
 EndsAs (Goes ready) unopened how = unopened ≡ None

@@ -21,14 +21,14 @@ pub fn dump_file<W: World, O: Write>(
     name: &str,
     out: &mut O,
 ) -> Result<Done, DumpError>
-    ensures ok { W.honest world.old
-        → IfOk result (λ done. DumpsNamed job.now name.now (W.sight world.old) done (O.contents out.old) (O.contents out.new)) }
-    ensures err { W.honest world.old
-        → IfErr result (λ e. StopsNamed job.now name.now (W.sight world.old) e (O.contents out.old) (O.contents out.new)) }
-    ensures same { W.honest world.old → W.sight world.new ≡ W.sight world.old }
-    ensures counted { W.honest world.old → CountsUndumped result (W.refusals world.old) (W.refusals world.new) }
-    ensures survives { W.honest world.old → NothingNewFound (W.survives world.old) (W.survives world.new) }
-    ensures honesty { W.honest world.new ↔ W.honest world.old }
+    ensures ok { W.faithful world.old
+        → IfOk result (λ done. DumpsNamed job.now name.now (W.state world.old) done (O.contents out.old) (O.contents out.new)) }
+    ensures err { W.faithful world.old
+        → IfErr result (λ e. StopsNamed job.now name.now (W.state world.old) e (O.contents out.old) (O.contents out.new)) }
+    ensures same { W.faithful world.old → W.state world.new ≡ W.state world.old }
+    ensures counted { W.faithful world.old → CountsUndumped result (W.refusals world.old) (W.refusals world.new) }
+    ensures survives { W.faithful world.old → NothingNewFound (W.survives world.old) (W.survives world.new) }
+    ensures faith { W.faithful world.new ↔ W.faithful world.old }
 {
     match world.open_input(name) {
         Ok(file) => dump_opened(world, alloc, job, file, out),
@@ -63,14 +63,14 @@ fn dump_opened<W: World, O: Write>(
     file: W::File,
     out: &mut O,
 ) -> Result<Done, DumpError>
-    ensures ok { W.honest world.old → IfOk result (λ done. DumpsWhole job.now ((W.sight world.old).bytes (W.number file)) done
+    ensures ok { W.faithful world.old → IfOk result (λ done. DumpsWhole job.now ((W.state world.old).bytes (W.number file)) done
         (O.contents out.old) (O.contents out.new)) }
-    ensures err { W.honest world.old → IfErr result (λ e. StopsOpened job.now ((W.sight world.old).bytes (W.number file)) e
+    ensures err { W.faithful world.old → IfErr result (λ e. StopsOpened job.now ((W.state world.old).bytes (W.number file)) e
         (O.contents out.old) (O.contents out.new)) }
-    ensures same { W.honest world.old → W.sight world.new ≡ W.sight world.old }
-    ensures counted { W.honest world.old → CountsUndumped result (W.refusals world.old) (W.refusals world.new) }
-    ensures survives { W.honest world.old → NothingNewFound (W.survives world.old) (W.survives world.new) }
-    ensures honesty { W.honest world.new ↔ W.honest world.old }
+    ensures same { W.faithful world.old → W.state world.new ≡ W.state world.old }
+    ensures counted { W.faithful world.old → CountsUndumped result (W.refusals world.old) (W.refusals world.new) }
+    ensures survives { W.faithful world.old → NothingNewFound (W.survives world.old) (W.survives world.new) }
+    ensures faith { W.faithful world.new ↔ W.faithful world.old }
 {
     let passed = passed_of(world, &file, job.skip());
     let input = match world.lend_input(file, passed) {
@@ -96,10 +96,10 @@ fn dump_lent<W: World, O: Write>(
     ensures ok { (bytes : List ℕ) → passed ≤ length bytes → W.Input.remaining input ≡ Some (drop passed bytes)
         → IfOk result (λ done. DumpsWhole job.now bytes done (O.contents out.old) (O.contents out.new)) }
     ensures err { IfErr result (WritesDumpFront passed job.now (W.Input.remaining input) (O.contents out.old) (O.contents out.new)) }
-    ensures same { W.honest world.old → W.sight world.new ≡ W.sight world.old }
-    ensures counted { W.honest world.old → W.refusals world.new ≡ W.refusals world.old }
-    ensures survives { W.honest world.old → NothingNewFound (W.survives world.old) (W.survives world.new) }
-    ensures honesty { W.honest world.new ↔ W.honest world.old }
+    ensures same { W.faithful world.old → W.state world.new ≡ W.state world.old }
+    ensures counted { W.faithful world.old → W.refusals world.new ≡ W.refusals world.old }
+    ensures survives { W.faithful world.old → NothingNewFound (W.survives world.old) (W.survives world.new) }
+    ensures faith { W.faithful world.new ↔ W.faithful world.old }
 {
     let mut input = input;
     let outcome = run_dump(alloc, job, passed, &mut input, out);

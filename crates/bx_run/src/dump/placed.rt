@@ -10,17 +10,17 @@ use bx_world::World;
 /// byte on, and a length that changes nothing isn't asked for.
 pub fn passed_of<W: World>(world: &mut W, file: &W::File, skip: Skip) -> u64
     ensures skipped { CanPass result skip }
-    ensures within { W.honest world.old → result ≤ length ((W.sight world.old).bytes (W.number file.now)) }
-    ensures same { W.honest world.old → W.sight world.new ≡ W.sight world.old }
-    ensures counted { W.honest world.old → W.refusals world.new ≡ W.refusals world.old }
-    ensures survives { W.honest world.old → NothingNewFound (W.survives world.old) (W.survives world.new) }
-    ensures honesty { W.honest world.new ↔ W.honest world.old }
+    ensures within { W.faithful world.old → result ≤ length ((W.state world.old).bytes (W.number file.now)) }
+    ensures same { W.faithful world.old → W.state world.new ≡ W.state world.old }
+    ensures counted { W.faithful world.old → W.refusals world.new ≡ W.refusals world.old }
+    ensures survives { W.faithful world.old → NothingNewFound (W.survives world.old) (W.survives world.new) }
+    ensures faith { W.faithful world.new ↔ W.faithful world.old }
 {
-    if skip.passable(u64::MAX) == 0 {
-        return skip.passable(0);
+    if skip.seekable(u64::MAX) == 0 {
+        return skip.seekable(0);
     }
     match world.length(file) {
-        Some(length) => skip.passable(length),
-        None => skip.passable(0),
+        Some(length) => skip.seekable(length),
+        None => skip.seekable(0),
     }
 }

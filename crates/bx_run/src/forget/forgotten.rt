@@ -19,7 +19,7 @@ use bx_image::Device;
 use bx_journal::{Devices, SessionFault, forget_devices};
 use bx_journal_store::TextStore;
 use bx_world::{
-    Guard, Looked, Names, Refusal, Unopened, Which, World, open_redo_to_forget, open_to_forget,
+    FileRole, Guard, Looked, Names, OpenError, Refusal, World, open_redo_to_forget, open_to_forget,
 };
 use std::alloc::Global;
 
@@ -32,23 +32,23 @@ pub struct Lent<D: Device, T: TextStore> {
 }
 
 /// Lends a redo text that is open beside an image and a journal, to be read, or nothing where it is missing.
-fn lend_redo<W: World>(world: &mut W, redo: Option<W::File>) -> Result<W::Text, Unopened>
-    requires apart { W.honest world.old → (f : ReadFiles) → W.beside world.old ≡ Some f → (n : ℕ) → number_if W.number redo ≡ Some n
-        → AreOwnFiles (W.sight world.old).there (record { image = f.image; journal = f.journal; redo = Some n }) }
+fn lend_redo<W: World>(world: &mut W, redo: Option<W::File>) -> Result<W::Text, OpenError>
+    requires apart { W.faithful world.old → (f : ReadFiles) → W.beside world.old ≡ Some f → (n : ℕ) → number_if W.number redo ≡ Some n
+        → AreOwnFiles (W.state world.old).there (record { image = f.image; journal = f.journal; redo = Some n }) }
     ensures failures { IfOk result (λ t. W.Text.failures t ≡ 0) }
-    ensures text { W.honest world.old
-        → IfOk result (λ t. W.Text.honest t × (W.Text.text t ≡ bytes_if (W.sight world.old) (number_if W.number redo))) }
-    ensures beside { W.honest world.old → OnOk result ((f : ReadFiles) → W.beside world.old ≡ Some f → f.redo ≡ None
+    ensures text { W.faithful world.old
+        → IfOk result (λ t. W.Text.faithful t × (W.Text.text t ≡ bytes_if (W.state world.old) (number_if W.number redo))) }
+    ensures beside { W.faithful world.old → OnOk result ((f : ReadFiles) → W.beside world.old ≡ Some f → f.redo ≡ None
         → W.beside world.new ≡ Some (record { image = f.image; journal = f.journal; redo = number_if W.number redo })) }
-    ensures why { W.honest world.old → IfErr result (λ u. IsReason ⊥ NoneUnfit ⊥ (W.refusals world.old < W.refusals world.new) u.why) }
-    ensures seen { W.honest world.old → StaysSeen W.sight W.survives world.old world.new }
-    ensures note { W.honest world.old → W.note world.new ≡ W.note world.old }
-    ensures honesty { W.honest world.new ↔ W.honest world.old }
+    ensures why { W.faithful world.old → IfErr result (λ u. IsReason ⊥ NoneUnfit ⊥ (W.refusals world.old < W.refusals world.new) u.why) }
+    ensures seen { W.faithful world.old → StaysSeen W.state W.survives world.old world.new }
+    ensures note { W.faithful world.old → W.note world.new ≡ W.note world.old }
+    ensures faith { W.faithful world.new ↔ W.faithful world.old }
 {
     match redo {
         Some(redo) => match world.lend_redo_beside(redo) {
             Ok(redo) => Ok(redo),
-            Err(refusal) => Err(Which::Redo.refused(refusal)),
+            Err(refusal) => Err(FileRole::Redo.refused(refusal)),
         },
         None => Ok(world.lend_no_text()),
     }
@@ -58,18 +58,18 @@ fn lend_redo<W: World>(world: &mut W, redo: Option<W::File>) -> Result<W::Text, 
 fn lend_files<W: World>(
     world: &mut W,
     looked: Looked<W::File>,
-) -> Result<Devices<W::Image, W::Text>, Unopened>
-    requires apart { W.honest world.old → AreOwnFiles (W.sight world.old).there (numbers_read W.number looked) }
+) -> Result<Devices<W::Image, W::Text>, OpenError>
+    requires apart { W.faithful world.old → AreOwnFiles (W.state world.old).there (numbers_read W.number looked) }
     ensures below { IfOk result (AreBelow W.Image.Device W.Text.TextStore u64.MAX) }
     ensures unfailed { IfOk result (λ d. W.Image.failures d.image ≡ 0) }
-    ensures held { W.honest world.old
-        → IfOk result (HoldNumbered W.Image.Device W.Text.TextStore (numbers_read W.number looked) (W.sight world.old)) }
-    ensures beside { W.honest world.old → OnOk result (W.beside world.new ≡ Some (numbers_read W.number looked)) }
-    ensures found { W.honest world.old → IfOk result (λ d. NoMore (W.survives world.old (W.number looked.image)) (W.Image.survives d.image)) }
-    ensures why { W.honest world.old → IfErr result (λ u. IsReason ⊥ NoneUnfit ⊥ (W.refusals world.old < W.refusals world.new) u.why) }
-    ensures seen { W.honest world.old → StaysSeen W.sight W.survives world.old world.new }
-    ensures note { W.honest world.old → W.note world.new ≡ W.note world.old }
-    ensures honesty { W.honest world.new ↔ W.honest world.old }
+    ensures held { W.faithful world.old
+        → IfOk result (HoldNumbered W.Image.Device W.Text.TextStore (numbers_read W.number looked) (W.state world.old)) }
+    ensures beside { W.faithful world.old → OnOk result (W.beside world.new ≡ Some (numbers_read W.number looked)) }
+    ensures found { W.faithful world.old → IfOk result (λ d. NoMore (W.survives world.old (W.number looked.image)) (W.Image.survives d.image)) }
+    ensures why { W.faithful world.old → IfErr result (λ u. IsReason ⊥ NoneUnfit ⊥ (W.refusals world.old < W.refusals world.new) u.why) }
+    ensures seen { W.faithful world.old → StaysSeen W.state W.survives world.old world.new }
+    ensures note { W.faithful world.old → W.note world.new ≡ W.note world.old }
+    ensures faith { W.faithful world.new ↔ W.faithful world.old }
 {
     let Looked {
         image,
@@ -78,7 +78,7 @@ fn lend_files<W: World>(
     } = looked;
     let (image, journal) = match world.lend_beside(image, journal) {
         Ok(lent) => lent,
-        Err(refusal) => return Err(Which::Image.refused(refusal)),
+        Err(refusal) => return Err(FileRole::Image.refused(refusal)),
     };
     match lend_redo(world, redo) {
         Ok(redo) => Ok(Devices {
@@ -94,20 +94,20 @@ fn lend_files<W: World>(
 fn lend_named<W: World>(
     world: &mut W,
     names: &Names,
-) -> Result<Devices<W::Image, W::Text>, Unopened>
+) -> Result<Devices<W::Image, W::Text>, OpenError>
     ensures below { IfOk result (AreBelow W.Image.Device W.Text.TextStore u64.MAX) }
     ensures unfailed { IfOk result (λ d. W.Image.failures d.image ≡ 0) }
-    ensures held { W.honest world.old → IfOk result (HoldFiles W.Image.Device W.Text.TextStore names.now (W.sight world.old)) }
-    ensures beside { W.honest world.old
-        → OnOk result ((f : ReadFiles) → LeadToRead names.now f (W.sight world.old) → W.beside world.new ≡ Some f) }
-    ensures opened { W.honest world.old → OnOk result (AreLent names.now (W.sight world.old)) }
-    ensures found { W.honest world.old → IfOk result (λ d. (f : ReadFiles) → LeadToRead names.now f (W.sight world.old)
+    ensures held { W.faithful world.old → IfOk result (HoldFiles W.Image.Device W.Text.TextStore names.now (W.state world.old)) }
+    ensures beside { W.faithful world.old
+        → OnOk result ((f : ReadFiles) → LeadToRead names.now f (W.state world.old) → W.beside world.new ≡ Some f) }
+    ensures opened { W.faithful world.old → OnOk result (AreLent names.now (W.state world.old)) }
+    ensures found { W.faithful world.old → IfOk result (λ d. (f : ReadFiles) → LeadToRead names.now f (W.state world.old)
         → NoMore (W.survives world.old f.image) (W.Image.survives d.image)) }
-    ensures why { W.honest world.old
-        → IfErr result (MayRefuseReading names.now (W.refusals world.old < W.refusals world.new) (W.sight world.old)) }
-    ensures seen { W.honest world.old → StaysSeen W.sight W.survives world.old world.new }
-    ensures note { W.honest world.old → W.note world.new ≡ W.note world.old }
-    ensures honesty { W.honest world.new ↔ W.honest world.old }
+    ensures why { W.faithful world.old
+        → IfErr result (MayRefuseReading names.now (W.refusals world.old < W.refusals world.new) (W.state world.old)) }
+    ensures seen { W.faithful world.old → StaysSeen W.state W.survives world.old world.new }
+    ensures note { W.faithful world.old → W.note world.new ≡ W.note world.old }
+    ensures faith { W.faithful world.new ↔ W.faithful world.old }
 {
     let looked = match open_to_forget(world, names) {
         Ok(looked) => looked,
@@ -131,19 +131,19 @@ fn put_back<D: Device, T: TextStore>(devices: Devices<D, T>) -> Lent<D, T>
 }
 
 /// The same of files whose journal is missing: the redo text is opened, and lent in the place of the journal.
-fn lend_alone<W: World>(world: &mut W, names: &Names) -> Result<Lent<W::Image, W::Text>, Unopened>
-    requires missing { W.honest world.old → (W.sight world.old).named names.now.journal ≡ None }
+fn lend_alone<W: World>(world: &mut W, names: &Names) -> Result<Lent<W::Image, W::Text>, OpenError>
+    requires missing { W.faithful world.old → (W.state world.old).named names.now.journal ≡ None }
     ensures below { IfOk result (λ l. AreBelow W.Image.Device W.Text.TextStore u64.MAX l.devices) }
     ensures unfailed { IfOk result (λ l. W.Image.failures l.devices.image ≡ 0) }
-    ensures held { W.honest world.old → IfOk result (λ l. HoldFiles W.Image.Device W.Text.TextStore names.now (W.sight world.old) l.devices) }
-    ensures opened { W.honest world.old → IfOk result (λ l. AreLentTexts names.now l.exchanged (W.beside world.new) (W.sight world.old)) }
-    ensures found { W.honest world.old → IfOk result (λ l. IsFoundOf names.now.image (W.sight world.old)
+    ensures held { W.faithful world.old → IfOk result (λ l. HoldFiles W.Image.Device W.Text.TextStore names.now (W.state world.old) l.devices) }
+    ensures opened { W.faithful world.old → IfOk result (λ l. AreLentTexts names.now l.exchanged (W.beside world.new) (W.state world.old)) }
+    ensures found { W.faithful world.old → IfOk result (λ l. IsFoundOf names.now.image (W.state world.old)
         (W.survives world.old) (W.Image.survives l.devices.image)) }
-    ensures why { W.honest world.old
-        → IfErr result (MayRefuseForgetting names.now (W.refusals world.old < W.refusals world.new) (W.sight world.old)) }
-    ensures seen { W.honest world.old → StaysSeen W.sight W.survives world.old world.new }
-    ensures note { W.honest world.old → W.note world.new ≡ W.note world.old }
-    ensures honesty { W.honest world.new ↔ W.honest world.old }
+    ensures why { W.faithful world.old
+        → IfErr result (MayRefuseForgetting names.now (W.refusals world.old < W.refusals world.new) (W.state world.old)) }
+    ensures seen { W.faithful world.old → StaysSeen W.state W.survives world.old world.new }
+    ensures note { W.faithful world.old → W.note world.new ≡ W.note world.old }
+    ensures faith { W.faithful world.new ↔ W.faithful world.old }
 {
     let looked = match open_redo_to_forget(world, names) {
         Ok(looked) => looked,
@@ -156,19 +156,19 @@ fn lend_alone<W: World>(world: &mut W, names: &Names) -> Result<Lent<W::Image, W
 }
 
 /// The same of files whose journal is there.
-fn lend_own<W: World>(world: &mut W, names: &Names) -> Result<Lent<W::Image, W::Text>, Unopened>
-    requires there { W.honest world.old → (W.sight world.old).named names.now.journal ≡ None → ⊥ }
+fn lend_own<W: World>(world: &mut W, names: &Names) -> Result<Lent<W::Image, W::Text>, OpenError>
+    requires there { W.faithful world.old → (W.state world.old).named names.now.journal ≡ None → ⊥ }
     ensures below { IfOk result (λ l. AreBelow W.Image.Device W.Text.TextStore u64.MAX l.devices) }
     ensures unfailed { IfOk result (λ l. W.Image.failures l.devices.image ≡ 0) }
-    ensures held { W.honest world.old → IfOk result (λ l. HoldFiles W.Image.Device W.Text.TextStore names.now (W.sight world.old) l.devices) }
-    ensures opened { W.honest world.old → IfOk result (λ l. AreLentTexts names.now l.exchanged (W.beside world.new) (W.sight world.old)) }
-    ensures found { W.honest world.old → IfOk result (λ l. IsFoundOf names.now.image (W.sight world.old)
+    ensures held { W.faithful world.old → IfOk result (λ l. HoldFiles W.Image.Device W.Text.TextStore names.now (W.state world.old) l.devices) }
+    ensures opened { W.faithful world.old → IfOk result (λ l. AreLentTexts names.now l.exchanged (W.beside world.new) (W.state world.old)) }
+    ensures found { W.faithful world.old → IfOk result (λ l. IsFoundOf names.now.image (W.state world.old)
         (W.survives world.old) (W.Image.survives l.devices.image)) }
-    ensures why { W.honest world.old
-        → IfErr result (MayRefuseForgetting names.now (W.refusals world.old < W.refusals world.new) (W.sight world.old)) }
-    ensures seen { W.honest world.old → StaysSeen W.sight W.survives world.old world.new }
-    ensures note { W.honest world.old → W.note world.new ≡ W.note world.old }
-    ensures honesty { W.honest world.new ↔ W.honest world.old }
+    ensures why { W.faithful world.old
+        → IfErr result (MayRefuseForgetting names.now (W.refusals world.old < W.refusals world.new) (W.state world.old)) }
+    ensures seen { W.faithful world.old → StaysSeen W.state W.survives world.old world.new }
+    ensures note { W.faithful world.old → W.note world.new ≡ W.note world.old }
+    ensures faith { W.faithful world.new ↔ W.faithful world.old }
 {
     match lend_named(world, names) {
         Ok(devices) => Ok(Lent {
@@ -181,13 +181,13 @@ fn lend_own<W: World>(world: &mut W, names: &Names) -> Result<Lent<W::Image, W::
 
 /// Whether a name leads to no file.
 fn is_missing<W: World>(world: &mut W, name: &str) -> Result<bool, Refusal>
-    ensures missing { W.honest world.old → IfOk result (λ is. is ≡ true → (W.sight world.old).named name.now ≡ None) }
-    ensures there { W.honest world.old → IfOk result (λ is. is ≡ false → (W.sight world.old).named name.now ≡ None → ⊥) }
-    ensures why { W.honest world.old → IfErr result (IsRefusedFor ⊥ (W.refusals world.old < W.refusals world.new)) }
-    ensures calm { W.honest world.old → OnOk result (W.refusals world.new ≡ W.refusals world.old) }
-    ensures seen { W.honest world.old → StaysSeen W.sight W.survives world.old world.new }
-    ensures note { W.honest world.old → W.note world.new ≡ W.note world.old }
-    ensures honesty { W.honest world.new ↔ W.honest world.old }
+    ensures missing { W.faithful world.old → IfOk result (λ is. is ≡ true → (W.state world.old).named name.now ≡ None) }
+    ensures there { W.faithful world.old → IfOk result (λ is. is ≡ false → (W.state world.old).named name.now ≡ None → ⊥) }
+    ensures why { W.faithful world.old → IfErr result (IsRefusedFor ⊥ (W.refusals world.old < W.refusals world.new)) }
+    ensures calm { W.faithful world.old → OnOk result (W.refusals world.new ≡ W.refusals world.old) }
+    ensures seen { W.faithful world.old → StaysSeen W.state W.survives world.old world.new }
+    ensures note { W.faithful world.old → W.note world.new ≡ W.note world.old }
+    ensures faith { W.faithful world.new ↔ W.faithful world.old }
 {
     match world.look(name) {
         Ok(look) => Ok(look.found.is_none()),
@@ -196,23 +196,23 @@ fn is_missing<W: World>(world: &mut W, name: &str) -> Result<bool, Refusal>
 }
 
 /// Opens the files of these names, the texts to change them, and lends them to be read. One of the texts may be missing.
-fn lend_texts<W: World>(world: &mut W, names: &Names) -> Result<Lent<W::Image, W::Text>, Unopened>
+fn lend_texts<W: World>(world: &mut W, names: &Names) -> Result<Lent<W::Image, W::Text>, OpenError>
     ensures below { IfOk result (λ l. AreBelow W.Image.Device W.Text.TextStore u64.MAX l.devices) }
     ensures unfailed { IfOk result (λ l. W.Image.failures l.devices.image ≡ 0) }
-    ensures held { W.honest world.old → IfOk result (λ l. HoldFiles W.Image.Device W.Text.TextStore names.now (W.sight world.old) l.devices) }
-    ensures opened { W.honest world.old → IfOk result (λ l. AreLentTexts names.now l.exchanged (W.beside world.new) (W.sight world.old)) }
-    ensures found { W.honest world.old → IfOk result (λ l. IsFoundOf names.now.image (W.sight world.old)
+    ensures held { W.faithful world.old → IfOk result (λ l. HoldFiles W.Image.Device W.Text.TextStore names.now (W.state world.old) l.devices) }
+    ensures opened { W.faithful world.old → IfOk result (λ l. AreLentTexts names.now l.exchanged (W.beside world.new) (W.state world.old)) }
+    ensures found { W.faithful world.old → IfOk result (λ l. IsFoundOf names.now.image (W.state world.old)
         (W.survives world.old) (W.Image.survives l.devices.image)) }
-    ensures why { W.honest world.old
-        → IfErr result (MayRefuseForgetting names.now (W.refusals world.old < W.refusals world.new) (W.sight world.old)) }
-    ensures seen { W.honest world.old → StaysSeen W.sight W.survives world.old world.new }
-    ensures note { W.honest world.old → W.note world.new ≡ W.note world.old }
-    ensures honesty { W.honest world.new ↔ W.honest world.old }
+    ensures why { W.faithful world.old
+        → IfErr result (MayRefuseForgetting names.now (W.refusals world.old < W.refusals world.new) (W.state world.old)) }
+    ensures seen { W.faithful world.old → StaysSeen W.state W.survives world.old world.new }
+    ensures note { W.faithful world.old → W.note world.new ≡ W.note world.old }
+    ensures faith { W.faithful world.new ↔ W.faithful world.old }
 {
     match is_missing(world, names.journal.as_str()) {
         Ok(true) => lend_alone(world, names),
         Ok(false) => lend_own(world, names),
-        Err(refusal) => Err(Which::Journal.refused(refusal)),
+        Err(refusal) => Err(FileRole::Journal.refused(refusal)),
     }
 }
 
@@ -222,16 +222,16 @@ fn empty_lent<W: World>(
     devices: Devices<W::Image, W::Text>,
 ) -> Result<(), SessionFault>
     requires unfailed { W.Image.failures devices.image ≡ 0 }
-    requires image { W.honest world.old → W.Image.honest devices.image }
-    requires beside { W.honest world.old → (f : ReadFiles) × (W.beside world.old ≡ Some f) }
-    ensures empties { W.honest world.old → (f : ReadFiles) → W.beside world.old ≡ Some f → IsAlone f
-        → W.Image.image devices.image ≡ (W.sight world.old).bytes f.image → Empties (texts_of false f) result (W.sight world.old) (W.sight world.new) }
-    ensures only { W.honest world.old → (f : ReadFiles) → W.beside world.old ≡ Some f → Spares (IsNoText f) (W.sight world.old) (W.sight world.new) }
-    ensures survives { W.honest world.old → (f : ReadFiles) → W.beside world.old ≡ Some f → IsAlone f
-        → W.Image.image devices.image ≡ (W.sight world.old).bytes f.image
-        → SurvivesEmptying (texts_of false f) result (W.sight world.old) (W.Image.survives devices.image) (W.survives world.old) (W.survives world.new) }
-    ensures note { W.honest world.old → W.note world.new ≡ W.note world.old }
-    ensures honesty { W.honest world.new ↔ W.honest world.old }
+    requires image { W.faithful world.old → W.Image.faithful devices.image }
+    requires beside { W.faithful world.old → (f : ReadFiles) × (W.beside world.old ≡ Some f) }
+    ensures empties { W.faithful world.old → (f : ReadFiles) → W.beside world.old ≡ Some f → IsAlone f
+        → W.Image.image devices.image ≡ (W.state world.old).bytes f.image → Empties (texts_of false f) result (W.state world.old) (W.state world.new) }
+    ensures only { W.faithful world.old → (f : ReadFiles) → W.beside world.old ≡ Some f → Spares (IsNoText f) (W.state world.old) (W.state world.new) }
+    ensures survives { W.faithful world.old → (f : ReadFiles) → W.beside world.old ≡ Some f → IsAlone f
+        → W.Image.image devices.image ≡ (W.state world.old).bytes f.image
+        → SurvivesEmptying (texts_of false f) result (W.state world.old) (W.Image.survives devices.image) (W.survives world.old) (W.survives world.new) }
+    ensures note { W.faithful world.old → W.note world.new ≡ W.note world.old }
+    ensures faith { W.faithful world.new ↔ W.faithful world.old }
 {
     let Devices {
         image,
@@ -261,16 +261,16 @@ fn empty_alone<W: World>(
     devices: Devices<W::Image, W::Text>,
 ) -> Result<(), SessionFault>
     requires unfailed { W.Image.failures devices.image ≡ 0 }
-    requires image { W.honest world.old → W.Image.honest devices.image }
-    requires beside { W.honest world.old → (f : ReadFiles) × (W.beside world.old ≡ Some f) }
-    ensures empties { W.honest world.old → (f : ReadFiles) → W.beside world.old ≡ Some f → IsAlone f
-        → W.Image.image devices.image ≡ (W.sight world.old).bytes f.image → Empties (texts_of true f) result (W.sight world.old) (W.sight world.new) }
-    ensures only { W.honest world.old → (f : ReadFiles) → W.beside world.old ≡ Some f → Spares (IsNoText f) (W.sight world.old) (W.sight world.new) }
-    ensures survives { W.honest world.old → (f : ReadFiles) → W.beside world.old ≡ Some f → IsAlone f
-        → W.Image.image devices.image ≡ (W.sight world.old).bytes f.image
-        → SurvivesEmptying (texts_of true f) result (W.sight world.old) (W.Image.survives devices.image) (W.survives world.old) (W.survives world.new) }
-    ensures note { W.honest world.old → W.note world.new ≡ W.note world.old }
-    ensures honesty { W.honest world.new ↔ W.honest world.old }
+    requires image { W.faithful world.old → W.Image.faithful devices.image }
+    requires beside { W.faithful world.old → (f : ReadFiles) × (W.beside world.old ≡ Some f) }
+    ensures empties { W.faithful world.old → (f : ReadFiles) → W.beside world.old ≡ Some f → IsAlone f
+        → W.Image.image devices.image ≡ (W.state world.old).bytes f.image → Empties (texts_of true f) result (W.state world.old) (W.state world.new) }
+    ensures only { W.faithful world.old → (f : ReadFiles) → W.beside world.old ≡ Some f → Spares (IsNoText f) (W.state world.old) (W.state world.new) }
+    ensures survives { W.faithful world.old → (f : ReadFiles) → W.beside world.old ≡ Some f → IsAlone f
+        → W.Image.image devices.image ≡ (W.state world.old).bytes f.image
+        → SurvivesEmptying (texts_of true f) result (W.state world.old) (W.Image.survives devices.image) (W.survives world.old) (W.survives world.new) }
+    ensures note { W.faithful world.old → W.note world.new ≡ W.note world.old }
+    ensures faith { W.faithful world.new ↔ W.faithful world.old }
 {
     let Devices {
         image,
@@ -301,16 +301,16 @@ fn empty_texts<W: World>(
     exchanged: bool,
 ) -> Result<(), SessionFault>
     requires unfailed { W.Image.failures devices.image ≡ 0 }
-    requires image { W.honest world.old → W.Image.honest devices.image }
-    requires beside { W.honest world.old → (f : ReadFiles) × (W.beside world.old ≡ Some f) }
-    ensures empties { W.honest world.old → (f : ReadFiles) → W.beside world.old ≡ Some f → IsAlone f
-        → W.Image.image devices.image ≡ (W.sight world.old).bytes f.image → Empties (texts_of exchanged f) result (W.sight world.old) (W.sight world.new) }
-    ensures only { W.honest world.old → (f : ReadFiles) → W.beside world.old ≡ Some f → Spares (IsNoText f) (W.sight world.old) (W.sight world.new) }
-    ensures survives { W.honest world.old → (f : ReadFiles) → W.beside world.old ≡ Some f → IsAlone f
-        → W.Image.image devices.image ≡ (W.sight world.old).bytes f.image
-        → SurvivesEmptying (texts_of exchanged f) result (W.sight world.old) (W.Image.survives devices.image) (W.survives world.old) (W.survives world.new) }
-    ensures note { W.honest world.old → W.note world.new ≡ W.note world.old }
-    ensures honesty { W.honest world.new ↔ W.honest world.old }
+    requires image { W.faithful world.old → W.Image.faithful devices.image }
+    requires beside { W.faithful world.old → (f : ReadFiles) × (W.beside world.old ≡ Some f) }
+    ensures empties { W.faithful world.old → (f : ReadFiles) → W.beside world.old ≡ Some f → IsAlone f
+        → W.Image.image devices.image ≡ (W.state world.old).bytes f.image → Empties (texts_of exchanged f) result (W.state world.old) (W.state world.new) }
+    ensures only { W.faithful world.old → (f : ReadFiles) → W.beside world.old ≡ Some f → Spares (IsNoText f) (W.state world.old) (W.state world.new) }
+    ensures survives { W.faithful world.old → (f : ReadFiles) → W.beside world.old ≡ Some f → IsAlone f
+        → W.Image.image devices.image ≡ (W.state world.old).bytes f.image
+        → SurvivesEmptying (texts_of exchanged f) result (W.state world.old) (W.Image.survives devices.image) (W.survives world.old) (W.survives world.new) }
+    ensures note { W.faithful world.old → W.note world.new ≡ W.note world.old }
+    ensures faith { W.faithful world.new ↔ W.faithful world.old }
 {
     if exchanged {
         empty_alone(world, devices)
@@ -341,23 +341,23 @@ pub fn forget_files<W: World>(
 ) -> Result<(), ReportError>
     // Where it is done, nothing was unfinished, or the texts don't fit the image, or what was is dropped with them; both are empty then, and
     // the image stands alone.
-    ensures may { W.honest world.old → OnOk result (MayForgetNamed guard (W.note world.old) names.now (W.sight world.old)) }
-    ensures done { W.honest world.old
-        → OnOk result (HasForgotten (held_by_names names.now (W.sight world.old)) (held_by_names names.now (W.sight world.new))) }
+    ensures may { W.faithful world.old → OnOk result (MayForgetNamed guard (W.note world.old) names.now (W.state world.old)) }
+    ensures done { W.faithful world.old
+        → OnOk result (HasForgotten (held_by_names names.now (W.state world.old)) (held_by_names names.now (W.state world.new))) }
 
     // Else all is as it was, and there is a reason; or it was stopped in the middle.
-    ensures stopped { W.honest world.old → IfErr result (StopsForgetting guard (W.note world.old) names.now
-        (W.refusals world.old < W.refusals world.new) (W.sight world.old) (W.sight world.new)) }
+    ensures stopped { W.faithful world.old → IfErr result (StopsForgetting guard (W.note world.old) names.now
+        (W.refusals world.old < W.refusals world.new) (W.state world.old) (W.state world.new)) }
 
     // After a loss of power, too, the image is as it was, and opening finds it with all changes, or with some or all of them dropped.
-    ensures survives { W.honest world.old → SurvivesForgetting names.now result (W.sight world.old) (W.survives world.old) (W.survives world.new) }
+    ensures survives { W.faithful world.old → SurvivesForgetting names.now result (W.state world.old) (W.survives world.old) (W.survives world.new) }
 
     // No file is opened that the rule refuses, and none is changed but the texts. The note is only read.
-    ensures fit { W.honest world.old → unopened_in result ≡ None → AreReadable names.now (W.sight world.old) }
-    ensures others { W.honest world.old
-        → Spares (IsNoTextNamed names.now (W.sight world.old)) (W.sight world.old) (W.sight world.new) }
-    ensures note { W.honest world.old → W.note world.new ≡ W.note world.old }
-    ensures honesty { W.honest world.new ↔ W.honest world.old }
+    ensures fit { W.faithful world.old → unopened_in result ≡ None → AreReadable names.now (W.state world.old) }
+    ensures others { W.faithful world.old
+        → Spares (IsNoTextNamed names.now (W.state world.old)) (W.state world.old) (W.state world.new) }
+    ensures note { W.faithful world.old → W.note world.new ≡ W.note world.old }
+    ensures faith { W.faithful world.new ↔ W.faithful world.old }
 {
     let Lent { devices, exchanged } = match lend_texts(world, names) {
         Ok(lent) => lent,

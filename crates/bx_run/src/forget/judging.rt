@@ -48,7 +48,7 @@ fn judge_found<D: Device, T: TextStore>(alloc: Global, devices: Devices<D, T>) -
     ensures hides { (x text redo : List ℕ) → HoldBytes D.Device T.TextStore x text redo devices
         → IfErr result.outcome (HidesChanges x text redo) }
     ensures image { (x text redo : List ℕ) → HoldBytes D.Device T.TextStore x text redo devices
-        → OnOk result.outcome (D.honest result.devices.image × (D.image result.devices.image ≡ x)) }
+        → OnOk result.outcome (D.faithful result.devices.image × (D.image result.devices.image ≡ x)) }
     ensures found_before { (x text redo : List ℕ) → HoldBytes D.Device T.TextStore x text redo devices
         → OnOk result.outcome (NoMore (D.survives devices.image) (D.survives result.devices.image)) }
     ensures unfailed { OnOk result.outcome (D.failures result.devices.image ≡ D.failures devices.image) }
@@ -85,7 +85,7 @@ fn judge_found<D: Device, T: TextStore>(alloc: Global, devices: Devices<D, T>) -
 /// Whether a text ends in the line that ends an entry.
 fn ends_entry<T: TextStore>(text: &mut T) -> Result<bool, DeviceFailed>
     requires { T.failures text.old < u64.MAX }
-    ensures ends { T.honest text.old → IfOk result (λ ends. ends ≡ true → EndsWithEntry (T.text text.old)) }
+    ensures ends { T.faithful text.old → IfOk result (λ ends. ends ≡ true → EndsWithEntry (T.text text.old)) }
     ensures reads { OnlyReadsText T.TextStore (is_err result) text.old text.new }
 {
     let len = text.len()?;
@@ -106,13 +106,13 @@ fn judge_open<D: Device, T: TextStore>(
 ) -> Result<Option<Verdict>, SessionFault>
     requires image_countable { D.failures image.old < u64.MAX }
     requires journal_countable { T.failures journal.old < u64.MAX }
-    ensures judged { D.honest image.old → T.honest journal.old → IfOk result (IsJudgedOpen line (T.text journal.old) (D.image image.old)) }
-    ensures fault { IfErr result (FindFault (T.honest journal.old) (shown (T.text journal.old))) }
-    ensures image { D.honest image.old → D.image image.new ≡ D.image image.old }
-    ensures journal { T.honest journal.old → T.text journal.new ≡ T.text journal.old }
-    ensures image_before { D.honest image.old → NoMore (D.survives image.old) (D.survives image.new) }
-    ensures image_honesty { D.honest image.new ↔ D.honest image.old }
-    ensures journal_honesty { T.honest journal.new ↔ T.honest journal.old }
+    ensures judged { D.faithful image.old → T.faithful journal.old → IfOk result (IsJudgedOpen line (T.text journal.old) (D.image image.old)) }
+    ensures fault { IfErr result (FindFault (T.faithful journal.old) (shown (T.text journal.old))) }
+    ensures image { D.faithful image.old → D.image image.new ≡ D.image image.old }
+    ensures journal { T.faithful journal.old → T.text journal.new ≡ T.text journal.old }
+    ensures image_before { D.faithful image.old → NoMore (D.survives image.old) (D.survives image.new) }
+    ensures image_faith { D.faithful image.new ↔ D.faithful image.old }
+    ensures journal_faith { T.faithful journal.new ↔ T.faithful journal.old }
     ensures no_failure { OnOk result ((D.failures image.new ≡ D.failures image.old) × (T.failures journal.new ≡ T.failures journal.old)) }
     ensures counts { IfErr result (λ e. FaultCounts e (D.failures image.old) (T.failures journal.old) (D.failures image.new) (T.failures journal.new)) }
 {
@@ -167,7 +167,7 @@ fn judge_told<D: Device, T: TextStore>(
     ensures hides { (x text redo note : List ℕ) → HoldBytes D.Device T.TextStore x text redo devices → IsNoteLine note known
         → IsJudgedOpen known.line text x found → IfErr result.outcome (KeepsHistory guard note x text redo) }
     ensures image { (x text redo : List ℕ) → HoldBytes D.Device T.TextStore x text redo devices
-        → OnOk result.outcome (D.honest result.devices.image × (D.image result.devices.image ≡ x)) }
+        → OnOk result.outcome (D.faithful result.devices.image × (D.image result.devices.image ≡ x)) }
     ensures found_before { (x text redo : List ℕ) → HoldBytes D.Device T.TextStore x text redo devices
         → OnOk result.outcome (NoMore (D.survives devices.image) (D.survives result.devices.image)) }
     ensures unfailed { OnOk result.outcome (D.failures result.devices.image ≡ D.failures devices.image) }
@@ -201,7 +201,7 @@ pub fn judge<D: Device, T: TextStore>(
     ensures hides { (x text redo note : List ℕ) → HoldBytes D.Device T.TextStore x text redo devices → IsNoteLine note known
         → IfErr result.outcome (KeepsHistory guard note x text redo) }
     ensures image { (x text redo : List ℕ) → HoldBytes D.Device T.TextStore x text redo devices
-        → OnOk result.outcome (D.honest result.devices.image × (D.image result.devices.image ≡ x)) }
+        → OnOk result.outcome (D.faithful result.devices.image × (D.image result.devices.image ≡ x)) }
     ensures found_before { (x text redo : List ℕ) → HoldBytes D.Device T.TextStore x text redo devices
         → OnOk result.outcome (NoMore (D.survives devices.image) (D.survives result.devices.image)) }
     ensures unfailed { OnOk result.outcome (D.failures result.devices.image ≡ D.failures devices.image) }

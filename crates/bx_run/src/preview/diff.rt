@@ -8,7 +8,7 @@ ghost use Rattle.bx_run.specs.preview.Diffs.{StopsDiff, WritesDiff};
 
 use crate::preview::named::{in_order, lend_named};
 use bx_patch::{DiffFault, Extent, Unknown, write_patch};
-use bx_world::{Why, World, close_alone};
+use bx_world::{OpenFailure, World, close_alone};
 use std::alloc::Global;
 use std::io::Write;
 
@@ -16,9 +16,9 @@ use std::io::Write;
 #[derive(Clone, Copy, Debug, PartialEq, Eq)]
 pub enum DiffError {
     /// The first file was not opened.
-    OldUnopened(Why),
+    OldUnopened(OpenFailure),
     /// The second file was not opened.
-    NewUnopened(Why),
+    NewUnopened(OpenFailure),
     /// The comparison stopped.
     Stopped(DiffFault),
 }
@@ -34,13 +34,13 @@ fn compare<W: World, O: Write>(
 ) -> Result<(), DiffFault>
     requires old_countable { W.Image.failures old ≡ 0 }
     requires new_countable { W.Image.failures new ≡ 0 }
-    ensures text { W.Image.honest old → W.Image.honest new
+    ensures text { W.Image.faithful old → W.Image.faithful new
         → OnOk result (Appends (O.contents out.old) (O.contents out.new) (patch_text extent (W.Image.image old) (W.Image.image new))) }
-    ensures part { W.Image.honest old → W.Image.honest new
+    ensures part { W.Image.faithful old → W.Image.faithful new
         → IfErr result (WritesPrefix (O.contents out.old) (O.contents out.new) (patch_text extent (W.Image.image old) (W.Image.image new))) }
-    ensures fault { W.Image.honest old → W.Image.honest new → IfErr result (IsFaultFor (W.Image.image old) (W.Image.image new)) }
-    ensures seen { W.honest world.old → StaysSeen W.sight W.survives world.old world.new }
-    ensures honesty { W.honest world.new ↔ W.honest world.old }
+    ensures fault { W.Image.faithful old → W.Image.faithful new → IfErr result (IsFaultFor (W.Image.image old) (W.Image.image new)) }
+    ensures seen { W.faithful world.old → StaysSeen W.state W.survives world.old world.new }
+    ensures faith { W.faithful world.new ↔ W.faithful world.old }
 {
     let (mut old, mut new) = (old, new);
     let outcome = write_patch(&alloc, &mut old, &mut new, out, extent, &Unknown);
@@ -59,12 +59,12 @@ pub fn write_diff<W: World, O: Write>(
     extent: Extent,
     out: &mut O,
 ) -> Result<(), DiffError>
-    ensures diffs { W.honest world.old → MatchResult result
-        (λ _. WritesDiff extent old.now new.now (W.sight world.old) (O.contents out.old) (O.contents out.new))
-        (StopsDiff extent old.now new.now (W.refusals world.old < W.refusals world.new) (W.sight world.old)
+    ensures diffs { W.faithful world.old → MatchResult result
+        (λ _. WritesDiff extent old.now new.now (W.state world.old) (O.contents out.old) (O.contents out.new))
+        (StopsDiff extent old.now new.now (W.refusals world.old < W.refusals world.new) (W.state world.old)
         (O.contents out.old) (O.contents out.new)) }
-    ensures seen { W.honest world.old → StaysSeen W.sight W.survives world.old world.new }
-    ensures honesty { W.honest world.new ↔ W.honest world.old }
+    ensures seen { W.faithful world.old → StaysSeen W.state W.survives world.old world.new }
+    ensures faith { W.faithful world.new ↔ W.faithful world.old }
 {
     let first = match lend_named(world, old) {
         Ok(device) => device,

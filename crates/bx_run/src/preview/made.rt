@@ -30,10 +30,10 @@ pub struct Made {
 /// The change of a patch, with which the image has to agree.
 fn change_of_patch<D: Device>(image: &mut D, patch: Patch) -> Result<Change, PreviewError>
     requires countable { D.failures image.old < u64.MAX }
-    ensures change { D.honest image.old
+    ensures change { D.faithful image.old
         → IfOk result (λ change. (change ≡ patch_change (asked_of patch)) × Agrees (asked_of patch) (D.image image.old)) }
-    ensures stops { D.honest image.old → IfErr result (IsUnagreed (asked_of patch) (D.image image.old)) }
-    ensures reads { OnlyReads D.honest D.image D.room D.failures D.survives (failed_image result) image.old image.new }
+    ensures stops { D.faithful image.old → IfErr result (IsUnagreed (asked_of patch) (D.image image.old)) }
+    ensures reads { OnlyReads D.faithful D.image D.room D.failures D.survives (failed_image result) image.old image.new }
 {
     match find_other(image, &patch) {
         Ok(None) => Ok(patch.into_change()),
@@ -61,9 +61,9 @@ fn make_of_copy<R: Read + Drop>(alloc: Global, plan: Plan, input: R) -> Result<M
 /// The same change, unless it makes the image longer.
 fn within<D: Device>(image: &mut D, change: Change) -> Result<Change, PreviewError>
     requires countable { D.failures image.old < u64.MAX }
-    ensures change { D.honest image.old → IfOk result (λ same. (same ≡ change) × LengthensNot change (D.image image.old)) }
-    ensures stops { D.honest image.old → IfErr result (IsGrown change (D.image image.old)) }
-    ensures reads { OnlyReads D.honest D.image D.room D.failures D.survives (failed_image result) image.old image.new }
+    ensures change { D.faithful image.old → IfOk result (λ same. (same ≡ change) × LengthensNot change (D.image image.old)) }
+    ensures stops { D.faithful image.old → IfErr result (IsGrown change (D.image image.old)) }
+    ensures reads { OnlyReads D.faithful D.image D.room D.failures D.survives (failed_image result) image.old image.new }
 {
     let has = match image.len() {
         Ok(has) => has,
@@ -78,9 +78,9 @@ fn within<D: Device>(image: &mut D, change: Change) -> Result<Change, PreviewErr
 /// The change that isn't to make the image longer, or why there is none.
 fn change_of_kept<D: Device>(image: &mut D, kept: Kept) -> Result<Change, PreviewError>
     requires countable { D.failures image.old < u64.MAX }
-    ensures change { D.honest image.old → IfOk result (IsKeptChange kept (D.image image.old)) }
-    ensures stops { D.honest image.old → IfErr result (IsUnkept kept (D.image image.old)) }
-    ensures reads { OnlyReads D.honest D.image D.room D.failures D.survives (failed_image result) image.old image.new }
+    ensures change { D.faithful image.old → IfOk result (IsKeptChange kept (D.image image.old)) }
+    ensures stops { D.faithful image.old → IfErr result (IsUnkept kept (D.image image.old)) }
+    ensures reads { OnlyReads D.faithful D.image D.room D.failures D.survives (failed_image result) image.old image.new }
 {
     match kept {
         Kept::Change(change) => within(image, change),
@@ -94,10 +94,10 @@ fn change_of_kept<D: Device>(image: &mut D, kept: Kept) -> Result<Change, Previe
 /// The same, as what is proposed.
 fn make_of_kept<D: Device, R: Read + Drop>(image: &mut D, kept: Kept) -> Result<Made, PreviewError>
     requires countable { D.failures image.old < u64.MAX }
-    ensures made { D.honest image.old
+    ensures made { D.faithful image.old
         → IfOk result (λ made. IsProposedChange R.remaining (Edit.Keep kept) (D.image image.old) made.change made.counts) }
-    ensures stops { D.honest image.old → IfErr result (HasNoChange R.remaining (Edit.Keep kept) (D.image image.old)) }
-    ensures reads { OnlyReads D.honest D.image D.room D.failures D.survives (failed_image result) image.old image.new }
+    ensures stops { D.faithful image.old → IfErr result (HasNoChange R.remaining (Edit.Keep kept) (D.image image.old)) }
+    ensures reads { OnlyReads D.faithful D.image D.room D.failures D.survives (failed_image result) image.old image.new }
 {
     match change_of_kept(image, kept) {
         Ok(change) => Ok(Made {
@@ -115,10 +115,10 @@ fn make_change<D: Device, R: Read + Drop>(
     edit: Edit<R>,
 ) -> Result<Made, PreviewError>
     requires countable { D.failures image.old < u64.MAX }
-    ensures made { D.honest image.old
+    ensures made { D.faithful image.old
         → IfOk result (λ made. IsProposedChange R.remaining edit (D.image image.old) made.change made.counts) }
-    ensures stops { D.honest image.old → IfErr result (HasNoChange R.remaining edit (D.image image.old)) }
-    ensures reads { OnlyReads D.honest D.image D.room D.failures D.survives (failed_image result) image.old image.new }
+    ensures stops { D.faithful image.old → IfErr result (HasNoChange R.remaining edit (D.image image.old)) }
+    ensures reads { OnlyReads D.faithful D.image D.room D.failures D.survives (failed_image result) image.old image.new }
 {
     match edit {
         Edit::Read(Ok(change)) => Ok(Made {
@@ -153,9 +153,9 @@ fn has_room(keeps: bool, has: u64, wanted: u64) -> Result<(), PreviewError>
 /// Refuses a change that no image can have, or for which an image that keeps its length has no room.
 fn fit<D: Device>(image: &mut D, change: &Change, keeps: bool) -> Result<(), PreviewError>
     requires countable { D.failures image.old < u64.MAX }
-    ensures fits { D.honest image.old → OnOk result (IsFitting change.now keeps (D.image image.old)) }
-    ensures stops { D.honest image.old → IfErr result (IsTooLong change.now keeps (D.image image.old)) }
-    ensures reads { OnlyReads D.honest D.image D.room D.failures D.survives (failed_image result) image.old image.new }
+    ensures fits { D.faithful image.old → OnOk result (IsFitting change.now keeps (D.image image.old)) }
+    ensures stops { D.faithful image.old → IfErr result (IsTooLong change.now keeps (D.image image.old)) }
+    ensures reads { OnlyReads D.faithful D.image D.room D.failures D.survives (failed_image result) image.old image.new }
 {
     let has = match image.len() {
         Ok(has) => has,
@@ -175,11 +175,11 @@ pub fn make_fitting<D: Device, R: Read + Drop>(
     edit: Edit<R>,
 ) -> Result<Made, PreviewError>
     requires countable { D.failures image.old ≡ 0 }
-    ensures made { D.honest image.old
+    ensures made { D.faithful image.old
         → IfOk result (λ made. MakesFirst R.remaining edit (D.image image.old) made.counts (effect made.change (D.image image.old))) }
-    ensures fits { D.honest image.old → IfOk result (λ made. IsFitting made.change keeps (D.image image.old)) }
-    ensures stops { D.honest image.old → IfErr result (StopsBefore R.remaining edit keeps (D.image image.old)) }
-    ensures reads { OnlyReads D.honest D.image D.room D.failures D.survives (failed_image result) image.old image.new }
+    ensures fits { D.faithful image.old → IfOk result (λ made. IsFitting made.change keeps (D.image image.old)) }
+    ensures stops { D.faithful image.old → IfErr result (StopsBefore R.remaining edit keeps (D.image image.old)) }
+    ensures reads { OnlyReads D.faithful D.image D.room D.failures D.survives (failed_image result) image.old image.new }
 {
     let made = match make_change(alloc, image, edit) {
         Ok(made) => made,

@@ -5,41 +5,41 @@ ghost use Rattle.bx_world.specs.files.Reading.{AreBytesOf, MayNotRead, StaysSeen
 ghost use Rattle.bx_run.specs.preview.Previews.{MayNotOpen};
 
 use bx_patch::DiffFault;
-use bx_world::{Stat, Why, World, lend_alone, look_alone, read_unfit};
+use bx_world::{OpenFailure, Stat, World, lend_alone, look_alone, read_unfit};
 
 /// What the system tells of a file, which may be one that is read; none where the name leads to no file.
-pub fn look_if_there<W: World>(world: &mut W, name: &str) -> Result<Option<Stat>, Why>
-    ensures found { W.honest world.old → IfOk result (λ found. stat_named (W.sight world.old) name.now ≡ found) }
-    ensures may { W.honest world.old → OnOk result (MayBeRead (W.sight world.old) name.now) }
-    ensures why { W.honest world.old
-        → IfErr result (MayNotOpen name.now (W.refusals world.old < W.refusals world.new) (W.sight world.old)) }
-    ensures calm { W.honest world.old → OnOk result (W.refusals world.new ≡ W.refusals world.old) }
-    ensures seen { W.honest world.old → StaysSeen W.sight W.survives world.old world.new }
-    ensures honesty { W.honest world.new ↔ W.honest world.old }
+pub fn look_if_there<W: World>(world: &mut W, name: &str) -> Result<Option<Stat>, OpenFailure>
+    ensures found { W.faithful world.old → IfOk result (λ found. stat_named (W.state world.old) name.now ≡ found) }
+    ensures may { W.faithful world.old → OnOk result (MayBeRead (W.state world.old) name.now) }
+    ensures why { W.faithful world.old
+        → IfErr result (MayNotOpen name.now (W.refusals world.old < W.refusals world.new) (W.state world.old)) }
+    ensures calm { W.faithful world.old → OnOk result (W.refusals world.new ≡ W.refusals world.old) }
+    ensures seen { W.faithful world.old → StaysSeen W.state W.survives world.old world.new }
+    ensures faith { W.faithful world.new ↔ W.faithful world.old }
 {
     let look = match world.look(name) {
         Ok(look) => look,
-        Err(refusal) => return Err(Why::System(refusal)),
+        Err(refusal) => return Err(OpenFailure::System(refusal)),
     };
     let Some(found) = look.found else {
         return Ok(None);
     };
     match read_unfit(&found) {
         None => Ok(Some(found)),
-        Some(unfit) => Err(Why::Unfit(unfit)),
+        Some(unfit) => Err(OpenFailure::Unfit(unfit)),
     }
 }
 
 /// Opens a file to read it, a regular one or a block device, locks it beside others that read it, and lends it.
-pub fn lend_named<W: World>(world: &mut W, name: &str) -> Result<W::Image, Why>
+pub fn lend_named<W: World>(world: &mut W, name: &str) -> Result<W::Image, OpenFailure>
     ensures failures { IfOk result (λ d. W.Image.failures d ≡ 0) }
-    ensures faithful { W.honest world.old → IfOk result (λ d. W.Image.honest d) }
-    ensures bytes { W.honest world.old → IfOk result (λ d. AreBytesOf name.now (W.sight world.old) (W.Image.image d)) }
-    ensures why { W.honest world.old
-        → IfErr result (MayNotRead name.now (W.refusals world.old < W.refusals world.new) (W.sight world.old)) }
-    ensures calm { W.honest world.old → OnOk result (W.refusals world.new ≡ W.refusals world.old) }
-    ensures seen { W.honest world.old → StaysSeen W.sight W.survives world.old world.new }
-    ensures honesty { W.honest world.new ↔ W.honest world.old }
+    ensures faithful { W.faithful world.old → IfOk result (λ d. W.Image.faithful d) }
+    ensures bytes { W.faithful world.old → IfOk result (λ d. AreBytesOf name.now (W.state world.old) (W.Image.image d)) }
+    ensures why { W.faithful world.old
+        → IfErr result (MayNotRead name.now (W.refusals world.old < W.refusals world.new) (W.state world.old)) }
+    ensures calm { W.faithful world.old → OnOk result (W.refusals world.new ≡ W.refusals world.old) }
+    ensures seen { W.faithful world.old → StaysSeen W.state W.survives world.old world.new }
+    ensures faith { W.faithful world.new ↔ W.faithful world.old }
 {
     if let Err(why) = look_alone(world, name) {
         return Err(why);

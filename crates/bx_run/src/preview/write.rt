@@ -14,7 +14,7 @@ use crate::preview::named::{in_order, look_if_there};
 use bx_dd::Counts;
 use bx_image::{Change, Device, ImageFault, MemImage};
 use bx_patch::{ChangedImage, DiffFault, Extent, write_patch};
-use bx_world::{Kind, Stat, Why, World, close_alone, lend_alone};
+use bx_world::{Kind, OpenFailure, Stat, World, close_alone, lend_alone};
 use std::alloc::{Allocator, Global};
 use std::io::{Read, Write};
 
@@ -59,7 +59,7 @@ fn write_behind<D: Device, O: Write, A: Allocator>(
 ) -> (D, Result<(), DiffFault>)
     requires countable { D.failures image.old ≡ 0 }
     requires none { D.failures again ≡ 0 }
-    ensures compared { (change : ChangeOf A) → changes.now ≡ change ∷ [] → D.honest image.old → D.honest again
+    ensures compared { (change : ChangeOf A) → changes.now ≡ change ∷ [] → D.faithful image.old → D.faithful again
         → D.image again ≡ D.image image.old → IsCompared change (D.image image.old) result.1 (O.contents out.old) (O.contents out.new) }
 {
     let mut changed = match ChangedImage::new(again, changes) {
@@ -81,7 +81,7 @@ fn write_changed<D: Device, O: Write>(
 ) -> (D, Result<(), DiffFault>)
     requires countable { D.failures image.old ≡ 0 }
     requires none { D.failures again ≡ 0 }
-    ensures compared { D.honest image.old → D.honest again → D.image again ≡ D.image image.old
+    ensures compared { D.faithful image.old → D.faithful again → D.image again ≡ D.image image.old
         → IsCompared change (D.image image.old) result.1 (O.contents out.old) (O.contents out.new) }
 {
     match alone(alloc, change) {
@@ -100,7 +100,7 @@ fn preview_pair<D: Device + Drop, R: Read + Drop, O: Write>(
 ) -> (Pair<D>, Result<Option<Counts>, PreviewError>)
     requires image { D.failures pair.image ≡ 0 }
     requires again { D.failures pair.again ≡ 0 }
-    ensures previews { D.honest pair.image → D.honest pair.again → D.image pair.again ≡ D.image pair.image → MatchResult result.1
+    ensures previews { D.faithful pair.image → D.faithful pair.again → D.image pair.again ≡ D.image pair.image → MatchResult result.1
         (λ counts. WritesChange R.remaining edit keeps (D.image pair.image) counts (O.contents out.old) (O.contents out.new))
         (StopsChange R.remaining edit keeps (D.image pair.image) (O.contents out.old) (O.contents out.new)) }
 {
@@ -117,18 +117,18 @@ fn preview_pair<D: Device + Drop, R: Read + Drop, O: Write>(
 }
 
 /// Opens a file that was looked at twice to read it, locks it beside others that read it, and lends both.
-fn lend_pair<W: World>(world: &mut W, name: &str) -> Result<Pair<W::Image>, Why>
-    requires may { W.honest world.old → MayBeRead (W.sight world.old) name.now }
+fn lend_pair<W: World>(world: &mut W, name: &str) -> Result<Pair<W::Image>, OpenFailure>
+    requires may { W.faithful world.old → MayBeRead (W.state world.old) name.now }
     ensures image { IfOk result (λ pair. W.Image.failures pair.image ≡ 0) }
     ensures again { IfOk result (λ pair. W.Image.failures pair.again ≡ 0) }
-    ensures faithful { W.honest world.old → IfOk result (λ pair. W.Image.honest pair.image × W.Image.honest pair.again) }
-    ensures bytes { W.honest world.old → IfOk result (λ pair. (W.Image.image pair.image ≡ held (W.sight world.old) name.now)
-        × (W.Image.image pair.again ≡ held (W.sight world.old) name.now)) }
-    ensures why { W.honest world.old → IfErr result (IsReason ((W.sight world.old).named name.now ≡ None) NoneUnfit ⊥
+    ensures faithful { W.faithful world.old → IfOk result (λ pair. W.Image.faithful pair.image × W.Image.faithful pair.again) }
+    ensures bytes { W.faithful world.old → IfOk result (λ pair. (W.Image.image pair.image ≡ held (W.state world.old) name.now)
+        × (W.Image.image pair.again ≡ held (W.state world.old) name.now)) }
+    ensures why { W.faithful world.old → IfErr result (IsReason ((W.state world.old).named name.now ≡ None) NoneUnfit ⊥
         (W.refusals world.old < W.refusals world.new)) }
-    ensures calm { W.honest world.old → OnOk result (W.refusals world.new ≡ W.refusals world.old) }
-    ensures seen { W.honest world.old → StaysSeen W.sight W.survives world.old world.new }
-    ensures honesty { W.honest world.new ↔ W.honest world.old }
+    ensures calm { W.faithful world.old → OnOk result (W.refusals world.new ≡ W.refusals world.old) }
+    ensures seen { W.faithful world.old → StaysSeen W.state W.survives world.old world.new }
+    ensures faith { W.faithful world.new ↔ W.faithful world.old }
 {
     let image = match lend_alone(world, name) {
         Ok(image) => image,
@@ -157,8 +157,8 @@ fn close_pair<W: World>(
     pair: Pair<W::Image>,
     outcome: &Result<Option<Counts>, PreviewError>,
 )
-    ensures seen { W.honest world.old → StaysSeen W.sight W.survives world.old world.new }
-    ensures honesty { W.honest world.new ↔ W.honest world.old }
+    ensures seen { W.faithful world.old → StaysSeen W.state W.survives world.old world.new }
+    ensures faith { W.faithful world.new ↔ W.faithful world.old }
 {
     // The failed one last: its failure is then the one that a hint names.
     let (first, last) = in_order(pair.image, pair.again, &comparison_of(outcome));
@@ -185,14 +185,14 @@ fn preview_there<W: World, R: Read + Drop, O: Write>(
     edit: Edit<R>,
     out: &mut O,
 ) -> Result<Option<Counts>, PreviewError>
-    requires may { W.honest world.old → MayBeRead (W.sight world.old) name.now }
-    requires found { W.honest world.old → stat_named (W.sight world.old) name.now ≡ Some found.now }
-    ensures previews { W.honest world.old → MatchResult result
-        (λ counts. WritesPreview R.remaining name.now edit (W.sight world.old) counts (O.contents out.old) (O.contents out.new))
-        (StopsPreview R.remaining name.now edit (W.refusals world.old < W.refusals world.new) (W.sight world.old)
+    requires may { W.faithful world.old → MayBeRead (W.state world.old) name.now }
+    requires found { W.faithful world.old → stat_named (W.state world.old) name.now ≡ Some found.now }
+    ensures previews { W.faithful world.old → MatchResult result
+        (λ counts. WritesPreview R.remaining name.now edit (W.state world.old) counts (O.contents out.old) (O.contents out.new))
+        (StopsPreview R.remaining name.now edit (W.refusals world.old < W.refusals world.new) (W.state world.old)
         (O.contents out.old) (O.contents out.new)) }
-    ensures seen { W.honest world.old → StaysSeen W.sight W.survives world.old world.new }
-    ensures honesty { W.honest world.new ↔ W.honest world.old }
+    ensures seen { W.faithful world.old → StaysSeen W.state W.survives world.old world.new }
+    ensures faith { W.faithful world.new ↔ W.faithful world.old }
 {
     let pair = match lend_pair(world, name) {
         Ok(pair) => pair,
@@ -229,12 +229,12 @@ pub fn write_preview<W: World, R: Read + Drop, O: Write>(
     edit: Edit<R>,
     out: &mut O,
 ) -> Result<Option<Counts>, PreviewError>
-    ensures previews { W.honest world.old → MatchResult result
-        (λ counts. WritesPreview R.remaining name.now edit (W.sight world.old) counts (O.contents out.old) (O.contents out.new))
-        (StopsPreview R.remaining name.now edit (W.refusals world.old < W.refusals world.new) (W.sight world.old)
+    ensures previews { W.faithful world.old → MatchResult result
+        (λ counts. WritesPreview R.remaining name.now edit (W.state world.old) counts (O.contents out.old) (O.contents out.new))
+        (StopsPreview R.remaining name.now edit (W.refusals world.old < W.refusals world.new) (W.state world.old)
         (O.contents out.old) (O.contents out.new)) }
-    ensures seen { W.honest world.old → StaysSeen W.sight W.survives world.old world.new }
-    ensures honesty { W.honest world.new ↔ W.honest world.old }
+    ensures seen { W.faithful world.old → StaysSeen W.state W.survives world.old world.new }
+    ensures faith { W.faithful world.new ↔ W.faithful world.old }
 {
     match look_if_there(world, name) {
         Ok(Some(found)) => preview_there(world, alloc, name, &found, edit, out),

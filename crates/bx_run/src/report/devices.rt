@@ -12,7 +12,7 @@ ghost use Rattle.bx_run.specs.report.Stepped.{CountsHeld};
 use crate::report::error::{ReportError, reason_of};
 use bx_cli_commands::{Fault, list_ranges, list_steps, log_text};
 use bx_image::Device;
-use bx_journal::{Devices, How, Session, Steps, Way};
+use bx_journal::{Devices, Direction, RecoveryOutcome, Session, Steps};
 use bx_journal_store::TextStore;
 use std::alloc::Global;
 use std::io::Write;
@@ -38,12 +38,12 @@ pub fn closed<D: Device, T: TextStore>(session: Session<D, T>) -> Devices<D, T>
 }
 
 /// Whether opening found finished entries alone.
-pub fn is_whole(how: How) -> bool
-    ensures { (result ≡ true) ↔ (how ≡ How.Clean) }
+pub fn is_whole(how: RecoveryOutcome) -> bool
+    ensures { (result ≡ true) ↔ (how ≡ RecoveryOutcome.Clean) }
 {
     match how {
-        How::Clean => true,
-        How::Dropped | How::Restored { .. } => false,
+        RecoveryOutcome::Clean => true,
+        RecoveryOutcome::Dropped | RecoveryOutcome::Restored { .. } => false,
     }
 }
 
@@ -79,9 +79,9 @@ fn log_in<D: Device, T: TextStore>(
     session: &mut Session<D, T>,
 ) -> Result<String, ReportError>
     requires unbroken { IsUnbroken D.Device T.TextStore u64.MAX session.old }
-    ensures log { T.honest session.old.journal → HasCount (T.text session.old.journal) session.old.count
+    ensures log { T.faithful session.old.journal → HasCount (T.text session.old.journal) session.old.count
         → IfOk result (λ text. IsLogOf (T.text session.old.journal) (string_bytes text)) }
-    ensures fails { T.honest session.old.journal → HasCount (T.text session.old.journal) session.old.count → IfErr result IsDeviceStop }
+    ensures fails { T.faithful session.old.journal → HasCount (T.text session.old.journal) session.old.count → IfErr result IsDeviceStop }
 {
     let rows = match session.log() {
         Ok(rows) => rows,
@@ -123,8 +123,8 @@ fn list_on<T: TextStore, O: Write>(
     out: &mut O,
 ) -> Result<(), ReportError>
     requires { T.failures journal.old < u64.MAX }
-    ensures rows { T.honest journal.old → OnOk result (RangesOf (T.text journal.old) (O.contents out.old) (O.contents out.new)) }
-    ensures cut { T.honest journal.old → IfErr result (IsListCut (T.text journal.old) (O.contents out.old) (O.contents out.new)) }
+    ensures rows { T.faithful journal.old → OnOk result (RangesOf (T.text journal.old) (O.contents out.old) (O.contents out.new)) }
+    ensures cut { T.faithful journal.old → IfErr result (IsListCut (T.text journal.old) (O.contents out.old) (O.contents out.new)) }
 {
     match list_ranges(&alloc, journal, out) {
         Ok(()) => Ok(()),
@@ -167,9 +167,9 @@ fn show_text<D: Device, T: TextStore, O: Write>(
 ) -> Result<(), ReportError>
     requires countable { D.failures image.old < u64.MAX }
     requires also_countable { T.failures text.old < u64.MAX }
-    ensures shows { T.honest text.old → D.honest image.old → OnOk result
+    ensures shows { T.faithful text.old → D.faithful image.old → OnOk result
         (ShowsText (T.text text.old) (D.image image.old) steps (O.contents out.old) (O.contents out.new)) }
-    ensures cut { T.honest text.old → D.honest image.old → IfErr result
+    ensures cut { T.faithful text.old → D.faithful image.old → IfErr result
         (AreStepsCut (T.text text.old) (D.image image.old) steps (O.contents out.old) (O.contents out.new)) }
 {
     match list_steps(&alloc, image, text, steps, out) {
@@ -192,8 +192,8 @@ fn show_next<D: Device, T: TextStore, O: Write>(
         (AreStepsCut (stepped_text steps.way text redo) x steps (O.contents out.old) (O.contents out.new)) }
 {
     match steps.way {
-        Way::Undo => show_text(alloc, &mut devices.image, &mut devices.journal, steps, out),
-        Way::Redo => show_text(alloc, &mut devices.image, &mut devices.redo, steps, out),
+        Direction::Undo => show_text(alloc, &mut devices.image, &mut devices.journal, steps, out),
+        Direction::Redo => show_text(alloc, &mut devices.image, &mut devices.redo, steps, out),
     }
 }
 
@@ -239,7 +239,7 @@ pub fn undos_on<D: Device, T: TextStore, O: Write>(
         → IfErr result.outcome (AreStepsCut text x (undos steps) (O.contents out.old) (O.contents out.new)) }
 {
     let mut devices = devices;
-    let way = Way::Undo;
+    let way = Direction::Undo;
     let image = &mut devices.image;
     let outcome = show_text(
         alloc,

@@ -4,13 +4,13 @@ ghost use Rattle.bx_run.specs.report.Looks.{unseen_of};
 
 use bx_cli_commands::Fault;
 use bx_journal::SessionFault;
-use bx_world::Unopened;
+use bx_world::OpenError;
 
 /// Why the changes of an image are not shown.
 #[derive(Clone, Copy, Debug, PartialEq, Eq)]
 pub enum ReportError {
     /// A file was not opened.
-    Unopened(Unopened),
+    Unopened(OpenError),
     /// A change is unfinished, and only a command that may write recovers it.
     Unfinished,
     /// A change is unfinished that was made on another image, or may have been.

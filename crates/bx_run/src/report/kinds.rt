@@ -4,13 +4,13 @@ ghost use Rattle.bx_world.specs.World.{NothingNewFound, held};
 ghost use Rattle.bx_world.specs.files.Reading.{AreReadable, MayRefuseReading};
 ghost use Rattle.bx_run.specs.report.Looks.{unopened_in};
 ghost use Rattle.bx_run.specs.report.Reports.{Reports, StopsLogOf, WritesLog};
-ghost use Rattle.bx_run.specs.Scene.{scene};
+ghost use Rattle.bx_run.specs.RunState.{run_state};
 
 use crate::report::{
     ReportError, log, log_unfinished, log_with_ranges, show, show_patch, show_unfinished,
 };
 use bx_cli_commands::Fault;
-use bx_journal::{Steps, Way};
+use bx_journal::{Direction, Steps};
 use bx_text::emit;
 use bx_world::{Names, World};
 use std::alloc::Global;
@@ -35,7 +35,7 @@ pub enum Report {
     /// What the next undos or redos would do, as one patch.
     Patch {
         /// Back or again.
-        way: Way,
+        way: Direction,
         /// How many changes are stepped over.
         count: u32,
     },
@@ -48,14 +48,14 @@ fn write_log<W: World, O: Write>(
     names: &Names,
     out: &mut O,
 ) -> Result<(), ReportError>
-    ensures log { W.honest world.old
-        → OnOk result (WritesLog (held (W.sight world.old) names.now.journal) (O.contents out.old) (O.contents out.new)) }
-    ensures stops { W.honest world.old → IfErr result (StopsLogOf names.now (W.refusals world.old < W.refusals world.new)
-        (W.sight world.old) (O.contents out.old) (O.contents out.new)) }
-    ensures fit { W.honest world.old → unopened_in result ≡ None → AreReadable names.now (W.sight world.old) }
-    ensures same { W.honest world.old → W.sight world.new ≡ W.sight world.old }
-    ensures survives { W.honest world.old → NothingNewFound (W.survives world.old) (W.survives world.new) }
-    ensures honesty { W.honest world.new ↔ W.honest world.old }
+    ensures log { W.faithful world.old
+        → OnOk result (WritesLog (held (W.state world.old) names.now.journal) (O.contents out.old) (O.contents out.new)) }
+    ensures stops { W.faithful world.old → IfErr result (StopsLogOf names.now (W.refusals world.old < W.refusals world.new)
+        (W.state world.old) (O.contents out.old) (O.contents out.new)) }
+    ensures fit { W.faithful world.old → unopened_in result ≡ None → AreReadable names.now (W.state world.old) }
+    ensures same { W.faithful world.old → W.state world.new ≡ W.state world.old }
+    ensures survives { W.faithful world.old → NothingNewFound (W.survives world.old) (W.survives world.new) }
+    ensures faith { W.faithful world.new ↔ W.faithful world.old }
 {
     // No `?` here: it would hide from the proof which error it is.
     let text = match log(world, alloc, names) {
@@ -76,14 +76,14 @@ pub fn write_report<W: World, O: Write>(
     report: Report,
     out: &mut O,
 ) -> Result<(), ReportError>
-    ensures reports { W.honest world.old → Reports names.now report result
-        (scene W.sight W.refusals W.note O.contents world.old out.old) (scene W.sight W.refusals W.note O.contents world.new out.new) }
-    ensures why { W.honest world.old
-        → IfSome (unopened_in result) (MayRefuseReading names.now (W.refusals world.old < W.refusals world.new) (W.sight world.old)) }
-    ensures fit { W.honest world.old → unopened_in result ≡ None → AreReadable names.now (W.sight world.old) }
-    ensures same { W.honest world.old → W.sight world.new ≡ W.sight world.old }
-    ensures survives { W.honest world.old → NothingNewFound (W.survives world.old) (W.survives world.new) }
-    ensures honesty { W.honest world.new ↔ W.honest world.old }
+    ensures reports { W.faithful world.old → Reports names.now report result
+        (run_state W.state W.refusals W.note O.contents world.old out.old) (run_state W.state W.refusals W.note O.contents world.new out.new) }
+    ensures why { W.faithful world.old
+        → IfSome (unopened_in result) (MayRefuseReading names.now (W.refusals world.old < W.refusals world.new) (W.state world.old)) }
+    ensures fit { W.faithful world.old → unopened_in result ≡ None → AreReadable names.now (W.state world.old) }
+    ensures same { W.faithful world.old → W.state world.new ≡ W.state world.old }
+    ensures survives { W.faithful world.old → NothingNewFound (W.survives world.old) (W.survives world.new) }
+    ensures faith { W.faithful world.new ↔ W.faithful world.old }
 {
     match report {
         Report::Log => write_log(world, alloc, names, out),

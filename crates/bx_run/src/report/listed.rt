@@ -7,7 +7,7 @@ ghost use Rattle.bx_run.specs.report.Looks.{IsLogOf, MayNotLook, StopsRangesOf, 
 
 use crate::report::devices::{log_on, ranges_on};
 use crate::report::error::ReportError;
-use crate::report::lent::{close, lend};
+use crate::report::lent::{close, into_devices};
 use bx_world::{Names, World};
 use std::alloc::Global;
 use std::io::Write;
@@ -19,15 +19,15 @@ use std::io::Write;
 /// Where a file is not opened, where something is unfinished, and where a text is damaged, the image has another length, or memory or
 /// a device fails.
 pub fn log<W: World>(world: &mut W, alloc: Global, names: &Names) -> Result<String, ReportError>
-    ensures log { W.honest world.old → IfOk result (λ log. IsLogOf (held (W.sight world.old) names.now.journal) (string_bytes log)) }
-    ensures why { W.honest world.old
-        → IfErr result (MayNotLook names.now (W.refusals world.old < W.refusals world.new) (W.sight world.old)) }
-    ensures fit { W.honest world.old → unopened_in result ≡ None → AreReadable names.now (W.sight world.old) }
-    ensures same { W.honest world.old → W.sight world.new ≡ W.sight world.old }
-    ensures survives { W.honest world.old → NothingNewFound (W.survives world.old) (W.survives world.new) }
-    ensures honesty { W.honest world.new ↔ W.honest world.old }
+    ensures log { W.faithful world.old → IfOk result (λ log. IsLogOf (held (W.state world.old) names.now.journal) (string_bytes log)) }
+    ensures why { W.faithful world.old
+        → IfErr result (MayNotLook names.now (W.refusals world.old < W.refusals world.new) (W.state world.old)) }
+    ensures fit { W.faithful world.old → unopened_in result ≡ None → AreReadable names.now (W.state world.old) }
+    ensures same { W.faithful world.old → W.state world.new ≡ W.state world.old }
+    ensures survives { W.faithful world.old → NothingNewFound (W.survives world.old) (W.survives world.new) }
+    ensures faith { W.faithful world.new ↔ W.faithful world.old }
 {
-    let devices = match lend(world, names) {
+    let devices = match into_devices(world, names) {
         Ok(devices) => devices,
         Err(unopened) => return Err(ReportError::Unopened(unopened)),
     };
@@ -45,16 +45,16 @@ pub fn log_with_ranges<W: World, O: Write>(
     names: &Names,
     out: &mut O,
 ) -> Result<(), ReportError>
-    ensures rows { W.honest world.old
-        → OnOk result (RangesOf (held (W.sight world.old) names.now.journal) (O.contents out.old) (O.contents out.new)) }
-    ensures stops { W.honest world.old → IfErr result (StopsRangesOf names.now (W.refusals world.old < W.refusals world.new)
-        (W.sight world.old) (O.contents out.old) (O.contents out.new)) }
-    ensures fit { W.honest world.old → unopened_in result ≡ None → AreReadable names.now (W.sight world.old) }
-    ensures same { W.honest world.old → W.sight world.new ≡ W.sight world.old }
-    ensures survives { W.honest world.old → NothingNewFound (W.survives world.old) (W.survives world.new) }
-    ensures honesty { W.honest world.new ↔ W.honest world.old }
+    ensures rows { W.faithful world.old
+        → OnOk result (RangesOf (held (W.state world.old) names.now.journal) (O.contents out.old) (O.contents out.new)) }
+    ensures stops { W.faithful world.old → IfErr result (StopsRangesOf names.now (W.refusals world.old < W.refusals world.new)
+        (W.state world.old) (O.contents out.old) (O.contents out.new)) }
+    ensures fit { W.faithful world.old → unopened_in result ≡ None → AreReadable names.now (W.state world.old) }
+    ensures same { W.faithful world.old → W.state world.new ≡ W.state world.old }
+    ensures survives { W.faithful world.old → NothingNewFound (W.survives world.old) (W.survives world.new) }
+    ensures faith { W.faithful world.new ↔ W.faithful world.old }
 {
-    let devices = match lend(world, names) {
+    let devices = match into_devices(world, names) {
         Ok(devices) => devices,
         Err(unopened) => return Err(ReportError::Unopened(unopened)),
     };

@@ -29,12 +29,12 @@ fn note_line(buf: &[u8], n: usize) -> Option<ImageLine>
 
 /// Reads the note.
 pub fn read_note_line<W: World>(world: &mut W) -> NoteLine
-    ensures told { W.honest world.old → IsNoteLine (W.note world.old) result }
-    ensures beside { W.honest world.old → W.beside world.new ≡ W.beside world.old }
-    ensures calm { W.honest world.old → W.refusals world.new ≡ W.refusals world.old }
-    ensures seen { W.honest world.old → StaysSeen W.sight W.survives world.old world.new }
-    ensures note { W.honest world.old → W.note world.new ≡ W.note world.old }
-    ensures honesty { W.honest world.new ↔ W.honest world.old }
+    ensures told { W.faithful world.old → IsNoteLine (W.note world.old) result }
+    ensures beside { W.faithful world.old → W.beside world.new ≡ W.beside world.old }
+    ensures calm { W.faithful world.old → W.refusals world.new ≡ W.refusals world.old }
+    ensures seen { W.faithful world.old → StaysSeen W.state W.survives world.old world.new }
+    ensures note { W.faithful world.old → W.note world.new ≡ W.note world.old }
+    ensures faith { W.faithful world.new ↔ W.faithful world.old }
 {
     let mut buf = [0u8; 440];
     match world.read_note(&mut buf) {

@@ -7,7 +7,7 @@ ghost use Rattle.bx_run.specs.report.Looks.{IsNextShown, StopsNextSteps, StopsUn
 
 use crate::report::devices::{show_on, undos_on};
 use crate::report::error::ReportError;
-use crate::report::lent::{close, lend};
+use crate::report::lent::{close, into_devices};
 use bx_journal::Steps;
 use bx_world::{Names, World};
 use std::alloc::Global;
@@ -26,16 +26,16 @@ pub fn show<W: World, O: Write>(
     steps: Steps,
     out: &mut O,
 ) -> Result<(), ReportError>
-    ensures shows { W.honest world.old → OnOk result (IsNextShown (held (W.sight world.old) names.now.image)
-        (held (W.sight world.old) names.now.journal) (held (W.sight world.old) names.now.redo) steps (O.contents out.old) (O.contents out.new)) }
-    ensures stops { W.honest world.old → IfErr result (StopsNextSteps names.now (W.refusals world.old < W.refusals world.new)
-        (W.sight world.old) steps (O.contents out.old) (O.contents out.new)) }
-    ensures fit { W.honest world.old → unopened_in result ≡ None → AreReadable names.now (W.sight world.old) }
-    ensures same { W.honest world.old → W.sight world.new ≡ W.sight world.old }
-    ensures survives { W.honest world.old → NothingNewFound (W.survives world.old) (W.survives world.new) }
-    ensures honesty { W.honest world.new ↔ W.honest world.old }
+    ensures shows { W.faithful world.old → OnOk result (IsNextShown (held (W.state world.old) names.now.image)
+        (held (W.state world.old) names.now.journal) (held (W.state world.old) names.now.redo) steps (O.contents out.old) (O.contents out.new)) }
+    ensures stops { W.faithful world.old → IfErr result (StopsNextSteps names.now (W.refusals world.old < W.refusals world.new)
+        (W.state world.old) steps (O.contents out.old) (O.contents out.new)) }
+    ensures fit { W.faithful world.old → unopened_in result ≡ None → AreReadable names.now (W.state world.old) }
+    ensures same { W.faithful world.old → W.state world.new ≡ W.state world.old }
+    ensures survives { W.faithful world.old → NothingNewFound (W.survives world.old) (W.survives world.new) }
+    ensures faith { W.faithful world.new ↔ W.faithful world.old }
 {
-    let devices = match lend(world, names) {
+    let devices = match into_devices(world, names) {
         Ok(devices) => devices,
         Err(unopened) => return Err(ReportError::Unopened(unopened)),
     };
@@ -56,16 +56,16 @@ pub fn show_unfinished<W: World, O: Write>(
     steps: Steps,
     out: &mut O,
 ) -> Result<(), ReportError>
-    ensures shows { W.honest world.old → OnOk result (ShowsText (held (W.sight world.old) names.now.journal)
-        (held (W.sight world.old) names.now.image) (undos steps) (O.contents out.old) (O.contents out.new)) }
-    ensures stops { W.honest world.old → IfErr result (StopsUndos names.now (W.refusals world.old < W.refusals world.new)
-        (W.sight world.old) steps (O.contents out.old) (O.contents out.new)) }
-    ensures fit { W.honest world.old → unopened_in result ≡ None → AreReadable names.now (W.sight world.old) }
-    ensures same { W.honest world.old → W.sight world.new ≡ W.sight world.old }
-    ensures survives { W.honest world.old → NothingNewFound (W.survives world.old) (W.survives world.new) }
-    ensures honesty { W.honest world.new ↔ W.honest world.old }
+    ensures shows { W.faithful world.old → OnOk result (ShowsText (held (W.state world.old) names.now.journal)
+        (held (W.state world.old) names.now.image) (undos steps) (O.contents out.old) (O.contents out.new)) }
+    ensures stops { W.faithful world.old → IfErr result (StopsUndos names.now (W.refusals world.old < W.refusals world.new)
+        (W.state world.old) steps (O.contents out.old) (O.contents out.new)) }
+    ensures fit { W.faithful world.old → unopened_in result ≡ None → AreReadable names.now (W.state world.old) }
+    ensures same { W.faithful world.old → W.state world.new ≡ W.state world.old }
+    ensures survives { W.faithful world.old → NothingNewFound (W.survives world.old) (W.survives world.new) }
+    ensures faith { W.faithful world.new ↔ W.faithful world.old }
 {
-    let devices = match lend(world, names) {
+    let devices = match into_devices(world, names) {
         Ok(devices) => devices,
         Err(unopened) => return Err(ReportError::Unopened(unopened)),
     };

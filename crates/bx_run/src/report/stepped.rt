@@ -11,9 +11,9 @@ mod patched;
 
 use crate::report::devices::Seen;
 use crate::report::error::ReportError;
-use crate::report::lent::{close, lend};
-use bx_journal::Way;
-use bx_world::{Names, Which, World, close_alone, lend_alone};
+use crate::report::lent::{close, into_devices};
+use bx_journal::Direction;
+use bx_world::{FileRole, Names, World, close_alone, lend_alone};
 use patched::patch_on;
 use std::alloc::Global;
 use std::io::Write;
@@ -28,28 +28,28 @@ pub fn show_patch<W: World, O: Write>(
     world: &mut W,
     alloc: Global,
     names: &Names,
-    way: Way,
+    way: Direction,
     count: u32,
     out: &mut O,
 ) -> Result<(), ReportError>
     // Where it succeeds the files hold images, and exactly the patch between the newest one and that of the machine's step was written.
-    ensures shows { W.honest world.old
-        → OnOk result (OfNamed names.now (W.sight world.old) (λ s. WritesSteps way count s (O.contents out.old) (O.contents out.new))) }
-    ensures stops { W.honest world.old → IfErr result (StopsPatch names.now (W.refusals world.old < W.refusals world.new)
-        (W.sight world.old) way count (O.contents out.old) (O.contents out.new)) }
-    ensures fit { W.honest world.old → unopened_in result ≡ None → AreReadable names.now (W.sight world.old) }
-    ensures same { W.honest world.old → W.sight world.new ≡ W.sight world.old }
-    ensures survives { W.honest world.old → NothingNewFound (W.survives world.old) (W.survives world.new) }
-    ensures honesty { W.honest world.new ↔ W.honest world.old }
+    ensures shows { W.faithful world.old
+        → OnOk result (OfNamed names.now (W.state world.old) (λ s. WritesSteps way count s (O.contents out.old) (O.contents out.new))) }
+    ensures stops { W.faithful world.old → IfErr result (StopsPatch names.now (W.refusals world.old < W.refusals world.new)
+        (W.state world.old) way count (O.contents out.old) (O.contents out.new)) }
+    ensures fit { W.faithful world.old → unopened_in result ≡ None → AreReadable names.now (W.state world.old) }
+    ensures same { W.faithful world.old → W.state world.new ≡ W.state world.old }
+    ensures survives { W.faithful world.old → NothingNewFound (W.survives world.old) (W.survives world.new) }
+    ensures faith { W.faithful world.new ↔ W.faithful world.old }
 {
-    let devices = match lend(world, names) {
+    let devices = match into_devices(world, names) {
         Ok(devices) => devices,
         Err(unopened) => return Err(ReportError::Unopened(unopened)),
     };
     let again = match lend_alone(world, names.image.as_str()) {
         Ok(again) => again,
         Err(why) => {
-            let outcome = Err(ReportError::Unopened(Which::Image.unopened(why)));
+            let outcome = Err(ReportError::Unopened(FileRole::Image.unopened(why)));
             return close(world, Seen { devices, outcome });
         }
     };

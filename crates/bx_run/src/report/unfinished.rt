@@ -15,7 +15,7 @@ mod rows;
 
 use crate::report::devices::Seen;
 use crate::report::error::ReportError;
-use crate::report::lent::{close, lend};
+use crate::report::lent::{close, into_devices};
 use crate::report::unfinished::rows::put_listed_rows;
 use bx_cli_commands::Fault;
 use bx_image::Device;
@@ -35,10 +35,10 @@ fn put_listed<T: TextStore, O: Write>(
     out: &mut O,
 ) -> Result<(), ShowFault>
     requires countable { T.failures journal.old < u64.MAX }
-    requires lie { (len : ℕ) × (T.honest journal.old → len ≤ length (T.text journal.old)) × All (LiesWithin len) found.now.marks.items }
-    ensures put { T.honest journal.old → OnOk result (Appends (O.contents out.old) (O.contents out.new)
+    requires lie { (len : ℕ) × (T.faithful journal.old → len ≤ length (T.text journal.old)) × All (LiesWithin len) found.now.marks.items }
+    ensures put { T.faithful journal.old → OnOk result (Appends (O.contents out.old) (O.contents out.new)
         (torn_text found.now.torn ++ rows_at verbose (T.text journal.old) 1 found.now.marks.items)) }
-    ensures stops { T.honest journal.old → IfErr result (StopsPrefix 0
+    ensures stops { T.faithful journal.old → IfErr result (StopsPrefix 0
         (torn_text found.now.torn ++ rows_at verbose (T.text journal.old) 1 found.now.marks.items) (O.contents out.old) (O.contents out.new)) }
     ensures kind { IfErr result PutFault }
 {
@@ -54,10 +54,10 @@ fn list_front<T: TextStore, O: Write>(
     out: &mut O,
 ) -> Result<(), ShowFault>
     requires { T.failures journal.old < u64.MAX }
-    ensures lists { T.honest journal.old
+    ensures lists { T.faithful journal.old
         → OnOk result (ListsFront verbose (T.text journal.old) (O.contents out.old) (O.contents out.new)) }
-    ensures fault { IfErr result (StopsLog (T.honest journal.old) (T.text journal.old)) }
-    ensures stops { T.honest journal.old
+    ensures fault { IfErr result (StopsLog (T.faithful journal.old) (T.text journal.old)) }
+    ensures stops { T.faithful journal.old
         → IfErr result (StopsFrontRows verbose (T.text journal.old) (O.contents out.old) (O.contents out.new)) }
 {
     let found = match front_marks(&alloc, journal) {
@@ -116,16 +116,16 @@ pub fn log_unfinished<W: World, O: Write>(
     verbose: bool,
     out: &mut O,
 ) -> Result<(), ReportError>
-    ensures lists { W.honest world.old → OnOk result
-        (ListsFront verbose (held (W.sight world.old) names.now.journal) (O.contents out.old) (O.contents out.new)) }
-    ensures stops { W.honest world.old → IfErr result (StopsFrontOf names.now (W.refusals world.old < W.refusals world.new)
-        (W.sight world.old) verbose (O.contents out.old) (O.contents out.new)) }
-    ensures fit { W.honest world.old → unopened_in result ≡ None → AreReadable names.now (W.sight world.old) }
-    ensures same { W.honest world.old → W.sight world.new ≡ W.sight world.old }
-    ensures survives { W.honest world.old → NothingNewFound (W.survives world.old) (W.survives world.new) }
-    ensures honesty { W.honest world.new ↔ W.honest world.old }
+    ensures lists { W.faithful world.old → OnOk result
+        (ListsFront verbose (held (W.state world.old) names.now.journal) (O.contents out.old) (O.contents out.new)) }
+    ensures stops { W.faithful world.old → IfErr result (StopsFrontOf names.now (W.refusals world.old < W.refusals world.new)
+        (W.state world.old) verbose (O.contents out.old) (O.contents out.new)) }
+    ensures fit { W.faithful world.old → unopened_in result ≡ None → AreReadable names.now (W.state world.old) }
+    ensures same { W.faithful world.old → W.state world.new ≡ W.state world.old }
+    ensures survives { W.faithful world.old → NothingNewFound (W.survives world.old) (W.survives world.new) }
+    ensures faith { W.faithful world.new ↔ W.faithful world.old }
 {
-    let devices = match lend(world, names) {
+    let devices = match into_devices(world, names) {
         Ok(devices) => devices,
         Err(unopened) => return Err(ReportError::Unopened(unopened)),
     };

@@ -1,14 +1,14 @@
 //! What a command on named files answers.
 use bx_cli_commands::Fault;
 use bx_dd::Counts;
-use bx_journal::How;
-use bx_world::{Outgrown, Refusal, Why};
+use bx_journal::RecoveryOutcome;
+use bx_world::{OpenFailure, Outgrown, Refusal};
 
 /// What a command tells that is done.
 #[derive(Clone, Copy, Debug, PartialEq, Eq)]
 pub struct Done {
     /// What opening the image found unfinished, and recovered; none of a command that changes no image.
-    pub how: Option<How>,
+    pub how: Option<RecoveryOutcome>,
     /// How many changes stand behind a change of an image; none of another command.
     pub standing: Option<u32>,
     /// How many bytes were dumped; none of another command, and of `dd`.
@@ -19,7 +19,7 @@ pub struct Done {
 
 /// Which of the files that a command names.
 #[derive(Clone, Copy, Debug, PartialEq, Eq)]
-pub enum FileRole {
+pub enum CommandFile {
     /// The image, or the file that is dumped.
     Image,
     /// The image's journal.
@@ -36,7 +36,7 @@ pub enum FileRole {
 #[derive(Clone, Copy, Debug, PartialEq, Eq)]
 pub enum Cause {
     /// It was not opened, or it isn't the image that the journal was written beside.
-    Unopened(Why),
+    Unopened(OpenFailure),
     /// It was opened, and could not be placed behind the bytes that are skipped.
     Unplaced(Refusal),
     /// A call of it as a device failed.
@@ -53,7 +53,7 @@ pub enum Cause {
 #[derive(Clone, Copy, Debug, PartialEq, Eq)]
 pub struct Stop {
     /// The file.
-    pub file: FileRole,
+    pub file: CommandFile,
     /// What it did.
     pub cause: Cause,
 }
@@ -79,5 +79,5 @@ pub struct Failure {
     /// The step that it ended in.
     pub step: Step,
     /// What opening the image found unfinished, and recovered; none where it was refused, and of a command that changes no image.
-    pub how: Option<How>,
+    pub how: Option<RecoveryOutcome>,
 }

@@ -7,16 +7,16 @@ use crate::dump::DumpError;
 use crate::preview::{DiffError, PreviewError};
 use crate::renew::Renewed;
 use crate::report::ReportError;
-use crate::run::answer::{Cause, Done, Failure, FileRole, Step, Stop};
+use crate::run::answer::{Cause, CommandFile, Done, Failure, Step, Stop};
 use crate::run::outcome::Outcome;
 use bx_cli_commands::{Done as Dump, Fault};
 use bx_dd::Counts;
-use bx_journal::{How, SessionFault};
+use bx_journal::{RecoveryOutcome, SessionFault};
 use bx_patch::DiffFault;
-use bx_world::{Outgrown, Unopened, Which, Why};
+use bx_world::{FileRole, OpenError, OpenFailure, Outgrown};
 
 /// What opening the image found unfinished.
-fn how_of(outcome: &Outcome) -> Option<How>
+fn how_of(outcome: &Outcome) -> Option<RecoveryOutcome>
     ensures { result ≡ how_by outcome.now }
 {
     match outcome {
@@ -108,23 +108,23 @@ fn step_of(outcome: &Outcome) -> Step
 }
 
 /// What one of the three files of an image is to a command.
-fn role_of(which: Which) -> FileRole
+fn role_of(which: FileRole) -> CommandFile
     ensures { result ≡ role_of which }
 {
     match which {
-        Which::Image => FileRole::Image,
-        Which::Journal => FileRole::Journal,
-        Which::Redo => FileRole::Redo,
+        FileRole::Image => CommandFile::Image,
+        FileRole::Journal => CommandFile::Journal,
+        FileRole::Redo => CommandFile::Redo,
     }
 }
 
 /// The file of an image that was not opened, where one wasn't.
-fn stop_of_task(unopened: Option<Unopened>) -> Option<Stop>
+fn stop_of_task(unopened: Option<OpenError>) -> Option<Stop>
     ensures { result ≡ task_stop unopened }
 {
     match unopened {
         None => None,
-        Some(Unopened { which, why }) => Some(Stop {
+        Some(OpenError { which, why }) => Some(Stop {
             file: role_of(which),
             cause: Cause::Unopened(why),
         }),
@@ -136,12 +136,12 @@ fn stop_of_dump(undumped: DumpError) -> Option<Stop>
     ensures { result ≡ dump_stop undumped }
 {
     let cause = match undumped {
-        DumpError::Unopened(refusal) => Cause::Unopened(Why::System(refusal)),
+        DumpError::Unopened(refusal) => Cause::Unopened(OpenFailure::System(refusal)),
         DumpError::Unplaced(refusal) => Cause::Unplaced(refusal),
         DumpError::Stopped(_) => return None,
     };
     Some(Stop {
-        file: FileRole::Image,
+        file: CommandFile::Image,
         cause,
     })
 }
@@ -151,10 +151,10 @@ fn stop_of_diff(undiffed: DiffError) -> Option<Stop>
     ensures { result ≡ diff_stop undiffed }
 {
     let (file, cause) = match undiffed {
-        DiffError::OldUnopened(why) => (FileRole::Old, Cause::Unopened(why)),
-        DiffError::NewUnopened(why) => (FileRole::New, Cause::Unopened(why)),
-        DiffError::Stopped(DiffFault::OldFailed) => (FileRole::Old, Cause::Failed),
-        DiffError::Stopped(DiffFault::NewFailed) => (FileRole::New, Cause::Failed),
+        DiffError::OldUnopened(why) => (CommandFile::Old, Cause::Unopened(why)),
+        DiffError::NewUnopened(why) => (CommandFile::New, Cause::Unopened(why)),
+        DiffError::Stopped(DiffFault::OldFailed) => (CommandFile::Old, Cause::Failed),
+        DiffError::Stopped(DiffFault::NewFailed) => (CommandFile::New, Cause::Failed),
         DiffError::Stopped(
             DiffFault::NoMemory | DiffFault::TooLarge | DiffFault::WriteFailed { .. },
         ) => return None,
@@ -176,7 +176,7 @@ fn stop_of_preview(unpreviewed: PreviewError) -> Option<Stop>
         | PreviewError::Refused(_) => return None,
     };
     Some(Stop {
-        file: FileRole::Image,
+        file: CommandFile::Image,
         cause,
     })
 }
@@ -187,8 +187,8 @@ fn stop_of_look(unseen: ReportError) -> Option<Stop>
 {
     let (file, cause) = match unseen {
         ReportError::Unopened(unopened) => (role_of(unopened.which), Cause::Unopened(unopened.why)),
-        ReportError::Unfinished => (FileRole::Image, Cause::Unfinished),
-        ReportError::Another => (FileRole::Image, Cause::Another),
+        ReportError::Unfinished => (CommandFile::Image, Cause::Unfinished),
+        ReportError::Another => (CommandFile::Image, Cause::Another),
         ReportError::Stopped(_) => return None,
     };
     Some(Stop { file, cause })
@@ -230,7 +230,7 @@ fn stop_with(outcome: &Outcome, outgrown: Option<Outgrown>, fault: Fault) -> Opt
 {
     match (outgrown, fault) {
         (Some(outgrown), Fault::Session(SessionFault::NoMemory)) => Some(Stop {
-            file: FileRole::Image,
+            file: CommandFile::Image,
             cause: Cause::Outgrown(outgrown),
         }),
         (_, _) => stop_of(outcome),

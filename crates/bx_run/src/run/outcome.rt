@@ -13,7 +13,7 @@ use bx_dd::Counts;
 use bx_journal::SessionFault;
 use bx_patch::DiffFault;
 use bx_text::IoFault;
-use bx_world::{Unopened, Why};
+use bx_world::{OpenError, OpenFailure};
 
 /// How a command ended.
 #[derive(Drop)]
@@ -37,17 +37,17 @@ pub enum Outcome {
 }
 
 /// The fault of a file that was not opened, or is another image.
-fn fault_of_unopened(why: Why) -> Fault
+fn fault_of_unopened(why: OpenFailure) -> Fault
     ensures { result ≡ unopened_fault why }
 {
     match why {
-        Why::System(_) | Why::Unfit(_) | Why::Alias => Fault::OpenFailed,
-        Why::Another => Fault::ChangedSince,
+        OpenFailure::System(_) | OpenFailure::Unfit(_) | OpenFailure::Alias => Fault::OpenFailed,
+        OpenFailure::Another => Fault::ChangedSince,
     }
 }
 
 /// The fault of a task on files, which is that of a file that was not opened, where one wasn't.
-fn fault_of_task(unopened: Option<Unopened>, fault: Fault) -> Fault
+fn fault_of_task(unopened: Option<OpenError>, fault: Fault) -> Fault
     ensures { result ≡ task_fault unopened fault }
 {
     match unopened {

@@ -2,7 +2,7 @@
 use crate::edit::Edit;
 use crate::report::Report;
 use bx_cli_commands::DumpJob;
-use bx_journal::Way;
+use bx_journal::Direction;
 use bx_patch::Extent;
 use bx_world::{Guard, Names};
 use std::io::Empty;
@@ -16,7 +16,7 @@ pub enum Request<'a, R = Empty> {
         /// What it may do.
         guard: Guard,
         /// Back or again.
-        way: Way,
+        way: Direction,
         /// How many changes are moved.
         count: u32,
     },

@@ -32,51 +32,51 @@ pub fn change_files<W: World, R: Read + Drop>(
     task: Task<R>,
 ) -> Answer
     requires near { IsNearTask task }
-    requires free { W.honest world.old → (W.sight world.old).lent ≡ None }
+    requires free { W.faithful world.old → (W.state world.old).lent ≡ None }
 
     // A task that is done makes the machine's step on what the files held, and the answer is how many changes stand.
-    ensures done { W.honest world.old → (s : Images) → Holds (contents_of names.now (W.sight world.old)) s
-        → IfOk (stands_by result.reply) (Changes R.remaining s task result.reply (contents_of names.now (W.sight world.new))) }
+    ensures done { W.faithful world.old → (s : Images) → Holds (contents_of names.now (W.state world.old)) s
+        → IfOk (stands_by result.reply) (Changes R.remaining s task result.reply (contents_of names.now (W.state world.new))) }
 
     // One that is refused leaves all files as they were, byte for byte, whatever they held, and makes none, unless something was recovered.
-    ensures refused { W.honest world.old → IsWholeRefusal result.reply
-        → RefusesChange R.remaining names.now task result (W.sight world.old) (W.sight world.new) }
+    ensures refused { W.faithful world.old → IsWholeRefusal result.reply
+        → RefusesChange R.remaining names.now task result (W.state world.old) (W.state world.new) }
 
     // Behind one that was stopped in the middle opening finds the images before or behind it.
-    ensures interrupted { W.honest world.old → (s : Images) → Holds (contents_of names.now (W.sight world.old)) s
-        → result.reply ≡ Refused (Session Interrupted) → InterruptsChange R.remaining s task (contents_of names.now (W.sight world.new)) }
+    ensures interrupted { W.faithful world.old → (s : Images) → Holds (contents_of names.now (W.state world.old)) s
+        → result.reply ≡ Refused (Session Interrupted) → InterruptsChange R.remaining s task (contents_of names.now (W.state world.new)) }
 
     // So it does behind a loss of power, of an end of the task.
-    ensures survives { W.honest world.old
-        → SurvivesTask R.remaining names.now task result (W.sight world.old) (W.sight world.new)
+    ensures survives { W.faithful world.old
+        → SurvivesTask R.remaining names.now task result (W.state world.old) (W.state world.new)
         (W.survives world.old) (W.survives world.new) }
 
     // Files that are not opened are as they were, and why they are not; others may be changed.
-    ensures unopened { W.honest world.old
-        → IfSome result.unopened (λ _. NothingDone result.reply result.how (W.sight world.old) (W.sight world.new)) }
-    ensures why_unopened { W.honest world.old
+    ensures unopened { W.faithful world.old
+        → IfSome result.unopened (λ _. NothingDone result.reply result.how (W.state world.old) (W.state world.new)) }
+    ensures why_unopened { W.faithful world.old
         → IfSome result.unopened (MayRefuseTask guard true (W.note world.old) task names.now
-        (W.refusals world.old < W.refusals world.new) (W.sight world.old)) }
-    ensures fit { W.honest world.old → WereOpened result.unopened → AreFit names.now guard.mounted (W.sight world.old) }
+        (W.refusals world.old < W.refusals world.new) (W.state world.old)) }
+    ensures fit { W.faithful world.old → WereOpened result.unopened → AreFit names.now guard.mounted (W.state world.old) }
 
     // The image was judged by the line that the note had, before anything was recovered onto it.
-    ensures judged { W.honest world.old → WasJudged guard (is_missing names.now.image (W.sight world.old)) (W.note world.old)
-        (contents_of names.now (W.sight world.old)) task result.unopened result.how }
+    ensures judged { W.faithful world.old → WasJudged guard (is_missing names.now.image (W.state world.old)) (W.note world.old)
+        (contents_of names.now (W.state world.old)) task result.unopened result.how }
 
     // After a crash the task is done on what opening recovers, which is said; of files that hold images nothing is recovered.
-    ensures how { W.honest world.old
-        → TellsUnfinished (contents_of names.now (W.sight world.old)) result.how (stands_by result.reply) }
-    ensures recovered { W.honest world.old → (s : Images) → FoundIn (contents_of names.now (W.sight world.old)) s → result.unopened ≡ None
-        → DoesFound R.remaining s task result.how result.reply (contents_of names.now (W.sight world.new)) }
+    ensures how { W.faithful world.old
+        → TellsUnfinished (contents_of names.now (W.state world.old)) result.how (stands_by result.reply) }
+    ensures recovered { W.faithful world.old → (s : Images) → FoundIn (contents_of names.now (W.state world.old)) s → result.unopened ≡ None
+        → DoesFound R.remaining s task result.how result.reply (contents_of names.now (W.state world.new)) }
 
     // Whatever the files hold that opening takes, it makes the machine's step on the images for which they stand, unless a device failed.
-    ensures stands { W.honest world.old → Unfailed result.reply → IfSome result.how (λ how. StepsRead R.remaining task how result.reply
-        (contents_of names.now (W.sight world.old)) (contents_of names.now (W.sight world.new))) }
+    ensures stands { W.faithful world.old → Unfailed result.reply → IfSome result.how (λ how. StepsRead R.remaining task how result.reply
+        (contents_of names.now (W.state world.old)) (contents_of names.now (W.state world.new))) }
 
     // No other file is changed, whatever the files hold and whatever becomes of the task, and nothing is written but what was recovered.
-    ensures others { W.honest world.old → KeepsOthers names.now (W.sight world.old) (W.sight world.new) }
-    ensures streams { W.honest world.old → SaysRecovered result.how (W.sight world.old) (W.sight world.new) }
-    ensures honesty { W.honest world.new ↔ W.honest world.old }
+    ensures others { W.faithful world.old → KeepsOthers names.now (W.state world.old) (W.state world.new) }
+    ensures streams { W.faithful world.old → SaysRecovered result.how (W.state world.old) (W.state world.new) }
+    ensures faith { W.faithful world.new ↔ W.faithful world.old }
 {
     let answer = run_on_files(world, alloc, names, guard, true, task);
     tell_recovered(world, answer.how);

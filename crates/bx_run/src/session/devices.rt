@@ -17,7 +17,7 @@ ghost use Rattle.bx_run.specs.session.Task.{IsNearTask, TaskStep};
 use crate::session::task::{Task, do_task};
 use bx_cli_commands::{Fault, Reply};
 use bx_image::Device;
-use bx_journal::{Devices, How, Session};
+use bx_journal::{Devices, RecoveryOutcome, Session};
 use bx_journal_store::TextStore;
 use std::alloc::Global;
 use std::io::Read;
@@ -29,21 +29,21 @@ pub struct Closed<D: Device, T: TextStore> {
     /// The reply.
     pub reply: Reply,
     /// What opening found unfinished; none where it was refused.
-    pub how: Option<How>,
+    pub how: Option<RecoveryOutcome>,
 }
 
 /// Does a task on a session, and closes it.
 fn run_and_close<D: Device, T: TextStore, R: Read + Drop>(
     alloc: Global,
     mut session: Session<D, T>,
-    how: How,
+    how: RecoveryOutcome,
     task: Task<R>,
 ) -> Closed<D, T>
     requires near { IsNearTask task }
     requires fresh { AreFresh D.Device T.TextStore (devices_of session) }
     ensures order { AreInPlace D.Device T.TextStore result.devices }
     ensures few { AreFew D.Device T.TextStore result.devices }
-    ensures honesty { KeepHonesty D.Device T.TextStore (devices_of session) result.devices }
+    ensures faith { KeepHonesty D.Device T.TextStore (devices_of session) result.devices }
     ensures how { result.how ≡ Some how }
     ensures does { AreHonest D.Device T.TextStore (devices_of session) → (s : Images)
         → IsReady D.image T.text session s.stack → HasUndone D.image T.text session s.undone
@@ -83,7 +83,7 @@ pub fn open_and_run<D: Device, T: TextStore, R: Read + Drop>(
     requires fresh { AreFresh D.Device T.TextStore devices }
     ensures order { AreInPlace D.Device T.TextStore result.devices }
     ensures few { AreFew D.Device T.TextStore result.devices }
-    ensures honesty { KeepHonesty D.Device T.TextStore devices result.devices }
+    ensures faith { KeepHonesty D.Device T.TextStore devices result.devices }
 
     // Only a journal that is accepted is opened.
     ensures accepted { AreHonest D.Device T.TextStore devices

@@ -16,10 +16,10 @@ use crate::session::task::Task;
 use crate::session::terms::{Terms, told_by};
 use bx_cli_commands::{Fault, Reply};
 use bx_image::Device;
-use bx_journal::{Devices, How, SessionFault};
+use bx_journal::{Devices, RecoveryOutcome, SessionFault};
 use bx_journal_image::{ImageLine, NO_CHANGES, write_line};
 use bx_journal_store::TextStore;
-use bx_world::{Guard, Noted, Unopened, Which, Why, World};
+use bx_world::{FileRole, Guard, Noted, OpenError, OpenFailure, World};
 use std::alloc::Global;
 use std::io::Read;
 
@@ -30,9 +30,9 @@ pub struct Ended<D: Device, T: TextStore> {
     /// The reply.
     pub reply: Reply,
     /// What opening found unfinished; none where it was refused.
-    pub how: Option<How>,
+    pub how: Option<RecoveryOutcome>,
     /// Why the task wasn't begun; none where it was.
-    pub unopened: Option<Unopened>,
+    pub unopened: Option<OpenError>,
 }
 
 /// Whether the note has what it was to have, or nothing.
@@ -58,10 +58,10 @@ fn line_to_put(seal: Seal, found: Option<ImageLine>) -> Option<ImageLine>
 
 /// Puts what the note is to have while a task writes, on the disk; says no where it stands as it was.
 fn put_seal<W: World>(world: &mut W, line: Option<ImageLine>) -> bool
-    ensures sealed { W.honest world.old → result ≡ true → IsSealed line (W.note world.old) (W.note world.new) (W.note_survives world.new) }
-    ensures same { W.honest world.old → W.sight world.new ≡ W.sight world.old }
-    ensures survives { W.honest world.old → NothingNewFound (W.survives world.old) (W.survives world.new) }
-    ensures honesty { W.honest world.new ↔ W.honest world.old }
+    ensures sealed { W.faithful world.old → result ≡ true → IsSealed line (W.note world.old) (W.note world.new) (W.note_survives world.new) }
+    ensures same { W.faithful world.old → W.state world.new ≡ W.state world.old }
+    ensures survives { W.faithful world.old → NothingNewFound (W.survives world.old) (W.survives world.new) }
+    ensures faith { W.faithful world.new ↔ W.faithful world.old }
 {
     match line {
         None => true,
@@ -89,16 +89,16 @@ fn is_on_no_texts(seal: Seal) -> bool {
 }
 
 /// Whether opening wrote something.
-fn is_recovered(how: Option<How>) -> bool {
+fn is_recovered(how: Option<RecoveryOutcome>) -> bool {
     match how {
-        None | Some(How::Clean) => false,
-        Some(How::Dropped | How::Restored { .. }) => true,
+        None | Some(RecoveryOutcome::Clean) => false,
+        Some(RecoveryOutcome::Dropped | RecoveryOutcome::Restored { .. }) => true,
     }
 }
 
 /// Whether a command ended whose line has to be written once more: it changed something, or the line before it tells nothing of the texts,
 /// and no device stopped it in the middle.
-fn is_ended(reply: &Reply, how: Option<How>, seal: Seal) -> bool {
+fn is_ended(reply: &Reply, how: Option<RecoveryOutcome>, seal: Seal) -> bool {
     match reply {
         Reply::Refused(Fault::Session(SessionFault::Interrupted)) => false,
         Reply::Refused(_) => is_on_no_texts(seal) || is_recovered(how),
@@ -120,9 +120,9 @@ fn put_end<W: World>(
     requires few { AreFew W.Image.Device W.Text.TextStore devices.old }
     ensures looks { LookAt W.Image.Device W.Text.TextStore devices.old devices.new }
     ensures counts { RiseByOne W.Image.Device W.Text.TextStore devices.old devices.new }
-    ensures same { W.honest world.old → W.sight world.new ≡ W.sight world.old }
-    ensures survives { W.honest world.old → NothingNewFound (W.survives world.old) (W.survives world.new) }
-    ensures honesty { W.honest world.new ↔ W.honest world.old }
+    ensures same { W.faithful world.old → W.state world.new ≡ W.state world.old }
+    ensures survives { W.faithful world.old → NothingNewFound (W.survives world.old) (W.survives world.new) }
+    ensures faith { W.faithful world.new ↔ W.faithful world.old }
 {
     if let Some(line) = line_behind(alloc, devices, others) {
         let text = write_line(line);
@@ -142,7 +142,7 @@ fn unbegun<D: Device, T: TextStore>(devices: Devices<D, T>) -> Ended<D, T>
         devices,
         reply: Reply::Refused(Fault::OpenFailed),
         how: None,
-        unopened: Some(Which::Image.unopened(Why::Another)),
+        unopened: Some(FileRole::Image.unopened(OpenFailure::Another)),
     }
 }
 
@@ -172,12 +172,12 @@ fn run_sealed<W: World, R: Read + Drop>(
     requires near { IsNearTask task }
     requires fresh { AreFresh W.Image.Device W.Text.TextStore devices }
     ensures order { AreInPlace W.Image.Device W.Text.TextStore result.devices }
-    ensures honest { KeepHonesty W.Image.Device W.Text.TextStore devices result.devices }
+    ensures faithful { KeepHonesty W.Image.Device W.Text.TextStore devices result.devices }
     ensures runs { RunsTask W.Image.Device W.Text.TextStore R.remaining devices task result }
     ensures unopened { result.unopened ≡ None }
-    ensures same { W.honest world.old → W.sight world.new ≡ W.sight world.old }
-    ensures survives { W.honest world.old → NothingNewFound (W.survives world.old) (W.survives world.new) }
-    ensures honesty { W.honest world.new ↔ W.honest world.old }
+    ensures same { W.faithful world.old → W.state world.new ≡ W.state world.old }
+    ensures survives { W.faithful world.old → NothingNewFound (W.survives world.old) (W.survives world.new) }
+    ensures faith { W.faithful world.new ↔ W.faithful world.old }
 {
     let closed = open_and_run(alloc, devices, task);
     let Closed {
@@ -208,13 +208,13 @@ fn run_looked<W: World, R: Read + Drop>(
     requires near { IsNearTask task }
     requires fresh { AreFresh W.Image.Device W.Text.TextStore devices }
     ensures order { AreInPlace W.Image.Device W.Text.TextStore result.devices }
-    ensures honest { KeepHonesty W.Image.Device W.Text.TextStore devices result.devices }
+    ensures faithful { KeepHonesty W.Image.Device W.Text.TextStore devices result.devices }
     ensures runs { RunsTask W.Image.Device W.Text.TextStore R.remaining devices task result }
     ensures unopened { EndsAs looked result.unopened result.how }
     ensures left { IfSome result.unopened (IsUnbegun W.Image.Device W.Text.TextStore devices result) }
-    ensures same { W.honest world.old → W.sight world.new ≡ W.sight world.old }
-    ensures survives { W.honest world.old → NothingNewFound (W.survives world.old) (W.survives world.new) }
-    ensures honesty { W.honest world.new ↔ W.honest world.old }
+    ensures same { W.faithful world.old → W.state world.new ≡ W.state world.old }
+    ensures survives { W.faithful world.old → NothingNewFound (W.survives world.old) (W.survives world.new) }
+    ensures faith { W.faithful world.new ↔ W.faithful world.old }
 {
     match looked {
         Looked::Another => unbegun(devices),
@@ -242,18 +242,18 @@ pub fn run_guarded<W: World, R: Read + Drop>(
     requires near { IsNearTask task }
     requires fresh { AreFresh W.Image.Device W.Text.TextStore devices }
     ensures order { AreInPlace W.Image.Device W.Text.TextStore result.devices }
-    ensures honest { KeepHonesty W.Image.Device W.Text.TextStore devices result.devices }
+    ensures faithful { KeepHonesty W.Image.Device W.Text.TextStore devices result.devices }
     ensures runs { RunsTask W.Image.Device W.Text.TextStore R.remaining devices task result }
 
     // A task that isn't begun leaves the three as they were.
     ensures left { IfSome result.unopened (IsUnbegun W.Image.Device W.Text.TextStore devices result) }
 
     // The image was judged before, by the line that the note had.
-    ensures judged { W.honest world.old → AreHonest W.Image.Device W.Text.TextStore devices
+    ensures judged { W.faithful world.old → AreHonest W.Image.Device W.Text.TextStore devices
         → WasJudged guard missing (W.note world.old) (held_by W.Image.Device W.Text.TextStore devices) task result.unopened result.how }
-    ensures same { W.honest world.old → W.sight world.new ≡ W.sight world.old }
-    ensures survives { W.honest world.old → NothingNewFound (W.survives world.old) (W.survives world.new) }
-    ensures honesty { W.honest world.new ↔ W.honest world.old }
+    ensures same { W.faithful world.old → W.state world.new ≡ W.state world.old }
+    ensures survives { W.faithful world.old → NothingNewFound (W.survives world.old) (W.survives world.new) }
+    ensures faith { W.faithful world.new ↔ W.faithful world.old }
 {
     let told = told_by(world);
     let terms = Terms {

@@ -16,8 +16,8 @@ ghost use Rattle.bx_run.specs.session.Task.{IsNearTask};
 use crate::session::guarded::{Ended, run_guarded};
 use crate::session::task::Task;
 use bx_cli_commands::Reply;
-use bx_journal::{Devices, How};
-use bx_world::{Files, Guard, Unopened, World};
+use bx_journal::{Devices, RecoveryOutcome};
+use bx_world::{Files, Guard, OpenError, World};
 use std::alloc::Global;
 use std::io::Read;
 
@@ -29,9 +29,9 @@ pub struct Done<F> {
     /// The reply.
     pub reply: Reply,
     /// What opening found unfinished; none where it was refused.
-    pub how: Option<How>,
+    pub how: Option<RecoveryOutcome>,
     /// Why the task wasn't begun; none where it was.
-    pub unopened: Option<Unopened>,
+    pub unopened: Option<OpenError>,
 }
 
 /// Lends three files as devices, does a task on them, behind what `guard` allows, and takes them back. One for which the image is another
@@ -44,41 +44,41 @@ pub fn with_devices<W: World, R: Read + Drop>(
     task: Task<R>,
 ) -> Done<W::File>
     requires near { IsNearTask task }
-    requires free { W.honest world.old → (W.sight world.old).lent ≡ None }
-    requires apart { W.honest world.old → AreThreeFiles (W.sight world.old).there (numbers_of W.number files) }
-    ensures only { W.honest world.old → ChangesOnly (numbers_of W.number files) (W.sight world.old) (W.sight world.new) }
-    ensures free { W.honest world.old → (W.sight world.new).lent ≡ None }
-    ensures files { W.honest world.old → numbers_of W.number result.files ≡ numbers_of W.number files }
+    requires free { W.faithful world.old → (W.state world.old).lent ≡ None }
+    requires apart { W.faithful world.old → AreThreeFiles (W.state world.old).there (numbers_of W.number files) }
+    ensures only { W.faithful world.old → ChangesOnly (numbers_of W.number files) (W.state world.old) (W.state world.new) }
+    ensures free { W.faithful world.old → (W.state world.new).lent ≡ None }
+    ensures files { W.faithful world.old → numbers_of W.number result.files ≡ numbers_of W.number files }
     ensures made { result.files.made ≡ files.made }
-    ensures how { W.honest world.old
-        → TellsUnfinished (bytes_of_files (numbers_of W.number files) (W.sight world.old)) result.how (stands_by result.reply) }
-    ensures does { W.honest world.old → result.unopened ≡ None → (s : Images) → Holds (bytes_of_files (numbers_of W.number files) (W.sight world.old)) s
-        → Does R.remaining s task result.reply (bytes_of_files (numbers_of W.number files) (W.sight world.new)) }
-    ensures found { W.honest world.old → result.unopened ≡ None → (s : Images) → FoundIn (bytes_of_files (numbers_of W.number files) (W.sight world.old)) s
-        → DoesFound R.remaining s task result.how result.reply (bytes_of_files (numbers_of W.number files) (W.sight world.new)) }
-    ensures whole { W.honest world.old → IsWholeRefusal result.reply
-        → Spared result.how (bytes_of_files (numbers_of W.number files) (W.sight world.old))
-        (bytes_of_files (numbers_of W.number files) (W.sight world.new)) }
-    ensures survives { W.honest world.old → (s : Images) → Holds (bytes_of_files (numbers_of W.number files) (W.sight world.old)) s
+    ensures how { W.faithful world.old
+        → TellsUnfinished (bytes_of_files (numbers_of W.number files) (W.state world.old)) result.how (stands_by result.reply) }
+    ensures does { W.faithful world.old → result.unopened ≡ None → (s : Images) → Holds (bytes_of_files (numbers_of W.number files) (W.state world.old)) s
+        → Does R.remaining s task result.reply (bytes_of_files (numbers_of W.number files) (W.state world.new)) }
+    ensures found { W.faithful world.old → result.unopened ≡ None → (s : Images) → FoundIn (bytes_of_files (numbers_of W.number files) (W.state world.old)) s
+        → DoesFound R.remaining s task result.how result.reply (bytes_of_files (numbers_of W.number files) (W.state world.new)) }
+    ensures whole { W.faithful world.old → IsWholeRefusal result.reply
+        → Spared result.how (bytes_of_files (numbers_of W.number files) (W.state world.old))
+        (bytes_of_files (numbers_of W.number files) (W.state world.new)) }
+    ensures survives { W.faithful world.old → (s : Images) → Holds (bytes_of_files (numbers_of W.number files) (W.state world.old)) s
         → (IsWholeRefusal result.reply → ⊥)
         → Survives R.remaining s task result.reply (W.survives world.new (W.number files.image))
         (W.survives world.new (W.number files.journal)) (W.survives world.new (W.number files.redo)) }
-    ensures endures { W.honest world.old → (s : Images) → FoundIn (bytes_of_files (numbers_of W.number files) (W.sight world.old)) s
+    ensures endures { W.faithful world.old → (s : Images) → FoundIn (bytes_of_files (numbers_of W.number files) (W.state world.old)) s
         → (IsWholeRefusal result.reply → ⊥)
         → SurvivesFound R.remaining s task result.how result.reply (W.survives world.new (W.number files.image))
         (W.survives world.new (W.number files.journal)) (W.survives world.new (W.number files.redo)) }
-    ensures stands { W.honest world.old → Unfailed result.reply
-        → IfSome result.how (λ how. StepsRead R.remaining task how result.reply (bytes_of_files (numbers_of W.number files) (W.sight world.old))
-        (bytes_of_files (numbers_of W.number files) (W.sight world.new))) }
-    ensures before { W.honest world.old → IsWholeRefusal result.reply → IsUnrecovered result.how
+    ensures stands { W.faithful world.old → Unfailed result.reply
+        → IfSome result.how (λ how. StepsRead R.remaining task how result.reply (bytes_of_files (numbers_of W.number files) (W.state world.old))
+        (bytes_of_files (numbers_of W.number files) (W.state world.new))) }
+    ensures before { W.faithful world.old → IsWholeRefusal result.reply → IsUnrecovered result.how
         → NothingNewFound (W.survives world.old) (W.survives world.new) }
-    ensures settled { W.honest world.old → IsWholeRefusal result.reply → (IsUnrecovered result.how → ⊥)
-        → StayOnDisk (bytes_of_files (numbers_of W.number files) (W.sight world.new)) (W.survives world.new (W.number files.image))
+    ensures settled { W.faithful world.old → IsWholeRefusal result.reply → (IsUnrecovered result.how → ⊥)
+        → StayOnDisk (bytes_of_files (numbers_of W.number files) (W.state world.new)) (W.survives world.new (W.number files.image))
         (W.survives world.new (W.number files.journal)) (W.survives world.new (W.number files.redo)) }
     ensures unbegun { IfSome result.unopened (λ u. (u ≡ another) × (result.reply ≡ Refused OpenFailed) × (result.how ≡ None)) }
-    ensures judged { W.honest world.old → WasJudged guard files.made.image (W.note world.old)
-        (bytes_of_files (numbers_of W.number files) (W.sight world.old)) task result.unopened result.how }
-    ensures honesty { W.honest world.new ↔ W.honest world.old }
+    ensures judged { W.faithful world.old → WasJudged guard files.made.image (W.note world.old)
+        (bytes_of_files (numbers_of W.number files) (W.state world.old)) task result.unopened result.how }
+    ensures faith { W.faithful world.new ↔ W.faithful world.old }
 {
     let Files {
         image,
@@ -86,7 +86,7 @@ pub fn with_devices<W: World, R: Read + Drop>(
         redo,
         made,
     } = files;
-    let (image, journal, redo) = world.lend(image, journal, redo);
+    let (image, journal, redo) = world.into_devices(image, journal, redo);
     let devices = Devices {
         image,
         journal,
@@ -104,7 +104,7 @@ pub fn with_devices<W: World, R: Read + Drop>(
         journal,
         redo,
     } = devices;
-    let (image, journal, redo) = world.give_back(image, journal, redo);
+    let (image, journal, redo) = world.into_files(image, journal, redo);
     let files = Files {
         image,
         journal,

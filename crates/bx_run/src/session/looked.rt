@@ -15,7 +15,7 @@ use crate::session::task::Task;
 use crate::session::terms::{Terms, is_kept_off, is_moved_off};
 use bx_cli_commands::{Command, Kept};
 use bx_image::{Change, Device, DeviceFailed, check};
-use bx_journal::{Devices, SessionFault, Way};
+use bx_journal::{Devices, Direction, SessionFault};
 use bx_journal_image::{
     AtRest, ImageLine, Span, Standing, Verdict, digest_of, end_of, judge_unfinished, others_after,
     seal, seal_steps, seal_unfinished, stand,
@@ -96,12 +96,12 @@ fn is_too_many<R: Read>(task: &Task<R>, found: &Option<AtRest>) -> bool
 }
 
 /// Which way a task goes by more than one step.
-fn steps_of<R: Read>(task: &Task<R>) -> Option<Way>
+fn steps_of<R: Read>(task: &Task<R>) -> Option<Direction>
     ensures { result ≡ steps_of task.now }
 {
     match task {
-        Task::Run(Command::Undo { k }) => { if *k > 1 { Some(Way::Undo) } else { None } }
-        Task::Run(Command::Redo { j }) => { if *j > 1 { Some(Way::Redo) } else { None } }
+        Task::Run(Command::Undo { k }) => { if *k > 1 { Some(Direction::Undo) } else { None } }
+        Task::Run(Command::Redo { j }) => { if *j > 1 { Some(Direction::Redo) } else { None } }
         Task::Run(
             Command::Revert { .. }
             | Command::RevertPlain { .. }
@@ -262,7 +262,7 @@ fn is_end(bytes: &[u8]) -> bool
 /// Whether a text is empty, or ends so.
 fn ends_whole<T: TextStore>(text: &mut T) -> Result<bool, DeviceFailed>
     requires countable { T.failures text.old < u64.MAX }
-    ensures ends { T.honest text.old → IfOk result (λ ends. ends ≡ true → EndsWhole (T.text text.old)) }
+    ensures ends { T.faithful text.old → IfOk result (λ ends. ends ≡ true → EndsWhole (T.text text.old)) }
     ensures reads { OnlyReadsText T.TextStore (is_err result) text.old text.new }
 {
     let len = text.len()?;
@@ -287,7 +287,7 @@ fn judge<D: Device, T: TextStore>(
     requires few { AreFew D.Device T.TextStore devices.old }
     ensures verdict { AreHonest D.Device T.TextStore devices.old
         → IfOk result (IsJudgedBeside line (T.text devices.old.journal) (D.image devices.old.image)) }
-    ensures fault { IfErr result (FindFault (T.honest devices.old.journal) (shown (T.text devices.old.journal))) }
+    ensures fault { IfErr result (FindFault (T.faithful devices.old.journal) (shown (T.text devices.old.journal))) }
     ensures looks { LookAt D.Device T.TextStore devices.old devices.new }
     ensures counts { CountLooks D.Device T.TextStore result devices.old devices.new }
 {
@@ -370,8 +370,8 @@ fn line_on<D: Device, T: TextStore, R: Read>(
 {
     let now = standing_before(task, found);
     match steps_of(task) {
-        Some(Way::Undo) => seal_back(alloc, devices, now, others),
-        Some(Way::Redo) => seal_again(alloc, devices, now, others),
+        Some(Direction::Undo) => seal_back(alloc, devices, now, others),
+        Some(Direction::Redo) => seal_again(alloc, devices, now, others),
         None => seal_one(alloc, devices, now, others, span_if(task, found)),
     }
 }
@@ -454,7 +454,7 @@ fn seal_behind<D: Device, T: TextStore>(
 ) -> Result<ImageLine, SessionFault>
     requires few { AreFew D.Device T.TextStore devices.old }
     ensures line { AreHonest D.Device T.TextStore devices.old → IfOk result (IsOpenSeal line (T.text devices.old.journal)) }
-    ensures fault { IfErr result (FindFault (T.honest devices.old.journal) (shown (T.text devices.old.journal))) }
+    ensures fault { IfErr result (FindFault (T.faithful devices.old.journal) (shown (T.text devices.old.journal))) }
     ensures looks { LookAt D.Device T.TextStore devices.old devices.new }
     ensures counts { CountLooks D.Device T.TextStore result devices.old devices.new }
 {
@@ -473,7 +473,7 @@ fn look_behind<D: Device, T: TextStore, R: Read>(
     requires few { AreFew D.Device T.TextStore devices.old }
     ensures ready { AreHonest D.Device T.TextStore devices.old
         → IfOk result (IsReadyBehind terms.now (held_by D.Device T.TextStore devices.old) task.now verdict) }
-    ensures fault { IfErr result (FindFault (T.honest devices.old.journal) (shown (T.text devices.old.journal))) }
+    ensures fault { IfErr result (FindFault (T.faithful devices.old.journal) (shown (T.text devices.old.journal))) }
     ensures looks { LookAt D.Device T.TextStore devices.old devices.new }
     ensures counts { CountLooks D.Device T.TextStore result devices.old devices.new }
 {
@@ -504,7 +504,7 @@ pub fn look_at<D: Device, T: TextStore, R: Read>(
     requires few { AreFew D.Device T.TextStore devices.old }
     ensures looked { AreHonest D.Device T.TextStore devices.old
         → IfOk result (IsLookedAt terms.now (held_by D.Device T.TextStore devices.old) task.now) }
-    ensures fault { IfErr result (FindFault (T.honest devices.old.journal) (shown (T.text devices.old.journal))) }
+    ensures fault { IfErr result (FindFault (T.faithful devices.old.journal) (shown (T.text devices.old.journal))) }
     ensures looks { LookAt D.Device T.TextStore devices.old devices.new }
     ensures counts { CountLooks D.Device T.TextStore result devices.old devices.new }
 {

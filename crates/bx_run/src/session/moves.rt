@@ -12,9 +12,9 @@ ghost use Rattle.bx_run.specs.session.Task.{IsNearTask};
 use crate::session::named::run_on_files;
 use crate::session::task::Task;
 use bx_cli_commands::{Command, Fault};
-use bx_journal::{How, Way};
+use bx_journal::{Direction, RecoveryOutcome};
 use bx_text::{Field, IoFault, ShortText, dec_field};
-use bx_world::{Guard, Names, Unopened, World};
+use bx_world::{Guard, Names, OpenError, World};
 use std::alloc::Global;
 use std::io::Empty;
 
@@ -24,21 +24,21 @@ pub struct Moved<V> {
     /// That it is done, or the fault that stopped it.
     pub outcome: Result<V, Fault>,
     /// Why the files were not opened, or that the image is another one than the journal was written beside; none where the moving was begun.
-    pub unopened: Option<Unopened>,
+    pub unopened: Option<OpenError>,
     /// What opening the session found unfinished; none where it was refused, and where the files were not opened.
-    pub how: Option<How>,
+    pub how: Option<RecoveryOutcome>,
 }
 
 /// Writes a part of a line on standard output; `before` bytes of the line are out.
 fn put<W: World>(world: &mut W, before: u64, bytes: &[u8]) -> Result<(), Fault>
     requires room { before + length bytes.now < 2 ^ 64 }
-    ensures ok { W.honest world.old → OnOk result ((W.sight world.new).output ≡ (W.sight world.old).output ++ bytes.now) }
-    ensures err { W.honest world.old
-        → IfErr result (StopsPart before bytes.now (W.sight world.old).output (W.sight world.new).output) }
-    ensures survives { W.honest world.old → NothingNewFound (W.survives world.old) (W.survives world.new) }
-    ensures errors { W.honest world.old → (W.sight world.new).errors ≡ (W.sight world.old).errors }
-    ensures files { W.honest world.old → KeepsFiles (W.sight world.old) (W.sight world.new) }
-    ensures honesty { W.honest world.new ↔ W.honest world.old }
+    ensures ok { W.faithful world.old → OnOk result ((W.state world.new).output ≡ (W.state world.old).output ++ bytes.now) }
+    ensures err { W.faithful world.old
+        → IfErr result (StopsPart before bytes.now (W.state world.old).output (W.state world.new).output) }
+    ensures survives { W.faithful world.old → NothingNewFound (W.survives world.old) (W.survives world.new) }
+    ensures errors { W.faithful world.old → (W.state world.new).errors ≡ (W.state world.old).errors }
+    ensures files { W.faithful world.old → KeepsFiles (W.state world.old) (W.state world.new) }
+    ensures faith { W.faithful world.new ↔ W.faithful world.old }
 {
     match world.print(bytes) {
         Ok(()) => Ok(()),
@@ -57,13 +57,13 @@ fn digits_of(number: u32) -> Field
 
 /// Writes a number on a line of its own. It takes no memory, since what it tells of is done.
 fn put_number<W: World>(world: &mut W, number: u32) -> Result<(), Fault>
-    ensures ok { W.honest world.old → OnOk result ((W.sight world.new).output ≡ (W.sight world.old).output ++ number_line number) }
-    ensures err { W.honest world.old
-        → IfErr result (StopsLine (number_line number) (W.sight world.old).output (W.sight world.new).output) }
-    ensures survives { W.honest world.old → NothingNewFound (W.survives world.old) (W.survives world.new) }
-    ensures errors { W.honest world.old → (W.sight world.new).errors ≡ (W.sight world.old).errors }
-    ensures files { W.honest world.old → KeepsFiles (W.sight world.old) (W.sight world.new) }
-    ensures honesty { W.honest world.new ↔ W.honest world.old }
+    ensures ok { W.faithful world.old → OnOk result ((W.state world.new).output ≡ (W.state world.old).output ++ number_line number) }
+    ensures err { W.faithful world.old
+        → IfErr result (StopsLine (number_line number) (W.state world.old).output (W.state world.new).output) }
+    ensures survives { W.faithful world.old → NothingNewFound (W.survives world.old) (W.survives world.new) }
+    ensures errors { W.faithful world.old → (W.state world.new).errors ≡ (W.state world.old).errors }
+    ensures files { W.faithful world.old → KeepsFiles (W.state world.old) (W.state world.new) }
+    ensures faith { W.faithful world.new ↔ W.faithful world.old }
 {
     let digits = digits_of(number);
     match put(world, 0, digits.as_bytes()) {
@@ -79,16 +79,16 @@ fn put_number<W: World>(world: &mut W, number: u32) -> Result<(), Fault>
 
 /// Writes the number of changes that stand, where they were moved.
 fn tell_number<W: World>(world: &mut W, standing: Result<u32, Fault>) -> Result<(), Fault>
-    ensures done { W.honest world.old
-        → IfOk standing (λ left. OnOk result ((W.sight world.new).output ≡ (W.sight world.old).output ++ number_line left)) }
-    ensures lost { W.honest world.old
-        → IfOk standing (λ left. IfErr result (StopsLine (number_line left) (W.sight world.old).output (W.sight world.new).output)) }
-    ensures refused { W.honest world.old → IfErr standing (λ e. (result ≡ Err e) × (W.sight world.new ≡ W.sight world.old)) }
-    ensures noted { W.honest world.old → OnErr standing (W.refusals world.new ≡ W.refusals world.old) }
-    ensures survives { W.honest world.old → NothingNewFound (W.survives world.old) (W.survives world.new) }
-    ensures errors { W.honest world.old → (W.sight world.new).errors ≡ (W.sight world.old).errors }
-    ensures files { W.honest world.old → KeepsFiles (W.sight world.old) (W.sight world.new) }
-    ensures honesty { W.honest world.new ↔ W.honest world.old }
+    ensures done { W.faithful world.old
+        → IfOk standing (λ left. OnOk result ((W.state world.new).output ≡ (W.state world.old).output ++ number_line left)) }
+    ensures lost { W.faithful world.old
+        → IfOk standing (λ left. IfErr result (StopsLine (number_line left) (W.state world.old).output (W.state world.new).output)) }
+    ensures refused { W.faithful world.old → IfErr standing (λ e. (result ≡ Err e) × (W.state world.new ≡ W.state world.old)) }
+    ensures noted { W.faithful world.old → OnErr standing (W.refusals world.new ≡ W.refusals world.old) }
+    ensures survives { W.faithful world.old → NothingNewFound (W.survives world.old) (W.survives world.new) }
+    ensures errors { W.faithful world.old → (W.state world.new).errors ≡ (W.state world.old).errors }
+    ensures files { W.faithful world.old → KeepsFiles (W.state world.old) (W.state world.new) }
+    ensures faith { W.faithful world.new ↔ W.faithful world.old }
 {
     match standing {
         Ok(left) => put_number(world, left),
@@ -97,16 +97,16 @@ fn tell_number<W: World>(world: &mut W, standing: Result<u32, Fault>) -> Result<
 }
 
 /// What is said of what opening found unfinished.
-fn line_of(how: Option<How>) -> ShortText<64>
+fn line_of(how: Option<RecoveryOutcome>) -> ShortText<64>
     ensures { result ≡ recovered_line how }
 {
     let mut line: ShortText<64> = ShortText::new();
     match how {
-        None | Some(How::Clean) => {}
-        Some(How::Dropped) => {
+        None | Some(RecoveryOutcome::Clean) => {}
+        Some(RecoveryOutcome::Dropped) => {
             line.push_all(b"bx: recovered: an unfinished entry was dropped\n");
         }
-        Some(How::Restored { number }) => {
+        Some(RecoveryOutcome::Restored { number }) => {
             line.push_all(b"bx: recovered: change ");
             let digits = digits_of(number);
             line.push_all(digits.as_bytes());
@@ -117,26 +117,26 @@ fn line_of(how: Option<How>) -> ShortText<64>
 }
 
 /// Says on standard error what opening found unfinished.
-pub fn tell_recovered<W: World>(world: &mut W, how: Option<How>)
-    ensures errors { W.honest world.old → TellsRecovered how (W.sight world.old).errors (W.sight world.new).errors }
-    ensures noted { W.honest world.old → W.refusals world.new ≡ W.refusals world.old }
-    ensures survives { W.honest world.old → NothingNewFound (W.survives world.old) (W.survives world.new) }
-    ensures output { W.honest world.old → (W.sight world.new).output ≡ (W.sight world.old).output }
-    ensures files { W.honest world.old → KeepsFiles (W.sight world.old) (W.sight world.new) }
-    ensures honesty { W.honest world.new ↔ W.honest world.old }
+pub fn tell_recovered<W: World>(world: &mut W, how: Option<RecoveryOutcome>)
+    ensures errors { W.faithful world.old → TellsRecovered how (W.state world.old).errors (W.state world.new).errors }
+    ensures noted { W.faithful world.old → W.refusals world.new ≡ W.refusals world.old }
+    ensures survives { W.faithful world.old → NothingNewFound (W.survives world.old) (W.survives world.new) }
+    ensures output { W.faithful world.old → (W.state world.new).output ≡ (W.state world.old).output }
+    ensures files { W.faithful world.old → KeepsFiles (W.state world.old) (W.state world.new) }
+    ensures faith { W.faithful world.new ↔ W.faithful world.old }
 {
     let line = line_of(how);
     world.complain(line.as_bytes());
 }
 
 /// The task that moves as many changes one way.
-fn task_by(way: Way, count: u32) -> Task<Empty>
+fn task_by(way: Direction, count: u32) -> Task<Empty>
     ensures is { result ≡ task_of way count }
     ensures near { IsNearTask result }
 {
     match way {
-        Way::Undo => Task::Run(Command::Undo { k: count }),
-        Way::Redo => Task::Run(Command::Redo { j: count }),
+        Direction::Undo => Task::Run(Command::Undo { k: count }),
+        Direction::Redo => Task::Run(Command::Redo { j: count }),
     }
 }
 
@@ -146,34 +146,34 @@ fn moved_by<W: World>(
     alloc: Global,
     names: &Names,
     guard: Guard,
-    way: Way,
+    way: Direction,
     count: u32,
 ) -> Moved<u32>
-    requires free { W.honest world.old → (W.sight world.old).lent ≡ None }
-    ensures done { W.honest world.old → (s : Images) → Holds (contents_of names.now (W.sight world.old)) s
-        → IfOk result.outcome (λ left. IsMoved count (stepped way s) left (contents_of names.now (W.sight world.new))) }
-    ensures refused { W.honest world.old → (s : Images) → Holds (contents_of names.now (W.sight world.old)) s
-        → IfErr result.outcome (RefusesMove names.now count (stepped way s) result.unopened (W.sight world.old) (W.sight world.new)) }
-    ensures spares { W.honest world.old
-        → IfErr result.outcome (SparesMove names.now result.unopened result.how (W.sight world.old) (W.sight world.new)) }
-    ensures survives { W.honest world.old
-        → SurvivesMoving names.now count way result (W.sight world.old) (W.sight world.new)
+    requires free { W.faithful world.old → (W.state world.old).lent ≡ None }
+    ensures done { W.faithful world.old → (s : Images) → Holds (contents_of names.now (W.state world.old)) s
+        → IfOk result.outcome (λ left. IsMoved count (stepped way s) left (contents_of names.now (W.state world.new))) }
+    ensures refused { W.faithful world.old → (s : Images) → Holds (contents_of names.now (W.state world.old)) s
+        → IfErr result.outcome (RefusesMove names.now count (stepped way s) result.unopened (W.state world.old) (W.state world.new)) }
+    ensures spares { W.faithful world.old
+        → IfErr result.outcome (SparesMove names.now result.unopened result.how (W.state world.old) (W.state world.new)) }
+    ensures survives { W.faithful world.old
+        → SurvivesMoving names.now count way result (W.state world.old) (W.state world.new)
         (W.survives world.old) (W.survives world.new) }
-    ensures unopened { W.honest world.old → IfSome result.unopened (λ _. NothingMoved result (W.sight world.old) (W.sight world.new)) }
-    ensures why_unopened { W.honest world.old
+    ensures unopened { W.faithful world.old → IfSome result.unopened (λ _. NothingMoved result (W.state world.old) (W.state world.new)) }
+    ensures why_unopened { W.faithful world.old
         → IfSome result.unopened (MayRefuseTask guard false (W.note world.old) (task_of way count) names.now
-        (W.refusals world.old < W.refusals world.new) (W.sight world.old)) }
-    ensures fit { W.honest world.old → WereOpened result.unopened → AreFit names.now guard.mounted (W.sight world.old) }
-    ensures judged { W.honest world.old → WasJudged guard (is_missing names.now.image (W.sight world.old)) (W.note world.old)
-        (contents_of names.now (W.sight world.old)) (task_of way count) result.unopened result.how }
-    ensures how { W.honest world.old → TellsUnfinished (contents_of names.now (W.sight world.old)) result.how result.outcome }
-    ensures recovered { W.honest world.old → (s : Images) → FoundIn (contents_of names.now (W.sight world.old)) s → result.unopened ≡ None
-        → MovedFound count way s result.how result.outcome (contents_of names.now (W.sight world.new)) }
-    ensures stands { W.honest world.old → IfSome result.how (λ how. IfOk result.outcome (λ left.
-        MovedRead count way how left (contents_of names.now (W.sight world.old)) (contents_of names.now (W.sight world.new)))) }
-    ensures others { W.honest world.old → KeepsOthers names.now (W.sight world.old) (W.sight world.new) }
-    ensures silent { W.honest world.old → KeepsStreams (W.sight world.old) (W.sight world.new) }
-    ensures honesty { W.honest world.new ↔ W.honest world.old }
+        (W.refusals world.old < W.refusals world.new) (W.state world.old)) }
+    ensures fit { W.faithful world.old → WereOpened result.unopened → AreFit names.now guard.mounted (W.state world.old) }
+    ensures judged { W.faithful world.old → WasJudged guard (is_missing names.now.image (W.state world.old)) (W.note world.old)
+        (contents_of names.now (W.state world.old)) (task_of way count) result.unopened result.how }
+    ensures how { W.faithful world.old → TellsUnfinished (contents_of names.now (W.state world.old)) result.how result.outcome }
+    ensures recovered { W.faithful world.old → (s : Images) → FoundIn (contents_of names.now (W.state world.old)) s → result.unopened ≡ None
+        → MovedFound count way s result.how result.outcome (contents_of names.now (W.state world.new)) }
+    ensures stands { W.faithful world.old → IfSome result.how (λ how. IfOk result.outcome (λ left.
+        MovedRead count way how left (contents_of names.now (W.state world.old)) (contents_of names.now (W.state world.new)))) }
+    ensures others { W.faithful world.old → KeepsOthers names.now (W.state world.old) (W.state world.new) }
+    ensures silent { W.faithful world.old → KeepsStreams (W.state world.old) (W.state world.new) }
+    ensures faith { W.faithful world.new ↔ W.faithful world.old }
 {
     let task = task_by(way, count);
     let answer = run_on_files(world, alloc, names, guard, false, task);
@@ -194,35 +194,35 @@ pub fn move_changes<W: World>(
     alloc: Global,
     names: &Names,
     guard: Guard,
-    way: Way,
+    way: Direction,
     count: u32,
 ) -> Moved<()>
-    requires free { W.honest world.old → (W.sight world.old).lent ≡ None }
-    ensures done { W.honest world.old → (s : Images) → Holds (contents_of names.now (W.sight world.old)) s
-        → OnOk result.outcome (Moves names.now count (stepped way s) (W.sight world.old) (W.sight world.new)) }
-    ensures stopped { W.honest world.old → (s : Images) → Holds (contents_of names.now (W.sight world.old)) s
-        → IfErr result.outcome (StopsMove names.now count (stepped way s) result.unopened (W.sight world.old) (W.sight world.new)) }
-    ensures spares { W.honest world.old
-        → IfErr result.outcome (SparesMove names.now result.unopened result.how (W.sight world.old) (W.sight world.new)) }
-    ensures survives { W.honest world.old
-        → SurvivesMoving names.now count way result (W.sight world.old) (W.sight world.new)
+    requires free { W.faithful world.old → (W.state world.old).lent ≡ None }
+    ensures done { W.faithful world.old → (s : Images) → Holds (contents_of names.now (W.state world.old)) s
+        → OnOk result.outcome (Moves names.now count (stepped way s) (W.state world.old) (W.state world.new)) }
+    ensures stopped { W.faithful world.old → (s : Images) → Holds (contents_of names.now (W.state world.old)) s
+        → IfErr result.outcome (StopsMove names.now count (stepped way s) result.unopened (W.state world.old) (W.state world.new)) }
+    ensures spares { W.faithful world.old
+        → IfErr result.outcome (SparesMove names.now result.unopened result.how (W.state world.old) (W.state world.new)) }
+    ensures survives { W.faithful world.old
+        → SurvivesMoving names.now count way result (W.state world.old) (W.state world.new)
         (W.survives world.old) (W.survives world.new) }
-    ensures unopened { W.honest world.old → IfSome result.unopened (λ _. NothingMoved result (W.sight world.old) (W.sight world.new)) }
-    ensures why_unopened { W.honest world.old
+    ensures unopened { W.faithful world.old → IfSome result.unopened (λ _. NothingMoved result (W.state world.old) (W.state world.new)) }
+    ensures why_unopened { W.faithful world.old
         → IfSome result.unopened (MayRefuseTask guard false (W.note world.old) (task_of way count) names.now
-        (W.refusals world.old < W.refusals world.new) (W.sight world.old)) }
-    ensures fit { W.honest world.old → WereOpened result.unopened → AreFit names.now guard.mounted (W.sight world.old) }
-    ensures judged { W.honest world.old → WasJudged guard (is_missing names.now.image (W.sight world.old)) (W.note world.old)
-        (contents_of names.now (W.sight world.old)) (task_of way count) result.unopened result.how }
-    ensures how { W.honest world.old → TellsUnfinished (contents_of names.now (W.sight world.old)) result.how result.outcome }
-    ensures recovered { W.honest world.old → (s : Images) → FoundIn (contents_of names.now (W.sight world.old)) s → result.unopened ≡ None
-        → MovesFound names.now count way s result.how result.outcome (W.sight world.old) (W.sight world.new) }
-    ensures stands { W.honest world.old → IfSome result.how (λ how. OnOk result.outcome
-        (MovesRead names.now count way how (W.sight world.old) (W.sight world.new))) }
-    ensures others { W.honest world.old → KeepsOthers names.now (W.sight world.old) (W.sight world.new) }
-    ensures errors { W.honest world.old → TellsRecovered result.how (W.sight world.old).errors (W.sight world.new).errors }
-    ensures free { W.honest world.old → (W.sight world.new).lent ≡ None }
-    ensures honesty { W.honest world.new ↔ W.honest world.old }
+        (W.refusals world.old < W.refusals world.new) (W.state world.old)) }
+    ensures fit { W.faithful world.old → WereOpened result.unopened → AreFit names.now guard.mounted (W.state world.old) }
+    ensures judged { W.faithful world.old → WasJudged guard (is_missing names.now.image (W.state world.old)) (W.note world.old)
+        (contents_of names.now (W.state world.old)) (task_of way count) result.unopened result.how }
+    ensures how { W.faithful world.old → TellsUnfinished (contents_of names.now (W.state world.old)) result.how result.outcome }
+    ensures recovered { W.faithful world.old → (s : Images) → FoundIn (contents_of names.now (W.state world.old)) s → result.unopened ≡ None
+        → MovesFound names.now count way s result.how result.outcome (W.state world.old) (W.state world.new) }
+    ensures stands { W.faithful world.old → IfSome result.how (λ how. OnOk result.outcome
+        (MovesRead names.now count way how (W.state world.old) (W.state world.new))) }
+    ensures others { W.faithful world.old → KeepsOthers names.now (W.state world.old) (W.state world.new) }
+    ensures errors { W.faithful world.old → TellsRecovered result.how (W.state world.old).errors (W.state world.new).errors }
+    ensures free { W.faithful world.old → (W.state world.new).lent ≡ None }
+    ensures faith { W.faithful world.new ↔ W.faithful world.old }
 {
     let moved = moved_by(world, alloc, names, guard, way, count);
     // Also where the move was refused: what was recovered is done all the same.

@@ -4,7 +4,7 @@ ghost use Rattle.bx_journal.specs.Images.{Images};
 ghost use Rattle.bx_cli_commands.specs.Refusal.{IsWholeRefusal};
 ghost use Rattle.bx_cli_commands.specs.Replies.{stands_by};
 ghost use Rattle.bx_cli_commands.specs.Run.{Unfailed};
-ghost use Rattle.bx_world.specs.World.{AreThreeFiles, KeepsStreams, NothingNewFound, Sight};
+ghost use Rattle.bx_world.specs.World.{AreThreeFiles, KeepsStreams, NothingNewFound, SystemState};
 ghost use Rattle.bx_world.specs.files.Files.{AreAllThere, HasMade, IsOneOfMade, LeavesFiles, TakesOnly};
 ghost use Rattle.bx_world.specs.files.Fit.{AreFit};
 ghost use Rattle.bx_world.specs.files.Numbers.{numbers_of};
@@ -16,8 +16,8 @@ ghost use Rattle.bx_run.specs.session.Task.{IsNearTask};
 use crate::session::lent::{Done, with_devices};
 use crate::session::task::Task;
 use bx_cli_commands::{Fault, Reply};
-use bx_journal::{How, SessionFault};
-use bx_world::{Guard, Names, Unopened, World, open_image_files, unmake_all};
+use bx_journal::{RecoveryOutcome, SessionFault};
+use bx_world::{Guard, Names, OpenError, World, open_image_files, unmake_all};
 use std::alloc::Global;
 use std::io::Read;
 
@@ -27,9 +27,9 @@ pub struct Answer {
     /// The reply.
     pub reply: Reply,
     /// Why the files were not opened, or that the image is another one than the journal was written beside; none where the task was begun.
-    pub unopened: Option<Unopened>,
+    pub unopened: Option<OpenError>,
     /// What opening the session found unfinished; none where it was refused, and where the files were not opened.
-    pub how: Option<How>,
+    pub how: Option<RecoveryOutcome>,
 }
 
 /// Whether a task was refused, and no device stopped it in the middle of writing.
@@ -47,29 +47,29 @@ fn is_whole_refusal(reply: &Reply) -> bool
 }
 
 /// Whether opening found finished entries alone, or was refused.
-fn is_unrecovered(how: Option<How>) -> bool
+fn is_unrecovered(how: Option<RecoveryOutcome>) -> bool
     ensures { (result ≡ true) ↔ IsUnrecovered how }
 {
     match how {
-        None | Some(How::Clean) => true,
-        Some(How::Dropped | How::Restored { .. }) => false,
+        None | Some(RecoveryOutcome::Clean) => true,
+        Some(RecoveryOutcome::Dropped | RecoveryOutcome::Restored { .. }) => false,
     }
 }
 
 /// Takes the files away again that this run made, where the task was refused and nothing was recovered.
 fn clear<W: World>(world: &mut W, names: &Names, done: &Done<W::File>)
-    requires made { W.honest world.old
-        → (n : ℕ) → IsOneOfMade done.now.files.made (numbers_of W.number done.now.files) n → (W.sight world.old).before ≤ n }
-    requires apart { W.honest world.old → AreThreeFiles (W.sight world.old).there (numbers_of W.number done.now.files) }
-    requires named { W.honest world.old → LeadTo names.now (numbers_of W.number done.now.files) (W.sight world.old) }
-    ensures left { W.honest world.old → IsWholeRefusal done.now.reply → IsUnrecovered done.now.how → (first : Sight) → AreAllThere first
-        → HasMade (IsOneOfMade done.now.files.made (numbers_of W.number done.now.files)) first (W.sight world.old)
-        → LeavesFiles first (W.sight world.new) }
-    ensures stays { W.honest world.old → (IsWholeRefusal done.now.reply → IsUnrecovered done.now.how → ⊥) → world.new ≡ world.old }
-    ensures most { W.honest world.old
-        → TakesOnly (IsOneOfMade done.now.files.made (numbers_of W.number done.now.files)) (W.sight world.old) (W.sight world.new) }
-    ensures survives { W.honest world.old → NothingNewFound (W.survives world.old) (W.survives world.new) }
-    ensures honesty { W.honest world.new ↔ W.honest world.old }
+    requires made { W.faithful world.old
+        → (n : ℕ) → IsOneOfMade done.now.files.made (numbers_of W.number done.now.files) n → (W.state world.old).before ≤ n }
+    requires apart { W.faithful world.old → AreThreeFiles (W.state world.old).there (numbers_of W.number done.now.files) }
+    requires named { W.faithful world.old → LeadTo names.now (numbers_of W.number done.now.files) (W.state world.old) }
+    ensures left { W.faithful world.old → IsWholeRefusal done.now.reply → IsUnrecovered done.now.how → (first : SystemState) → AreAllThere first
+        → HasMade (IsOneOfMade done.now.files.made (numbers_of W.number done.now.files)) first (W.state world.old)
+        → LeavesFiles first (W.state world.new) }
+    ensures stays { W.faithful world.old → (IsWholeRefusal done.now.reply → IsUnrecovered done.now.how → ⊥) → world.new ≡ world.old }
+    ensures most { W.faithful world.old
+        → TakesOnly (IsOneOfMade done.now.files.made (numbers_of W.number done.now.files)) (W.state world.old) (W.state world.new) }
+    ensures survives { W.faithful world.old → NothingNewFound (W.survives world.old) (W.survives world.new) }
+    ensures faith { W.faithful world.new ↔ W.faithful world.old }
 {
     if is_whole_refusal(&done.reply) && is_unrecovered(done.how) {
         unmake_all(world, names, &done.files);
@@ -88,52 +88,52 @@ pub fn run_on_files<W: World, R: Read + Drop>(
     task: Task<R>,
 ) -> Answer
     requires near { IsNearTask task }
-    requires free { W.honest world.old → (W.sight world.old).lent ≡ None }
+    requires free { W.faithful world.old → (W.state world.old).lent ≡ None }
 
     // A task that is done, or stopped in the middle, makes the machine's step of what the files held.
-    ensures done { W.honest world.old → (s : Images) → Holds (contents_of names.now (W.sight world.old)) s → (IsWholeRefusal result.reply → ⊥)
-        → StepsTo R.remaining s task result.reply (contents_of names.now (W.sight world.new)) }
+    ensures done { W.faithful world.old → (s : Images) → Holds (contents_of names.now (W.state world.old)) s → (IsWholeRefusal result.reply → ⊥)
+        → StepsTo R.remaining s task result.reply (contents_of names.now (W.state world.new)) }
 
     // So it is behind a loss of power.
-    ensures survives { W.honest world.old
-        → SurvivesTask R.remaining names.now task result (W.sight world.old) (W.sight world.new)
+    ensures survives { W.faithful world.old
+        → SurvivesTask R.remaining names.now task result (W.state world.old) (W.state world.new)
         (W.survives world.old) (W.survives world.new) }
 
     // A task that is refused leaves all files as they were, byte for byte, whatever they held, and makes none, unless something was
     // recovered; and so do files that are not opened.
-    ensures refused { W.honest world.old → IsWholeRefusal result.reply
-        → LeavesRefused names.now result.unopened result.how (W.sight world.old) (W.sight world.new) }
-    ensures unopened { W.honest world.old
-        → IfSome result.unopened (λ _. NothingDone result.reply result.how (W.sight world.old) (W.sight world.new)) }
+    ensures refused { W.faithful world.old → IsWholeRefusal result.reply
+        → LeavesRefused names.now result.unopened result.how (W.state world.old) (W.state world.new) }
+    ensures unopened { W.faithful world.old
+        → IfSome result.unopened (λ _. NothingDone result.reply result.how (W.state world.old) (W.state world.new)) }
 
     // Why files were not opened, or the task not begun on another image.
-    ensures why_unopened { W.honest world.old
+    ensures why_unopened { W.faithful world.old
         → IfSome result.unopened (MayRefuseTask guard makes (W.note world.old) task names.now (W.refusals world.old < W.refusals world.new)
-        (W.sight world.old)) }
+        (W.state world.old)) }
 
     // Why it was refused, where the files were opened, which may be so only with files that may be changed.
-    ensures why { W.honest world.old → (s : Images) → Holds (contents_of names.now (W.sight world.old)) s → result.unopened ≡ None
+    ensures why { W.faithful world.old → (s : Images) → Holds (contents_of names.now (W.state world.old)) s → result.unopened ≡ None
         → IsWholeRefusal result.reply → MayRefuse R.remaining s task result.reply }
-    ensures fit { W.honest world.old → WereOpened result.unopened → AreFit names.now guard.mounted (W.sight world.old) }
+    ensures fit { W.faithful world.old → WereOpened result.unopened → AreFit names.now guard.mounted (W.state world.old) }
 
     // After a crash it is done on what opening recovers, which is said; of files that hold images nothing is recovered.
-    ensures how { W.honest world.old
-        → TellsUnfinished (contents_of names.now (W.sight world.old)) result.how (stands_by result.reply) }
-    ensures recovered { W.honest world.old → (s : Images) → FoundIn (contents_of names.now (W.sight world.old)) s → result.unopened ≡ None
-        → DoesFound R.remaining s task result.how result.reply (contents_of names.now (W.sight world.new)) }
+    ensures how { W.faithful world.old
+        → TellsUnfinished (contents_of names.now (W.state world.old)) result.how (stands_by result.reply) }
+    ensures recovered { W.faithful world.old → (s : Images) → FoundIn (contents_of names.now (W.state world.old)) s → result.unopened ≡ None
+        → DoesFound R.remaining s task result.how result.reply (contents_of names.now (W.state world.new)) }
 
     // Whatever the files hold that opening takes, it makes the machine's step on the images for which they stand, unless a device failed.
-    ensures stands { W.honest world.old → Unfailed result.reply → IfSome result.how (λ how. StepsRead R.remaining task how result.reply
-        (contents_of names.now (W.sight world.old)) (contents_of names.now (W.sight world.new))) }
+    ensures stands { W.faithful world.old → Unfailed result.reply → IfSome result.how (λ how. StepsRead R.remaining task how result.reply
+        (contents_of names.now (W.state world.old)) (contents_of names.now (W.state world.new))) }
 
     // The image was judged by the line that the note had, before anything was recovered onto it.
-    ensures judged { W.honest world.old → WasJudged guard (is_missing names.now.image (W.sight world.old)) (W.note world.old)
-        (contents_of names.now (W.sight world.old)) task result.unopened result.how }
+    ensures judged { W.faithful world.old → WasJudged guard (is_missing names.now.image (W.state world.old)) (W.note world.old)
+        (contents_of names.now (W.state world.old)) task result.unopened result.how }
 
     // No other file is changed, whatever the files hold and whatever becomes of the task, and nothing is written.
-    ensures others { W.honest world.old → KeepsOthers names.now (W.sight world.old) (W.sight world.new) }
-    ensures silent { W.honest world.old → KeepsStreams (W.sight world.old) (W.sight world.new) }
-    ensures honesty { W.honest world.new ↔ W.honest world.old }
+    ensures others { W.faithful world.old → KeepsOthers names.now (W.state world.old) (W.state world.new) }
+    ensures silent { W.faithful world.old → KeepsStreams (W.state world.old) (W.state world.new) }
+    ensures faith { W.faithful world.new ↔ W.faithful world.old }
 {
     let files = match open_image_files(world, names, guard.mounted, makes) {
         Ok(files) => files,

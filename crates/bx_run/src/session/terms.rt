@@ -48,10 +48,10 @@ fn line_in(bytes: &[u8]) -> Option<ImageLine>
 
 /// What the note tells, which is only read.
 pub fn told_by<W: World>(world: &mut W) -> Told
-    ensures known { W.honest world.old → result.unread ≡ false → NoteSays (W.note world.old) result.line }
-    ensures same { W.honest world.old → W.sight world.new ≡ W.sight world.old }
-    ensures survives { W.honest world.old → NothingNewFound (W.survives world.old) (W.survives world.new) }
-    ensures honesty { W.honest world.new ↔ W.honest world.old }
+    ensures known { W.faithful world.old → result.unread ≡ false → NoteSays (W.note world.old) result.line }
+    ensures same { W.faithful world.old → W.state world.new ≡ W.state world.old }
+    ensures survives { W.faithful world.old → NothingNewFound (W.survives world.old) (W.survives world.new) }
+    ensures faith { W.faithful world.new ↔ W.faithful world.old }
 {
     let mut room = [0u8; ROOM];
     match world.read_note(&mut room) {

@@ -76,17 +76,17 @@ impl<'p, 'r, R: Clock + Eprint> CountedFile<'p, 'r, R> {
     }
 }
 
-/// What a file gives back is known to no proof, so it never counts as honest here.
+/// What a file gives back is known to no proof, so it never counts as faithful here.
 impl<R: Clock + Eprint> RandomAccess for CountedFile<'_, '_, R> {
     ghost content = { λ _. [] };
 
-    ghost honest = { λ _. ⊥ };
+    ghost faithful = { λ _. ⊥ };
 
     ghost survives = { λ _ _. ⊥ };
 
-    ghost within = { λ f honest. absurd honest };
+    ghost within = { λ f faithful. absurd faithful };
 
-    ghost present = { λ f honest. absurd honest };
+    ghost present = { λ f faithful. absurd faithful };
 
     fn size(&mut self) -> Result<u64, Stop> {
         match &mut self.file {

@@ -2,7 +2,7 @@
 use Rattle.std.specs.Prelude.{◌≡◌, ℕ, Bool, true, List, Option, None, Some, if◌then◌else◌}
 use Rattle.std.specs.Option.{unwrap_or}
 use Rattle.bx_world.specs.Rule.{text_unfit}
-use Rattle.bx_world.specs.World.{MayBeImage, Sight, stat_named}
+use Rattle.bx_world.specs.World.{MayBeImage, SystemState, stat_named}
 use Rattle.bx_world.specs.declared.rule.Unfit.{Unfit}
 use Rattle.bx_world.specs.declared.rule.Unfit.TheVariants.{Link}
 use Rattle.bx_world.specs.declared.stat.Look.{Look}
@@ -20,22 +20,22 @@ abbrev pub look_unfit : ℕ → Option Stat → Look → Option Unfit
 look_unfit caller image look = found_unfit caller image look.is_link look.found
 
 -- the same of the name
-abbrev pub unfit_beside : Option Stat → Sight → List ℕ → Option Unfit
+abbrev pub unfit_beside : Option Stat → SystemState → List ℕ → Option Unfit
 unfit_beside image w name = found_unfit w.caller image (w.is_link name) (stat_named w name)
 
 -- the system says this of the file that the name leads to, and it may be an image that is changed; or the name leads to none, and an image is
 -- to be made
-pub record IsFitImage (name : List ℕ) (mounted makes : Bool) (image : Option Stat) (w : Sight) : Type 0 where
+pub record IsFitImage (name : List ℕ) (mounted makes : Bool) (image : Option Stat) (w : SystemState) : Type 0 where
   pub found : stat_named w name ≡ image
   pub fit : MayBeImage mounted w name
   pub asked : image ≡ None → makes ≡ true
 
 -- what stands under the names of the texts may be texts of this image
-pub record AreFitBeside (names : Names) (image : Stat) (w : Sight) : Type 0 where
+pub record AreFitBeside (names : Names) (image : Stat) (w : SystemState) : Type 0 where
   pub journal : unfit_beside (Some image) w names.journal ≡ None
   pub redo : unfit_beside (Some image) w names.redo ≡ None
 
 -- what stands under the three names may be an image that is changed, and its texts
-pub record AreFit (names : Names) (mounted : Bool) (w : Sight) : Type 0 where
+pub record AreFit (names : Names) (mounted : Bool) (w : SystemState) : Type 0 where
   pub image : MayBeImage mounted w names.image
   pub texts : (n : ℕ) → w.named names.image ≡ Some n → AreFitBeside names (w.stat n) w

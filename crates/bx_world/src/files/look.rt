@@ -3,10 +3,10 @@ ghost use Rattle.std.specs.Prelude.{◌≡◌, ◌↔◌, ◌<◌, ◌≤◌, �
 ghost use Rattle.bx_world.specs.World.{NothingNewFound};
 ghost use Rattle.bx_world.specs.files.Fit.{AreFit, AreFitBeside, IsFitImage, look_unfit, unfit_beside};
 ghost use Rattle.bx_world.specs.files.Reasons.{IsRefusedFile, IsUnfitBeside, IsUnfitImage, IsUnfitOrRefused, IsUnmade, MayRefuseOpening};
-ghost use Rattle.bx_world.specs.declared.files.unopened.Which.TheVariants.{Image};
+ghost use Rattle.bx_world.specs.declared.files.unopened.FileRole.TheVariants.{Image};
 
 use crate::files::names::Names;
-use crate::files::unopened::{Unopened, Which};
+use crate::files::unopened::{FileRole, OpenError};
 use crate::{Look, Refusal, Stat, Unfit, World, image_unfit, text_unfit};
 
 /// What the system tells of the image, which may be one that is changed; none of one that is missing and is to be made.
@@ -15,30 +15,30 @@ fn look_at_image<W: World>(
     name: &str,
     mounted: bool,
     makes: bool,
-) -> Result<Option<Stat>, Unopened>
-    ensures fit { W.honest world.old → IfOk result (λ image. IsFitImage name.now mounted makes image (W.sight world.old)) }
-    ensures why { W.honest world.old → (least : ℕ) → least ≤ W.refusals world.old
-        → IfErr result (IsRefusedFile Image (IsUnmade makes (W.sight world.old) name.now)
-        (IsUnfitImage mounted (W.sight world.old) name.now) ⊥ (least < W.refusals world.new)) }
-    ensures same { W.honest world.old → W.sight world.new ≡ W.sight world.old }
-    ensures counted { W.honest world.old → W.refusals world.old ≤ W.refusals world.new }
-    ensures survives { W.honest world.old → NothingNewFound (W.survives world.old) (W.survives world.new) }
-    ensures note { W.honest world.old → W.note world.new ≡ W.note world.old }
-    ensures honesty { W.honest world.new ↔ W.honest world.old }
+) -> Result<Option<Stat>, OpenError>
+    ensures fit { W.faithful world.old → IfOk result (λ image. IsFitImage name.now mounted makes image (W.state world.old)) }
+    ensures why { W.faithful world.old → (least : ℕ) → least ≤ W.refusals world.old
+        → IfErr result (IsRefusedFile Image (IsUnmade makes (W.state world.old) name.now)
+        (IsUnfitImage mounted (W.state world.old) name.now) ⊥ (least < W.refusals world.new)) }
+    ensures same { W.faithful world.old → W.state world.new ≡ W.state world.old }
+    ensures counted { W.faithful world.old → W.refusals world.old ≤ W.refusals world.new }
+    ensures survives { W.faithful world.old → NothingNewFound (W.survives world.old) (W.survives world.new) }
+    ensures note { W.faithful world.old → W.note world.new ≡ W.note world.old }
+    ensures faith { W.faithful world.new ↔ W.faithful world.old }
 {
     let look = match world.look(name) {
         Ok(look) => look,
-        Err(refusal) => return Err(Which::Image.refused(refusal)),
+        Err(refusal) => return Err(FileRole::Image.refused(refusal)),
     };
     let Some(image) = look.found else {
         if makes {
             return Ok(None);
         }
-        return Err(Which::Image.refused(Refusal::Missing));
+        return Err(FileRole::Image.refused(Refusal::Missing));
     };
     match image_unfit(mounted, &image) {
         None => Ok(Some(image)),
-        Some(unfit) => Err(Which::Image.unfit(unfit)),
+        Some(unfit) => Err(FileRole::Image.unfit(unfit)),
     }
 }
 
@@ -58,19 +58,19 @@ fn unfit_of(caller: u32, image: Option<Stat>, look: Look) -> Option<Unfit>
 fn look_at_text<W: World>(
     world: &mut W,
     name: &str,
-    which: Which,
+    which: FileRole,
     image: Option<Stat>,
-) -> Result<bool, Unopened>
-    ensures fit { W.honest world.old → OnOk result (unfit_beside image (W.sight world.old) name.now ≡ None) }
-    ensures missing { W.honest world.old → IfOk result (λ is_there. is_there ≡ false → (W.sight world.old).named name.now ≡ None) }
-    ensures why { W.honest world.old → (least : ℕ) → least ≤ W.refusals world.old
-        → IfErr result (IsRefusedFile which ⊥ (IsUnfitBeside image (W.sight world.old) name.now) ⊥
+) -> Result<bool, OpenError>
+    ensures fit { W.faithful world.old → OnOk result (unfit_beside image (W.state world.old) name.now ≡ None) }
+    ensures missing { W.faithful world.old → IfOk result (λ is_there. is_there ≡ false → (W.state world.old).named name.now ≡ None) }
+    ensures why { W.faithful world.old → (least : ℕ) → least ≤ W.refusals world.old
+        → IfErr result (IsRefusedFile which ⊥ (IsUnfitBeside image (W.state world.old) name.now) ⊥
         (least < W.refusals world.new)) }
-    ensures same { W.honest world.old → W.sight world.new ≡ W.sight world.old }
-    ensures counted { W.honest world.old → W.refusals world.old ≤ W.refusals world.new }
-    ensures survives { W.honest world.old → NothingNewFound (W.survives world.old) (W.survives world.new) }
-    ensures note { W.honest world.old → W.note world.new ≡ W.note world.old }
-    ensures honesty { W.honest world.new ↔ W.honest world.old }
+    ensures same { W.faithful world.old → W.state world.new ≡ W.state world.old }
+    ensures counted { W.faithful world.old → W.refusals world.old ≤ W.refusals world.new }
+    ensures survives { W.faithful world.old → NothingNewFound (W.survives world.old) (W.survives world.new) }
+    ensures note { W.faithful world.old → W.note world.new ≡ W.note world.old }
+    ensures faith { W.faithful world.new ↔ W.faithful world.old }
 {
     let look = match world.look(name) {
         Ok(look) => look,
@@ -84,19 +84,24 @@ fn look_at_text<W: World>(
 }
 
 /// Looks at the texts beside an image that is there, or was made by now.
-pub fn look_beside<W: World>(world: &mut W, names: &Names, image: Stat) -> Result<(), Unopened>
-    ensures fit { W.honest world.old → OnOk result (AreFitBeside names.now image (W.sight world.old)) }
-    ensures why { W.honest world.old → (least : ℕ) → least ≤ W.refusals world.old
+pub fn look_beside<W: World>(world: &mut W, names: &Names, image: Stat) -> Result<(), OpenError>
+    ensures fit { W.faithful world.old → OnOk result (AreFitBeside names.now image (W.state world.old)) }
+    ensures why { W.faithful world.old → (least : ℕ) → least ≤ W.refusals world.old
         → IfErr result (λ u. IsUnfitOrRefused names.now image (least < W.refusals world.new)
-        (W.sight world.old) u) }
-    ensures same { W.honest world.old → W.sight world.new ≡ W.sight world.old }
-    ensures counted { W.honest world.old → W.refusals world.old ≤ W.refusals world.new }
-    ensures survives { W.honest world.old → NothingNewFound (W.survives world.old) (W.survives world.new) }
-    ensures note { W.honest world.old → W.note world.new ≡ W.note world.old }
-    ensures honesty { W.honest world.new ↔ W.honest world.old }
+        (W.state world.old) u) }
+    ensures same { W.faithful world.old → W.state world.new ≡ W.state world.old }
+    ensures counted { W.faithful world.old → W.refusals world.old ≤ W.refusals world.new }
+    ensures survives { W.faithful world.old → NothingNewFound (W.survives world.old) (W.survives world.new) }
+    ensures note { W.faithful world.old → W.note world.new ≡ W.note world.old }
+    ensures faith { W.faithful world.new ↔ W.faithful world.old }
 {
-    look_at_text(world, names.journal.as_str(), Which::Journal, Some(image))?;
-    match look_at_text(world, names.redo.as_str(), Which::Redo, Some(image)) {
+    look_at_text(
+        world,
+        names.journal.as_str(),
+        FileRole::Journal,
+        Some(image),
+    )?;
+    match look_at_text(world, names.redo.as_str(), FileRole::Redo, Some(image)) {
         Ok(_) => Ok(()),
         Err(unopened) => Err(unopened),
     }
@@ -108,25 +113,25 @@ pub fn look_at_all<W: World>(
     names: &Names,
     mounted: bool,
     makes: bool,
-) -> Result<(), Unopened>
-    ensures fit { W.honest world.old → OnOk result (AreFit names.now mounted (W.sight world.old)) }
-    ensures why { W.honest world.old → (least : ℕ) → least ≤ W.refusals world.old
+) -> Result<(), OpenError>
+    ensures fit { W.faithful world.old → OnOk result (AreFit names.now mounted (W.state world.old)) }
+    ensures why { W.faithful world.old → (least : ℕ) → least ≤ W.refusals world.old
         → IfErr result (MayRefuseOpening names.now mounted makes (least < W.refusals world.new)
-        (W.sight world.old)) }
-    ensures same { W.honest world.old → W.sight world.new ≡ W.sight world.old }
-    ensures counted { W.honest world.old → W.refusals world.old ≤ W.refusals world.new }
-    ensures survives { W.honest world.old → NothingNewFound (W.survives world.old) (W.survives world.new) }
-    ensures note { W.honest world.old → W.note world.new ≡ W.note world.old }
-    ensures honesty { W.honest world.new ↔ W.honest world.old }
+        (W.state world.old)) }
+    ensures same { W.faithful world.old → W.state world.new ≡ W.state world.old }
+    ensures counted { W.faithful world.old → W.refusals world.old ≤ W.refusals world.new }
+    ensures survives { W.faithful world.old → NothingNewFound (W.survives world.old) (W.survives world.new) }
+    ensures note { W.faithful world.old → W.note world.new ≡ W.note world.old }
+    ensures faith { W.faithful world.new ↔ W.faithful world.old }
 {
     let image = look_at_image(world, names.image.as_str(), mounted, makes)?;
-    let is_there = look_at_text(world, names.journal.as_str(), Which::Journal, image)?;
+    let is_there = look_at_text(world, names.journal.as_str(), FileRole::Journal, image)?;
     if !is_there {
         if !makes {
-            return Err(Which::Journal.refused(Refusal::Missing));
+            return Err(FileRole::Journal.refused(Refusal::Missing));
         }
     }
-    match look_at_text(world, names.redo.as_str(), Which::Redo, image) {
+    match look_at_text(world, names.redo.as_str(), FileRole::Redo, image) {
         Ok(_) => Ok(()),
         Err(unopened) => Err(unopened),
     }

@@ -1,7 +1,7 @@
 //! The three files of a session, opened and made.
 ghost use Rattle.std.specs.Prelude.{◌≡◌, ◌↔◌, ◌<◌, ◌≤◌, ℕ, None, Some, true, false, OnOk, IfErr, IfOk, OnErr};
 ghost use Rattle.bx_world.specs.Rule.{image_unfit, text_unfit};
-ghost use Rattle.bx_world.specs.World.{AreThreeFiles, MayBeText, NothingNewBelow, NothingNewFound, Sight};
+ghost use Rattle.bx_world.specs.World.{AreThreeFiles, MayBeText, NothingNewBelow, NothingNewFound, SystemState};
 ghost use Rattle.bx_world.specs.files.Files.{AreAllThere, AreOpened, AreTextsOpened, IsImageOpened, IsMadeFile, IsTextOpened, LeavesFiles, LeavesMade};
 ghost use Rattle.bx_world.specs.files.Fit.{AreFitBeside};
 ghost use Rattle.bx_world.specs.files.Numbers.{files_beside, made_beside, numbers_beside, numbers_of};
@@ -13,7 +13,7 @@ use crate::files::made::{Files, Made, unmake};
 use crate::files::names::Names;
 use crate::files::opened::{Opened, open_image, open_text};
 use crate::files::ready::{are_ready, stat_of};
-use crate::files::unopened::{Unopened, Which};
+use crate::files::unopened::{FileRole, OpenError};
 
 /// The texts of an image.
 #[derive(Drop)]
@@ -32,28 +32,28 @@ fn open_redo<W: World>(
     mounted: bool,
     image: &W::File,
     journal: &W::File,
-) -> Result<Opened<W::File>, Unopened>
-    requires image_there { W.honest world.old → W.number image.now < (W.sight world.old).there }
-    requires journal_there { W.honest world.old → W.number journal.now < (W.sight world.old).there }
-    requires image_fit { W.honest world.old → image_unfit mounted ((W.sight world.old).stat (W.number image.now)) ≡ None }
-    requires journal_fit { W.honest world.old → text_unfit (W.sight world.old).caller ((W.sight world.old).stat (W.number image.now)) false
-        ((W.sight world.old).stat (W.number journal.now)) ≡ None }
-    requires may { W.honest world.old → MayBeText (W.number image.now) (W.sight world.old) names.now.redo }
-    ensures ok { W.honest world.old → IfOk result
-        (λ o. IsTextOpened names.now.redo (W.number image.now) (W.number o.file) true o.made (W.sight world.old) (W.sight world.new)) }
-    ensures apart { W.honest world.old → IfOk result (λ o. AreThreeFiles (W.sight world.new).there
+) -> Result<Opened<W::File>, OpenError>
+    requires image_there { W.faithful world.old → W.number image.now < (W.state world.old).there }
+    requires journal_there { W.faithful world.old → W.number journal.now < (W.state world.old).there }
+    requires image_fit { W.faithful world.old → image_unfit mounted ((W.state world.old).stat (W.number image.now)) ≡ None }
+    requires journal_fit { W.faithful world.old → text_unfit (W.state world.old).caller ((W.state world.old).stat (W.number image.now)) false
+        ((W.state world.old).stat (W.number journal.now)) ≡ None }
+    requires may { W.faithful world.old → MayBeText (W.number image.now) (W.state world.old) names.now.redo }
+    ensures ok { W.faithful world.old → IfOk result
+        (λ o. IsTextOpened names.now.redo (W.number image.now) (W.number o.file) true o.made (W.state world.old) (W.state world.new)) }
+    ensures apart { W.faithful world.old → IfOk result (λ o. AreThreeFiles (W.state world.new).there
         (record { image = W.number image.now; journal = W.number journal.now; redo = W.number o.file })) }
-    ensures err { W.honest world.old → OnErr result (LeavesFiles (W.sight world.old) (W.sight world.new)) }
-    ensures why { W.honest world.old → (least : ℕ) → least ≤ W.refusals world.old
+    ensures err { W.faithful world.old → OnErr result (LeavesFiles (W.state world.old) (W.state world.new)) }
+    ensures why { W.faithful world.old → (least : ℕ) → least ≤ W.refusals world.old
         → IfErr result (λ u. IsReason ⊥ NoneUnfit
-        (LeadsToOther names.now (W.number image.now) (W.number journal.now) (W.sight world.old) u.which)
+        (LeadsToOther names.now (W.number image.now) (W.number journal.now) (W.state world.old) u.which)
         (least < W.refusals world.new) u.why) }
-    ensures counted { W.honest world.old → W.refusals world.old ≤ W.refusals world.new }
-    ensures survives { W.honest world.old → NothingNewBelow (W.sight world.old).there (W.survives world.old) (W.survives world.new) }
-    ensures note { W.honest world.old → W.note world.new ≡ W.note world.old }
-    ensures honesty { W.honest world.new ↔ W.honest world.old }
+    ensures counted { W.faithful world.old → W.refusals world.old ≤ W.refusals world.new }
+    ensures survives { W.faithful world.old → NothingNewBelow (W.state world.old).there (W.survives world.old) (W.survives world.new) }
+    ensures note { W.faithful world.old → W.note world.new ≡ W.note world.old }
+    ensures faith { W.faithful world.new ↔ W.faithful world.old }
 {
-    let redo = open_text(world, names.redo.as_str(), Which::Redo, image, true)?;
+    let redo = open_text(world, names.redo.as_str(), FileRole::Redo, image, true)?;
     match are_ready(world, names, mounted, image, journal, &redo.file) {
         Ok(()) => Ok(redo),
         Err(unopened) => {
@@ -65,14 +65,14 @@ fn open_redo<W: World>(
 
 /// Takes the journal away again, if this run made it.
 fn unmake_journal<W: World>(world: &mut W, names: &Names, journal: &Opened<W::File>)
-    requires made { W.honest world.old → journal.now.made ≡ true → (W.sight world.old).before ≤ W.number journal.now.file }
-    requires named { W.honest world.old → (W.sight world.old).named names.now.journal ≡ Some (W.number journal.now.file) }
-    ensures left { W.honest world.old → (first : Sight) → AreAllThere first
-        → LeavesMade (IsMadeFile journal.now.made (W.number journal.now.file)) first (W.sight world.old) → LeavesFiles first (W.sight world.new) }
-    ensures counted { W.honest world.old → W.refusals world.new ≡ W.refusals world.old }
-    ensures survives { W.honest world.old → NothingNewFound (W.survives world.old) (W.survives world.new) }
-    ensures note { W.honest world.old → W.note world.new ≡ W.note world.old }
-    ensures honesty { W.honest world.new ↔ W.honest world.old }
+    requires made { W.faithful world.old → journal.now.made ≡ true → (W.state world.old).before ≤ W.number journal.now.file }
+    requires named { W.faithful world.old → (W.state world.old).named names.now.journal ≡ Some (W.number journal.now.file) }
+    ensures left { W.faithful world.old → (first : SystemState) → AreAllThere first
+        → LeavesMade (IsMadeFile journal.now.made (W.number journal.now.file)) first (W.state world.old) → LeavesFiles first (W.state world.new) }
+    ensures counted { W.faithful world.old → W.refusals world.new ≡ W.refusals world.old }
+    ensures survives { W.faithful world.old → NothingNewFound (W.survives world.old) (W.survives world.new) }
+    ensures note { W.faithful world.old → W.note world.new ≡ W.note world.old }
+    ensures faith { W.faithful world.new ↔ W.faithful world.old }
 {
     unmake(world, names.journal.as_str(), &journal.file, journal.made);
 }
@@ -82,25 +82,25 @@ fn look_beside_made<W: World>(
     world: &mut W,
     names: &Names,
     image: &Opened<W::File>,
-) -> Result<(), Unopened>
-    requires fit { W.honest world.old → image.now.made ≡ false
-        → AreFitBeside names.now ((W.sight world.old).stat (W.number image.now.file)) (W.sight world.old) }
-    ensures fit { W.honest world.old
-        → OnOk result (AreFitBeside names.now ((W.sight world.old).stat (W.number image.now.file)) (W.sight world.old)) }
-    ensures made { W.honest world.old → OnErr result (image.now.made ≡ true) }
-    ensures why { W.honest world.old → (least : ℕ) → least ≤ W.refusals world.old
-        → IfErr result (IsUnfitOrRefused names.now ((W.sight world.old).stat (W.number image.now.file))
-        (least < W.refusals world.new) (W.sight world.old)) }
-    ensures same { W.honest world.old → W.sight world.new ≡ W.sight world.old }
-    ensures counted { W.honest world.old → W.refusals world.old ≤ W.refusals world.new }
-    ensures survives { W.honest world.old → NothingNewFound (W.survives world.old) (W.survives world.new) }
-    ensures note { W.honest world.old → W.note world.new ≡ W.note world.old }
-    ensures honesty { W.honest world.new ↔ W.honest world.old }
+) -> Result<(), OpenError>
+    requires fit { W.faithful world.old → image.now.made ≡ false
+        → AreFitBeside names.now ((W.state world.old).stat (W.number image.now.file)) (W.state world.old) }
+    ensures fit { W.faithful world.old
+        → OnOk result (AreFitBeside names.now ((W.state world.old).stat (W.number image.now.file)) (W.state world.old)) }
+    ensures made { W.faithful world.old → OnErr result (image.now.made ≡ true) }
+    ensures why { W.faithful world.old → (least : ℕ) → least ≤ W.refusals world.old
+        → IfErr result (IsUnfitOrRefused names.now ((W.state world.old).stat (W.number image.now.file))
+        (least < W.refusals world.new) (W.state world.old)) }
+    ensures same { W.faithful world.old → W.state world.new ≡ W.state world.old }
+    ensures counted { W.faithful world.old → W.refusals world.old ≤ W.refusals world.new }
+    ensures survives { W.faithful world.old → NothingNewFound (W.survives world.old) (W.survives world.new) }
+    ensures note { W.faithful world.old → W.note world.new ≡ W.note world.old }
+    ensures faith { W.faithful world.new ↔ W.faithful world.old }
 {
     if !image.made {
         return Ok(());
     }
-    let stat = stat_of(world, Which::Image, &image.file)?;
+    let stat = stat_of(world, FileRole::Image, &image.file)?;
     look_beside(world, names, stat)
 }
 
@@ -112,28 +112,28 @@ fn open_texts<W: World>(
     mounted: bool,
     makes: bool,
     image: &Opened<W::File>,
-) -> Result<Texts<W::File>, Unopened>
-    requires there { W.honest world.old → W.number image.now.file < (W.sight world.old).there }
-    requires image_fit { W.honest world.old → image_unfit mounted ((W.sight world.old).stat (W.number image.now.file)) ≡ None }
-    requires fit { W.honest world.old → image.now.made ≡ false
-        → AreFitBeside names.now ((W.sight world.old).stat (W.number image.now.file)) (W.sight world.old) }
-    ensures ok { W.honest world.old → IfOk result (λ texts. AreTextsOpened names.now makes (numbers_beside W.number image.now texts)
-        (made_beside image.now texts) (W.sight world.old) (W.sight world.new)) }
-    ensures err { W.honest world.old → OnErr result (LeavesFiles (W.sight world.old) (W.sight world.new)) }
-    ensures why { W.honest world.old → (least : ℕ) → least ≤ W.refusals world.old
-        → (first : Sight) → AreAllThere first
-        → IsImageOpened names.now.image mounted makes image.now.made (W.number image.now.file) first (W.sight world.old)
+) -> Result<Texts<W::File>, OpenError>
+    requires there { W.faithful world.old → W.number image.now.file < (W.state world.old).there }
+    requires image_fit { W.faithful world.old → image_unfit mounted ((W.state world.old).stat (W.number image.now.file)) ≡ None }
+    requires fit { W.faithful world.old → image.now.made ≡ false
+        → AreFitBeside names.now ((W.state world.old).stat (W.number image.now.file)) (W.state world.old) }
+    ensures ok { W.faithful world.old → IfOk result (λ texts. AreTextsOpened names.now makes (numbers_beside W.number image.now texts)
+        (made_beside image.now texts) (W.state world.old) (W.state world.new)) }
+    ensures err { W.faithful world.old → OnErr result (LeavesFiles (W.state world.old) (W.state world.new)) }
+    ensures why { W.faithful world.old → (least : ℕ) → least ≤ W.refusals world.old
+        → (first : SystemState) → AreAllThere first
+        → IsImageOpened names.now.image mounted makes image.now.made (W.number image.now.file) first (W.state world.old)
         → IfErr result (MayRefuseOpening names.now mounted makes (least < W.refusals world.new) first) }
-    ensures counted { W.honest world.old → W.refusals world.old ≤ W.refusals world.new }
-    ensures survives { W.honest world.old → NothingNewBelow (W.sight world.old).there (W.survives world.old) (W.survives world.new) }
-    ensures note { W.honest world.old → W.note world.new ≡ W.note world.old }
-    ensures honesty { W.honest world.new ↔ W.honest world.old }
+    ensures counted { W.faithful world.old → W.refusals world.old ≤ W.refusals world.new }
+    ensures survives { W.faithful world.old → NothingNewBelow (W.state world.old).there (W.survives world.old) (W.survives world.new) }
+    ensures note { W.faithful world.old → W.note world.new ≡ W.note world.old }
+    ensures faith { W.faithful world.new ↔ W.faithful world.old }
 {
     look_beside_made(world, names, image)?;
     let journal = open_text(
         world,
         names.journal.as_str(),
-        Which::Journal,
+        FileRole::Journal,
         &image.file,
         makes,
     )?;
@@ -149,14 +149,14 @@ fn open_texts<W: World>(
 
 /// Takes the image away again, if this run made it.
 fn unmake_image<W: World>(world: &mut W, names: &Names, image: &Opened<W::File>)
-    requires made { W.honest world.old → image.now.made ≡ true → (W.sight world.old).before ≤ W.number image.now.file }
-    requires named { W.honest world.old → (W.sight world.old).named names.now.image ≡ Some (W.number image.now.file) }
-    ensures left { W.honest world.old → (first : Sight) → AreAllThere first
-        → LeavesMade (IsMadeFile image.now.made (W.number image.now.file)) first (W.sight world.old) → LeavesFiles first (W.sight world.new) }
-    ensures counted { W.honest world.old → W.refusals world.new ≡ W.refusals world.old }
-    ensures survives { W.honest world.old → NothingNewFound (W.survives world.old) (W.survives world.new) }
-    ensures note { W.honest world.old → W.note world.new ≡ W.note world.old }
-    ensures honesty { W.honest world.new ↔ W.honest world.old }
+    requires made { W.faithful world.old → image.now.made ≡ true → (W.state world.old).before ≤ W.number image.now.file }
+    requires named { W.faithful world.old → (W.state world.old).named names.now.image ≡ Some (W.number image.now.file) }
+    ensures left { W.faithful world.old → (first : SystemState) → AreAllThere first
+        → LeavesMade (IsMadeFile image.now.made (W.number image.now.file)) first (W.state world.old) → LeavesFiles first (W.state world.new) }
+    ensures counted { W.faithful world.old → W.refusals world.new ≡ W.refusals world.old }
+    ensures survives { W.faithful world.old → NothingNewFound (W.survives world.old) (W.survives world.new) }
+    ensures note { W.faithful world.old → W.note world.new ≡ W.note world.old }
+    ensures faith { W.faithful world.new ↔ W.faithful world.old }
 {
     unmake(world, names.image.as_str(), &image.file, image.made);
 }
@@ -189,16 +189,16 @@ pub fn open_image_files<W: World>(
     names: &Names,
     mounted: bool,
     makes: bool,
-) -> Result<Files<W::File>, Unopened>
-    ensures ok { W.honest world.old → IfOk result
-        (λ f. AreOpened names.now mounted makes (numbers_of W.number f) f.made (W.sight world.old) (W.sight world.new)) }
-    ensures err { W.honest world.old → OnErr result (LeavesFiles (W.sight world.old) (W.sight world.new)) }
-    ensures why { W.honest world.old → IfErr result (MayRefuseOpening names.now mounted makes (W.refusals world.old < W.refusals world.new)
-        (W.sight world.old)) }
-    ensures counted { W.honest world.old → W.refusals world.old ≤ W.refusals world.new }
-    ensures survives { W.honest world.old → NothingNewBelow (W.sight world.old).there (W.survives world.old) (W.survives world.new) }
-    ensures note { W.honest world.old → W.note world.new ≡ W.note world.old }
-    ensures honesty { W.honest world.new ↔ W.honest world.old }
+) -> Result<Files<W::File>, OpenError>
+    ensures ok { W.faithful world.old → IfOk result
+        (λ f. AreOpened names.now mounted makes (numbers_of W.number f) f.made (W.state world.old) (W.state world.new)) }
+    ensures err { W.faithful world.old → OnErr result (LeavesFiles (W.state world.old) (W.state world.new)) }
+    ensures why { W.faithful world.old → IfErr result (MayRefuseOpening names.now mounted makes (W.refusals world.old < W.refusals world.new)
+        (W.state world.old)) }
+    ensures counted { W.faithful world.old → W.refusals world.old ≤ W.refusals world.new }
+    ensures survives { W.faithful world.old → NothingNewBelow (W.state world.old).there (W.survives world.old) (W.survives world.new) }
+    ensures note { W.faithful world.old → W.note world.new ≡ W.note world.old }
+    ensures faith { W.faithful world.new ↔ W.faithful world.old }
 {
     // All three are looked at before one is opened: to open a pipe may act on it.
     look_at_all(world, names, mounted, makes)?;

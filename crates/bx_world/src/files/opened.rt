@@ -1,13 +1,13 @@
 //! One file that is opened, or made and opened.
 ghost use Rattle.std.specs.Prelude.{◌≡◌, ◌↔◌, ◌<◌, ◌≤◌, ℕ, true, false, Some, None, IfErr, IfOk, OnErr, OnOk};
-ghost use Rattle.bx_world.specs.World.{IsAlwaysFit, MayBeImage, MayBeText, NothingNewBelow, NothingNewFound, Sight};
+ghost use Rattle.bx_world.specs.World.{IsAlwaysFit, MayBeImage, MayBeText, NothingNewBelow, NothingNewFound, SystemState};
 ghost use Rattle.bx_world.specs.declared.world.Refusal.TheVariants.{Missing};
 ghost use Rattle.bx_world.specs.files.Files.{AreAllThere, HasMade, IsFileOpened, IsImageOpened, IsMadeFile, IsOwn, IsTextOpened, IsThere, LeavesFiles};
 ghost use Rattle.bx_world.specs.files.Reasons.{IsRefusedFile, IsRefusedFor, IsUnmade, NoneUnfit};
-ghost use Rattle.bx_world.specs.declared.files.unopened.Which.TheVariants.{Image};
+ghost use Rattle.bx_world.specs.declared.files.unopened.FileRole.TheVariants.{Image};
 
 use crate::files::made::unmake;
-use crate::files::unopened::{Unopened, Which};
+use crate::files::unopened::{FileRole, OpenError};
 use crate::{Refusal, World};
 
 /// A file that is open and locked.
@@ -21,15 +21,15 @@ pub struct Opened<F> {
 
 /// Opens an image that is there, and locks it.
 fn open_image_there<W: World>(world: &mut W, name: &str, mounted: bool) -> Result<W::File, Refusal>
-    requires may { W.honest world.old → MayBeImage mounted (W.sight world.old) name.now }
-    ensures there { W.honest world.old → IfOk result (λ f. IsThere name.now (W.number f) (W.sight world.old)) }
-    ensures why { W.honest world.old → (least : ℕ) → least ≤ W.refusals world.old
-        → IfErr result (IsRefusedFor ((W.sight world.old).named name.now ≡ None) (least < W.refusals world.new)) }
-    ensures same { W.honest world.old → W.sight world.new ≡ W.sight world.old }
-    ensures counted { W.honest world.old → W.refusals world.old ≤ W.refusals world.new }
-    ensures survives { W.honest world.old → NothingNewFound (W.survives world.old) (W.survives world.new) }
-    ensures note { W.honest world.old → W.note world.new ≡ W.note world.old }
-    ensures honesty { W.honest world.new ↔ W.honest world.old }
+    requires may { W.faithful world.old → MayBeImage mounted (W.state world.old) name.now }
+    ensures there { W.faithful world.old → IfOk result (λ f. IsThere name.now (W.number f) (W.state world.old)) }
+    ensures why { W.faithful world.old → (least : ℕ) → least ≤ W.refusals world.old
+        → IfErr result (IsRefusedFor ((W.state world.old).named name.now ≡ None) (least < W.refusals world.new)) }
+    ensures same { W.faithful world.old → W.state world.new ≡ W.state world.old }
+    ensures counted { W.faithful world.old → W.refusals world.old ≤ W.refusals world.new }
+    ensures survives { W.faithful world.old → NothingNewFound (W.survives world.old) (W.survives world.new) }
+    ensures note { W.faithful world.old → W.note world.new ≡ W.note world.old }
+    ensures faith { W.faithful world.new ↔ W.faithful world.old }
 {
     let file = world.open_image(name, mounted)?;
     world.lock(name, &file)?;
@@ -38,15 +38,15 @@ fn open_image_there<W: World>(world: &mut W, name: &str, mounted: bool) -> Resul
 
 /// Opens a text that is there, and locks it.
 fn open_text_there<W: World>(world: &mut W, name: &str, image: &W::File) -> Result<W::File, Refusal>
-    requires may { W.honest world.old → MayBeText (W.number image.now) (W.sight world.old) name.now }
-    ensures there { W.honest world.old → IfOk result (λ f. IsThere name.now (W.number f) (W.sight world.old)) }
-    ensures why { W.honest world.old → (least : ℕ) → least ≤ W.refusals world.old
-        → IfErr result (IsRefusedFor ((W.sight world.old).named name.now ≡ None) (least < W.refusals world.new)) }
-    ensures same { W.honest world.old → W.sight world.new ≡ W.sight world.old }
-    ensures counted { W.honest world.old → W.refusals world.old ≤ W.refusals world.new }
-    ensures survives { W.honest world.old → NothingNewFound (W.survives world.old) (W.survives world.new) }
-    ensures note { W.honest world.old → W.note world.new ≡ W.note world.old }
-    ensures honesty { W.honest world.new ↔ W.honest world.old }
+    requires may { W.faithful world.old → MayBeText (W.number image.now) (W.state world.old) name.now }
+    ensures there { W.faithful world.old → IfOk result (λ f. IsThere name.now (W.number f) (W.state world.old)) }
+    ensures why { W.faithful world.old → (least : ℕ) → least ≤ W.refusals world.old
+        → IfErr result (IsRefusedFor ((W.state world.old).named name.now ≡ None) (least < W.refusals world.new)) }
+    ensures same { W.faithful world.old → W.state world.new ≡ W.state world.old }
+    ensures counted { W.faithful world.old → W.refusals world.old ≤ W.refusals world.new }
+    ensures survives { W.faithful world.old → NothingNewFound (W.survives world.old) (W.survives world.new) }
+    ensures note { W.faithful world.old → W.note world.new ≡ W.note world.old }
+    ensures faith { W.faithful world.new ↔ W.faithful world.old }
 {
     let file = world.open_text(name, image)?;
     world.lock(name, &file)?;
@@ -56,17 +56,17 @@ fn open_text_there<W: World>(world: &mut W, name: &str, image: &W::File) -> Resu
 /// Locks a file that this run made. One that can't be locked is taken away again, but for one that another program has locked by
 /// now, which goes on with it.
 fn lock_made<W: World>(world: &mut W, name: &str, file: &W::File) -> Result<(), Refusal>
-    requires made { W.honest world.old → (W.sight world.old).before ≤ W.number file.now }
-    requires named { W.honest world.old → (W.sight world.old).named name.now ≡ Some (W.number file.now) }
-    ensures same { W.honest world.old → OnOk result (W.sight world.new ≡ W.sight world.old) }
-    ensures left { W.honest world.old → (first : Sight) → AreAllThere first → HasMade (IsMadeFile true (W.number file.now)) first (W.sight world.old)
-        → OnErr result (LeavesFiles first (W.sight world.new)) }
-    ensures why { W.honest world.old → (least : ℕ) → least ≤ W.refusals world.old
+    requires made { W.faithful world.old → (W.state world.old).before ≤ W.number file.now }
+    requires named { W.faithful world.old → (W.state world.old).named name.now ≡ Some (W.number file.now) }
+    ensures same { W.faithful world.old → OnOk result (W.state world.new ≡ W.state world.old) }
+    ensures left { W.faithful world.old → (first : SystemState) → AreAllThere first → HasMade (IsMadeFile true (W.number file.now)) first (W.state world.old)
+        → OnErr result (LeavesFiles first (W.state world.new)) }
+    ensures why { W.faithful world.old → (least : ℕ) → least ≤ W.refusals world.old
         → IfErr result (IsRefusedFor ⊥ (least < W.refusals world.new)) }
-    ensures counted { W.honest world.old → W.refusals world.old ≤ W.refusals world.new }
-    ensures survives { W.honest world.old → NothingNewFound (W.survives world.old) (W.survives world.new) }
-    ensures note { W.honest world.old → W.note world.new ≡ W.note world.old }
-    ensures honesty { W.honest world.new ↔ W.honest world.old }
+    ensures counted { W.faithful world.old → W.refusals world.old ≤ W.refusals world.new }
+    ensures survives { W.faithful world.old → NothingNewFound (W.survives world.old) (W.survives world.new) }
+    ensures note { W.faithful world.old → W.note world.new ≡ W.note world.old }
+    ensures faith { W.faithful world.new ↔ W.faithful world.old }
 {
     match world.lock(name, file) {
         Ok(()) => Ok(()),
@@ -80,16 +80,16 @@ fn lock_made<W: World>(world: &mut W, name: &str, file: &W::File) -> Result<(), 
 
 /// Makes an image that is missing, and locks it.
 fn make_image<W: World>(world: &mut W, name: &str) -> Result<W::File, Refusal>
-    ensures ok { W.honest world.old
-        → IfOk result (λ f. IsFileOpened name.now true true (W.number f) (W.sight world.old) (W.sight world.new)) }
-    ensures fit { W.honest world.old → IfOk result (λ f. IsAlwaysFit (W.sight world.new) (W.number f)) }
-    ensures err { W.honest world.old → OnErr result (LeavesFiles (W.sight world.old) (W.sight world.new)) }
-    ensures why { W.honest world.old → (least : ℕ) → least ≤ W.refusals world.old
+    ensures ok { W.faithful world.old
+        → IfOk result (λ f. IsFileOpened name.now true true (W.number f) (W.state world.old) (W.state world.new)) }
+    ensures fit { W.faithful world.old → IfOk result (λ f. IsAlwaysFit (W.state world.new) (W.number f)) }
+    ensures err { W.faithful world.old → OnErr result (LeavesFiles (W.state world.old) (W.state world.new)) }
+    ensures why { W.faithful world.old → (least : ℕ) → least ≤ W.refusals world.old
         → IfErr result (IsRefusedFor ⊥ (least < W.refusals world.new)) }
-    ensures counted { W.honest world.old → W.refusals world.old ≤ W.refusals world.new }
-    ensures survives { W.honest world.old → NothingNewBelow (W.sight world.old).there (W.survives world.old) (W.survives world.new) }
-    ensures note { W.honest world.old → W.note world.new ≡ W.note world.old }
-    ensures honesty { W.honest world.new ↔ W.honest world.old }
+    ensures counted { W.faithful world.old → W.refusals world.old ≤ W.refusals world.new }
+    ensures survives { W.faithful world.old → NothingNewBelow (W.state world.old).there (W.survives world.old) (W.survives world.new) }
+    ensures note { W.faithful world.old → W.note world.new ≡ W.note world.old }
+    ensures faith { W.faithful world.new ↔ W.faithful world.old }
 {
     let file = world.make_image(name)?;
     lock_made(world, name, &file)?;
@@ -98,17 +98,17 @@ fn make_image<W: World>(world: &mut W, name: &str) -> Result<W::File, Refusal>
 
 /// Makes a text that is missing, and locks it.
 fn make_text<W: World>(world: &mut W, name: &str, image: &W::File) -> Result<W::File, Refusal>
-    requires there { W.honest world.old → W.number image.now < (W.sight world.old).there }
-    ensures ok { W.honest world.old
-        → IfOk result (λ f. IsFileOpened name.now true true (W.number f) (W.sight world.old) (W.sight world.new)) }
-    ensures own { W.honest world.old → IfOk result (λ f. IsOwn name.now (W.number image.now) (W.number f) (W.sight world.new)) }
-    ensures err { W.honest world.old → OnErr result (LeavesFiles (W.sight world.old) (W.sight world.new)) }
-    ensures why { W.honest world.old → (least : ℕ) → least ≤ W.refusals world.old
+    requires there { W.faithful world.old → W.number image.now < (W.state world.old).there }
+    ensures ok { W.faithful world.old
+        → IfOk result (λ f. IsFileOpened name.now true true (W.number f) (W.state world.old) (W.state world.new)) }
+    ensures own { W.faithful world.old → IfOk result (λ f. IsOwn name.now (W.number image.now) (W.number f) (W.state world.new)) }
+    ensures err { W.faithful world.old → OnErr result (LeavesFiles (W.state world.old) (W.state world.new)) }
+    ensures why { W.faithful world.old → (least : ℕ) → least ≤ W.refusals world.old
         → IfErr result (IsRefusedFor ⊥ (least < W.refusals world.new)) }
-    ensures counted { W.honest world.old → W.refusals world.old ≤ W.refusals world.new }
-    ensures survives { W.honest world.old → NothingNewBelow (W.sight world.old).there (W.survives world.old) (W.survives world.new) }
-    ensures note { W.honest world.old → W.note world.new ≡ W.note world.old }
-    ensures honesty { W.honest world.new ↔ W.honest world.old }
+    ensures counted { W.faithful world.old → W.refusals world.old ≤ W.refusals world.new }
+    ensures survives { W.faithful world.old → NothingNewBelow (W.state world.old).there (W.survives world.old) (W.survives world.new) }
+    ensures note { W.faithful world.old → W.note world.new ≡ W.note world.old }
+    ensures faith { W.faithful world.new ↔ W.faithful world.old }
 {
     let file = world.make_text(name, image)?;
     lock_made(world, name, &file)?;
@@ -130,17 +130,17 @@ fn open_or_make_image<W: World>(
     mounted: bool,
     makes: bool,
 ) -> Result<Opened<W::File>, Refusal>
-    requires may { W.honest world.old → MayBeImage mounted (W.sight world.old) name.now }
-    ensures ok { W.honest world.old → IfOk result
-        (λ o. IsImageOpened name.now mounted makes o.made (W.number o.file) (W.sight world.old) (W.sight world.new)) }
-    ensures stays { W.honest world.old → IfOk result (λ o. o.made ≡ false → W.sight world.new ≡ W.sight world.old) }
-    ensures err { W.honest world.old → OnErr result (LeavesFiles (W.sight world.old) (W.sight world.new)) }
-    ensures why { W.honest world.old → (least : ℕ) → least ≤ W.refusals world.old
-        → IfErr result (IsRefusedFor (IsUnmade makes (W.sight world.old) name.now) (least < W.refusals world.new)) }
-    ensures counted { W.honest world.old → W.refusals world.old ≤ W.refusals world.new }
-    ensures survives { W.honest world.old → NothingNewBelow (W.sight world.old).there (W.survives world.old) (W.survives world.new) }
-    ensures note { W.honest world.old → W.note world.new ≡ W.note world.old }
-    ensures honesty { W.honest world.new ↔ W.honest world.old }
+    requires may { W.faithful world.old → MayBeImage mounted (W.state world.old) name.now }
+    ensures ok { W.faithful world.old → IfOk result
+        (λ o. IsImageOpened name.now mounted makes o.made (W.number o.file) (W.state world.old) (W.state world.new)) }
+    ensures stays { W.faithful world.old → IfOk result (λ o. o.made ≡ false → W.state world.new ≡ W.state world.old) }
+    ensures err { W.faithful world.old → OnErr result (LeavesFiles (W.state world.old) (W.state world.new)) }
+    ensures why { W.faithful world.old → (least : ℕ) → least ≤ W.refusals world.old
+        → IfErr result (IsRefusedFor (IsUnmade makes (W.state world.old) name.now) (least < W.refusals world.new)) }
+    ensures counted { W.faithful world.old → W.refusals world.old ≤ W.refusals world.new }
+    ensures survives { W.faithful world.old → NothingNewBelow (W.state world.old).there (W.survives world.old) (W.survives world.new) }
+    ensures note { W.faithful world.old → W.note world.new ≡ W.note world.old }
+    ensures faith { W.faithful world.new ↔ W.faithful world.old }
 {
     match open_image_there(world, name, mounted) {
         Ok(file) => Ok(Opened { file, made: false }),
@@ -160,17 +160,17 @@ fn open_or_make_text<W: World>(
     image: &W::File,
     makes: bool,
 ) -> Result<Opened<W::File>, Refusal>
-    requires may { W.honest world.old → MayBeText (W.number image.now) (W.sight world.old) name.now }
-    requires there { W.honest world.old → W.number image.now < (W.sight world.old).there }
-    ensures ok { W.honest world.old → IfOk result
-        (λ o. IsTextOpened name.now (W.number image.now) (W.number o.file) makes o.made (W.sight world.old) (W.sight world.new)) }
-    ensures err { W.honest world.old → OnErr result (LeavesFiles (W.sight world.old) (W.sight world.new)) }
-    ensures why { W.honest world.old → (least : ℕ) → least ≤ W.refusals world.old
-        → IfErr result (IsRefusedFor (IsUnmade makes (W.sight world.old) name.now) (least < W.refusals world.new)) }
-    ensures counted { W.honest world.old → W.refusals world.old ≤ W.refusals world.new }
-    ensures survives { W.honest world.old → NothingNewBelow (W.sight world.old).there (W.survives world.old) (W.survives world.new) }
-    ensures note { W.honest world.old → W.note world.new ≡ W.note world.old }
-    ensures honesty { W.honest world.new ↔ W.honest world.old }
+    requires may { W.faithful world.old → MayBeText (W.number image.now) (W.state world.old) name.now }
+    requires there { W.faithful world.old → W.number image.now < (W.state world.old).there }
+    ensures ok { W.faithful world.old → IfOk result
+        (λ o. IsTextOpened name.now (W.number image.now) (W.number o.file) makes o.made (W.state world.old) (W.state world.new)) }
+    ensures err { W.faithful world.old → OnErr result (LeavesFiles (W.state world.old) (W.state world.new)) }
+    ensures why { W.faithful world.old → (least : ℕ) → least ≤ W.refusals world.old
+        → IfErr result (IsRefusedFor (IsUnmade makes (W.state world.old) name.now) (least < W.refusals world.new)) }
+    ensures counted { W.faithful world.old → W.refusals world.old ≤ W.refusals world.new }
+    ensures survives { W.faithful world.old → NothingNewBelow (W.state world.old).there (W.survives world.old) (W.survives world.new) }
+    ensures note { W.faithful world.old → W.note world.new ≡ W.note world.old }
+    ensures faith { W.faithful world.new ↔ W.faithful world.old }
 {
     match open_text_there(world, name, image) {
         Ok(file) => Ok(Opened { file, made: false }),
@@ -189,23 +189,23 @@ pub fn open_image<W: World>(
     name: &str,
     mounted: bool,
     makes: bool,
-) -> Result<Opened<W::File>, Unopened>
-    requires may { W.honest world.old → MayBeImage mounted (W.sight world.old) name.now }
-    ensures ok { W.honest world.old → IfOk result
-        (λ o. IsImageOpened name.now mounted makes o.made (W.number o.file) (W.sight world.old) (W.sight world.new)) }
-    ensures stays { W.honest world.old → IfOk result (λ o. o.made ≡ false → W.sight world.new ≡ W.sight world.old) }
-    ensures err { W.honest world.old → OnErr result (LeavesFiles (W.sight world.old) (W.sight world.new)) }
-    ensures why { W.honest world.old → (least : ℕ) → least ≤ W.refusals world.old
-        → IfErr result (IsRefusedFile Image (IsUnmade makes (W.sight world.old) name.now) NoneUnfit ⊥
+) -> Result<Opened<W::File>, OpenError>
+    requires may { W.faithful world.old → MayBeImage mounted (W.state world.old) name.now }
+    ensures ok { W.faithful world.old → IfOk result
+        (λ o. IsImageOpened name.now mounted makes o.made (W.number o.file) (W.state world.old) (W.state world.new)) }
+    ensures stays { W.faithful world.old → IfOk result (λ o. o.made ≡ false → W.state world.new ≡ W.state world.old) }
+    ensures err { W.faithful world.old → OnErr result (LeavesFiles (W.state world.old) (W.state world.new)) }
+    ensures why { W.faithful world.old → (least : ℕ) → least ≤ W.refusals world.old
+        → IfErr result (IsRefusedFile Image (IsUnmade makes (W.state world.old) name.now) NoneUnfit ⊥
         (least < W.refusals world.new)) }
-    ensures counted { W.honest world.old → W.refusals world.old ≤ W.refusals world.new }
-    ensures survives { W.honest world.old → NothingNewBelow (W.sight world.old).there (W.survives world.old) (W.survives world.new) }
-    ensures note { W.honest world.old → W.note world.new ≡ W.note world.old }
-    ensures honesty { W.honest world.new ↔ W.honest world.old }
+    ensures counted { W.faithful world.old → W.refusals world.old ≤ W.refusals world.new }
+    ensures survives { W.faithful world.old → NothingNewBelow (W.state world.old).there (W.survives world.old) (W.survives world.new) }
+    ensures note { W.faithful world.old → W.note world.new ≡ W.note world.old }
+    ensures faith { W.faithful world.new ↔ W.faithful world.old }
 {
     match open_or_make_image(world, name, mounted, makes) {
         Ok(opened) => Ok(opened),
-        Err(refusal) => Err(Which::Image.refused(refusal)),
+        Err(refusal) => Err(FileRole::Image.refused(refusal)),
     }
 }
 
@@ -213,22 +213,22 @@ pub fn open_image<W: World>(
 pub fn open_text<W: World>(
     world: &mut W,
     name: &str,
-    which: Which,
+    which: FileRole,
     image: &W::File,
     makes: bool,
-) -> Result<Opened<W::File>, Unopened>
-    requires may { W.honest world.old → MayBeText (W.number image.now) (W.sight world.old) name.now }
-    requires there { W.honest world.old → W.number image.now < (W.sight world.old).there }
-    ensures ok { W.honest world.old → IfOk result
-        (λ o. IsTextOpened name.now (W.number image.now) (W.number o.file) makes o.made (W.sight world.old) (W.sight world.new)) }
-    ensures err { W.honest world.old → OnErr result (LeavesFiles (W.sight world.old) (W.sight world.new)) }
-    ensures why { W.honest world.old → (least : ℕ) → least ≤ W.refusals world.old
-        → IfErr result (IsRefusedFile which (IsUnmade makes (W.sight world.old) name.now) NoneUnfit ⊥
+) -> Result<Opened<W::File>, OpenError>
+    requires may { W.faithful world.old → MayBeText (W.number image.now) (W.state world.old) name.now }
+    requires there { W.faithful world.old → W.number image.now < (W.state world.old).there }
+    ensures ok { W.faithful world.old → IfOk result
+        (λ o. IsTextOpened name.now (W.number image.now) (W.number o.file) makes o.made (W.state world.old) (W.state world.new)) }
+    ensures err { W.faithful world.old → OnErr result (LeavesFiles (W.state world.old) (W.state world.new)) }
+    ensures why { W.faithful world.old → (least : ℕ) → least ≤ W.refusals world.old
+        → IfErr result (IsRefusedFile which (IsUnmade makes (W.state world.old) name.now) NoneUnfit ⊥
         (least < W.refusals world.new)) }
-    ensures counted { W.honest world.old → W.refusals world.old ≤ W.refusals world.new }
-    ensures survives { W.honest world.old → NothingNewBelow (W.sight world.old).there (W.survives world.old) (W.survives world.new) }
-    ensures note { W.honest world.old → W.note world.new ≡ W.note world.old }
-    ensures honesty { W.honest world.new ↔ W.honest world.old }
+    ensures counted { W.faithful world.old → W.refusals world.old ≤ W.refusals world.new }
+    ensures survives { W.faithful world.old → NothingNewBelow (W.state world.old).there (W.survives world.old) (W.survives world.new) }
+    ensures note { W.faithful world.old → W.note world.new ≡ W.note world.old }
+    ensures faith { W.faithful world.new ↔ W.faithful world.old }
 {
     match open_or_make_text(world, name, image, makes) {
         Ok(opened) => Ok(opened),

@@ -3,27 +3,27 @@ ghost use Rattle.std.specs.Prelude.{◌≡◌, ◌↔◌, ◌<◌, ◌≤◌, �
 ghost use Rattle.bx_world.specs.World.{NothingNewFound};
 ghost use Rattle.bx_world.specs.Rule.{image_unfit, text_unfit};
 ghost use Rattle.bx_world.specs.files.Reasons.{AreFitFiles, IsOneOf, IsReason, IsRefusedFile, NoneUnfit};
-ghost use Rattle.bx_world.specs.declared.files.unopened.Which.TheVariants.{Image};
+ghost use Rattle.bx_world.specs.declared.files.unopened.FileRole.TheVariants.{Image};
 
 use crate::files::names::Names;
-use crate::files::unopened::{Unopened, Which};
+use crate::files::unopened::{FileRole, OpenError};
 use crate::{Stat, World, image_unfit, text_unfit};
 
 /// Refuses a file that is another one by a second name.
 fn is_apart<W: World>(
     world: &mut W,
-    which: Which,
+    which: FileRole,
     file: &W::File,
     other: &W::File,
-) -> Result<(), Unopened>
-    ensures apart { W.honest world.old → OnOk result (W.number file.now ≡ W.number other.now → ⊥) }
-    ensures why { W.honest world.old → (least : ℕ) → least ≤ W.refusals world.old
+) -> Result<(), OpenError>
+    ensures apart { W.faithful world.old → OnOk result (W.number file.now ≡ W.number other.now → ⊥) }
+    ensures why { W.faithful world.old → (least : ℕ) → least ≤ W.refusals world.old
         → IfErr result (IsRefusedFile which ⊥ NoneUnfit (W.number file.now ≡ W.number other.now) (least < W.refusals world.new)) }
-    ensures same { W.honest world.old → W.sight world.new ≡ W.sight world.old }
-    ensures counted { W.honest world.old → W.refusals world.old ≤ W.refusals world.new }
-    ensures survives { W.honest world.old → NothingNewFound (W.survives world.old) (W.survives world.new) }
-    ensures note { W.honest world.old → W.note world.new ≡ W.note world.old }
-    ensures honesty { W.honest world.new ↔ W.honest world.old }
+    ensures same { W.faithful world.old → W.state world.new ≡ W.state world.old }
+    ensures counted { W.faithful world.old → W.refusals world.old ≤ W.refusals world.new }
+    ensures survives { W.faithful world.old → NothingNewFound (W.survives world.old) (W.survives world.new) }
+    ensures note { W.faithful world.old → W.note world.new ≡ W.note world.old }
+    ensures faith { W.faithful world.new ↔ W.faithful world.old }
 {
     match world.is_same(file, other) {
         Ok(false) => Ok(()),
@@ -33,15 +33,15 @@ fn is_apart<W: World>(
 }
 
 /// What the system tells of an open file.
-pub fn stat_of<W: World>(world: &mut W, which: Which, file: &W::File) -> Result<Stat, Unopened>
-    ensures told { W.honest world.old → IfOk result (λ s. s ≡ (W.sight world.old).stat (W.number file.now)) }
-    ensures why { W.honest world.old → (least : ℕ) → least ≤ W.refusals world.old
+pub fn stat_of<W: World>(world: &mut W, which: FileRole, file: &W::File) -> Result<Stat, OpenError>
+    ensures told { W.faithful world.old → IfOk result (λ s. s ≡ (W.state world.old).stat (W.number file.now)) }
+    ensures why { W.faithful world.old → (least : ℕ) → least ≤ W.refusals world.old
         → IfErr result (IsRefusedFile which ⊥ NoneUnfit ⊥ (least < W.refusals world.new)) }
-    ensures same { W.honest world.old → W.sight world.new ≡ W.sight world.old }
-    ensures counted { W.honest world.old → W.refusals world.old ≤ W.refusals world.new }
-    ensures survives { W.honest world.old → NothingNewFound (W.survives world.old) (W.survives world.new) }
-    ensures note { W.honest world.old → W.note world.new ≡ W.note world.old }
-    ensures honesty { W.honest world.new ↔ W.honest world.old }
+    ensures same { W.faithful world.old → W.state world.new ≡ W.state world.old }
+    ensures counted { W.faithful world.old → W.refusals world.old ≤ W.refusals world.new }
+    ensures survives { W.faithful world.old → NothingNewFound (W.survives world.old) (W.survives world.new) }
+    ensures note { W.faithful world.old → W.note world.new ≡ W.note world.old }
+    ensures faith { W.faithful world.new ↔ W.faithful world.old }
 {
     match world.stat(file) {
         Ok(stat) => Ok(stat),
@@ -50,40 +50,40 @@ pub fn stat_of<W: World>(world: &mut W, which: Which, file: &W::File) -> Result<
 }
 
 /// Looks again at an image that is open, whose name may have been given to another file by now.
-fn look_again<W: World>(world: &mut W, image: &W::File, mounted: bool) -> Result<Stat, Unopened>
-    ensures told { W.honest world.old → IfOk result (λ s. s ≡ (W.sight world.old).stat (W.number image.now)) }
-    ensures why { W.honest world.old → (least : ℕ) → least ≤ W.refusals world.old
+fn look_again<W: World>(world: &mut W, image: &W::File, mounted: bool) -> Result<Stat, OpenError>
+    ensures told { W.faithful world.old → IfOk result (λ s. s ≡ (W.state world.old).stat (W.number image.now)) }
+    ensures why { W.faithful world.old → (least : ℕ) → least ≤ W.refusals world.old
         → IfErr result (IsRefusedFile Image ⊥
-        (λ unfit. image_unfit mounted ((W.sight world.old).stat (W.number image.now)) ≡ Some unfit) ⊥ (least < W.refusals world.new)) }
-    ensures same { W.honest world.old → W.sight world.new ≡ W.sight world.old }
-    ensures counted { W.honest world.old → W.refusals world.old ≤ W.refusals world.new }
-    ensures survives { W.honest world.old → NothingNewFound (W.survives world.old) (W.survives world.new) }
-    ensures note { W.honest world.old → W.note world.new ≡ W.note world.old }
-    ensures honesty { W.honest world.new ↔ W.honest world.old }
+        (λ unfit. image_unfit mounted ((W.state world.old).stat (W.number image.now)) ≡ Some unfit) ⊥ (least < W.refusals world.new)) }
+    ensures same { W.faithful world.old → W.state world.new ≡ W.state world.old }
+    ensures counted { W.faithful world.old → W.refusals world.old ≤ W.refusals world.new }
+    ensures survives { W.faithful world.old → NothingNewFound (W.survives world.old) (W.survives world.new) }
+    ensures note { W.faithful world.old → W.note world.new ≡ W.note world.old }
+    ensures faith { W.faithful world.new ↔ W.faithful world.old }
 {
-    let stat = stat_of(world, Which::Image, image)?;
+    let stat = stat_of(world, FileRole::Image, image)?;
     match image_unfit(mounted, &stat) {
         None => Ok(stat),
-        Some(unfit) => Err(Which::Image.unfit(unfit)),
+        Some(unfit) => Err(FileRole::Image.unfit(unfit)),
     }
 }
 
 /// Looks again at a text that is open.
 fn look_again_at_text<W: World>(
     world: &mut W,
-    which: Which,
+    which: FileRole,
     text: &W::File,
     image: &Stat,
-) -> Result<(), Unopened>
-    ensures why { W.honest world.old → (least : ℕ) → least ≤ W.refusals world.old
+) -> Result<(), OpenError>
+    ensures why { W.faithful world.old → (least : ℕ) → least ≤ W.refusals world.old
         → IfErr result (IsRefusedFile which ⊥
-        (λ unfit. text_unfit (W.sight world.old).caller image.now false ((W.sight world.old).stat (W.number text.now)) ≡ Some unfit) ⊥
+        (λ unfit. text_unfit (W.state world.old).caller image.now false ((W.state world.old).stat (W.number text.now)) ≡ Some unfit) ⊥
         (least < W.refusals world.new)) }
-    ensures same { W.honest world.old → W.sight world.new ≡ W.sight world.old }
-    ensures counted { W.honest world.old → W.refusals world.old ≤ W.refusals world.new }
-    ensures survives { W.honest world.old → NothingNewFound (W.survives world.old) (W.survives world.new) }
-    ensures note { W.honest world.old → W.note world.new ≡ W.note world.old }
-    ensures honesty { W.honest world.new ↔ W.honest world.old }
+    ensures same { W.faithful world.old → W.state world.new ≡ W.state world.old }
+    ensures counted { W.faithful world.old → W.refusals world.old ≤ W.refusals world.new }
+    ensures survives { W.faithful world.old → NothingNewFound (W.survives world.old) (W.survives world.new) }
+    ensures note { W.faithful world.old → W.note world.new ≡ W.note world.old }
+    ensures faith { W.faithful world.new ↔ W.faithful world.old }
 {
     let stat = stat_of(world, which, text)?;
     let caller = world.caller();
@@ -100,19 +100,19 @@ fn are_fit<W: World>(
     mounted: bool,
     journal: &W::File,
     redo: &W::File,
-) -> Result<(), Unopened>
-    ensures why { W.honest world.old → (least : ℕ) → least ≤ W.refusals world.old
-        → AreFitFiles mounted (record { image = W.number image.now; journal = W.number journal.now; redo = W.number redo.now }) (W.sight world.old)
+) -> Result<(), OpenError>
+    ensures why { W.faithful world.old → (least : ℕ) → least ≤ W.refusals world.old
+        → AreFitFiles mounted (record { image = W.number image.now; journal = W.number journal.now; redo = W.number redo.now }) (W.state world.old)
         → IfErr result (λ u. IsReason ⊥ NoneUnfit ⊥ (least < W.refusals world.new) u.why) }
-    ensures same { W.honest world.old → W.sight world.new ≡ W.sight world.old }
-    ensures counted { W.honest world.old → W.refusals world.old ≤ W.refusals world.new }
-    ensures survives { W.honest world.old → NothingNewFound (W.survives world.old) (W.survives world.new) }
-    ensures note { W.honest world.old → W.note world.new ≡ W.note world.old }
-    ensures honesty { W.honest world.new ↔ W.honest world.old }
+    ensures same { W.faithful world.old → W.state world.new ≡ W.state world.old }
+    ensures counted { W.faithful world.old → W.refusals world.old ≤ W.refusals world.new }
+    ensures survives { W.faithful world.old → NothingNewFound (W.survives world.old) (W.survives world.new) }
+    ensures note { W.faithful world.old → W.note world.new ≡ W.note world.old }
+    ensures faith { W.faithful world.new ↔ W.faithful world.old }
 {
     let stat = look_again(world, image, mounted)?;
-    look_again_at_text(world, Which::Journal, journal, &stat)?;
-    look_again_at_text(world, Which::Redo, redo, &stat)?;
+    look_again_at_text(world, FileRole::Journal, journal, &stat)?;
+    look_again_at_text(world, FileRole::Redo, redo, &stat)?;
     Ok(())
 }
 
@@ -122,24 +122,24 @@ fn are_apart<W: World>(
     image: &W::File,
     journal: &W::File,
     redo: &W::File,
-) -> Result<(), Unopened>
-    ensures journal { W.honest world.old → OnOk result (W.number journal.now ≡ W.number image.now → ⊥) }
-    ensures redo_of_image { W.honest world.old → OnOk result (W.number redo.now ≡ W.number image.now → ⊥) }
-    ensures redo_of_journal { W.honest world.old → OnOk result (W.number redo.now ≡ W.number journal.now → ⊥) }
-    ensures why { W.honest world.old → (least : ℕ) → least ≤ W.refusals world.old
+) -> Result<(), OpenError>
+    ensures journal { W.faithful world.old → OnOk result (W.number journal.now ≡ W.number image.now → ⊥) }
+    ensures redo_of_image { W.faithful world.old → OnOk result (W.number redo.now ≡ W.number image.now → ⊥) }
+    ensures redo_of_journal { W.faithful world.old → OnOk result (W.number redo.now ≡ W.number journal.now → ⊥) }
+    ensures why { W.faithful world.old → (least : ℕ) → least ≤ W.refusals world.old
         → IfErr result (λ u. IsReason ⊥ NoneUnfit
         (IsOneOf (record { image = W.number image.now; journal = W.number journal.now; redo = W.number redo.now }) u.which)
         (least < W.refusals world.new) u.why) }
-    ensures same { W.honest world.old → W.sight world.new ≡ W.sight world.old }
-    ensures counted { W.honest world.old → W.refusals world.old ≤ W.refusals world.new }
-    ensures survives { W.honest world.old → NothingNewFound (W.survives world.old) (W.survives world.new) }
-    ensures note { W.honest world.old → W.note world.new ≡ W.note world.old }
-    ensures honesty { W.honest world.new ↔ W.honest world.old }
+    ensures same { W.faithful world.old → W.state world.new ≡ W.state world.old }
+    ensures counted { W.faithful world.old → W.refusals world.old ≤ W.refusals world.new }
+    ensures survives { W.faithful world.old → NothingNewFound (W.survives world.old) (W.survives world.new) }
+    ensures note { W.faithful world.old → W.note world.new ≡ W.note world.old }
+    ensures faith { W.faithful world.new ↔ W.faithful world.old }
 {
     // The locks don't tell two names of one file: some file systems have none.
-    is_apart(world, Which::Journal, journal, image)?;
-    is_apart(world, Which::Redo, redo, image)?;
-    is_apart(world, Which::Redo, redo, journal)?;
+    is_apart(world, FileRole::Journal, journal, image)?;
+    is_apart(world, FileRole::Redo, redo, image)?;
+    is_apart(world, FileRole::Redo, redo, journal)?;
     Ok(())
 }
 
@@ -150,20 +150,20 @@ fn are_three<W: World>(
     mounted: bool,
     journal: &W::File,
     redo: &W::File,
-) -> Result<(), Unopened>
-    ensures journal { W.honest world.old → OnOk result (W.number journal.now ≡ W.number image.now → ⊥) }
-    ensures redo_of_image { W.honest world.old → OnOk result (W.number redo.now ≡ W.number image.now → ⊥) }
-    ensures redo_of_journal { W.honest world.old → OnOk result (W.number redo.now ≡ W.number journal.now → ⊥) }
-    ensures why { W.honest world.old → (least : ℕ) → least ≤ W.refusals world.old
-        → AreFitFiles mounted (record { image = W.number image.now; journal = W.number journal.now; redo = W.number redo.now }) (W.sight world.old)
+) -> Result<(), OpenError>
+    ensures journal { W.faithful world.old → OnOk result (W.number journal.now ≡ W.number image.now → ⊥) }
+    ensures redo_of_image { W.faithful world.old → OnOk result (W.number redo.now ≡ W.number image.now → ⊥) }
+    ensures redo_of_journal { W.faithful world.old → OnOk result (W.number redo.now ≡ W.number journal.now → ⊥) }
+    ensures why { W.faithful world.old → (least : ℕ) → least ≤ W.refusals world.old
+        → AreFitFiles mounted (record { image = W.number image.now; journal = W.number journal.now; redo = W.number redo.now }) (W.state world.old)
         → IfErr result (λ u. IsReason ⊥ NoneUnfit
         (IsOneOf (record { image = W.number image.now; journal = W.number journal.now; redo = W.number redo.now }) u.which)
         (least < W.refusals world.new) u.why) }
-    ensures same { W.honest world.old → W.sight world.new ≡ W.sight world.old }
-    ensures counted { W.honest world.old → W.refusals world.old ≤ W.refusals world.new }
-    ensures survives { W.honest world.old → NothingNewFound (W.survives world.old) (W.survives world.new) }
-    ensures note { W.honest world.old → W.note world.new ≡ W.note world.old }
-    ensures honesty { W.honest world.new ↔ W.honest world.old }
+    ensures same { W.faithful world.old → W.state world.new ≡ W.state world.old }
+    ensures counted { W.faithful world.old → W.refusals world.old ≤ W.refusals world.new }
+    ensures survives { W.faithful world.old → NothingNewFound (W.survives world.old) (W.survives world.new) }
+    ensures note { W.faithful world.old → W.note world.new ≡ W.note world.old }
+    ensures faith { W.faithful world.new ↔ W.faithful world.old }
 {
     // The names were looked at before, and may lead to other files by now: the open files are asked.
     are_fit(world, image, mounted, journal, redo)?;
@@ -172,21 +172,21 @@ fn are_three<W: World>(
 
 /// Puts the names of an image and its texts on the disk, whoever made them: a run that was killed may have, and their names be
 /// lost with the power.
-fn keep_names<W: World>(world: &mut W, names: &Names) -> Result<(), Unopened>
-    ensures why { W.honest world.old → (least : ℕ) → least ≤ W.refusals world.old
+fn keep_names<W: World>(world: &mut W, names: &Names) -> Result<(), OpenError>
+    ensures why { W.faithful world.old → (least : ℕ) → least ≤ W.refusals world.old
         → IfErr result (λ u. IsReason ⊥ NoneUnfit ⊥ (least < W.refusals world.new) u.why) }
-    ensures same { W.honest world.old → W.sight world.new ≡ W.sight world.old }
-    ensures counted { W.honest world.old → W.refusals world.old ≤ W.refusals world.new }
-    ensures survives { W.honest world.old → NothingNewFound (W.survives world.old) (W.survives world.new) }
-    ensures note { W.honest world.old → W.note world.new ≡ W.note world.old }
-    ensures honesty { W.honest world.new ↔ W.honest world.old }
+    ensures same { W.faithful world.old → W.state world.new ≡ W.state world.old }
+    ensures counted { W.faithful world.old → W.refusals world.old ≤ W.refusals world.new }
+    ensures survives { W.faithful world.old → NothingNewFound (W.survives world.old) (W.survives world.new) }
+    ensures note { W.faithful world.old → W.note world.new ≡ W.note world.old }
+    ensures faith { W.faithful world.new ↔ W.faithful world.old }
 {
     if let Err(refusal) = world.keep_name(names.journal.as_str()) {
-        return Err(Which::Journal.refused(refusal));
+        return Err(FileRole::Journal.refused(refusal));
     }
     match world.keep_name(names.image.as_str()) {
         Ok(()) => Ok(()),
-        Err(refusal) => Err(Which::Image.refused(refusal)),
+        Err(refusal) => Err(FileRole::Image.refused(refusal)),
     }
 }
 
@@ -198,20 +198,20 @@ pub fn are_ready<W: World>(
     image: &W::File,
     journal: &W::File,
     redo: &W::File,
-) -> Result<(), Unopened>
-    ensures journal { W.honest world.old → OnOk result (W.number journal.now ≡ W.number image.now → ⊥) }
-    ensures redo_of_image { W.honest world.old → OnOk result (W.number redo.now ≡ W.number image.now → ⊥) }
-    ensures redo_of_journal { W.honest world.old → OnOk result (W.number redo.now ≡ W.number journal.now → ⊥) }
-    ensures why { W.honest world.old → (least : ℕ) → least ≤ W.refusals world.old
-        → AreFitFiles mounted (record { image = W.number image.now; journal = W.number journal.now; redo = W.number redo.now }) (W.sight world.old)
+) -> Result<(), OpenError>
+    ensures journal { W.faithful world.old → OnOk result (W.number journal.now ≡ W.number image.now → ⊥) }
+    ensures redo_of_image { W.faithful world.old → OnOk result (W.number redo.now ≡ W.number image.now → ⊥) }
+    ensures redo_of_journal { W.faithful world.old → OnOk result (W.number redo.now ≡ W.number journal.now → ⊥) }
+    ensures why { W.faithful world.old → (least : ℕ) → least ≤ W.refusals world.old
+        → AreFitFiles mounted (record { image = W.number image.now; journal = W.number journal.now; redo = W.number redo.now }) (W.state world.old)
         → IfErr result (λ u. IsReason ⊥ NoneUnfit
         (IsOneOf (record { image = W.number image.now; journal = W.number journal.now; redo = W.number redo.now }) u.which)
         (least < W.refusals world.new) u.why) }
-    ensures same { W.honest world.old → W.sight world.new ≡ W.sight world.old }
-    ensures counted { W.honest world.old → W.refusals world.old ≤ W.refusals world.new }
-    ensures survives { W.honest world.old → NothingNewFound (W.survives world.old) (W.survives world.new) }
-    ensures note { W.honest world.old → W.note world.new ≡ W.note world.old }
-    ensures honesty { W.honest world.new ↔ W.honest world.old }
+    ensures same { W.faithful world.old → W.state world.new ≡ W.state world.old }
+    ensures counted { W.faithful world.old → W.refusals world.old ≤ W.refusals world.new }
+    ensures survives { W.faithful world.old → NothingNewFound (W.survives world.old) (W.survives world.new) }
+    ensures note { W.faithful world.old → W.note world.new ≡ W.note world.old }
+    ensures faith { W.faithful world.new ↔ W.faithful world.old }
 {
     are_three(world, image, mounted, journal, redo)?;
     keep_names(world, names)?;

@@ -5,7 +5,7 @@ use crate::{Refusal, Unfit};
 
 /// One of the three files of a session.
 #[derive(Clone, Copy, Debug, PartialEq, Eq)]
-pub enum Which {
+pub enum FileRole {
     /// The image.
     Image,
     /// Its journal.
@@ -16,7 +16,7 @@ pub enum Which {
 
 /// Why a file is not opened.
 #[derive(Clone, Copy, Debug, PartialEq, Eq)]
-pub enum Why {
+pub enum OpenFailure {
     /// The system refused it, or has none of this name.
     System(Refusal),
     /// It is none that may be opened.
@@ -29,48 +29,48 @@ pub enum Why {
 
 /// The file that is not opened, and why.
 #[derive(Clone, Copy, Debug, PartialEq, Eq)]
-pub struct Unopened {
+pub struct OpenError {
     /// Which of the three it is.
-    pub which: Which,
+    pub which: FileRole,
     /// Why it is not opened.
-    pub why: Why,
+    pub why: OpenFailure,
 }
 
-impl Which {
+impl FileRole {
     /// The file, which is not opened for this reason.
-    pub fn unopened(self, why: Why) -> Unopened
+    pub fn unopened(self, why: OpenFailure) -> OpenError
         ensures { result ≡ record { which = self; why = why } }
     {
-        Unopened { which: self, why }
+        OpenError { which: self, why }
     }
 
     /// The file, which the system refused to open.
-    pub fn refused(self, refusal: Refusal) -> Unopened
-        ensures { result ≡ record { which = self; why = Why.System refusal } }
+    pub fn refused(self, refusal: Refusal) -> OpenError
+        ensures { result ≡ record { which = self; why = OpenFailure.System refusal } }
     {
-        Unopened {
+        OpenError {
             which: self,
-            why: Why::System(refusal),
+            why: OpenFailure::System(refusal),
         }
     }
 
     /// The file, which is none that may be opened.
-    pub fn unfit(self, unfit: Unfit) -> Unopened
-        ensures { result ≡ record { which = self; why = Why.Unfit unfit } }
+    pub fn unfit(self, unfit: Unfit) -> OpenError
+        ensures { result ≡ record { which = self; why = OpenFailure.Unfit unfit } }
     {
-        Unopened {
+        OpenError {
             which: self,
-            why: Why::Unfit(unfit),
+            why: OpenFailure::Unfit(unfit),
         }
     }
 
     /// The file, which is one of the others by another name.
-    pub fn alias(self) -> Unopened
-        ensures { result ≡ record { which = self; why = Why.Alias } }
+    pub fn alias(self) -> OpenError
+        ensures { result ≡ record { which = self; why = OpenFailure.Alias } }
     {
-        Unopened {
+        OpenError {
             which: self,
-            why: Why::Alias,
+            why: OpenFailure::Alias,
         }
     }
 }

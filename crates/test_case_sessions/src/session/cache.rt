@@ -124,7 +124,7 @@ impl CachedImage {
 impl Device for CachedImage {
     ghost image = { λ _. [] };
 
-    ghost honest = { λ _. ⊥ };
+    ghost faithful = { λ _. ⊥ };
 
     ghost room = { λ c. c.room };
 
@@ -132,9 +132,9 @@ impl Device for CachedImage {
 
     ghost survives = { λ _ _. ⊥ };
 
-    ghost within_room = { λ _ honest. absurd honest };
+    ghost within_room = { λ _ faithful. absurd faithful };
 
-    ghost present = { λ _ honest. absurd honest };
+    ghost present = { λ _ faithful. absurd faithful };
 
     fn len(&mut self) -> Result<u64, DeviceFailed> {
         Ok(self.cache.len() as u64)
@@ -235,7 +235,7 @@ impl CachedText {
 impl TextStore for CachedText {
     ghost text = { λ _. [] };
 
-    ghost honest = { λ _. ⊥ };
+    ghost faithful = { λ _. ⊥ };
 
     ghost room = { λ c. c.room };
 
@@ -243,7 +243,7 @@ impl TextStore for CachedText {
 
     ghost survives = { λ _ _. ⊥ };
 
-    ghost present = { λ _ honest. absurd honest };
+    ghost present = { λ _ faithful. absurd faithful };
 
     fn len(&mut self) -> Result<u64, DeviceFailed> {
         Ok(self.cache.len() as u64)

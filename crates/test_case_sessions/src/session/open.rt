@@ -3,7 +3,7 @@ use crate::session::MANY;
 use crate::session::devices::Devices;
 use bx_cli::Fault;
 use bx_image::{Device, MemImage};
-use bx_journal::{How, Recovered, Session, SessionFault};
+use bx_journal::{Recovered, RecoveryOutcome, Session, SessionFault};
 use bx_journal_store::{MemText, TextStore};
 use std::alloc::{Allocator, Global};
 use test_case_files::Opening;
@@ -50,12 +50,12 @@ pub fn open<D: Device, T: TextStore, A: Allocator + Clone>(
 fn opening_of(found: Recovered) -> Opening {
     let changes = found.changes;
     match found.how {
-        How::Clean => Opening::Clean {
+        RecoveryOutcome::Clean => Opening::Clean {
             changes,
             undone: found.undone,
         },
-        How::Dropped => Opening::Dropped { changes },
-        How::Restored { number } => Opening::Restored { number, changes },
+        RecoveryOutcome::Dropped => Opening::Dropped { changes },
+        RecoveryOutcome::Restored { number } => Opening::Restored { number, changes },
     }
 }
 

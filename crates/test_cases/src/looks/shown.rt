@@ -1,7 +1,7 @@
 //! One look, and what it is to write.
 use bx_cli::{Fault, list_steps};
 use bx_image::Device;
-use bx_journal::{SessionFault, Steps, Way};
+use bx_journal::{Direction, SessionFault, Steps};
 use bx_journal_store::TextStore;
 use std::alloc::{Allocator, Global};
 use test_case_files::{Look, Shows};
@@ -19,7 +19,11 @@ pub fn show<D: Device + Drop, T: TextStore + Drop, A: Allocator + Clone>(
     out: &mut Vec<u8>,
 ) -> Result<(), Fault> {
     let steps = Steps {
-        way: if look.is_redo { Way::Redo } else { Way::Undo },
+        way: if look.is_redo {
+            Direction::Redo
+        } else {
+            Direction::Undo
+        },
         count: look.count,
         changes: 0,
         compares,
@@ -43,10 +47,10 @@ fn put_unfinished<D: Device + Drop, T: TextStore + Drop, A: Allocator + Clone>(
     steps: Steps,
     out: &mut Vec<u8>,
 ) -> Result<(), Fault> {
-    if steps.way == Way::Redo && steps.count > 0 {
+    if steps.way == Direction::Redo && steps.count > 0 {
         return Err(Fault::Session(SessionFault::NothingToRedo { have: 0 }));
     }
-    let way = Way::Undo;
+    let way = Direction::Undo;
     put(alloc, devices, Steps { way, ..steps }, out)
 }
 
@@ -64,8 +68,8 @@ fn put<D: Device + Drop, T: TextStore + Drop, A: Allocator + Clone>(
     } = devices;
     let mut image = image;
     let mut text = match steps.way {
-        Way::Undo => journal,
-        Way::Redo => redo,
+        Direction::Undo => journal,
+        Direction::Redo => redo,
     };
     if image.faults() > MANY {
         return Err(Fault::Session(SessionFault::DeviceFailed));

@@ -7,7 +7,7 @@ use bx_cli::{
 use bx_dd::{Letters, Plan, Shape};
 use bx_dump::od::{Address, Endian, Kind, NumForm, Size};
 use bx_dump::strings::Encoding;
-use bx_journal::Way;
+use bx_journal::Direction;
 use bx_text::{Name, Words};
 use std::alloc::{AllocError, Global};
 use test_case_sessions::report::compare::{Wrong, differs, same_text};
@@ -303,7 +303,11 @@ fn log_field<'a>(job: &'a LogJob, name: &str) -> Field<'a> {
 
 fn show_field<'a>(job: &'a ShowJob, name: &str) -> Field<'a> {
     match name {
-        "way" => Field::Text(if job.way == Way::Redo { "redo" } else { "undo" }),
+        "way" => Field::Text(if job.way == Direction::Redo {
+            "redo"
+        } else {
+            "undo"
+        }),
         "count" => Field::Number(job.count as u64),
         "compares" => flag(job.compares),
         "as_patch" => flag(job.as_patch),

@@ -42,7 +42,7 @@ pub fn dumped<R: Read, W: Write, A: Allocator + Clone>(
     from: &mut R,
     to: &mut W,
 ) -> Result<Done, Fault> {
-    let passed = job.skip().passable(length);
+    let passed = job.skip().seekable(length);
     run_dump(alloc, job, passed, from, to)
 }
 

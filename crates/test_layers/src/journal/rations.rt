@@ -3,7 +3,7 @@ use crate::journal::rows::{Calls, Left, Row, play};
 use crate::journal::sessions::{ALL, Finds, Held, NO_STEP, held, open};
 use bumpalo::Bump;
 use bx_image::MemImage;
-use bx_journal::{How, Session, SessionFault};
+use bx_journal::{RecoveryOutcome, Session, SessionFault};
 use bx_journal_store::MemText;
 use std::alloc::{AllocError, Global};
 use std::process::Abort;
@@ -80,7 +80,7 @@ fn reaches<'a>(
         Ok((mut session, found)) => Ok(match goal {
             Goal::Opening => found.changes == 1,
             Goal::Undo => undoes(&mut session),
-            Goal::Rollback => found.how == How::Restored { number: 1 },
+            Goal::Rollback => found.how == RecoveryOutcome::Restored { number: 1 },
         }),
         Err(_) => Ok(false),
     }

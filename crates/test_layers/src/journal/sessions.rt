@@ -1,7 +1,7 @@
 //! Sessions in memory on devices that fail, and what is asked of them.
 use crate::image::guarded::change;
 use bx_image::{Change, Device, FuseImage, MemImage, Part};
-use bx_journal::{How, Recovered, Session, SessionFault};
+use bx_journal::{Recovered, RecoveryOutcome, Session, SessionFault};
 use bx_journal_store::{FuseText, MemText, TextStore};
 use std::alloc::{AllocError, Allocator, Global};
 use std::process::Abort;
@@ -38,9 +38,9 @@ pub enum Finds {
 
 fn opened_of(finds: Finds) -> Result<Recovered, SessionFault> {
     let (how, changes, undone) = match finds {
-        Finds::Clean(changes, undone) => (How::Clean, changes, undone),
-        Finds::Dropped(changes) => (How::Dropped, changes, 0),
-        Finds::Restored(number, changes) => (How::Restored { number }, changes, 0),
+        Finds::Clean(changes, undone) => (RecoveryOutcome::Clean, changes, undone),
+        Finds::Dropped(changes) => (RecoveryOutcome::Dropped, changes, 0),
+        Finds::Restored(number, changes) => (RecoveryOutcome::Restored { number }, changes, 0),
         Finds::Fails(fault) => return Err(fault),
     };
     Ok(Recovered {

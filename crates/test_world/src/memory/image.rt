@@ -8,7 +8,7 @@ use crate::memory::files::Contents;
 use bx_image::{Device, DeviceFailed, NoMemory};
 use std::alloc::Global;
 
-/// The bytes of an image, and those of its disk, each in one vector. It is always honest, and fails only where a sync gets no
+/// The bytes of an image, and those of its disk, each in one vector. It is always faithful, and fails only where a sync gets no
 /// memory. A loss of power leaves all that was written, or what was synced.
 #[derive(Drop)]
 pub struct LentImage {
@@ -40,7 +40,7 @@ impl LentImage {
 impl Device for LentImage {
     ghost image = { λ m. m.contents.bytes.items };
 
-    ghost honest = { λ _. Unit {0} };
+    ghost faithful = { λ _. Unit {0} };
 
     ghost room = { λ m. vec_capacity m.contents.bytes };
 

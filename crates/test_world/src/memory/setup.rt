@@ -95,11 +95,11 @@ impl MemoryWorld {
 
     /// Begins a run, with nothing lent or written yet.
     pub fn begin(&mut self, plan: Plan)
-        ensures free { (⟦<MemoryWorld as World>⟧.sight self.new).lent ≡ None }
-        ensures begun { (⟦<MemoryWorld as World>⟧.sight self.new).before ≡ (⟦<MemoryWorld as World>⟧.sight self.new).there }
+        ensures free { (⟦<MemoryWorld as World>⟧.state self.new).lent ≡ None }
+        ensures begun { (⟦<MemoryWorld as World>⟧.state self.new).before ≡ (⟦<MemoryWorld as World>⟧.state self.new).there }
         ensures calm { ⟦<MemoryWorld as World>⟧.refusals self.new ≡ 0 }
-        ensures named { (m : List ℕ) → (⟦<MemoryWorld as World>⟧.sight self.new).named m ≡ (⟦<MemoryWorld as World>⟧.sight self.old).named m }
-        ensures bytes { (i : ℕ) → (⟦<MemoryWorld as World>⟧.sight self.new).bytes i ≡ (⟦<MemoryWorld as World>⟧.sight self.old).bytes i }
+        ensures named { (m : List ℕ) → (⟦<MemoryWorld as World>⟧.state self.new).named m ≡ (⟦<MemoryWorld as World>⟧.state self.old).named m }
+        ensures bytes { (i : ℕ) → (⟦<MemoryWorld as World>⟧.state self.new).bytes i ≡ (⟦<MemoryWorld as World>⟧.state self.old).bytes i }
         ensures note { ⟦<MemoryWorld as World>⟧.note self.new ≡ ⟦<MemoryWorld as World>⟧.note self.old }
     {
         self.run.lent = None;
@@ -118,7 +118,7 @@ impl MemoryWorld {
     /// `NoMemory`, and then some files have it, and some have not.
     pub fn lose_power(&mut self) -> Result<(), NoMemory>
         ensures files { OnOk result ((n : ℕ)
-            → ⟦<MemoryWorld as World>⟧.survives self.old n ((⟦<MemoryWorld as World>⟧.sight self.new).bytes n)) }
+            → ⟦<MemoryWorld as World>⟧.survives self.old n ((⟦<MemoryWorld as World>⟧.state self.new).bytes n)) }
         ensures note { OnOk result (⟦<MemoryWorld as World>⟧.note_survives self.old (⟦<MemoryWorld as World>⟧.note self.new)) }
     {
         let alloc = self.alloc;
@@ -143,21 +143,21 @@ impl MemoryWorld {
 
     /// What was written to standard output.
     pub fn output(&self) -> &[u8]
-        ensures { result.now ≡ (⟦<MemoryWorld as World>⟧.sight self.now).output }
+        ensures { result.now ≡ (⟦<MemoryWorld as World>⟧.state self.now).output }
     {
         self.run.output.as_slice()
     }
 
     /// What was written to standard error.
     pub fn errors(&self) -> &[u8]
-        ensures { result.now ≡ (⟦<MemoryWorld as World>⟧.sight self.now).errors }
+        ensures { result.now ≡ (⟦<MemoryWorld as World>⟧.state self.now).errors }
     {
         self.run.errors.as_slice()
     }
 
     /// How many files a call didn't take away since the run began.
     pub fn stuck(&self) -> u64
-        ensures { result ≡ (⟦<MemoryWorld as World>⟧.sight self.now).stuck }
+        ensures { result ≡ (⟦<MemoryWorld as World>⟧.state self.now).stuck }
     {
         self.run.stuck
     }

@@ -6,7 +6,7 @@ use crate::memory::files::Contents;
 use bx_journal_store::{DeviceFailed, MOST, NoMemory, TextFault, TextStore};
 use std::alloc::{Allocator, Global};
 
-/// The bytes of a text, and those of its disk, each in one vector. It is always honest, and fails only where a sync gets no
+/// The bytes of a text, and those of its disk, each in one vector. It is always faithful, and fails only where a sync gets no
 /// memory. A loss of power leaves all that was written, or what was synced.
 #[derive(Drop)]
 pub struct LentText {
@@ -38,7 +38,7 @@ impl LentText {
 impl TextStore for LentText {
     ghost text = { λ m. m.contents.bytes.items };
 
-    ghost honest = { λ _. Unit {0} };
+    ghost faithful = { λ _. Unit {0} };
 
     ghost room = { λ m. vec_capacity m.contents.bytes };
 

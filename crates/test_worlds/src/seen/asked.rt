@@ -9,13 +9,13 @@ use crate::sweeps::Failing;
 use bx_cli_commands::{Done, DumpJob, Fault};
 use bx_dd::{Plan as DdPlan, parse};
 use bx_image::Change;
-use bx_journal::{Steps, Way};
+use bx_journal::{Direction, Steps};
 use bx_patch::{Extent, read_patch};
 use bx_run::{
     Cause as FileCause, Done as Answered, Edit, Failure, Report, ReportError, Request, run_request,
 };
 use bx_text::{Bytes, IoFault, Piece, Pieces, Words};
-use bx_world::{Names, Refusal, Unopened, Which, Why, World};
+use bx_world::{FileRole, Names, OpenError, OpenFailure, Refusal, World};
 use std::alloc::Global;
 use std::io::{Empty, Write};
 use test_case_files::PatchWritten;
@@ -67,7 +67,7 @@ pub enum Asked<'a> {
     /// The patch that a change would be, which makes the second file of a case of the image.
     Preview(Proposed, &'a PatchWritten),
     /// The patch of the last change that stands, or of the one that was undone last.
-    Patch(Way),
+    Patch(Direction),
 }
 
 impl Asked<'_> {
@@ -87,9 +87,9 @@ pub type Outcome = Result<Option<Done>, ReportError>;
 
 /// The image, which the system refused.
 fn refused(refusal: Refusal) -> ReportError {
-    ReportError::Unopened(Unopened {
-        which: Which::Image,
-        why: Why::System(refusal),
+    ReportError::Unopened(OpenError {
+        which: FileRole::Image,
+        why: OpenFailure::System(refusal),
     })
 }
 
@@ -101,7 +101,7 @@ fn put_dump<O: Write>(
     job: &DumpJob,
     out: &mut O,
 ) -> Outcome
-    requires { (⟦<MemoryWorld as World>⟧.sight world.old).lent ≡ None }
+    requires { (⟦<MemoryWorld as World>⟧.state world.old).lent ≡ None }
 {
     let request: Request<'_, Empty> = Request::Dump {
         job,
@@ -116,7 +116,7 @@ fn unseen_of(failure: Failure) -> ReportError {
         return ReportError::Stopped(failure.fault);
     };
     match stop.cause {
-        FileCause::Unopened(why) => ReportError::Unopened(Unopened {
+        FileCause::Unopened(why) => ReportError::Unopened(OpenError {
             which: which_of(stop.file),
             why,
         }),
@@ -147,7 +147,7 @@ fn put_input<O: Write>(
     input: LentInput,
     out: &mut O,
 ) -> Outcome
-    requires { (⟦<MemoryWorld as World>⟧.sight world.old).lent ≡ None }
+    requires { (⟦<MemoryWorld as World>⟧.state world.old).lent ≡ None }
 {
     let request = Request::DumpInput { job, input };
     seen_of(run_request(world, alloc, request, out))
@@ -161,7 +161,7 @@ fn put_diff<O: Write>(
     extent: Extent,
     out: &mut O,
 ) -> Outcome
-    requires { (⟦<MemoryWorld as World>⟧.sight world.old).lent ≡ None }
+    requires { (⟦<MemoryWorld as World>⟧.state world.old).lent ≡ None }
 {
     let request: Request<'_, Empty> = Request::Diff {
         old: names.image.as_str(),
@@ -173,7 +173,7 @@ fn put_diff<O: Write>(
 
 /// Drops the history.
 fn forget<O: Write>(world: &mut MemoryWorld, alloc: Global, names: &Names, out: &mut O) -> Outcome
-    requires { (⟦<MemoryWorld as World>⟧.sight world.old).lent ≡ None }
+    requires { (⟦<MemoryWorld as World>⟧.state world.old).lent ≡ None }
 {
     let request: Request<'_, Empty> = Request::Forget {
         names,
@@ -233,7 +233,7 @@ fn preview<O: Write>(
     edit: Edit<LentInput>,
     out: &mut O,
 ) -> Outcome
-    requires { (⟦<MemoryWorld as World>⟧.sight world.old).lent ≡ None }
+    requires { (⟦<MemoryWorld as World>⟧.state world.old).lent ≡ None }
 {
     let request = Request::Preview {
         name: names.image.as_str(),
@@ -250,7 +250,7 @@ fn put_report<O: Write>(
     report: Report,
     out: &mut O,
 ) -> Outcome
-    requires { (⟦<MemoryWorld as World>⟧.sight world.old).lent ≡ None }
+    requires { (⟦<MemoryWorld as World>⟧.state world.old).lent ≡ None }
 {
     let request: Request<'_, Empty> = Request::Look { names, report };
     seen_of(run_request(world, alloc, request, out))

@@ -7,7 +7,7 @@ use crate::seen::{Asking, play_each};
 use crate::setting::{Held, names};
 use crate::sweeps::Failing;
 use bx_patch::Extent;
-use bx_world::{Names, Unopened, Which};
+use bx_world::{FileRole, Names, OpenError};
 use std::alloc::Global;
 use test_case_files::{Case, PatchCase, PatchWritten, Test};
 
@@ -62,7 +62,7 @@ fn play_case(rt: &HostRuntime, case: &Case, names: &Names) -> Result<bool, Wrong
 /// Whether a comparison can have such a file: one that is missing, or that may be an image or not.
 fn is_of_diff(odd: &Odd) -> bool {
     let (_, which, oddity, _) = *odd;
-    let is_one = which == Which::Image || which == Which::Journal;
+    let is_one = which == FileRole::Image || which == FileRole::Journal;
     is_one
         && matches!(
             oddity,
@@ -75,7 +75,7 @@ fn told_of_odd<'a>(told: Told<'a>, odd: &Odd) -> Told<'a> {
     let (_, which, oddity, why) = *odd;
     match oddity {
         Oddity::Mounted | Oddity::ReadOnly => told,
-        _ => Told::Unopened(Unopened { which, why }),
+        _ => Told::Unopened(OpenError { which, why }),
     }
 }
 

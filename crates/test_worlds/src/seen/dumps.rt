@@ -9,7 +9,7 @@ use crate::sweeps::Failing;
 use bx_cli::plan_words;
 use bx_cli_commands::{Done, DumpJob, Job};
 use bx_dd::Counts;
-use bx_world::{Names, Refusal, Unfit, Unopened, Which, Why};
+use bx_world::{FileRole, Names, OpenError, OpenFailure, Refusal, Unfit};
 use std::alloc::Global;
 use test_case_files::{Case, Records, Test, WordsCase};
 
@@ -19,17 +19,17 @@ const EACH: [Failing; 3] = [Failing::World, Failing::Input, Failing::Output];
 /// A file of no length, which a text may not be.
 const PIPE: Odd = (
     "a pipe",
-    Which::Image,
+    FileRole::Image,
     Oddity::Folder,
-    Why::Unfit(Unfit::Kind),
+    OpenFailure::Unfit(Unfit::Kind),
 );
 
 /// None.
 const MISSING: Odd = (
     "missing",
-    Which::Image,
+    FileRole::Image,
     Oddity::Missing,
-    Why::System(Refusal::Missing),
+    OpenFailure::System(Refusal::Missing),
 );
 
 /// The job that the words ask for.
@@ -96,7 +96,7 @@ fn play_job<'a>(
     let _ = print!(rt; "{name}, a pipe");
     right = play_each(rt, &whole.of_odd(&PIPE, whole.told), &EACH) && right;
     let (_, which, _, why) = MISSING;
-    let told = Told::Unopened(Unopened { which, why });
+    let told = Told::Unopened(OpenError { which, why });
     let _ = print!(rt; "{name}, missing");
     right = play_each(rt, &whole.of_odd(&MISSING, told), &EACH) && right;
     let _ = print!(rt; "{name}, an input");

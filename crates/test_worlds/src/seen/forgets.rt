@@ -6,7 +6,7 @@ use crate::seen::told::Told;
 use crate::seen::{Asking, play_each, tell};
 use crate::setting::{Held, names};
 use crate::sweeps::Failing;
-use bx_world::{Names, Unopened, Which};
+use bx_world::{FileRole, Names, OpenError};
 use std::alloc::Global;
 use test_case_files::{Case, LooksCase, Shows, Test};
 
@@ -53,7 +53,7 @@ fn told_of(case: &LooksCase) -> Result<Told<'_>, Wrong> {
 /// Whether it is the journal that is missing.
 fn is_gone(odd: &Odd) -> bool {
     let (_, which, oddity, _) = *odd;
-    which == Which::Journal && oddity == Oddity::Missing
+    which == FileRole::Journal && oddity == Oddity::Missing
 }
 
 /// What has to come of it where a file is odd: it isn't opened, but for a device that may be read, and beside a journal that is missing.
@@ -62,7 +62,7 @@ fn told_of_odd<'a>(told: Told<'a>, odd: &Odd) -> Told<'a> {
     match oddity {
         Oddity::Mounted | Oddity::ReadOnly => told,
         Oddity::Missing if is_gone(odd) => told,
-        _ => Told::Unopened(Unopened { which, why }),
+        _ => Told::Unopened(OpenError { which, why }),
     }
 }
 

@@ -8,7 +8,7 @@ use crate::seen::told::Told;
 use crate::seen::{Asking, play_each, tell};
 use crate::setting::{Held, names};
 use crate::sweeps::Failing;
-use bx_world::{Names, Unopened};
+use bx_world::{Names, OpenError};
 use std::alloc::Global;
 use test_case_files::{Case, LooksCase, Test};
 
@@ -35,7 +35,7 @@ fn told_of_odd<'a>(view: &View<'a>, odd: &Odd) -> Told<'a> {
     let (_, which, oddity, why) = *odd;
     match oddity {
         Oddity::Mounted | Oddity::ReadOnly => view.told,
-        _ => Told::Unopened(Unopened { which, why }),
+        _ => Told::Unopened(OpenError { which, why }),
     }
 }
 

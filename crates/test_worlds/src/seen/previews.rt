@@ -11,7 +11,7 @@ use crate::setting::{Held, Kept, names};
 use crate::sweeps::Failing;
 use bx_cli_commands::Done;
 use bx_dd::Counts;
-use bx_journal::Way;
+use bx_journal::Direction;
 use bx_world::Names;
 use std::alloc::Global;
 use test_case_files::{Case, PatchCase, PatchWritten, Test};
@@ -88,7 +88,7 @@ fn play_shown<'a>(
     case: &'a Case,
     kept: &'a Kept,
     names: &'a Names,
-    way: Way,
+    way: Direction,
 ) -> Result<bool, Wrong> {
     let written = written_of(case)?;
     let asking = Asking {
@@ -100,8 +100,8 @@ fn play_shown<'a>(
         told: Told::Text(written.output.as_slice(), None),
     };
     let what = match way {
-        Way::Undo => "show -p",
-        Way::Redo => "show -p -r",
+        Direction::Undo => "show -p",
+        Direction::Redo => "show -p -r",
     };
     let _ = print!(rt; "{}, {what}", case.name);
     Ok(play_each(rt, &asking, &SHOWN))
@@ -120,9 +120,9 @@ fn play_case(rt: &HostRuntime, case: &Case, names: &Names) -> Result<bool, Wrong
     let written = written_of(case)?;
     let mut right = play_proposed(rt, case, written, names);
     let standing = changed(rt.alloc(), names, written)?;
-    right = play_shown(rt, case, &standing, names, Way::Undo)? && right;
+    right = play_shown(rt, case, &standing, names, Direction::Undo)? && right;
     let undone = taken_back(rt.alloc(), names, standing.held())?;
-    Ok(play_shown(rt, case, &undone, names, Way::Redo)? && right)
+    Ok(play_shown(rt, case, &undone, names, Direction::Redo)? && right)
 }
 
 /// Plays all cases. Tells whether all are right.

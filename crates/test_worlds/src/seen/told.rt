@@ -5,7 +5,7 @@ use crate::seen::asked::Outcome;
 use bx_cli_commands::{Done, Fault};
 use bx_journal::SessionFault;
 use bx_run::ReportError;
-use bx_world::{Refusal, Unopened, Why};
+use bx_world::{OpenError, OpenFailure, Refusal};
 use std::alloc::Global;
 use test_world::MemoryWorld;
 
@@ -19,7 +19,7 @@ pub enum Told<'a> {
     /// Something is unfinished.
     Unfinished,
     /// This file isn't opened.
-    Unopened(Unopened),
+    Unopened(OpenError),
 }
 
 impl<'a> Told<'a> {
@@ -68,7 +68,7 @@ fn is_due(
     match outcome {
         Ok(_) | Err(ReportError::Unfinished | ReportError::Another) => Ok(false),
         Err(ReportError::Unopened(unopened)) => {
-            let is_refused = unopened.why == Why::System(Refusal::Other(None));
+            let is_refused = unopened.why == OpenFailure::System(Refusal::Other(None));
             Ok(is_refused && world.was_refused() && output.is_empty())
         }
         Err(ReportError::Stopped(Fault::Session(SessionFault::Interrupted))) => {

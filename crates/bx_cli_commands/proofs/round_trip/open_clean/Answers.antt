@@ -13,9 +13,9 @@ returns-in-Clean-clause-opens g c d t u =
       (
         record { stack = recovered accepted.0 (g.D.Device.image c.args.devices.image); undone = undone.0 },
         record {
-          image = e.devices.image_honesty.1 d;
-          journal = e.devices.journal_honesty.1 t;
-          redo = e.devices.redo_honesty.1 u;
+          image = e.devices.image_faith.1 d;
+          journal = e.devices.journal_faith.1 t;
+          redo = e.devices.redo_faith.1 u;
           shows = (e.found.standing d t accepted.0 accepted.1, undone.1);
         },
       ),

@@ -5,7 +5,7 @@ use Rattle.bx_image.proofs.Changes.{replaced}
 use Rattle.bx_image.proofs.change.replaces_tail.Goals as goal
 
 pub returns-then-base-len-clause-same : goal.returns-then-base-len-clause-same
-returns-then-base-len-clause-same g c honest reaches =
+returns-then-base-len-clause-same g c faithful reaches =
     let some : 0 < length c.args.change.now.writes = grind (arith, common_steps) in
     let read : c.in-Some-first.write.now ≡ get_or c.args.change.now.writes 0 c.in-Some-first.write.now = grind (arith, common_steps) in
     let at : c.in-Some-first.write.now.at ≡ c.in-Some.base = grind (arith, nat_tests) in

@@ -6,7 +6,7 @@ returns-in-Err g c = front_refused c.args.steps c.in-Err.fault c.fault_on.result
 
 pub check_steps-requires-clause-few : goal.check_steps-requires-clause-few
 check_steps-requires-clause-few g c =
-    front_few (g.T.TextStore.honest c.args.journal.now) (g.T.TextStore.text c.args.journal.now) c.in-Ok.found.marks.items c.in-Ok.found.torn c.in-Ok.ensures.marks
+    front_few (g.T.TextStore.faithful c.args.journal.now) (g.T.TextStore.text c.args.journal.now) c.in-Ok.found.marks.items c.in-Ok.found.torn c.in-Ok.ensures.marks
 
 pub returns-in_default : goal.returns-in_default
 returns-in_default g c = front_checked c.args.steps c.in-Ok.found c.check_steps.result c.in-Ok.ensures c.check_steps.ensures.ok c.check_steps.ensures.fault

@@ -13,7 +13,7 @@ put_rows-requires-clause-lie g c =
     let looks = c.in-Ok.ensures.looks in
     let a = c.in-Ok.ensures.marks in (
       length a.text,
-      (λ h. omega (arith, ap length (looks.same (looks.honesty.0 h) ∙ a.is (looks.honesty.0 h)))),
+      (λ h. omega (arith, ap length (looks.same (looks.faith.0 h) ∙ a.is (looks.faith.0 h)))),
       subst (All (LiesWithin (length a.text))) (sym c.as_slice.ensures.value) (all_lie a.text a.entries c.in-Ok.marks.items a.spelled a.marks_are),
     )
 
@@ -27,7 +27,7 @@ returns-clause-rows g c h =
     let now : List ℕ = g.T.TextStore.text c.all_marks.new.store in
     let known : AreAllMarks (Unit {0}) stored c.in-Ok.marks.items = record { text = a.text; is = λ u. a.is h; entries = a.entries; spelled = a.spelled; marks_are = a.marks_are } in
     ok_weaker c.put_rows.result
-    (ranges_written stored now c.as_slice.result.now c.in-Ok.marks.items w0 w1 known (looks.same h) c.as_slice.ensures.value) (c.put_rows.ensures.rows (looks.honesty.1 h))
+    (ranges_written stored now c.as_slice.result.now c.in-Ok.marks.items w0 w1 known (looks.same h) c.as_slice.ensures.value) (c.put_rows.ensures.rows (looks.faith.1 h))
 
 pub returns-in-Err-clause-stops : goal.returns-in-Err-clause-stops
 returns-in-Err-clause-stops g c h = rows_refused (g.T.TextStore.text c.args.journal.now) (g.W.Write.contents c.args.out.now) c.in-Err.fault
@@ -42,4 +42,4 @@ returns-clause-stops g c h =
     let now : List ℕ = g.T.TextStore.text c.all_marks.new.store in
     let known : AreAllMarks (Unit {0}) stored c.in-Ok.marks.items = record { text = a.text; is = λ u. a.is h; entries = a.entries; spelled = a.spelled; marks_are = a.marks_are } in
     IfErr-weaker c.put_rows.result (StopsPrefix 0 (mark_rows now 1 c.as_slice.result.now) w0 w1) (StopsRows stored w0 w1)
-    (λ f stop. rows_stopped stored now c.as_slice.result.now c.in-Ok.marks.items w0 w1 f known (looks.same h) c.as_slice.ensures.value stop) (c.put_rows.ensures.stops (looks.honesty.1 h))
+    (λ f stop. rows_stopped stored now c.as_slice.result.now c.in-Ok.marks.items w0 w1 f known (looks.same h) c.as_slice.ensures.value stop) (c.put_rows.ensures.stops (looks.faith.1 h))

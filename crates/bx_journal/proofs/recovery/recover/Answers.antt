@@ -18,31 +18,31 @@ use Rattle.bx_journal.proofs.recovery.recover.Goals as goal
 pub returns-in-Err-clause-fault : goal.returns-in-Err-clause-fault
 returns-in-Err-clause-fault g c =
     record {
-      faults = λ dh th r reads. find_opens (g.T.TextStore.honest c.args.devices.now.journal) (shown (g.T.TextStore.text c.args.devices.now.journal)) r th reads (g.D.Device.image c.args.devices.now.image) c.in-Err.fault c.in-Err.ensures.fault;
+      faults = λ dh th r reads. find_opens (g.T.TextStore.faithful c.args.devices.now.journal) (shown (g.T.TextStore.text c.args.devices.now.journal)) r th reads (g.D.Device.image c.args.devices.now.image) c.in-Err.fault c.in-Err.ensures.fault;
       kind = search rules;
       unfinished = search rules;
-      differs = λ dh th r n reads differs. find_refuses (g.T.TextStore.honest c.args.devices.now.journal) (shown (g.T.TextStore.text c.args.devices.now.journal)) r th reads n c.in-Err.fault c.in-Err.ensures.fault;
+      differs = λ dh th r n reads differs. find_refuses (g.T.TextStore.faithful c.args.devices.now.journal) (shown (g.T.TextStore.text c.args.devices.now.journal)) r th reads n c.in-Err.fault c.in-Err.ensures.fault;
     }
 
 pub returns-in-Err-clause-redo_fault : goal.returns-in-Err-clause-redo_fault
 returns-in-Err-clause-redo_fault g c =
     record {
       redo_refused = search rules;
-      redo_unfit = λ dh th rh line r. find_redo (g.T.TextStore.honest c.args.devices.now.journal) (shown (g.T.TextStore.text c.args.devices.now.journal)) (record { entries = r.entries; stage = Between }) th (subst (λ t. Reads t (record { entries = r.entries; stage = Between })) (sym (clean_shown (g.T.TextStore.text c.args.devices.now.journal) r.entries r.finished)) r.finished.reads) line c.in-Err.fault c.in-Err.ensures.fault;
+      redo_unfit = λ dh th rh line r. find_redo (g.T.TextStore.faithful c.args.devices.now.journal) (shown (g.T.TextStore.text c.args.devices.now.journal)) (record { entries = r.entries; stage = Between }) th (subst (λ t. Reads t (record { entries = r.entries; stage = Between })) (sym (clean_shown (g.T.TextStore.text c.args.devices.now.journal) r.entries r.finished)) r.finished.reads) line c.in-Err.fault c.in-Err.ensures.fault;
       redo_kept = search rules;
     }
 
 pub returns-in-Finished-clause-opened : goal.returns-in-Finished-clause-opened
 returns-in-Finished-clause-opened g c dh th r reads =
     let text : List ℕ = g.T.TextStore.text c.args.devices.now.journal in
-    let is = found_counted (g.T.TextStore.honest c.args.devices.now.journal) text c.in-Ok.found c.in-Finished.counted c.in-Ok.ensures.found c.in-Finished.is th in
+    let is = found_counted (g.T.TextStore.faithful c.args.devices.now.journal) text c.in-Ok.found c.in-Finished.counted c.in-Ok.ensures.found c.in-Finished.is th in
     finished_opened text (g.D.Device.image c.args.devices.now.image) c.in-Finished.counted.count c.in-Finished.counted.told is c.open_finished.result _ _ r (subst (λ t. Reads t r) (clean_shown text is.entries is.finished) reads)
     (c.read_text.ensures.looks.same th) (c.open_finished.ensures.image dh) c.open_finished.ensures.clean (c.open_finished.ensures.same_length dh)
 
 pub returns-in-Finished-clause-left : goal.returns-in-Finished-clause-left
 returns-in-Finished-clause-left g c th r reads =
     let text : List ℕ = g.T.TextStore.text c.args.devices.now.journal in
-    let is = found_counted (g.T.TextStore.honest c.args.devices.now.journal) text c.in-Ok.found c.in-Finished.counted c.in-Ok.ensures.found c.in-Finished.is th in
+    let is = found_counted (g.T.TextStore.faithful c.args.devices.now.journal) text c.in-Ok.found c.in-Finished.counted c.in-Ok.ensures.found c.in-Finished.is th in
     ok_always c.open_finished.result (left_whole text _ c.in-Finished.counted.count c.in-Finished.counted.told r is (subst (λ t. Reads t r) (clean_shown text is.entries is.finished) reads) (c.read_text.ensures.looks.same th))
 
 pub returns-in-Finished-clause-spares : goal.returns-in-Finished-clause-spares
@@ -55,7 +55,7 @@ returns-in-Finished-clause-spares g c =
           let text : List ℕ = g.T.TextStore.text c.args.devices.now.journal in
           let y : List ℕ = g.D.Device.image c.open_finished.new.image in
           let same = sym (c.read_text.ensures.looks.same th) in
-          let is = found_counted (g.T.TextStore.honest c.args.devices.now.journal) text c.in-Ok.found c.in-Finished.counted c.in-Ok.ensures.found c.in-Finished.is th in (
+          let is = found_counted (g.T.TextStore.faithful c.args.devices.now.journal) text c.in-Ok.found c.in-Finished.counted c.in-Ok.ensures.found c.in-Finished.is th in (
             ok_always c.open_finished.result
                 (subst (λ t. IsAtRest t y stack) same
                 (counted_rest text (g.D.Device.image c.args.devices.now.image) c.in-Finished.counted.count c.in-Finished.counted.told is y stack (subst (λ t. Recovers t (g.D.Device.image c.args.devices.now.image) stack) (clean_shown text is.entries is.finished) rec) (c.open_finished.ensures.image dh))),
@@ -85,17 +85,17 @@ returns-in-Unfinished-clause-spares g c =
       refused = search rules;
       redo_same = search rules;
       keeps = λ dh th stack rec.
-          c.recover_read.ensures.keeps dh (c.read_text.ensures.looks.honesty.1 th) stack
+          c.recover_read.ensures.keeps dh (c.read_text.ensures.looks.faith.1 th) stack
           (subst (λ t. Recovers (shown t) (g.D.Device.image c.args.devices.now.image) stack) (sym (c.read_text.ensures.looks.same th)) rec);
       finds_err = λ dh th rh s finds.
           let text : List ℕ = g.T.TextStore.text c.args.devices.now.journal in
           let x : List ℕ = g.D.Device.image c.args.devices.now.image in
           let same = c.read_text.ensures.looks.same th in
-          let mid = c.read_text.ensures.looks.honesty.1 th in
-          let i = found_torn (g.T.TextStore.honest c.args.devices.now.journal) text c.in-Ok.found c.in-Unfinished.torn c.in-Ok.ensures.found c.in-Unfinished.is in
+          let mid = c.read_text.ensures.looks.faith.1 th in
+          let i = found_torn (g.T.TextStore.faithful c.args.devices.now.journal) text c.in-Ok.found c.in-Unfinished.torn c.in-Ok.ensures.found c.in-Unfinished.is in
           unfinished_finds text x (g.T.TextStore.text c.args.devices.now.redo) _ _ _ s finds
-          (found_unclean (g.T.TextStore.honest c.args.devices.now.journal) text c.in-Unfinished.torn i th)
-          (found_few (g.T.TextStore.honest c.args.devices.now.journal) text x s.stack c.in-Unfinished.torn i th finds.recovers)
+          (found_unclean (g.T.TextStore.faithful c.args.devices.now.journal) text c.in-Unfinished.torn i th)
+          (found_few (g.T.TextStore.faithful c.args.devices.now.journal) text x s.stack c.in-Unfinished.torn i th finds.recovers)
           c.recover_read.result
           (c.recover_read.ensures.keeps dh mid s.stack (subst (λ t. Recovers (shown t) x s.stack) (sym same) finds.recovers)).1
           (journal_text _ g.T.TextStore.text c.recover_read.result _ _ _ same (c.recover_read.ensures.empties.emptied_first mid rh))
@@ -107,7 +107,7 @@ returns-in-Unfinished-clause-spares g c =
 pub returns-in-Finished-clause-counted : goal.returns-in-Finished-clause-counted
 returns-in-Finished-clause-counted g c dh th stack rec =
     let text : List ℕ = g.T.TextStore.text c.args.devices.now.journal in
-    let is = found_counted (g.T.TextStore.honest c.args.devices.now.journal) text c.in-Ok.found c.in-Finished.counted c.in-Ok.ensures.found c.in-Finished.is th in
+    let is = found_counted (g.T.TextStore.faithful c.args.devices.now.journal) text c.in-Ok.found c.in-Finished.counted c.in-Ok.ensures.found c.in-Finished.is th in
     finished_stack text (g.D.Device.image c.args.devices.now.image) c.in-Finished.counted.count c.in-Finished.counted.told is c.open_finished.result stack (subst (λ t. Recovers t (g.D.Device.image c.args.devices.now.image) stack) (clean_shown text is.entries is.finished) rec) c.open_finished.ensures.clean
 
 pub returns-in-Finished-clause-redo_fault : goal.returns-in-Finished-clause-redo_fault
@@ -116,12 +116,12 @@ returns-in-Finished-clause-redo_fault g c =
       redo_refused = search rules;
       redo_unfit = λ dh th rh line r.
           let text : List ℕ = g.T.TextStore.text c.args.devices.now.journal in
-          let is = found_counted (g.T.TextStore.honest c.args.devices.now.journal) text c.in-Ok.found c.in-Finished.counted c.in-Ok.ensures.found c.in-Finished.is th in
+          let is = found_counted (g.T.TextStore.faithful c.args.devices.now.journal) text c.in-Ok.found c.in-Finished.counted c.in-Ok.ensures.found c.in-Finished.is th in
           finished_unfit text (g.D.Device.image c.args.devices.now.image) c.in-Finished.counted.count c.in-Finished.counted.told is c.open_finished.result (g.T.TextStore.text c.args.devices.now.redo) line r
           (c.open_finished.ensures.unfit dh rh line);
       redo_kept = λ dh th rh s finds.
           let text : List ℕ = g.T.TextStore.text c.args.devices.now.journal in
-          let is = found_counted (g.T.TextStore.honest c.args.devices.now.journal) text c.in-Ok.found c.in-Finished.counted c.in-Ok.ensures.found c.in-Finished.is th in
+          let is = found_counted (g.T.TextStore.faithful c.args.devices.now.journal) text c.in-Ok.found c.in-Finished.counted c.in-Ok.ensures.found c.in-Finished.is th in
           finished_kept text (g.D.Device.image c.args.devices.now.image) c.in-Finished.counted.count c.in-Finished.counted.told is c.open_finished.result _ _ (g.T.TextStore.text c.args.devices.now.redo) s finds
           (dh, rh) c.open_finished.ensures.fault;
     }
@@ -133,8 +133,8 @@ returns-in-Unfinished-clause-fault g c =
       kind = search rules;
       unfinished = λ th.
           let text : List ℕ = g.T.TextStore.text c.args.devices.now.journal in
-          let i = found_torn (g.T.TextStore.honest c.args.devices.now.journal) text c.in-Ok.found c.in-Unfinished.torn c.in-Ok.ensures.found c.in-Unfinished.is in
-          err_then _ c.recover_read.result (found_unclean (g.T.TextStore.honest c.args.devices.now.journal) text c.in-Unfinished.torn i th);
+          let i = found_torn (g.T.TextStore.faithful c.args.devices.now.journal) text c.in-Ok.found c.in-Unfinished.torn c.in-Ok.ensures.found c.in-Unfinished.is in
+          err_then _ c.recover_read.result (found_unclean (g.T.TextStore.faithful c.args.devices.now.journal) text c.in-Unfinished.torn i th);
       differs = search rules;
     }
 
@@ -153,8 +153,8 @@ returns-in-Unfinished-clause-redo_fault g c =
       redo_refused = search rules;
       redo_unfit = λ dh th rh line r.
           let text : List ℕ = g.T.TextStore.text c.args.devices.now.journal in
-          let i = found_torn (g.T.TextStore.honest c.args.devices.now.journal) text c.in-Ok.found c.in-Unfinished.torn c.in-Ok.ensures.found c.in-Unfinished.is in
-          absurd (found_unclean (g.T.TextStore.honest c.args.devices.now.journal) text c.in-Unfinished.torn i th (r.entries, r.finished));
+          let i = found_torn (g.T.TextStore.faithful c.args.devices.now.journal) text c.in-Ok.found c.in-Unfinished.torn c.in-Ok.ensures.found c.in-Unfinished.is in
+          absurd (found_unclean (g.T.TextStore.faithful c.args.devices.now.journal) text c.in-Unfinished.torn i th (r.entries, r.finished));
       redo_kept = λ dh th rh s finds. recover_kind c.recover_read.result c.recover_read.ensures.kind;
     }
 
@@ -163,12 +163,12 @@ returns-in-Finished-clause-text g c =
     record {
       accepted = λ th.
           let text : List ℕ = g.T.TextStore.text c.args.devices.now.journal in
-          let is = found_counted (g.T.TextStore.honest c.args.devices.now.journal) text c.in-Ok.found c.in-Finished.counted c.in-Ok.ensures.found c.in-Finished.is th in
+          let is = found_counted (g.T.TextStore.faithful c.args.devices.now.journal) text c.in-Ok.found c.in-Finished.counted c.in-Ok.ensures.found c.in-Finished.is th in
           ok_always c.open_finished.result (subst (λ t. IsAccepted t) (sym (clean_shown text is.entries is.finished)) (finished_accepted text (g.D.Device.image c.args.devices.now.image) c.in-Finished.counted.count c.in-Finished.counted.told is c.open_finished.result));
       damaged = search rules;
       unaccepted = λ th none.
           let text : List ℕ = g.T.TextStore.text c.args.devices.now.journal in
-          let is = found_counted (g.T.TextStore.honest c.args.devices.now.journal) text c.in-Ok.found c.in-Finished.counted c.in-Ok.ensures.found c.in-Finished.is th in
+          let is = found_counted (g.T.TextStore.faithful c.args.devices.now.journal) text c.in-Ok.found c.in-Finished.counted c.in-Ok.ensures.found c.in-Finished.is th in
           absurd (none (subst (λ t. IsAccepted t) (sym (clean_shown text is.entries is.finished)) (finished_accepted text (g.D.Device.image c.args.devices.now.image) c.in-Finished.counted.count c.in-Finished.counted.told is c.open_finished.result)));
     }
 
@@ -177,13 +177,13 @@ returns-in-Finished-clause-fault g c =
     record {
       faults = λ dh th r reads.
           let text : List ℕ = g.T.TextStore.text c.args.devices.now.journal in
-          let is = found_counted (g.T.TextStore.honest c.args.devices.now.journal) text c.in-Ok.found c.in-Finished.counted c.in-Ok.ensures.found c.in-Finished.is th in
+          let is = found_counted (g.T.TextStore.faithful c.args.devices.now.journal) text c.in-Ok.found c.in-Finished.counted c.in-Ok.ensures.found c.in-Finished.is th in
           finished_faults text (g.D.Device.image c.args.devices.now.image) c.in-Finished.counted.count c.in-Finished.counted.told is c.open_finished.result _ _ _ r (subst (λ t. Reads t r) (clean_shown text is.entries is.finished) reads) dh c.open_finished.ensures.fault;
       kind = search rules;
       unfinished = search rules;
       differs = λ dh th r n reads differs.
           let text : List ℕ = g.T.TextStore.text c.args.devices.now.journal in
-          let is = found_counted (g.T.TextStore.honest c.args.devices.now.journal) text c.in-Ok.found c.in-Finished.counted c.in-Ok.ensures.found c.in-Finished.is th in
+          let is = found_counted (g.T.TextStore.faithful c.args.devices.now.journal) text c.in-Ok.found c.in-Finished.counted c.in-Ok.ensures.found c.in-Finished.is th in
           c.open_finished.ensures.differs dh n (finished_other text (g.D.Device.image c.args.devices.now.image) c.in-Finished.counted.count c.in-Finished.counted.told is c.open_finished.result r n (subst (λ t. Reads t r) (clean_shown text is.entries is.finished) reads) differs);
     }
 
@@ -192,12 +192,12 @@ returns-in-Unfinished-clause-text g c =
     record {
       accepted = λ th.
           let text : List ℕ = g.T.TextStore.text c.args.devices.now.journal in
-          let i = found_torn (g.T.TextStore.honest c.args.devices.now.journal) text c.in-Ok.found c.in-Unfinished.torn c.in-Ok.ensures.found c.in-Unfinished.is in
+          let i = found_torn (g.T.TextStore.faithful c.args.devices.now.journal) text c.in-Ok.found c.in-Unfinished.torn c.in-Ok.ensures.found c.in-Unfinished.is in
           ok_always c.recover_read.result ((i.torn th).reading, (i.torn th).torn.reads);
       damaged = search rules;
       unaccepted = λ th none.
           let text : List ℕ = g.T.TextStore.text c.args.devices.now.journal in
-          let i = found_torn (g.T.TextStore.honest c.args.devices.now.journal) text c.in-Ok.found c.in-Unfinished.torn c.in-Ok.ensures.found c.in-Unfinished.is in
+          let i = found_torn (g.T.TextStore.faithful c.args.devices.now.journal) text c.in-Ok.found c.in-Unfinished.torn c.in-Ok.ensures.found c.in-Unfinished.is in
           absurd (none ((i.torn th).reading, (i.torn th).torn.reads));
     }
 
@@ -210,7 +210,7 @@ returns-in-Finished-clause-survives g c dh th rh s found = finished_silent _ c.o
 pub returns-in-Unfinished-clause-survives : goal.returns-in-Unfinished-clause-survives
 returns-in-Unfinished-clause-survives g c dh th rh s found =
     unfinished_matches c.recover_read.result _
-    (c.recover_read.ensures.survives dh (c.read_text.ensures.looks.honesty.1 th) rh s
+    (c.recover_read.ensures.survives dh (c.read_text.ensures.looks.faith.1 th) rh s
     (subst (λ t. FoundOnDisk t (g.D.Device.image c.args.devices.now.image) (g.T.TextStore.text c.args.devices.now.redo) s) (sym (c.read_text.ensures.looks.same th)) found))
 
 pub returns-in-Err-clause-found_before : goal.returns-in-Err-clause-found_before
@@ -228,7 +228,7 @@ pub returns-in-Unfinished-clause-found_before : goal.returns-in-Unfinished-claus
 returns-in-Unfinished-clause-found_before g c = unfinished_same c.recover_read.result c.recover_read.ensures.unclean
     (λ before. record {
       image_before = before.image_before;
-      journal_before = λ h. NoMore_then _ _ _ (c.read_text.ensures.found_before h) (before.journal_before (c.read_text.ensures.looks.honesty.1 h));
+      journal_before = λ h. NoMore_then _ _ _ (c.read_text.ensures.found_before h) (before.journal_before (c.read_text.ensures.looks.faith.1 h));
       redo_before = before.redo_before;
     })
     c.recover_read.ensures.found_before
@@ -237,4 +237,4 @@ pub returns-in-Finished-clause-settled : goal.returns-in-Finished-clause-settled
 returns-in-Finished-clause-settled g c dh th rh = finished_none _ c.open_finished.result c.in-Finished.counted.count c.open_finished.ensures.clean
 
 pub returns-in-Unfinished-clause-settled : goal.returns-in-Unfinished-clause-settled
-returns-in-Unfinished-clause-settled g c dh th rh = unfinished_holds _ c.recover_read.result (c.recover_read.ensures.settled dh (c.read_text.ensures.looks.honesty.1 th) rh)
+returns-in-Unfinished-clause-settled g c dh th rh = unfinished_holds _ c.recover_read.result (c.recover_read.ensures.settled dh (c.read_text.ensures.looks.faith.1 th) rh)

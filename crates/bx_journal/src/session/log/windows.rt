@@ -139,10 +139,10 @@ pub fn rows_in_windows<T: TextStore, A: Allocator + Clone>(
     count: u32,
 ) -> Result<Option<Vec<LogRow, A>>, SessionFault>
     requires { T.failures journal.old < u64.MAX }
-    ensures rows { IfOk result (λ found. IfSome found (λ rows. AreRowsOf (T.honest journal.old) (T.text journal.old) rows.items count)) }
+    ensures rows { IfOk result (λ found. IfSome found (λ rows. AreRowsOf (T.faithful journal.old) (T.text journal.old) rows.items count)) }
     ensures fault { IfErr result LacksOrFails }
-    ensures looks { LooksAt T.honest T.text T.failures result journal.old journal.new }
-    ensures survives { T.honest journal.old → NoMore (T.survives journal.old) (T.survives journal.new) }
+    ensures looks { LooksAt T.faithful T.text T.failures result journal.old journal.new }
+    ensures survives { T.faithful journal.old → NoMore (T.survives journal.old) (T.survives journal.new) }
 {
     let len = journal.len()?;
     let size = WINDOW.min(len) as usize;

@@ -9,7 +9,7 @@ invariant-loop-at g l =
     let T = g.T.TextStore in
     record {
       below : l.at ≤ l.len;
-      plain : IsPlainTo (T.honest l.fn.store) (T.text l.fn.store) l.from l.at;
+      plain : IsPlainTo (T.faithful l.fn.store) (T.text l.fn.store) l.from l.at;
       window : length l.window ≡ length l.fn.window;
       reads : OnlyReadsText T false l.fn.store l.store;
     }

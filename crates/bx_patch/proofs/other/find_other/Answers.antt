@@ -9,5 +9,5 @@ returns-in-Some-clause-found g c = λ h.
 
 pub returns-in-Ok-Some-clause-reads : goal.returns-in-Ok-Some-clause-reads
 returns-in-Ok-Some-clause-reads g c =
-    reads_on g.D.Device.honest g.D.Device.image g.D.Device.room g.D.Device.failures g.D.Device.survives false c.args.device.now c.length_of.new.device c.other_among.new.device
+    reads_on g.D.Device.faithful g.D.Device.image g.D.Device.room g.D.Device.failures g.D.Device.survives false c.args.device.now c.length_of.new.device c.other_among.new.device
     c.in-Ok.ensures.reads c.in-Ok-Some.ensures.reads

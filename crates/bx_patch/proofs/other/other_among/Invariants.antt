@@ -6,8 +6,8 @@ use Rattle.bx_patch.proofs.other.other_among.Given as goal
 
 abbrev pub invariant-loop-i : goal.invariant-loop-i
 invariant-loop-i g l = record {
-  leads : g.D.Device.honest l.fn.device → (a : Option ℕ) → FindsAmong (g.D.Device.image l.fn.device) (contents (drop l.i l.pieces)) a
+  leads : g.D.Device.faithful l.fn.device → (a : Option ℕ) → FindsAmong (g.D.Device.image l.fn.device) (contents (drop l.i l.pieces)) a
       → FindsAmong (g.D.Device.image l.fn.device) (contents l.pieces) a;
-  cache : IsImagePage (g.D.Device.honest l.fn.device) (g.D.Device.image l.fn.device) l.page l.kept;
-  reads : OnlyReads g.D.Device.honest g.D.Device.image g.D.Device.room g.D.Device.failures g.D.Device.survives false l.fn.device l.device;
+  cache : IsImagePage (g.D.Device.faithful l.fn.device) (g.D.Device.image l.fn.device) l.page l.kept;
+  reads : OnlyReads g.D.Device.faithful g.D.Device.image g.D.Device.room g.D.Device.failures g.D.Device.survives false l.fn.device l.device;
 }

@@ -30,10 +30,10 @@ pub fn read_window<D: Device>(
     buf: &mut [u8],
 ) -> Result<(), DeviceFailed>
     requires countable { D.failures device.old < u64.MAX }
-    requires len { D.honest device.old → len ≡ length (D.image device.old) }
+    requires len { D.faithful device.old → len ≡ length (D.image device.old) }
     ensures length { length buf.new ≡ length buf.old }
-    ensures bytes { D.honest device.old → OnOk result (IsWindow buf.new at (D.image device.old)) }
-    ensures reads { OnlyReads D.honest D.image D.room D.failures D.survives (is_err result) device.old device.new }
+    ensures bytes { D.faithful device.old → OnOk result (IsWindow buf.new at (D.image device.old)) }
+    ensures reads { OnlyReads D.faithful D.image D.room D.failures D.survives (is_err result) device.old device.new }
 {
     if len <= at {
         clear(buf);

@@ -11,8 +11,8 @@ pub returns-clause-opens : goal.returns-clause-opens
 returns-clause-opens g c old may =
     let did = c.change_files.ensures in
     let unopened = did.unopened old in
-    let does : DoesChange g.R.Read.remaining c.args.names.now no_change c.change_files.result (g.W.World.sight c.args.world.now)
-    (g.W.World.sight c.change_files.new.world) = record {
+    let does : DoesChange g.R.Read.remaining c.args.names.now no_change c.change_files.result (g.W.World.state c.args.world.now)
+    (g.W.World.state c.change_files.new.world) = record {
       done = did.done old;
       refused = did.refused old;
       interrupted = did.interrupted old;
@@ -20,8 +20,8 @@ returns-clause-opens g c old may =
       how = did.how old;
       recovered = did.recovered old;
     } in
-    let alone : (s : Images) → Holds (contents_of c.args.names.now (g.W.World.sight c.args.world.now)) s → IsOfAnother c.change_files.result.unopened → ⊥ =
-    λ s. never_other g.R.Read.remaining c.args.guard (g.W.World.note c.args.world.now) c.args.names.now (g.W.World.sight c.args.world.now) c.change_files.result s
+    let alone : (s : Images) → Holds (contents_of c.args.names.now (g.W.World.state c.args.world.now)) s → IsOfAnother c.change_files.result.unopened → ⊥ =
+    λ s. never_other g.R.Read.remaining c.args.guard (g.W.World.note c.args.world.now) c.args.names.now (g.W.World.state c.args.world.now) c.change_files.result s
     (rw (← c.only_told.ensures) (did.judged old)) in
     record {
       may = may;
@@ -35,8 +35,8 @@ returns-clause-opens g c old may =
 pub returns-clause-made : goal.returns-clause-made
 returns-clause-made g c old may =
     let did = c.change_files.ensures in
-    let does : DoesChange g.R.Read.remaining c.args.names.now no_change c.change_files.result (g.W.World.sight c.args.world.now)
-    (g.W.World.sight c.change_files.new.world) = record {
+    let does : DoesChange g.R.Read.remaining c.args.names.now no_change c.change_files.result (g.W.World.state c.args.world.now)
+    (g.W.World.state c.change_files.new.world) = record {
       done = did.done old;
       refused = did.refused old;
       interrupted = did.interrupted old;
@@ -44,8 +44,8 @@ returns-clause-made g c old may =
       how = did.how old;
       recovered = did.recovered old;
     } in
-    let alone : (s : Images) → Holds (contents_of c.args.names.now (g.W.World.sight c.args.world.now)) s → IsOfAnother c.change_files.result.unopened → ⊥ =
-    λ s. never_other g.R.Read.remaining c.args.guard (g.W.World.note c.args.world.now) c.args.names.now (g.W.World.sight c.args.world.now) c.change_files.result s
+    let alone : (s : Images) → Holds (contents_of c.args.names.now (g.W.World.state c.args.world.now)) s → IsOfAnother c.change_files.result.unopened → ⊥ =
+    λ s. never_other g.R.Read.remaining c.args.guard (g.W.World.note c.args.world.now) c.args.names.now (g.W.World.state c.args.world.now) c.change_files.result s
     (rw (← c.only_told.ensures) (did.judged old)) in
     made g.R.Read.remaining c.args.names.now c.change_files.result _ _ does may (did.unopened old) alone
 
@@ -55,7 +55,7 @@ returns-clause-opened g c old may = were_opened c.change_files.result _ _ (c.cha
 pub returns-clause-why_unopened : goal.returns-clause-why_unopened
 returns-clause-why_unopened g c old =
     why_told g.R.Read.remaining c.args.guard c.only_told.result (g.W.World.note c.args.world.now) c.args.names.now
-    (g.W.World.refusals c.args.world.now < g.W.World.refusals c.change_files.new.world) (g.W.World.sight c.args.world.now) c.change_files.result.unopened
+    (g.W.World.refusals c.args.world.now < g.W.World.refusals c.change_files.new.world) (g.W.World.state c.args.world.now) c.change_files.result.unopened
     c.only_told.ensures (c.change_files.ensures.why_unopened old)
 
 pub returns-clause-judged : goal.returns-clause-judged

@@ -9,8 +9,8 @@ returns-in-Move-clause-survives g c old = rw c.in-Move.is (c.move_changes.ensure
 pub returns-in-Change-clause-does : goal.returns-in-Change-clause-does
 returns-in-Change-clause-does g c old =
     let did = c.change_files-answer.ensures in
-    let does : DoesChange g.R.Read.remaining c.in-Change.names.now c.task_of-change.result c.change_files-answer.result (g.W.World.sight c.args.world.now)
-    (g.W.World.sight c.change_files-answer.new.world) = record {
+    let does : DoesChange g.R.Read.remaining c.in-Change.names.now c.task_of-change.result c.change_files-answer.result (g.W.World.state c.args.world.now)
+    (g.W.World.state c.change_files-answer.new.world) = record {
       done = did.done old;
       refused = did.refused old;
       interrupted = did.interrupted old;
@@ -59,8 +59,8 @@ returns-in-Renew-clause-unopened g c old =
 pub returns-in-Recover-clause-does : goal.returns-in-Recover-clause-does
 returns-in-Recover-clause-does g c old =
     let did = c.change_files-recovered.ensures in
-    let does : DoesChange g.R.Read.remaining c.in-Recover.names.now no_change c.change_files-recovered.result (g.W.World.sight c.args.world.now)
-    (g.W.World.sight c.change_files-recovered.new.world) = record {
+    let does : DoesChange g.R.Read.remaining c.in-Recover.names.now no_change c.change_files-recovered.result (g.W.World.state c.args.world.now)
+    (g.W.World.state c.change_files-recovered.new.world) = record {
       done = did.done old;
       refused = did.refused old;
       interrupted = did.interrupted old;

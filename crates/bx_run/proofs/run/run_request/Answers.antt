@@ -7,7 +7,7 @@ returns-clause-runs g c =
       c.outgrown.result,
       record { answers = ran.answers; answer_is = c.answer_of.ensures },
       (λ old. (
-        c.outgrown.ensures (ran.honesty.1 old),
+        c.outgrown.ensures (ran.faith.1 old),
         record {
           does = ran.does old;
           judged = ran.judged old;

@@ -8,7 +8,7 @@ ghost use Rattle.bx_run.specs.report.Stepped.{IsPatchCut, patch_between, stopped
 use crate::report::error::ReportError;
 use bx_cli_commands::Fault;
 use bx_image::{Change, Device, ImageFault};
-use bx_journal::{SessionFault, Way};
+use bx_journal::{Direction, SessionFault};
 use bx_patch::{Alike, ChangedImage, DiffFault, Extent, write_patch};
 use bx_text::IoFault;
 use std::alloc::Global;
@@ -45,22 +45,22 @@ fn compare<D: Device, E: Device, O: Write, S: Alike>(
     alloc: Global,
     image: &mut D,
     behind: &mut E,
-    way: Way,
+    way: Direction,
     out: &mut O,
     alike: &S,
 ) -> Result<(), DiffFault>
     requires countable { D.failures image.old < u64.MAX }
     requires also_countable { E.failures behind.old < u64.MAX }
-    ensures text { D.honest image.old → E.honest behind.old
+    ensures text { D.faithful image.old → E.faithful behind.old
         → S.AreAlike alike.now (D.image image.old) (E.image behind.old) → S.AreAlike alike.now (E.image behind.old) (D.image image.old)
         → OnOk result (Appends (O.contents out.old) (O.contents out.new) (patch_between way (D.image image.old) (E.image behind.old))) }
-    ensures part { D.honest image.old → E.honest behind.old
+    ensures part { D.faithful image.old → E.faithful behind.old
         → S.AreAlike alike.now (D.image image.old) (E.image behind.old) → S.AreAlike alike.now (E.image behind.old) (D.image image.old)
         → IfErr result (WritesPrefix (O.contents out.old) (O.contents out.new) (patch_between way (D.image image.old) (E.image behind.old))) }
 {
     match way {
-        Way::Undo => write_patch(&alloc, behind, image, out, Extent::Bytes, alike),
-        Way::Redo => write_patch(&alloc, image, behind, out, Extent::Bytes, alike),
+        Direction::Undo => write_patch(&alloc, behind, image, out, Extent::Bytes, alike),
+        Direction::Redo => write_patch(&alloc, image, behind, out, Extent::Bytes, alike),
     }
 }
 
@@ -69,16 +69,16 @@ fn put_between<D: Device, E: Device, O: Write, S: Alike>(
     alloc: Global,
     image: &mut D,
     behind: &mut E,
-    way: Way,
+    way: Direction,
     out: &mut O,
     alike: &S,
 ) -> Result<(), ReportError>
     requires countable { D.failures image.old < u64.MAX }
     requires also_countable { E.failures behind.old < u64.MAX }
-    ensures text { D.honest image.old → E.honest behind.old
+    ensures text { D.faithful image.old → E.faithful behind.old
         → S.AreAlike alike.now (D.image image.old) (E.image behind.old) → S.AreAlike alike.now (E.image behind.old) (D.image image.old)
         → OnOk result (Appends (O.contents out.old) (O.contents out.new) (patch_between way (D.image image.old) (E.image behind.old))) }
-    ensures part { D.honest image.old → E.honest behind.old
+    ensures part { D.faithful image.old → E.faithful behind.old
         → S.AreAlike alike.now (D.image image.old) (E.image behind.old) → S.AreAlike alike.now (E.image behind.old) (D.image image.old)
         → IfErr result (IsPatchCut (patch_between way (D.image image.old) (E.image behind.old)) (O.contents out.old) (O.contents out.new)) }
 {
@@ -93,16 +93,16 @@ fn put_behind<D: Device, O: Write>(
     alloc: Global,
     image: &mut D,
     again: D,
-    way: Way,
+    way: Direction,
     changes: &[Change],
     out: &mut O,
 ) -> (D, Result<(), ReportError>)
     requires countable { D.failures image.old < u64.MAX }
     requires fresh { D.failures again ≡ 0 }
-    ensures text { D.honest image.old → D.honest again → D.image again ≡ D.image image.old
+    ensures text { D.faithful image.old → D.faithful again → D.image again ≡ D.image image.old
         → OnOk result.1 (Appends (O.contents out.old) (O.contents out.new)
         (patch_between way (D.image image.old) (effects changes.now (D.image again)))) }
-    ensures part { D.honest image.old → D.honest again → D.image again ≡ D.image image.old → IfErr result.1
+    ensures part { D.faithful image.old → D.faithful again → D.image again ≡ D.image image.old → IfErr result.1
         (IsPatchCut (patch_between way (D.image image.old) (effects changes.now (D.image again))) (O.contents out.old) (O.contents out.new)) }
 {
     match ChangedImage::new(again, changes) {
@@ -121,16 +121,16 @@ pub fn put_patch<D: Device, O: Write>(
     alloc: Global,
     image: &mut D,
     again: D,
-    way: Way,
+    way: Direction,
     changes: Vec<Change>,
     out: &mut O,
 ) -> (D, Result<(), ReportError>)
     requires countable { D.failures image.old < u64.MAX }
     requires fresh { D.failures again ≡ 0 }
-    ensures text { D.honest image.old → D.honest again → D.image again ≡ D.image image.old
+    ensures text { D.faithful image.old → D.faithful again → D.image again ≡ D.image image.old
         → OnOk result.1 (Appends (O.contents out.old) (O.contents out.new)
         (patch_between way (D.image image.old) (effects changes.items (D.image again)))) }
-    ensures part { D.honest image.old → D.honest again → D.image again ≡ D.image image.old → IfErr result.1
+    ensures part { D.faithful image.old → D.faithful again → D.image again ≡ D.image image.old → IfErr result.1
         (IsPatchCut (patch_between way (D.image image.old) (effects changes.items (D.image again))) (O.contents out.old) (O.contents out.new)) }
 {
     put_behind(alloc, image, again, way, changes.as_slice(), out)

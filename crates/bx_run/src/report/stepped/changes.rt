@@ -15,7 +15,7 @@ ghost use Rattle.bx_run.specs.report.Stepped.{HoldImages, behind_steps, steps_in
 use crate::report::error::ReportError;
 use bx_cli_commands::Fault;
 use bx_image::{Change, Device};
-use bx_journal::{Devices, Way};
+use bx_journal::{Devices, Direction};
 use bx_journal_format::EntryRead;
 use bx_journal_read::read_last_of;
 use bx_journal_store::TextStore;
@@ -55,9 +55,9 @@ fn read_changes<T: TextStore>(
 ) -> Result<Vec<Change>, ReportError>
     requires countable { T.failures text.old < u64.MAX }
     requires few { k ≤ count }
-    ensures makes { T.honest text.old → (x : List ℕ) (stack : List (List ℕ)) → StandsFor (T.text text.old) x stack
+    ensures makes { T.faithful text.old → (x : List ℕ) (stack : List (List ℕ)) → StandsFor (T.text text.old) x stack
         → IfOk result (λ cs. effects cs.items x ≡ top (drop k stack)) }
-    ensures fails { T.honest text.old → HasCount (T.text text.old) count → IfErr result IsDeviceStop }
+    ensures fails { T.faithful text.old → HasCount (T.text text.old) count → IfErr result IsDeviceStop }
 {
     let read = match read_last_of(&alloc, text, count, k) {
         Ok(read) => read,
@@ -73,7 +73,7 @@ fn read_changes<T: TextStore>(
 pub fn read_steps<D: Device, T: TextStore>(
     alloc: Global,
     devices: &mut Devices<D, T>,
-    way: Way,
+    way: Direction,
     have: u32,
     k: u32,
 ) -> Result<Vec<Change>, ReportError>
@@ -86,7 +86,7 @@ pub fn read_steps<D: Device, T: TextStore>(
         → have ≡ steps_in way s → IfErr result IsDeviceStop }
 {
     match way {
-        Way::Undo => read_changes(alloc, &mut devices.journal, have, k),
-        Way::Redo => read_changes(alloc, &mut devices.redo, have, k),
+        Direction::Undo => read_changes(alloc, &mut devices.journal, have, k),
+        Direction::Redo => read_changes(alloc, &mut devices.redo, have, k),
     }
 }

@@ -12,28 +12,28 @@ use crate::report::stepped::between::put_patch;
 use crate::report::stepped::changes::read_steps;
 use bx_cli_commands::Fault;
 use bx_image::Device;
-use bx_journal::{Devices, Session, SessionFault, Way};
+use bx_journal::{Devices, Direction, Session, SessionFault};
 use bx_journal_store::TextStore;
 use std::alloc::Global;
 use std::io::Write;
 
 /// What is said where there are too few changes.
-fn few(way: Way, have: u32) -> ReportError
+fn few(way: Direction, have: u32) -> ReportError
     ensures { result ≡ too_few way have }
 {
     ReportError::Stopped(Fault::Session(match way {
-        Way::Undo => SessionFault::TooFew { have },
-        Way::Redo => SessionFault::NothingToRedo { have },
+        Direction::Undo => SessionFault::TooFew { have },
+        Direction::Redo => SessionFault::NothingToRedo { have },
     }))
 }
 
 /// How many steps a session can make.
-fn steps_of<D: Device, T: TextStore>(session: &Session<D, T>, way: Way) -> u32
+fn steps_of<D: Device, T: TextStore>(session: &Session<D, T>, way: Direction) -> u32
     ensures { (s : Images) → CountsImages s session.now → result ≡ steps_in way s }
 {
     match way {
-        Way::Undo => session.changes(),
-        Way::Redo => session.undone(),
+        Direction::Undo => session.changes(),
+        Direction::Redo => session.undone(),
     }
 }
 
@@ -42,7 +42,7 @@ fn patch_whole<D: Device, T: TextStore, O: Write>(
     alloc: Global,
     session: Session<D, T>,
     again: D,
-    way: Way,
+    way: Direction,
     k: u32,
     out: &mut O,
 ) -> (Seen<D, T, ()>, D)
@@ -77,7 +77,7 @@ pub fn patch_on<D: Device, T: TextStore, O: Write>(
     alloc: Global,
     devices: Devices<D, T>,
     again: D,
-    way: Way,
+    way: Direction,
     k: u32,
     out: &mut O,
 ) -> (Seen<D, T, ()>, D)

@@ -68,15 +68,15 @@ fn put_ranges_if<T: TextStore, O: Write>(
     out: &mut O,
 ) -> Result<u64, ShowFault>
     requires countable { T.failures journal.old < u64.MAX }
-    requires within { T.honest journal.old → change.mark.to ≤ length (T.text journal.old) }
+    requires within { T.faithful journal.old → change.mark.to ≤ length (T.text journal.old) }
     requires order { change.mark.from ≤ change.mark.to }
-    ensures put { T.honest journal.old
+    ensures put { T.faithful journal.old
         → OnOk result (Appends (O.contents out.old) (O.contents out.new) (ranges_if change.verbose (T.text journal.old) change.mark)) }
-    ensures counted { T.honest journal.old → IfOk result (CountsBytes written (ranges_if change.verbose (T.text journal.old) change.mark)) }
-    ensures stops { T.honest journal.old → IfErr result
+    ensures counted { T.faithful journal.old → IfOk result (CountsBytes written (ranges_if change.verbose (T.text journal.old) change.mark)) }
+    ensures stops { T.faithful journal.old → IfErr result
         (StopsPrefix written (ranges_if change.verbose (T.text journal.old) change.mark) (O.contents out.old) (O.contents out.new)) }
     ensures kind { IfErr result PutFault }
-    ensures stays { Stays T.honest T.text T.failures result journal.old journal.new }
+    ensures stays { Stays T.faithful T.text T.failures result journal.old journal.new }
 {
     if !change.verbose {
         return Ok(written);
@@ -97,16 +97,16 @@ fn put_listed_row<T: TextStore, O: Write>(
     out: &mut O,
 ) -> Result<u64, ShowFault>
     requires countable { T.failures journal.old < u64.MAX }
-    requires within { T.honest journal.old → change.mark.to ≤ length (T.text journal.old) }
+    requires within { T.faithful journal.old → change.mark.to ≤ length (T.text journal.old) }
     requires order { change.mark.from ≤ change.mark.to }
-    ensures row { T.honest journal.old → OnOk result
+    ensures row { T.faithful journal.old → OnOk result
         (Appends (O.contents out.old) (O.contents out.new) (row_at change.verbose (T.text journal.old) change.number change.mark)) }
-    ensures counted { T.honest journal.old
+    ensures counted { T.faithful journal.old
         → IfOk result (CountsBytes written (row_at change.verbose (T.text journal.old) change.number change.mark)) }
-    ensures stops { T.honest journal.old → IfErr result (StopsPrefix written
+    ensures stops { T.faithful journal.old → IfErr result (StopsPrefix written
         (row_at change.verbose (T.text journal.old) change.number change.mark) (O.contents out.old) (O.contents out.new)) }
     ensures kind { IfErr result PutFault }
-    ensures stays { Stays T.honest T.text T.failures result journal.old journal.new }
+    ensures stays { Stays T.faithful T.text T.failures result journal.old journal.new }
 {
     let front = put_row_start(alloc, change, written, out)?;
     let places = put_ranges_if(alloc, journal, window, change, front, out)?;
@@ -123,10 +123,10 @@ pub fn put_listed_rows<T: TextStore, O: Write>(
     out: &mut O,
 ) -> Result<(), ShowFault>
     requires countable { T.failures journal.old < u64.MAX }
-    requires lie { (len : ℕ) × (T.honest journal.old → len ≤ length (T.text journal.old)) × All (LiesWithin len) marks.now }
-    ensures rows { T.honest journal.old
+    requires lie { (len : ℕ) × (T.faithful journal.old → len ≤ length (T.text journal.old)) × All (LiesWithin len) marks.now }
+    ensures rows { T.faithful journal.old
         → OnOk result (Appends (O.contents out.old) (O.contents out.new) (rows_at verbose (T.text journal.old) 1 marks.now)) }
-    ensures stops { T.honest journal.old → IfErr result
+    ensures stops { T.faithful journal.old → IfErr result
         (StopsPrefix before (rows_at verbose (T.text journal.old) 1 marks.now) (O.contents out.old) (O.contents out.new)) }
     ensures kind { IfErr result PutFault }
 {

@@ -2,7 +2,7 @@
 use crate::report::Wrong;
 use crate::seen::asked::Asked;
 use crate::seen::told::Told;
-use bx_journal::{Steps, Way};
+use bx_journal::{Direction, Steps};
 use std::alloc::{AllocError, Global};
 use test_case_files::{Look, LooksCase, Shows};
 
@@ -105,9 +105,9 @@ fn push_look<'a>(
 ) -> Result<(), Wrong> {
     let count = look.count;
     let (way, of_way) = if look.is_redo {
-        (Way::Redo, " -r")
+        (Direction::Redo, " -r")
     } else {
-        (Way::Undo, "")
+        (Direction::Undo, "")
     };
     let beside = if compares { " -d" } else { "" };
     let steps = Steps {

@@ -2,7 +2,7 @@
 use crate::report::Wrong;
 use crate::seen::asked::whole_change;
 use crate::setting::{CAREFUL, Held, Kept, held_by, world_of};
-use bx_journal::Way;
+use bx_journal::Direction;
 use bx_run::{Edit, Request, run_request};
 use bx_world::Names;
 use std::alloc::Global;
@@ -48,7 +48,7 @@ pub fn taken_back(alloc: Global, names: &Names, held: Held<'_>) -> Result<Kept, 
     let request = Request::Move {
         names,
         guard: CAREFUL,
-        way: Way::Undo,
+        way: Direction::Undo,
         count: 1,
     };
     held_behind(alloc, world, request)

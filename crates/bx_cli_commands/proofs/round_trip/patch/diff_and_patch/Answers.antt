@@ -5,8 +5,8 @@ use Rattle.bx_cli_commands.proofs.PatchTrips.{patch_trip, same_patched}
 use Rattle.bx_cli_commands.proofs.round_trip.patch.diff_and_patch.Goals as goal
 
 pub returns : goal.returns
-returns g c old_honest new_honest x_bytes y_bytes d t u =
-    let text = c.in_ok-text.ensures old_honest new_honest in
+returns g c old_faithful new_faithful x_bytes y_bytes d t u =
+    let text = c.in_ok-text.ensures old_faithful new_faithful in
     let opened = c.in_ok-session.ensures.opens d t u in
     let patched = c.in_ok-session-2.ensures opened.3.0 opened.3.1 in
     patch_trip g.D.Device g.T.TextStore g.row.A.Denot c.args.extent (g.E.Device.image c.args.old.now) (g.F.Device.image c.args.new.now) c.as_slice.result.now c.args.reverse

@@ -5,7 +5,7 @@ use Rattle.bx_cli_commands.proofs.round_trip.patch.patched.Goals as goal
 pub returns-in-Some : goal.returns-in-Some
 returns-in-Some g c i rests =
     let e = c.in-Ok-None.ensures in
-    let looked = look_rests g.D.Device g.T.TextStore c.args.session c.find_other.new.self i e.looks e.safe.honesty rests in
+    let looked = look_rests g.D.Device g.T.TextStore c.args.session c.find_other.new.self i e.looks e.safe.faith rests in
     made_patched g.D.Device g.T.TextStore g.row.A.Denot (asked_of c.args.patch) c.args.session c.in-Some.session c.into_change.result i rests
     (rw c.in-Ok-None.field-0-is at e.found) c.into_change.ensures (c.in-Some.ensures.moves i looked).0
 

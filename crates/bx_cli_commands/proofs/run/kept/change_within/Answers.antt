@@ -7,7 +7,7 @@ returns-in-Ok-refuse_growth-clause-obeys g c =
     let e = c.in-Ok.ensures in
     within g.D.Device g.T.TextStore c.in-Ok.has c.args.session.now c.image_len.new.self c.run_change.new.session c.args.change.now c.run_change.result
     e.safe e.looks e.found_before
-    (λ honest. c.in-Ok-refuse_growth.ensures.exact (g.D.Device.image c.args.session.now.image) (sym (e.len honest)))
+    (λ faithful. c.in-Ok-refuse_growth.ensures.exact (g.D.Device.image c.args.session.now.image) (sym (e.len faithful)))
     c.run_change.ensures.obeys c.run_change.ensures.asked
 
 pub returns-in-Err-refuse_growth-clause-obeys : goal.returns-in-Err-refuse_growth-clause-obeys
@@ -16,7 +16,7 @@ returns-in-Err-refuse_growth-clause-obeys g c =
     let told = c.in-Err-refuse_growth.ensures in
     longer g.D.Device g.T.TextStore c.in-Ok.has c.args.session.now c.image_len.new.self c.args.change.now c.in-Ok.has told.fault.0
     c.in-Err-refuse_growth.growth told.fault.1 e.safe e.looks e.found_before
-    (λ honest. told.exact (g.D.Device.image c.args.session.now.image) (sym (e.len honest)))
+    (λ faithful. told.exact (g.D.Device.image c.args.session.now.image) (sym (e.len faithful)))
 
 pub returns-in-Err-refuse_growth-clause-asked : goal.returns-in-Err-refuse_growth-clause-asked
 returns-in-Err-refuse_growth-clause-asked g c =

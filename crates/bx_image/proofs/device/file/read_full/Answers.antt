@@ -11,13 +11,13 @@ loop-done-preserved g c =
     let step = c.in_ok-done.ensures in
     record {
       within = put_mid-room c.loop-done.buf c.read_step.new.buf c.loop-done.done _ c.in_ok-done.field-0 before.within step.bound.0;
-      bytes = λ honest.
-          let place : c.saturating_add.result ≡ c.args.at + c.loop-done.done = omega (arith, c.requires honest, g.met.F.RandomAccess.within c.args.file.now honest, before.within, c.loop-done.auto.buf, c.saturating_add.ensures) in
-          read_on (g.F.RandomAccess.content c.args.file.now) c.loop-done.buf c.read_step.new.buf c.args.at c.loop-done.done _ c.in_ok-done.field-0 before.within step.bound.0 (before.bytes honest)
-          (step.bytes (before.honesty.1 honest) ∙ ap (λ x. take c.in_ok-done.field-0 (drop c.saturating_add.result x)) (before.content honest) ∙ ap (λ n. take c.in_ok-done.field-0 (drop n (g.F.RandomAccess.content c.args.file.now))) place);
-      content = λ honest. step.content (before.honesty.1 honest) ∙ before.content honest;
-      survives = λ honest. NoMore_then _ _ _ (before.survives honest) (step.survives (before.honesty.1 honest));
-      honesty = (λ h. before.honesty.0 (step.honesty.0 h), λ h. step.honesty.1 (before.honesty.1 h));
+      bytes = λ faithful.
+          let place : c.saturating_add.result ≡ c.args.at + c.loop-done.done = omega (arith, c.requires faithful, g.met.F.RandomAccess.within c.args.file.now faithful, before.within, c.loop-done.auto.buf, c.saturating_add.ensures) in
+          read_on (g.F.RandomAccess.content c.args.file.now) c.loop-done.buf c.read_step.new.buf c.args.at c.loop-done.done _ c.in_ok-done.field-0 before.within step.bound.0 (before.bytes faithful)
+          (step.bytes (before.faith.1 faithful) ∙ ap (λ x. take c.in_ok-done.field-0 (drop c.saturating_add.result x)) (before.content faithful) ∙ ap (λ n. take c.in_ok-done.field-0 (drop n (g.F.RandomAccess.content c.args.file.now))) place);
+      content = λ faithful. step.content (before.faith.1 faithful) ∙ before.content faithful;
+      survives = λ faithful. NoMore_then _ _ _ (before.survives faithful) (step.survives (before.faith.1 faithful));
+      faith = (λ h. before.faith.0 (step.faith.0 h), λ h. step.faith.1 (before.faith.1 h));
     }
 
 pub returns-clause-bytes : goal.returns-clause-bytes

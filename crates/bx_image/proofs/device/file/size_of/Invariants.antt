@@ -5,7 +5,7 @@ use Rattle.bx_image.specs.Power.{NoMore}
 -- interruptions change nothing
 abbrev pub invariant-loop : goal.invariant-loop
 invariant-loop g l = record {
-  content : g.F.RandomAccess.honest l.initial.file → g.F.RandomAccess.content l.file ≡ g.F.RandomAccess.content l.initial.file;
-  survives : g.F.RandomAccess.honest l.initial.file → NoMore (g.F.RandomAccess.survives l.initial.file) (g.F.RandomAccess.survives l.file);
-  honesty : g.F.RandomAccess.honest l.file ↔ g.F.RandomAccess.honest l.initial.file;
+  content : g.F.RandomAccess.faithful l.initial.file → g.F.RandomAccess.content l.file ≡ g.F.RandomAccess.content l.initial.file;
+  survives : g.F.RandomAccess.faithful l.initial.file → NoMore (g.F.RandomAccess.survives l.initial.file) (g.F.RandomAccess.survives l.file);
+  faith : g.F.RandomAccess.faithful l.file ↔ g.F.RandomAccess.faithful l.initial.file;
 }

@@ -6,10 +6,10 @@ use Rattle.bx_image.proofs.device.file.write_step.Goals as goal
 
 pub loop-init : goal.loop-init
 loop-init g c = record {
-  content = λ honest. refl;
-  survives = λ honest. Follows_same _ _ (KeepsOutside_refl c.args.at (length c.args.bytes.now));
-  fades = λ honest is. FadesBehind_same _ _ _;
-  honesty = (λ h. h, λ h. h);
+  content = λ faithful. refl;
+  survives = λ faithful. Follows_same _ _ (KeepsOutside_refl c.args.at (length c.args.bytes.now));
+  fades = λ faithful is. FadesBehind_same _ _ _;
+  faith = (λ h. h, λ h. h);
 }
 
 pub loop-preserved : goal.loop-preserved
@@ -18,40 +18,40 @@ loop-preserved g c =
     let step = c.write_some.ensures in
     record {
       content = search rules;
-      survives = λ honest. Follows_then (KeepsOutside c.args.at (length c.args.bytes.now)) _ _ _ (KeepsOutside_then _ _) (before.survives honest) (step.survives (before.honesty.1 honest));
-      fades = λ honest is. FadesBehind_then (g.F.RandomAccess.content c.args.file.now) c.args.bytes.now _ _ _ (before.fades honest is) (FadesBehind_of (g.F.RandomAccess.content c.args.file.now) _ c.args.bytes.now c.args.at _ _ (before.content honest) (step.fades (before.honesty.1 honest)) is);
-      honesty = (λ h. before.honesty.0 (step.honesty.0 h), λ h. step.honesty.1 (before.honesty.1 h));
+      survives = λ faithful. Follows_then (KeepsOutside c.args.at (length c.args.bytes.now)) _ _ _ (KeepsOutside_then _ _) (before.survives faithful) (step.survives (before.faith.1 faithful));
+      fades = λ faithful is. FadesBehind_then (g.F.RandomAccess.content c.args.file.now) c.args.bytes.now _ _ _ (before.fades faithful is) (FadesBehind_of (g.F.RandomAccess.content c.args.file.now) _ c.args.bytes.now c.args.at _ _ (before.content faithful) (step.fades (before.faith.1 faithful)) is);
+      faith = (λ h. before.faith.0 (step.faith.0 h), λ h. step.faith.1 (before.faith.1 h));
     }
 
 pub returns-in-Ok-eq0-clause-survives : goal.returns-in-Ok-eq0-clause-survives
-returns-in-Ok-eq0-clause-survives g c honest =
+returns-in-Ok-eq0-clause-survives g c faithful =
     let before = c.loop.invariant in
-    Follows_then (KeepsOutside c.args.at (length c.args.bytes.now)) _ _ _ (KeepsOutside_then _ _) (before.survives honest) (c.write_some.ensures.survives (before.honesty.1 honest))
+    Follows_then (KeepsOutside c.args.at (length c.args.bytes.now)) _ _ _ (KeepsOutside_then _ _) (before.survives faithful) (c.write_some.ensures.survives (before.faith.1 faithful))
 
 pub returns-in-Ok-eq0-clause-fades : goal.returns-in-Ok-eq0-clause-fades
-returns-in-Ok-eq0-clause-fades g c honest is =
+returns-in-Ok-eq0-clause-fades g c faithful is =
     let before = c.loop.invariant in
-    FadesBehind_then (g.F.RandomAccess.content c.args.file.now) c.args.bytes.now _ _ _ (before.fades honest is) (FadesBehind_of (g.F.RandomAccess.content c.args.file.now) _ c.args.bytes.now c.args.at _ _ (before.content honest) (c.write_some.ensures.fades (before.honesty.1 honest)) is)
+    FadesBehind_then (g.F.RandomAccess.content c.args.file.now) c.args.bytes.now _ _ _ (before.fades faithful is) (FadesBehind_of (g.F.RandomAccess.content c.args.file.now) _ c.args.bytes.now c.args.at _ _ (before.content faithful) (c.write_some.ensures.fades (before.faith.1 faithful)) is)
 
 pub returns-in-Ok-clause-survives : goal.returns-in-Ok-clause-survives
-returns-in-Ok-clause-survives g c honest =
+returns-in-Ok-clause-survives g c faithful =
     let before = c.loop.invariant in
-    Follows_then (KeepsOutside c.args.at (length c.args.bytes.now)) _ _ _ (KeepsOutside_then _ _) (before.survives honest) (c.write_some.ensures.survives (before.honesty.1 honest))
+    Follows_then (KeepsOutside c.args.at (length c.args.bytes.now)) _ _ _ (KeepsOutside_then _ _) (before.survives faithful) (c.write_some.ensures.survives (before.faith.1 faithful))
 
 pub returns-in-Ok-clause-fades : goal.returns-in-Ok-clause-fades
-returns-in-Ok-clause-fades g c honest is =
+returns-in-Ok-clause-fades g c faithful is =
     let before = c.loop.invariant in
-    FadesBehind_then (g.F.RandomAccess.content c.args.file.now) c.args.bytes.now _ _ _ (before.fades honest is) (FadesBehind_of (g.F.RandomAccess.content c.args.file.now) _ c.args.bytes.now c.args.at _ _ (before.content honest) (c.write_some.ensures.fades (before.honesty.1 honest)) is)
+    FadesBehind_then (g.F.RandomAccess.content c.args.file.now) c.args.bytes.now _ _ _ (before.fades faithful is) (FadesBehind_of (g.F.RandomAccess.content c.args.file.now) _ c.args.bytes.now c.args.at _ _ (before.content faithful) (c.write_some.ensures.fades (before.faith.1 faithful)) is)
 
 pub returns-in-Err-Failed-clause-survives : goal.returns-in-Err-Failed-clause-survives
-returns-in-Err-Failed-clause-survives g c honest =
+returns-in-Err-Failed-clause-survives g c faithful =
     let before = c.loop.invariant in
-    Follows_then (KeepsOutside c.args.at (length c.args.bytes.now)) _ _ _ (KeepsOutside_then _ _) (before.survives honest) (c.write_some.ensures.survives (before.honesty.1 honest))
+    Follows_then (KeepsOutside c.args.at (length c.args.bytes.now)) _ _ _ (KeepsOutside_then _ _) (before.survives faithful) (c.write_some.ensures.survives (before.faith.1 faithful))
 
 pub returns-in-Err-Failed-clause-fades : goal.returns-in-Err-Failed-clause-fades
-returns-in-Err-Failed-clause-fades g c honest is =
+returns-in-Err-Failed-clause-fades g c faithful is =
     let before = c.loop.invariant in
-    FadesBehind_then (g.F.RandomAccess.content c.args.file.now) c.args.bytes.now _ _ _ (before.fades honest is) (FadesBehind_of (g.F.RandomAccess.content c.args.file.now) _ c.args.bytes.now c.args.at _ _ (before.content honest) (c.write_some.ensures.fades (before.honesty.1 honest)) is)
+    FadesBehind_then (g.F.RandomAccess.content c.args.file.now) c.args.bytes.now _ _ _ (before.fades faithful is) (FadesBehind_of (g.F.RandomAccess.content c.args.file.now) _ c.args.bytes.now c.args.at _ _ (before.content faithful) (c.write_some.ensures.fades (before.faith.1 faithful)) is)
 
 pub returns-clause-failed : goal.returns-clause-failed
-returns-clause-failed g c honest = IsFrontPlaced_none _ c.args.bytes.now _ _ (c.loop.invariant.content honest)
+returns-clause-failed g c faithful = IsFrontPlaced_none _ c.args.bytes.now _ _ (c.loop.invariant.content faithful)

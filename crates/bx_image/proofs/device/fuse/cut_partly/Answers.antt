@@ -13,8 +13,8 @@ nothing_cut : (x : List ℕ) (n : ℕ) → x ≡ cut x (reached Nothing (length 
 nothing_cut x n = sym (ap (cut x) (stays (length x) n) ∙ cut_self x)
 
 pub returns-in-Nothing-clause-part : goal.returns-in-Nothing-clause-part
-returns-in-Nothing-clause-part g c honest = rw c.in-Nothing.is (nothing_cut _ c.args.n)
+returns-in-Nothing-clause-part g c faithful = rw c.in-Nothing.is (nothing_cut _ c.args.n)
 
 pub returns-in-All-clause-cut : goal.returns-in-All-clause-cut
-returns-in-All-clause-cut g c honest =
-    IsPartlyCut_either c.set_len.result c.args.n c.args.n _ _ (omega arith) (omega arith) (c.set_len.ensures.ok honest) (c.set_len.ensures.failed honest)
+returns-in-All-clause-cut g c faithful =
+    IsPartlyCut_either c.set_len.result c.args.n c.args.n _ _ (omega arith) (omega arith) (c.set_len.ensures.ok faithful) (c.set_len.ensures.failed faithful)

@@ -8,16 +8,16 @@ pub loop-run-init : goal.loop-run-init
 loop-run-init g c = record {
   shape = HaveShape-refl c.args.runs.now;
   bytes = tt;
-  read = λ honest. tt;
-  image = λ honest. search rules;
-  survives = λ honest y there. there;
+  read = λ faithful. tt;
+  image = λ faithful. search rules;
+  survives = λ faithful y there. there;
   goes_on = GoesOn_refl _ _ _ _;
 }
 
 pub fill_run-requires-clause-range : goal.fill_run-requires-clause-range
-fill_run-requires-clause-range g c honest =
+fill_run-requires-clause-range g c faithful =
     let kept = c.loop-run.invariant in
-    let first = kept.goes_on.honesty.0 honest in
+    let first = kept.goes_on.faith.0 faithful in
     let limit : ℕ = length (g.D.Device.image c.args.device.now) in
     let inside : c.loop-run.run-index < length c.loop-run.runs = omega (arith, c.loop-run-test.true, length-shape c.args.runs.now c.loop-run.runs kept.shape) in
     rw (kept.image first) (below_at limit c.loop-run.runs c.loop-run.run-index c.run-item.result inside (LieBelow-shape limit c.args.runs.now c.loop-run.runs kept.shape (c.requires.range first)))
@@ -37,8 +37,8 @@ loop-run-preserved g c =
     record {
       shape = shape_set c.args.runs.now c.loop-run.runs k c.run-item.result c.fill_run.new.run kept.shape inside run.at run.len;
       bytes = bytes_set c.loop-run.runs k c.fill_run.new.run inside kept.bytes run.bytes;
-      read = λ honest. runs_set (g.D.Device.image c.args.device.now) c.loop-run.runs k c.fill_run.new.run inside (kept.read honest) (rw (kept.image honest) at run.read (kept.goes_on.honesty.1 honest));
-      image = λ honest. run.image (kept.goes_on.honesty.1 honest) ∙ kept.image honest;
-      survives = λ honest. NoMore_then _ _ _ (kept.survives honest) (run.survives (kept.goes_on.honesty.1 honest));
+      read = λ faithful. runs_set (g.D.Device.image c.args.device.now) c.loop-run.runs k c.fill_run.new.run inside (kept.read faithful) (rw (kept.image faithful) at run.read (kept.goes_on.faith.1 faithful));
+      image = λ faithful. run.image (kept.goes_on.faith.1 faithful) ∙ kept.image faithful;
+      survives = λ faithful. NoMore_then _ _ _ (kept.survives faithful) (run.survives (kept.goes_on.faith.1 faithful));
       goes_on = GoesOn_then _ _ _ _ _ _ _ kept.goes_on run.goes_on;
     }

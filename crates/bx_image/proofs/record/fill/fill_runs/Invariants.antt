@@ -12,8 +12,8 @@ invariant-loop-run g l =
     record {
       shape : HaveShape l.fn.runs l.runs;
       bytes : HaveBytes (take l.run-index l.runs);
-      read : device.honest l.fn.device → AreRunsOf (device.image l.fn.device) (take l.run-index l.runs);
-      image : device.honest l.fn.device → device.image l.device ≡ device.image l.fn.device;
-      survives : device.honest l.fn.device → NoMore (device.survives l.fn.device) (device.survives l.device);
-      goes_on : GoesOn device.honest device.room device.failures false l.fn.device l.device;
+      read : device.faithful l.fn.device → AreRunsOf (device.image l.fn.device) (take l.run-index l.runs);
+      image : device.faithful l.fn.device → device.image l.device ≡ device.image l.fn.device;
+      survives : device.faithful l.fn.device → NoMore (device.survives l.fn.device) (device.survives l.device);
+      goes_on : GoesOn device.faithful device.room device.failures false l.fn.device l.device;
     }

@@ -10,10 +10,10 @@ invariant-loop-bytes g l =
     let device = g.D.Device in
     record {
       within : vec_len l.bytes ≤ l.len;
-      bytes : device.honest l.fn.device → l.bytes.items ≡ take (vec_len l.bytes) (drop l.at (device.image l.fn.device));
-      image : device.honest l.fn.device → device.image l.device ≡ device.image l.fn.device;
-      survives : device.honest l.fn.device → NoMore (device.survives l.fn.device) (device.survives l.device);
-      goes_on : GoesOn device.honest device.room device.failures false l.fn.device l.device;
+      bytes : device.faithful l.fn.device → l.bytes.items ≡ take (vec_len l.bytes) (drop l.at (device.image l.fn.device));
+      image : device.faithful l.fn.device → device.image l.device ≡ device.image l.fn.device;
+      survives : device.faithful l.fn.device → NoMore (device.survives l.fn.device) (device.survives l.device);
+      goes_on : GoesOn device.faithful device.room device.failures false l.fn.device l.device;
     }
 
 abbrev pub decreases-loop-bytes : goal.decreases-loop-bytes

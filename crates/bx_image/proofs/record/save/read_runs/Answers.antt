@@ -17,8 +17,8 @@ loop-span-preserved g c =
     rw c.in_ok-push.ensures.items (record {
       over = rw (take_more spans k none c.loop-span-test.true) (StandOver-push _ _ (get_or spans k none) c.in_ok-read_run.field-0 kept.over run.at run.end);
       bytes = HaveBytes-push _ _ kept.bytes run.bytes;
-      runs = λ honest. AreRunsOf-push _ _ _ (kept.runs honest) (rw (kept.image honest) at run.run (kept.goes_on.honesty.1 honest));
-      image = λ honest. run.image (kept.goes_on.honesty.1 honest) ∙ kept.image honest;
-      survives = λ honest. NoMore_then _ _ _ (kept.survives honest) (run.survives (kept.goes_on.honesty.1 honest));
+      runs = λ faithful. AreRunsOf-push _ _ _ (kept.runs faithful) (rw (kept.image faithful) at run.run (kept.goes_on.faith.1 faithful));
+      image = λ faithful. run.image (kept.goes_on.faith.1 faithful) ∙ kept.image faithful;
+      survives = λ faithful. NoMore_then _ _ _ (kept.survives faithful) (run.survives (kept.goes_on.faith.1 faithful));
       goes_on = GoesOn_then _ _ _ _ _ _ _ kept.goes_on run.goes_on;
     })

@@ -13,8 +13,8 @@ invariant-loop-span g l =
     record {
       over : StandOver (take l.span-index l.spans) l.runs.items;
       bytes : HaveBytes l.runs.items;
-      runs : device.honest l.fn.device → AreRunsOf (device.image l.fn.device) l.runs.items;
-      image : device.honest l.fn.device → device.image l.device ≡ device.image l.fn.device;
-      survives : device.honest l.fn.device → NoMore (device.survives l.fn.device) (device.survives l.device);
-      goes_on : GoesOn device.honest device.room device.failures false l.fn.device l.device;
+      runs : device.faithful l.fn.device → AreRunsOf (device.image l.fn.device) l.runs.items;
+      image : device.faithful l.fn.device → device.image l.device ≡ device.image l.fn.device;
+      survives : device.faithful l.fn.device → NoMore (device.survives l.fn.device) (device.survives l.device);
+      goes_on : GoesOn device.faithful device.room device.failures false l.fn.device l.device;
     }

@@ -10,7 +10,7 @@ abbrev pub invariant-loop-at : goal.invariant-loop-at
 invariant-loop-at g l =
     let device = g.D.Device in
     record {
-      over : device.honest l.fn.device → (i : ℕ)
+      over : device.faithful l.fn.device → (i : ℕ)
           → HasAllButZero (device.image l.fn.device) l.fn.base l.at i (are_over l.fn.spans.items i) (are_over l.spans.items i || is_between l.from l.at i);
       within : LieWithin l.fn.len l.spans.items;
       order : l.from ≤ l.at;
@@ -18,9 +18,9 @@ invariant-loop-at g l =
       short : l.from < l.at → l.at ≤ l.fn.len;
       most : l.fn.base < l.at → l.at ≤ l.fn.len;
       window : 4096 ≤ length l.window;
-      image : device.honest l.fn.device → device.image l.device ≡ device.image l.fn.device;
-      survives : device.honest l.fn.device → NoMore (device.survives l.fn.device) (device.survives l.device);
-      goes_on : GoesOn device.honest device.room device.failures false l.fn.device l.device;
+      image : device.faithful l.fn.device → device.image l.device ≡ device.image l.fn.device;
+      survives : device.faithful l.fn.device → NoMore (device.survives l.fn.device) (device.survives l.device);
+      goes_on : GoesOn device.faithful device.room device.failures false l.fn.device l.device;
     }
 
 abbrev pub decreases-loop-at : goal.decreases-loop-at

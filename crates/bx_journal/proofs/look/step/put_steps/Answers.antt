@@ -26,8 +26,8 @@ loop-i-init g c = record {
     ap length (steps_none c.args.steps (g.D.Device.image c.args.image.now) (g.T.TextStore.text c.args.journal.now)
         (first_number c.args.steps.way c.args.steps.changes (length c.args.marks.now)) c.args.marks.now),
   );
-  image = stayed_none g.D.Device.honest g.D.Device.image g.D.Device.failures c.args.image.now;
-  text = stayed_none g.T.TextStore.honest g.T.TextStore.text g.T.TextStore.failures c.args.journal.now;
+  image = stayed_none g.D.Device.faithful g.D.Device.image g.D.Device.failures c.args.image.now;
+  text = stayed_none g.T.TextStore.faithful g.T.TextStore.text g.T.TextStore.failures c.args.journal.now;
 }
 
 pub loop-i-preserved : goal.loop-i-preserved
@@ -37,19 +37,19 @@ loop-i-preserved g c =
     record {
       steps = λ h hd. steps_put (g.W.Write.contents c.args.out.now) (g.W.Write.contents c.loop-i.out) (g.W.Write.contents c.put_step.new.out) c.args.steps (g.D.Device.image c.args.image.now) (g.D.Device.image c.loop-i.image)
           (g.T.TextStore.text c.args.journal.now) (g.T.TextStore.text c.loop-i.journal) (first_number c.args.steps.way c.args.steps.changes (length c.args.marks.now)) c.loop-i.i c.step_number-number.result c.args.marks.now none
-          (omega (arith, c.requires.enough)) (λ t. inv.image.same (hd t)) (inv.text.same h) c.step_number-number.ensures (inv.steps h hd) (now.step (inv.text.honesty.1 h) (λ t. inv.image.honesty.1 (hd t)));
+          (omega (arith, c.requires.enough)) (λ t. inv.image.same (hd t)) (inv.text.same h) c.step_number-number.ensures (inv.steps h hd) (now.step (inv.text.faith.1 h) (λ t. inv.image.faith.1 (hd t)));
       counted = λ h hd. step_counted c.args.writing.now.written c.loop-i.writing.written c.put_step.new.writing.written c.args.steps (g.D.Device.image c.args.image.now) (g.D.Device.image c.loop-i.image)
           (g.T.TextStore.text c.args.journal.now) (g.T.TextStore.text c.loop-i.journal) (first_number c.args.steps.way c.args.steps.changes (length c.args.marks.now)) c.loop-i.i c.step_number-number.result c.args.marks.now none
-          (omega (arith, c.requires.enough)) (λ t. inv.image.same (hd t)) (inv.text.same h) c.step_number-number.ensures (inv.counted h hd) (now.counted (inv.text.honesty.1 h) (λ t. inv.image.honesty.1 (hd t)));
-      image = stayed_on inv.image now.puts.image.same now.puts.image.honesty now.puts.image.no_failure;
-      text = stayed_on inv.text now.puts.text.same now.puts.text.honesty now.puts.text.no_failure;
+          (omega (arith, c.requires.enough)) (λ t. inv.image.same (hd t)) (inv.text.same h) c.step_number-number.ensures (inv.counted h hd) (now.counted (inv.text.faith.1 h) (λ t. inv.image.faith.1 (hd t)));
+      image = stayed_on inv.image now.puts.image.same now.puts.image.faith now.puts.image.no_failure;
+      text = stayed_on inv.text now.puts.text.same now.puts.text.faith now.puts.text.no_failure;
     }
 
 pub put_step-requires-clause-within : goal.put_step-requires-clause-within
 put_step-requires-clause-within g c =
     let inv = c.loop-i.invariant in
     let lies = All-get_or (LiesWithin c.requires.lie.0) c.args.marks.now (length c.args.marks.now - 1 - c.loop-i.i) none (omega (arith, c.requires.enough)) c.requires.lie.2 in
-    λ h. omega (arith, lies.1, c.requires.lie.1 (inv.text.honesty.0 h), ap length (inv.text.same (inv.text.honesty.0 h)))
+    λ h. omega (arith, lies.1, c.requires.lie.1 (inv.text.faith.0 h), ap length (inv.text.same (inv.text.faith.0 h)))
 
 pub put_step-requires-clause-order : goal.put_step-requires-clause-order
 put_step-requires-clause-order g c = (All-get_or (LiesWithin c.requires.lie.0) c.args.marks.now (length c.args.marks.now - 1 - c.loop-i.i) none (omega (arith, c.requires.enough)) c.requires.lie.2).0
@@ -74,4 +74,4 @@ returns-in_err-put_step-clause-stops g c h hd =
     (g.D.Device.image c.args.image.now) (g.D.Device.image c.loop-i.image) (g.T.TextStore.text c.args.journal.now) (g.T.TextStore.text c.loop-i.journal)
     (first_number c.args.steps.way c.args.steps.changes (length c.args.marks.now)) c.loop-i.i c.step_number-number.result c.args.marks.now none _
     (omega (arith, c.loop-i-test.true)) c.requires.enough (λ t. inv.image.same (hd t)) (inv.text.same h) c.step_number-number.ensures (inv.steps h hd) (inv.counted h hd)
-    (c.in_err-put_step.ensures.stops (inv.text.honesty.1 h) (λ t. inv.image.honesty.1 (hd t))))
+    (c.in_err-put_step.ensures.stops (inv.text.faith.1 h) (λ t. inv.image.faith.1 (hd t))))

@@ -7,10 +7,10 @@ use Rattle.bx_journal.proofs.look.step.put_steps.Given as goal
 -- the steps so far were written
 abbrev pub invariant-loop-i : goal.invariant-loop-i
 invariant-loop-i g l = record {
-  steps : g.T.TextStore.honest l.fn.journal → (IsTrue l.steps.compares → g.D.Device.honest l.fn.image)
+  steps : g.T.TextStore.faithful l.fn.journal → (IsTrue l.steps.compares → g.D.Device.faithful l.fn.image)
       → AreStepsPut l.steps (g.D.Device.image l.fn.image) (g.T.TextStore.text l.fn.journal) l.i l.marks (g.W.Write.contents l.fn.out) (g.W.Write.contents l.out);
-  counted : g.T.TextStore.honest l.fn.journal → (IsTrue l.steps.compares → g.D.Device.honest l.fn.image)
+  counted : g.T.TextStore.faithful l.fn.journal → (IsTrue l.steps.compares → g.D.Device.faithful l.fn.image)
       → CountsBytes l.fn.writing.written (newest_steps l.steps (g.D.Device.image l.fn.image) (g.T.TextStore.text l.fn.journal) l.i l.marks) l.writing.written;
-  image : HasStayed g.D.Device.honest g.D.Device.image g.D.Device.failures l.fn.image l.image;
-  text : HasStayed g.T.TextStore.honest g.T.TextStore.text g.T.TextStore.failures l.fn.journal l.journal;
+  image : HasStayed g.D.Device.faithful g.D.Device.image g.D.Device.failures l.fn.image l.image;
+  text : HasStayed g.T.TextStore.faithful g.T.TextStore.text g.T.TextStore.failures l.fn.journal l.journal;
 }

@@ -6,7 +6,7 @@ use Rattle.bx_journal.proofs.recovery.finished.count_redo.Goals as goal
 
 pub returns-clause-counted : goal.returns-clause-counted
 returns-clause-counted g c =
-    let there = subst (λ o. IfSome o (IsAllCounted (g.T.TextStore.honest c.args.redo.now) (g.T.TextStore.text c.args.redo.now) true)) c.in-Some.is c.in-Ok.ensures.counted in
+    let there = subst (λ o. IfSome o (IsAllCounted (g.T.TextStore.faithful c.args.redo.now) (g.T.TextStore.text c.args.redo.now) true)) c.in-Some.is c.in-Ok.ensures.counted in
     record {
       text = there.text;
       is = there.is;

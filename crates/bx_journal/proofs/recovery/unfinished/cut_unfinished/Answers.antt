@@ -3,7 +3,7 @@ use Rattle.std.specs.Prelude.{IfSome, OnErr, OnOk}
 use Rattle.std.proofs.lemmas.Result.{err_from_is_err_and}
 use Rattle.bx_journal_format.specs.Shown.{shown}
 use Rattle.bx_journal_format.specs.Text.{Reading}
-use Rattle.bx_journal_model.specs.declared.answers.How.TheVariants.{Dropped, Restored}
+use Rattle.bx_journal_model.specs.declared.answers.RecoveryOutcome.TheVariants.{Dropped, Restored}
 use Rattle.bx_journal_model.specs.Stack.{HaveLengths, Recovers, image_at}
 use Rattle.bx_journal_model.specs.Opening.{IsOpened}
 use Rattle.bx_journal_model.specs.Undoing.{HasLeft}

@@ -22,18 +22,18 @@ returns-clause-emptied_first g c rh = OnErr-known c.cut_unfinished.result (inr (
 
 pub returns-clause-steps_on : goal.returns-clause-steps_on
 returns-clause-steps_on g c = record {
-  image_honesty = search rules;
-  journal_honesty = search rules;
-  redo_honesty = search rules;
+  image_faith = search rules;
+  journal_faith = search rules;
+  redo_faith = search rules;
   no_failure = on_ok_weaker c.cut_unfinished.result (λ h. (h.0, h.1, search rules)) c.cut_unfinished.ensures.no_failure;
   failure = on_err_weaker c.cut_unfinished.result (one_more_beside _ _ _ _ _ _ (search rules)) c.cut_unfinished.ensures.failure;
 }
 
 pub returns-in_err-cut_redo-clause-steps_on : goal.returns-in_err-cut_redo-clause-steps_on
 returns-in_err-cut_redo-clause-steps_on g c = record {
-  image_honesty = search rules;
-  journal_honesty = search rules;
-  redo_honesty = search rules;
+  image_faith = search rules;
+  journal_faith = search rules;
+  redo_faith = search rules;
   no_failure = none_ok _ c.from_residual.result _ (err_from_is_err_and c.from_residual.result c.from_residual.ensures.1).1;
   failure = OnErr-known c.from_residual.result (one_more c.in_err-cut_redo.ensures.goes_on.counted);
 }
@@ -42,7 +42,7 @@ pub returns-in_err-cut_redo-clause-survives : goal.returns-in_err-cut_redo-claus
 returns-in_err-cut_redo-clause-survives g c dh th rh on s found y new r there text_there redo_there =
     let text : List ℕ = g.T.TextStore.text c.args.devices.now.journal in
     let x : List ℕ = g.D.Device.image c.args.devices.now.image in
-    stopped_found text x new y r s.stack found.recovers (found_unclean (g.T.TextStore.honest c.args.devices.now.journal) text c.args.torn c.requires.found th) (on.journal new text_there) (on.image y there)
+    stopped_found text x new y r s.stack found.recovers (found_unclean (g.T.TextStore.faithful c.args.devices.now.journal) text c.args.torn c.requires.found th) (on.journal new text_there) (on.image y there)
 
 pub returns-clause-survives : goal.returns-clause-survives
 returns-clause-survives g c dh th rh on s found y new r there text_there redo_there =
@@ -51,7 +51,7 @@ returns-clause-survives g c dh th rh on s found y new r there text_there redo_th
     let cut = c.in_ok-cut_redo.ensures in
     emptied_found new y r s.stack (c.cut_unfinished.ensures.survives dh th on.image on.journal s.stack found.recovers y new there text_there)
     (cut.settled rh r redo_there ∙ cut.redo rh)
-    (found_few (g.T.TextStore.honest c.args.devices.now.journal) text x s.stack c.args.torn c.requires.found th found.recovers)
+    (found_few (g.T.TextStore.faithful c.args.devices.now.journal) text x s.stack c.args.torn c.requires.found th found.recovers)
 
 pub returns-in_err-cut_redo-clause-settles : goal.returns-in_err-cut_redo-clause-settles
 returns-in_err-cut_redo-clause-settles g c dh th rh on = none_ok _ c.from_residual.result _ (err_from_is_err_and c.from_residual.result c.from_residual.ensures.1).1

@@ -16,14 +16,14 @@ returns-in-Err-prepare-clause-found_before g c =
 
 pub returns-in-Ok-settle-clause-found_before : goal.returns-in-Ok-settle-clause-found_before
 returns-in-Ok-settle-clause-found_before g c = record {
-  image_before = λ h. NoMore_then _ _ _ (c.prepare.ensures.found_before h) (c.settle.ensures.found_before.image_before (c.prepare.ensures.looks.honesty.1 h));
+  image_before = λ h. NoMore_then _ _ _ (c.prepare.ensures.found_before h) (c.settle.ensures.found_before.image_before (c.prepare.ensures.looks.faith.1 h));
   journal_before = c.settle.ensures.found_before.journal_before;
   redo_before = c.settle.ensures.found_before.redo_before;
 }
 
 pub returns-in-Err-settle-clause-found_before : goal.returns-in-Err-settle-clause-found_before
 returns-in-Err-settle-clause-found_before g c = record {
-  image_before = λ h. NoMore_then _ _ _ (c.prepare.ensures.found_before h) (c.settle.ensures.found_before.image_before (c.prepare.ensures.looks.honesty.1 h));
+  image_before = λ h. NoMore_then _ _ _ (c.prepare.ensures.found_before h) (c.settle.ensures.found_before.image_before (c.prepare.ensures.looks.faith.1 h));
   journal_before = c.settle.ensures.found_before.journal_before;
   redo_before = c.settle.ensures.found_before.redo_before;
 }

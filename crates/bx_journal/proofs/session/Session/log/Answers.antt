@@ -11,13 +11,13 @@ pub returns-in_err-rows-clause-undamaged : goal.returns-in_err-rows-clause-undam
 returns-in_err-rows-clause-undamaged g c =
     rw (← c.self.view_is) (λ th has.
     let none : (line : ℕ) → c.in_err-rows.field-0.0 ≡ Damaged line → ⊥ =
-    in_step (g.T.TextStore.honest c.self.inside.devices.journal) (g.T.TextStore.text c.self.inside.devices.journal) c.self.inside.count c.in_err-rows.field-0.0 th has c.in_err-rows.ensures.fault in
+    in_step (g.T.TextStore.faithful c.self.inside.devices.journal) (g.T.TextStore.text c.self.inside.devices.journal) c.self.inside.count c.in_err-rows.field-0.0 th has c.in_err-rows.ensures.fault in
     grind (arith, common_steps, none))
 
 pub returns-in_err-rows-clause-fault : goal.returns-in_err-rows-clause-fault
 returns-in_err-rows-clause-fault g c =
     rw (← c.self.view_is) (
-    let fault : AgainFault (g.T.TextStore.honest c.self.inside.devices.journal) (g.T.TextStore.text c.self.inside.devices.journal) c.self.inside.count c.in_err-rows.field-0.0 = c.in_err-rows.ensures.fault in
+    let fault : AgainFault (g.T.TextStore.faithful c.self.inside.devices.journal) (g.T.TextStore.text c.self.inside.devices.journal) c.self.inside.count c.in_err-rows.field-0.0 = c.in_err-rows.ensures.fault in
     grind (arith, common_steps, fault))
 
 pub returns-clause-whole : goal.returns-clause-whole

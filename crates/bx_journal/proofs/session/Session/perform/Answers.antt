@@ -36,13 +36,13 @@ module _ (g : _) (c : After-write_change g) where
   head = head_text c.in_ok-ready.ready.head.number kept
 
   -- what the entry begins with is of the image as it is now
-  begins : g.D.Device.honest c.self.inside.devices.image → BeginsEntry c.args.change.now x c.in_ok-ready.ready.ranges.items c.in_ok-ready.ready.head
+  begins : g.D.Device.faithful c.self.inside.devices.image → BeginsEntry c.args.change.now x c.in_ok-ready.ready.ranges.items c.in_ok-ready.ready.head
   begins dh = subst (λ y. BeginsEntry c.args.change.now y c.in_ok-ready.ready.ranges.items c.in_ok-ready.ready.head) (sym (c.prepare_change.ensures.stayed.image_same dh)) (c.in_ok-ready.ensures.prepared dh).begins
 
   stayed : HaveStayed g.D.Device g.T.TextStore c.self.inside.devices c.prepare_change.new.devices
   stayed = c.prepare_change.ensures.stayed
 
-  prepared : g.D.Device.honest c.self.inside.devices.image → IsPrepared c.args.change.now x c.self.inside.count kept (length (effect c.args.change.now x)) head c.as_bytes-line.result.now
+  prepared : g.D.Device.faithful c.self.inside.devices.image → IsPrepared c.args.change.now x c.self.inside.count kept (length (effect c.args.change.now x)) head c.as_bytes-line.result.now
   prepared dh =
       let ready = c.in_ok-ready.ensures in
       let same = stayed.image_same dh in
@@ -57,7 +57,7 @@ module _ (g : _) (c : After-write_change g) where
         line_is = c.as_bytes-line.ensures.value ∙ (ready.prepared dh).end ∙ ap (λ y. end_text (c.self.inside.count + 1) (length (effect c.args.change.now y))) (sym same);
       }
 
-  writes : g.D.Device.honest c.self.inside.devices.image → g.T.TextStore.honest c.self.inside.devices.journal → (stack : List (List ℕ)) → IsAtRest (g.T.TextStore.text c.self.inside.devices.journal) (g.D.Device.image c.self.inside.devices.image) stack → length stack ≡ suc c.self.inside.count
+  writes : g.D.Device.faithful c.self.inside.devices.image → g.T.TextStore.faithful c.self.inside.devices.journal → (stack : List (List ℕ)) → IsAtRest (g.T.TextStore.text c.self.inside.devices.journal) (g.D.Device.image c.self.inside.devices.image) stack → length stack ≡ suc c.self.inside.count
       → WritesEntry c.args.change.now text x stack head c.as_bytes-line.result.now × (effect c.args.change.now x ≡ effect c.args.change.now (top stack))
   writes dh th stack rest counted =
       let now = pair_stays (λ t y. IsAtRest t y stack) stayed dh th rest in (writes_entry (prepared dh) now counted, ap (effect c.args.change.now) (sym (top_of_rest text x stack now)))
@@ -67,12 +67,12 @@ returns-in-Ok-clause-accepted g c =
     rw (← c.self.view_is) (λ dh th stack standing.
     let b = (goal.at.returns-in-Ok-clause-accepted g c).After-write_change in
     let before = stayed g b in
-    let d = before.image_honesty.1 dh in
+    let d = before.image_faith.1 dh in
     let stands = pair_stays (λ t y. StandsFor t y stack) before dh th standing.stands in
     let same : top stack ≡ g.D.Device.image c.self.inside.devices.image = top_of_stands _ _ stack standing.stands in (
       (omega arith, subst (λ y. Fits c.args.change.now (length y) MAX_LEN) (sym same) (c.in_ok-ready.ensures.prepared dh).fits, omega arith, refl),
       record {
-        stands = performs (prepared g b dh) stands standing.count (c.in-Ok.ensures.image d) (c.in-Ok.ensures.back d) (c.in-Ok.ensures.text (before.image_honesty.1 dh) (before.journal_honesty.1 th));
+        stands = performs (prepared g b dh) stands standing.count (c.in-Ok.ensures.image d) (c.in-Ok.ensures.back d) (c.in-Ok.ensures.text (before.image_faith.1 dh) (before.journal_faith.1 th));
         count = omega arith;
         whole = standing.whole;
       },
@@ -85,7 +85,7 @@ returns-in-Ok-clause-sound g c =
     let before = stayed g b in
     let w = writes g b dh th stack ready.rest ready.count in
     record {
-      rest = rw w.1 at (c.in-Ok.ensures.ok (before.image_honesty.1 dh) (before.journal_honesty.1 th) stack w.0);
+      rest = rw w.1 at (c.in-Ok.ensures.ok (before.image_faith.1 dh) (before.journal_faith.1 th) stack w.0);
       count = omega arith;
       whole = ready.whole;
     })
@@ -95,7 +95,7 @@ returns-in-Ok-clause-entry g c =
     rw (← c.self.view_is) (λ dh th.
     let b = (goal.at.returns-in-Ok-clause-entry g c).After-write_change in
     let before = stayed g b in
-    rw (← (before.text_same th), ← (before.image_same dh)) (appended (text g b) (prepared g b dh) (c.in-Ok.ensures.text (before.image_honesty.1 dh) (before.journal_honesty.1 th))))
+    rw (← (before.text_same th), ← (before.image_same dh)) (appended (text g b) (prepared g b dh) (c.in-Ok.ensures.text (before.image_faith.1 dh) (before.journal_faith.1 th))))
 
 pub returns-clause-fault : goal.returns-clause-fault
 returns-clause-fault g c =
@@ -103,14 +103,14 @@ returns-clause-fault g c =
     let b = (goal.at.returns-clause-fault g c).After-write_change in
     let before = stayed g b in
     let w = writes g b dh th stack ready.rest ready.count in
-    rw w.1 at (c.in-Err.ensures.fault (before.image_honesty.1 dh) (before.journal_honesty.1 th) stack w.0))
+    rw w.1 at (c.in-Err.ensures.fault (before.image_faith.1 dh) (before.journal_faith.1 th) stack w.0))
 
 pub returns-in-Ok-clause-undone : goal.returns-in-Ok-clause-undone
 returns-in-Ok-clause-undone g c =
     rw (← c.self.view_is) (λ rh.
     let y : List ℕ = g.D.Device.image c.write_change.new.devices.image in
     record {
-      redo = subst (λ t. IsRedoOf t y (c.self.inside.count + 1) []) (sym (c.in-Ok.ensures.redo (c.prepare_change.ensures.stayed.redo_honesty.1 rh))) (empty_is_redo y (c.self.inside.count + 1) (omega arith));
+      redo = subst (λ t. IsRedoOf t y (c.self.inside.count + 1) []) (sym (c.in-Ok.ensures.redo (c.prepare_change.ensures.stayed.redo_faith.1 rh))) (empty_is_redo y (c.self.inside.count + 1) (omega arith));
       counted = refl;
     })
 
@@ -121,7 +121,7 @@ returns-clause-finds g c =
     let before = stayed g b in
     let w = writes g b dh th s.stack ready.rest ready.count in
     let rest = rest_step before (λ d t u i rest. rest) dh th rh s ready undone in
-    rw w.1 at (change_stops _ _ _ _ _ _ _ s rest (omega (arith, ready.count)) (c.in-Err.ensures.left (before.image_honesty.1 dh) (before.journal_honesty.1 th) (before.redo_honesty.1 rh) s.stack w.0)))
+    rw w.1 at (change_stops _ _ _ _ _ _ _ s rest (omega (arith, ready.count)) (c.in-Err.ensures.left (before.image_faith.1 dh) (before.journal_faith.1 th) (before.redo_faith.1 rh) s.stack w.0)))
 
 -- what is found behind an interruption
 pub returns-clause-survives : goal.returns-clause-survives
@@ -134,7 +134,7 @@ returns-clause-survives g c =
           let rest = rest_step before (λ d t u i rest. rest) dh th rh s ready undone in
           let settled = c.in_ok-ready.ensures.settled dh th rh in
           found_either _ _ _ _ _ (rw w.1 at (change_stops _ _ _ _ _ _ _ s rest (omega (arith, ready.count))
-          (c.in-Err.ensures.survives (before.image_honesty.1 dh) (before.journal_honesty.1 th) (before.redo_honesty.1 rh) settled s.stack w.0 y new redo image_there there redo_there)))),
+          (c.in-Err.ensures.survives (before.image_faith.1 dh) (before.journal_faith.1 th) (before.redo_faith.1 rh) settled s.stack w.0 y new redo image_there there redo_there)))),
       tt,
     ))
 
@@ -144,9 +144,9 @@ returns-in-Ok-clause-survives g c =
     rw (← c.self.view_is) (λ dh th rh.
     let b = (goal.at.returns-in-Ok-clause-survives g c).After-write_change in
     let before = stayed g b in
-    let d = before.image_honesty.1 dh in
-    let t = before.journal_honesty.1 th in
-    let u = before.redo_honesty.1 rh in
+    let d = before.image_faith.1 dh in
+    let t = before.journal_faith.1 th in
+    let u = before.redo_faith.1 rh in
     let settled = c.in-Ok.ensures.settles d t u in (
       (λ s ready undone y new redo image_there there redo_there.
           let w = writes g b dh th s.stack ready.rest ready.count in

@@ -36,12 +36,12 @@ returns-in_err-read-clause-faults g c =
       damaged =
           rw (← c.self.view_is) (λ rh.
           let out : (line : ℕ) → c.in_err-read.field-0.0 ≡ RedoDamaged line → IsOutOfStep (g.T.TextStore.text c.self.inside.devices.redo) c.self.inside.undone line =
-          λ line is. subst (RedoAgainFault (g.T.TextStore.honest c.self.inside.devices.redo) (g.T.TextStore.text c.self.inside.devices.redo) c.self.inside.undone) is c.in_err-read.ensures.fault rh in
+          λ line is. subst (RedoAgainFault (g.T.TextStore.faithful c.self.inside.devices.redo) (g.T.TextStore.text c.self.inside.devices.redo) c.self.inside.undone) is c.in_err-read.ensures.fault rh in
           grind (arith, common_steps, out));
       undamaged =
           rw (← c.self.view_is) (λ rh has.
           let none : (line : ℕ) → c.in_err-read.field-0.0 ≡ RedoDamaged line → ⊥ =
-          redo_in_step (g.T.TextStore.honest c.self.inside.devices.redo) (g.T.TextStore.text c.self.inside.devices.redo) c.self.inside.undone c.in_err-read.field-0.0 rh has c.in_err-read.ensures.fault in
+          redo_in_step (g.T.TextStore.faithful c.self.inside.devices.redo) (g.T.TextStore.text c.self.inside.devices.redo) c.self.inside.undone c.in_err-read.field-0.0 rh has c.in_err-read.ensures.fault in
           grind (arith, common_steps, none));
       whole = search rules;
     }
@@ -53,21 +53,21 @@ redo_entries-requires-clause-kept g c =
 pub redo_entries-requires-clause-read : goal.redo_entries-requires-clause-read
 redo_entries-requires-clause-read g c =
     let before = stayed g (goal.at.redo_entries-requires-clause-read g c).After-prepare_redo in
-    read_since before.redo_honesty.0 before.redo_same c.in_ok-read.ensures.read
+    read_since before.redo_faith.0 before.redo_same c.in_ok-read.ensures.read
 
 pub redo_entries-requires-clause-touched : goal.redo_entries-requires-clause-touched
 redo_entries-requires-clause-touched g c =
     let ready = c.in_ok-again.ensures.ready.touched in
     let taken = c.prepare_redo.ensures.stayed in
-    record { len = ready.len; long = λ now. let before = taken.image_honesty.0 now in ready.long before ∙ sym (ap length (taken.image_same before)); touched = ready.touched }
+    record { len = ready.len; long = λ now. let before = taken.image_faith.0 now in ready.long before ∙ sym (ap length (taken.image_same before)); touched = ready.touched }
 
 pub redo_entries-requires-clause-begun : goal.redo_entries-requires-clause-begun
 redo_entries-requires-clause-begun g c =
     let taken = c.prepare_redo.ensures.stayed in
-    begun_same (c.self.inside.count + 1) {rs = c.in_ok-again.again.takens.items} {slice = c.in_ok-again.again.takens.items} c.in_ok-again.again.head.page.items c.in_ok-again.again.head.place taken.image_honesty.0 (λ now. taken.image_same (taken.image_honesty.0 now)) refl c.in_ok-again.ensures.ready.begun
+    begun_same (c.self.inside.count + 1) {rs = c.in_ok-again.again.takens.items} {slice = c.in_ok-again.again.takens.items} c.in_ok-again.again.head.page.items c.in_ok-again.again.head.place taken.image_faith.0 (λ now. taken.image_same (taken.image_faith.0 now)) refl c.in_ok-again.ensures.ready.begun
 
 pub redo_entries-requires-clause-fits : goal.redo_entries-requires-clause-fits
-redo_entries-requires-clause-fits g c th = c.in_ok-again.ensures.roomed (c.prepare_redo.ensures.stayed.journal_honesty.0 th)
+redo_entries-requires-clause-fits g c th = c.in_ok-again.ensures.roomed (c.prepare_redo.ensures.stayed.journal_faith.0 th)
 
 pub returns-in-Ok-clause-stands : goal.returns-in-Ok-clause-stands
 returns-in-Ok-clause-stands g c =
@@ -150,19 +150,19 @@ pub returns-in-Ok-clause-text : goal.returns-in-Ok-clause-text
 returns-in-Ok-clause-text g c =
     rw (← c.self.view_is) (λ rh.
     let before = stayed g (goal.at.returns-in-Ok-clause-text g c).After-prepare_redo in
-    left_since (before.redo_same rh) c.in_ok-again.ensures.ready.count (c.in-Ok.ensures.left (before.redo_honesty.1 rh)))
+    left_since (before.redo_same rh) c.in_ok-again.ensures.ready.count (c.in-Ok.ensures.left (before.redo_faith.1 rh)))
 
 pub returns-in-Ok-clause-grown : goal.returns-in-Ok-clause-grown
 returns-in-Ok-clause-grown g c =
     rw (← c.self.view_is) (λ dh th rh es finished.
     let before = stayed g (goal.at.returns-in-Ok-clause-grown g c).After-prepare_redo in
     grown_since c.self.inside.count c.in_ok-again.ensures.ready.count (before.image_same dh) (before.text_same th) (before.redo_same rh)
-    (c.in-Ok.ensures.taken (before.image_honesty.1 dh) (before.journal_honesty.1 th) (before.redo_honesty.1 rh)) es finished)
+    (c.in-Ok.ensures.taken (before.image_faith.1 dh) (before.journal_faith.1 th) (before.redo_faith.1 rh)) es finished)
 
 pub returns-in-Ok-clause-front : goal.returns-in-Ok-clause-front
 returns-in-Ok-clause-front g c =
     rw (← c.self.view_is) (λ th.
-    subst (λ t. IsPrefix t (g.T.TextStore.text c.redo_entries.new.devices.journal)) (c.prepare_redo.ensures.stayed.text_same th) (c.in-Ok.ensures.front (c.prepare_redo.ensures.stayed.journal_honesty.1 th)))
+    subst (λ t. IsPrefix t (g.T.TextStore.text c.redo_entries.new.devices.journal)) (c.prepare_redo.ensures.stayed.text_same th) (c.in-Ok.ensures.front (c.prepare_redo.ensures.stayed.journal_faith.1 th)))
 
 pub returns-clause-finds : goal.returns-clause-finds
 returns-clause-finds g c =
@@ -195,10 +195,10 @@ returns-clause-survives g c =
     rw (← c.self.view_is) (λ dh th rh. (
       (λ s ready has y new redo image_there there redo_there.
           let before = stayed g (goal.at.returns-clause-survives g c).After-prepare_redo in
-          let on = c.in_ok-again.ensures.settled dh th (c.in_ok-read.ensures.looks.honesty.1 rh) in
+          let on = c.in_ok-again.ensures.settled dh th (c.in_ok-read.ensures.looks.faith.1 rh) in
           let rest = rest_step before (λ d t u i rest. rest) dh th rh s ready has in
           found_some _ _ _ redo_of _ _ (rw c.in_ok-again.ensures.ready.count at
-          (c.in-Err.ensures.survives (before.image_honesty.1 dh) (before.journal_honesty.1 th) (before.redo_honesty.1 rh) on s rest (omega (arith, ready.count)) y new redo image_there there redo_there))),
+          (c.in-Err.ensures.survives (before.image_faith.1 dh) (before.journal_faith.1 th) (before.redo_faith.1 rh) on s rest (omega (arith, ready.count)) y new redo image_there there redo_there))),
       tt,
     ))
 
@@ -207,10 +207,10 @@ pub returns-in-Ok-clause-survives : goal.returns-in-Ok-clause-survives
 returns-in-Ok-clause-survives g c =
     rw (← c.self.view_is) (λ dh th rh.
     let before = stayed g (goal.at.returns-in-Ok-clause-survives g c).After-prepare_redo in
-    let d = before.image_honesty.1 dh in
-    let t = before.journal_honesty.1 th in
-    let u = before.redo_honesty.1 rh in
-    let on = c.in_ok-again.ensures.settled dh th (c.in_ok-read.ensures.looks.honesty.1 rh) in
+    let d = before.image_faith.1 dh in
+    let t = before.journal_faith.1 th in
+    let u = before.redo_faith.1 rh in
+    let on = c.in_ok-again.ensures.settled dh th (c.in_ok-read.ensures.looks.faith.1 rh) in
     let settled = c.in-Ok.ensures.settles d t u on in (
       (λ s ready has y new redo image_there there redo_there.
           let done = rest_step before c.in-Ok.ensures.found dh th rh s ready has (omega (arith, ready.count)) in
@@ -233,6 +233,6 @@ returns-in_err-again-clause-found_before g c =
     record {
       image_before = taken.image_before;
       journal_before = taken.journal_before;
-      redo_before = λ h. NoMore_then _ _ _ (c.read_undone.ensures.survives h) (taken.redo_before (c.read_undone.ensures.looks.honesty.1 h));
+      redo_before = λ h. NoMore_then _ _ _ (c.read_undone.ensures.survives h) (taken.redo_before (c.read_undone.ensures.looks.faith.1 h));
     } in
     rw (← c.self.view_is) (any_fault _ before)

@@ -32,19 +32,19 @@ returns-in_err-read-clause-faults g c =
       damaged =
           rw (← c.self.view_is) (λ th.
           let out : (line : ℕ) → c.in_err-read.field-0.0 ≡ Damaged line → IsOutOfStep (g.T.TextStore.text c.self.inside.devices.journal) c.self.inside.count line =
-          λ line is. subst (AgainFault (g.T.TextStore.honest c.self.inside.devices.journal) (g.T.TextStore.text c.self.inside.devices.journal) c.self.inside.count) is c.in_err-read.ensures.fault th in
+          λ line is. subst (AgainFault (g.T.TextStore.faithful c.self.inside.devices.journal) (g.T.TextStore.text c.self.inside.devices.journal) c.self.inside.count) is c.in_err-read.ensures.fault th in
           grind (arith, common_steps, out));
       undamaged =
           rw (← c.self.view_is) (λ th has.
           let none : (line : ℕ) → c.in_err-read.field-0.0 ≡ Damaged line → ⊥ =
-          in_step (g.T.TextStore.honest c.self.inside.devices.journal) (g.T.TextStore.text c.self.inside.devices.journal) c.self.inside.count c.in_err-read.field-0.0 th has c.in_err-read.ensures.fault in
+          in_step (g.T.TextStore.faithful c.self.inside.devices.journal) (g.T.TextStore.text c.self.inside.devices.journal) c.self.inside.count c.in_err-read.field-0.0 th has c.in_err-read.ensures.fault in
           grind (arith, common_steps, none));
       whole = search rules;
     }
 
 pub prepare_takens-requires-clause-read : goal.prepare_takens-requires-clause-read
 prepare_takens-requires-clause-read g c =
-    let looks = c.read_last_of.ensures.looks in read_since looks.honesty.0 looks.same c.in_ok-read.ensures.read
+    let looks = c.read_last_of.ensures.looks in read_since looks.faith.0 looks.same c.in_ok-read.ensures.read
 
 pub returns-in-Ok-clause-accepted : goal.returns-in-Ok-clause-accepted
 returns-in-Ok-clause-accepted g c =
@@ -84,7 +84,7 @@ pub returns-in-Ok-clause-text : goal.returns-in-Ok-clause-text
 returns-in-Ok-clause-text g c =
     rw (← c.self.view_is) (λ th.
     let before = stayed g (goal.at.returns-in-Ok-clause-text g c).After-prepare_takens in
-    left_since (before.text_same th) c.in_ok-taking.ensures.count (c.in-Ok.ensures.left (before.journal_honesty.1 th)))
+    left_since (before.text_same th) c.in_ok-taking.ensures.count (c.in-Ok.ensures.left (before.journal_faith.1 th)))
 
 pub returns-clause-fault : goal.returns-clause-fault
 returns-clause-fault g c =
@@ -135,10 +135,10 @@ returns-clause-survives g c =
     rw (← c.self.view_is) (λ dh th rh. (
       (λ s ready has y new redo image_there there redo_there.
           let before = stayed g (goal.at.returns-clause-survives g c).After-prepare_takens in
-          let settled = c.in_ok-taking.ensures.settled dh (c.in_ok-read.ensures.looks.honesty.1 th) rh in
+          let settled = c.in_ok-taking.ensures.settled dh (c.in_ok-read.ensures.looks.faith.1 th) rh in
           let rest = rest_step before (λ d t u i rest. rest) dh th rh s ready has in
           found_some _ _ _ undo_of _ _ (rw c.in_ok-taking.ensures.count at
-          (c.in-Err.ensures.survives (before.image_honesty.1 dh) (before.journal_honesty.1 th) (before.redo_honesty.1 rh) settled s rest has.counted y new redo image_there there redo_there))),
+          (c.in-Err.ensures.survives (before.image_faith.1 dh) (before.journal_faith.1 th) (before.redo_faith.1 rh) settled s rest has.counted y new redo image_there there redo_there))),
       tt,
     ))
 
@@ -147,10 +147,10 @@ pub returns-in-Ok-clause-survives : goal.returns-in-Ok-clause-survives
 returns-in-Ok-clause-survives g c =
     rw (← c.self.view_is) (λ dh th rh.
     let before = stayed g (goal.at.returns-in-Ok-clause-survives g c).After-prepare_takens in
-    let d = before.image_honesty.1 dh in
-    let t = before.journal_honesty.1 th in
-    let u = before.redo_honesty.1 rh in
-    let settled = c.in-Ok.ensures.settles d t u (c.in_ok-taking.ensures.settled dh (c.in_ok-read.ensures.looks.honesty.1 th) rh) in (
+    let d = before.image_faith.1 dh in
+    let t = before.journal_faith.1 th in
+    let u = before.redo_faith.1 rh in
+    let settled = c.in-Ok.ensures.settles d t u (c.in_ok-taking.ensures.settled dh (c.in_ok-read.ensures.looks.faith.1 th) rh) in (
       (λ s ready has y new redo image_there there redo_there.
           let rest = rest_step before (λ d t u i rest. rest) dh th rh s ready has in
           let done = c.in-Ok.ensures.images d t u s (standing rest) has.counted in
@@ -172,7 +172,7 @@ returns-in_err-taking-clause-found_before g c =
     let before : FoundBefore g.D.Device g.T.TextStore c.self.inside.devices c.prepare_takens.new.devices =
     record {
       image_before = taken.image_before;
-      journal_before = λ h. NoMore_then _ _ _ (c.read_last_of.ensures.survives h) (taken.journal_before (c.read_last_of.ensures.looks.honesty.1 h));
+      journal_before = λ h. NoMore_then _ _ _ (c.read_last_of.ensures.survives h) (taken.journal_before (c.read_last_of.ensures.looks.faith.1 h));
       redo_before = taken.redo_before;
     } in
     rw (← c.self.view_is) (any_fault _ before)

@@ -12,8 +12,8 @@ invariant-loop-at g l =
     record {
       low : l.from ≤ l.at;
       below : l.at ≤ l.to;
-      struck : T.honest l.fn.store → AreStruck l.total (ranges_in (split (rest_to l.at l.from (T.text l.fn.store))).lines) l.fn.marks l.marks;
-      whole : T.honest l.fn.store → (split (rest_to l.at l.from (T.text l.fn.store))).rest ≡ [];
+      struck : T.faithful l.fn.store → AreStruck l.total (ranges_in (split (rest_to l.at l.from (T.text l.fn.store))).lines) l.fn.marks l.marks;
+      whole : T.faithful l.fn.store → (split (rest_to l.at l.from (T.text l.fn.store))).rest ≡ [];
       window : length l.window ≡ length l.fn.window;
       reads : OnlyReadsText T false l.fn.store l.store;
     }

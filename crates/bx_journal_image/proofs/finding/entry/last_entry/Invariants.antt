@@ -9,7 +9,7 @@ invariant-loop-end g l =
     let T = g.T.TextStore in
     record {
       below : l.end ≤ l.len;
-      none : T.honest l.fn.store → (k : ℕ) → BeginsBehind (T.text l.fn.store) k → k + 7 ≤ l.end;
+      none : T.faithful l.fn.store → (k : ℕ) → BeginsBehind (T.text l.fn.store) k → k + 7 ≤ l.end;
       window : length l.window ≡ 65536;
       reads : OnlyReadsText T false l.fn.store l.store;
     }

@@ -14,7 +14,7 @@ returns-clause-digest g c = λ hi ht.
     let named : List ℕ = at_lines x (rest_to (entry.from + c.min.result) entry.from text) in
     let summed : HasSummed c.sum_text.new.sum named = c.in_ok-all.ensures.sums hi ht c.if-not-all.false [] c.nothing_summed-sum.ensures in
     let lines = ap (λ k. at_lines x (rest_to (entry.from + k) entry.from text)) c.min.ensures ∙ entry_lines x text entry.from entry.to (c.requires.end ht) in
-    let more = c.in_ok-more.ensures.bytes (looks.honesty.1 hi) ∙ ap (λ y. appended_bytes y entry.before) (looks.same hi) in
+    let more = c.in_ok-more.ensures.bytes (looks.faith.1 hi) ∙ ap (λ y. appended_bytes y entry.before) (looks.same hi) in
     c.sum_end.ensures named summed
     ∙ ap (λ t. image_digest (take 1048576 t ++ take c.in_ok-more.more c.read_appended.new.window)) lines
     ∙ ap (λ t. image_digest (saved_bytes x (drop entry.from text) ++ t)) more

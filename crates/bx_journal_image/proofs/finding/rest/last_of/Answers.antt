@@ -11,7 +11,7 @@ returns-in_default-clause-last g c = λ hi ht.
     let text = g.T.TextStore.text c.args.text.now in
     let read = c.in_ok-to.ensures in
     let some : text ≢ [] = λ empty. c.if-to-eq0.false (read.len ht ∙ ap length empty) in
-    let none = subst (λ (o : Option ℕ). IfNone o ((n : ℕ) → EndsIn (g.T.TextStore.text c.len.new.self) n → ⊥)) c.in_default.is (c.in_ok-number.ensures.none (read.goes_on.honesty.1 ht)) in
+    let none = subst (λ (o : Option ℕ). IfNone o ((n : ℕ) → EndsIn (g.T.TextStore.text c.len.new.self) n → ⊥)) c.in_default.is (c.in_ok-number.ensures.none (read.goes_on.faith.1 ht)) in
     (some, inl (subst (λ t. (n : ℕ) → EndsIn t n → ⊥) (read.text ht) none))
 
 pub returns-clause-last : goal.returns-clause-last
@@ -23,10 +23,10 @@ returns-clause-last g c = λ hi ht.
     let numbered = c.in_ok-number.ensures in
     let found = c.in_ok-from.ensures in
     let told = c.in_ok-before.ensures in
-    let h1 = read.goes_on.honesty.1 ht in
-    let h2 = numbered.reads.goes_on.honesty.1 h1 in
-    let h3 = found.reads.goes_on.honesty.1 h2 in
-    let h4 = told.reads.goes_on.honesty.1 h3 in
+    let h1 = read.goes_on.faith.1 ht in
+    let h2 = numbered.reads.goes_on.faith.1 h1 in
+    let h3 = found.reads.goes_on.faith.1 h2 in
+    let h4 = told.reads.goes_on.faith.1 h3 in
     let same2 : T.text c.number_at_end.new.store ≡ text = numbered.reads.text h1 ∙ read.text ht in
     let same3 : T.text c.last_entry.new.store ≡ text = found.reads.text h2 ∙ same2 in
     let same4 : T.text c.length_before.new.store ≡ text = told.reads.text h3 ∙ same3 in

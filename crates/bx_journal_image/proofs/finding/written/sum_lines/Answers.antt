@@ -29,9 +29,9 @@ loop-i-preserved g c =
     let line : IsFirstLine c.loop-i.rest.now c.in-Some.i = record { below = found.0; plain = found.1; is = found.2 } in
     record {
       sums = λ h. lines_next x c.args.text.now c.loop-i.rest.now c.loop-i.taken c.in-Some.i c.args.sum.now c.loop-i.sum c.sum_line.new.sum inv.whole inv.left line (inv.sums h)
-          (subst (λ y. Sums c.loop-i.sum c.sum_line.new.sum (at_line y (take c.in-Some.i c.loop-i.rest.now))) (inv.reads.image h) (now.sums (inv.reads.goes_on.honesty.1 h)));
-      near = near_again (g.D.Device.honest c.loop-i.image) (g.D.Device.honest c.args.image.now) (g.D.Device.image c.loop-i.image) x c.sum_line.new.page c.in_ok-now.now
-          inv.reads.goes_on.honesty.1 (λ h. sym (inv.reads.image h)) now.near;
+          (subst (λ y. Sums c.loop-i.sum c.sum_line.new.sum (at_line y (take c.in-Some.i c.loop-i.rest.now))) (inv.reads.image h) (now.sums (inv.reads.goes_on.faith.1 h)));
+      near = near_again (g.D.Device.faithful c.loop-i.image) (g.D.Device.faithful c.args.image.now) (g.D.Device.image c.loop-i.image) x c.sum_line.new.page c.in_ok-now.now
+          inv.reads.goes_on.faith.1 (λ h. sym (inv.reads.image h)) now.near;
       within = omega (arith, found.0, inv.within, ap length c.split_at.ensures.back, length-drop (c.in-Some.i + 1) c.loop-i.rest.now);
       left = c.split_at.ensures.back ∙ ap (drop (c.in-Some.i + 1)) inv.left ∙ drop-drop (c.in-Some.i + 1) c.loop-i.taken c.args.text.now;
       whole = taken_on c.args.text.now c.loop-i.rest.now c.loop-i.taken c.in-Some.i inv.left inv.whole found.0 found.1 found.2;

@@ -9,8 +9,8 @@ abbrev pub invariant-loop-i : goal.invariant-loop-i
 invariant-loop-i g l =
     let D = g.D.Device in
     record {
-      sums : D.honest l.fn.image → Sums l.fn.sum l.sum (at_lines (D.image l.fn.image) (take l.taken l.text));
-      near : IsInPage (D.honest l.fn.image) (D.image l.fn.image) l.page l.now;
+      sums : D.faithful l.fn.image → Sums l.fn.sum l.sum (at_lines (D.image l.fn.image) (take l.taken l.text));
+      near : IsInPage (D.faithful l.fn.image) (D.image l.fn.image) l.page l.now;
       within : l.taken + length l.rest ≡ length l.text;
       left : l.rest ≡ drop l.taken l.text;
       whole : (split (take l.taken l.text)).rest ≡ [];

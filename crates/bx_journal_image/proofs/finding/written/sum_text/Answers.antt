@@ -31,18 +31,18 @@ loop-at-preserved g c =
     let n : ℕ = c.min-size.result in
     let is : length c.split_at_mut-now.result.0.now ≡ n = omega (arith, c.split_at_mut-now.ensures.front_len) in
     let few : c.in_ok-lines.lines.taken ≤ n = omega (arith, lines.within, c.read_at.auto.buf, is) in
-    let read : g.T.TextStore.honest c.args.store.now → c.read_at.new.buf ≡ take n (drop c.loop-at.at text) =
-    λ h. now.bytes (inv.looks.text.honesty.1 h) ∙ ap (λ k. take k (drop c.loop-at.at (g.T.TextStore.text c.loop-at.store))) is ∙ ap (λ y. take n (drop c.loop-at.at y)) (inv.looks.text.same h) in
+    let read : g.T.TextStore.faithful c.args.store.now → c.read_at.new.buf ≡ take n (drop c.loop-at.at text) =
+    λ h. now.bytes (inv.looks.text.faith.1 h) ∙ ap (λ k. take k (drop c.loop-at.at (g.T.TextStore.text c.loop-at.store))) is ∙ ap (λ y. take n (drop c.loop-at.at y)) (inv.looks.text.same h) in
     record {
       low = omega (arith, inv.low);
       below = omega (arith, inv.below, few, c.min-size.ensures, c.loop-at-test.true);
       sums = λ hi hs. sums_same c.args.sum.now c.sum_lines.new.sum _ _
           (window_lines x text c.read_at.new.buf c.args.part.from c.loop-at.at n inv.low (read hs) (inv.whole hs) c.in_ok-lines.lines.taken few lines.lines)
           (sums_then c.args.sum.now c.loop-at.sum c.sum_lines.new.sum _ _ (inv.sums hi hs)
-          (subst (λ y. Sums c.loop-at.sum c.sum_lines.new.sum (at_lines y c.read_at.new.buf)) (inv.looks.image.same hi) (lines.sums (inv.looks.image.honesty.1 hi))));
+          (subst (λ y. Sums c.loop-at.sum c.sum_lines.new.sum (at_lines y c.read_at.new.buf)) (inv.looks.image.same hi) (lines.sums (inv.looks.image.faith.1 hi))));
       whole = λ h. window_ends 0 c.args.part.from c.loop-at.at n c.in_ok-lines.lines.taken text c.read_at.new.buf [] [] [] inv.low (read h) few (inv.whole h) lines.whole;
-      near = near_again (g.D.Device.honest c.loop-at.image) (g.D.Device.honest c.args.image.now) (g.D.Device.image c.loop-at.image) x c.sum_lines.new.page c.in_ok-lines.lines.near
-          inv.looks.image.honesty.1 (λ h. sym (inv.looks.image.same h)) lines.near;
+      near = near_again (g.D.Device.faithful c.loop-at.image) (g.D.Device.faithful c.args.image.now) (g.D.Device.image c.loop-at.image) x c.sum_lines.new.page c.in_ok-lines.lines.near
+          inv.looks.image.faith.1 (λ h. sym (inv.looks.image.same h)) lines.near;
       page = lines.room ∙ inv.page;
       window = omega (arith, inv.window, c.read_at.auto.buf);
       looks = then_image g.D.Device g.T.TextStore (then_text g.D.Device g.T.TextStore inv.looks (record { text = now.text; survives = now.survives; goes_on = now.goes_on })) lines.reads;
@@ -66,14 +66,14 @@ returns-then-lines-eq0-clause-sums g c = λ hi hs less.
     let n : ℕ = c.min-size.result in
     let is : length c.split_at_mut-now.result.0.now ≡ n = omega (arith, c.split_at_mut-now.ensures.front_len) in
     let read : buf ≡ take n (drop c.loop-at.at text) =
-    now.bytes (inv.looks.text.honesty.1 hs) ∙ ap (λ k. take k (drop c.loop-at.at (g.T.TextStore.text c.loop-at.store))) is ∙ ap (λ y. take n (drop c.loop-at.at y)) (inv.looks.text.same hs) in
+    now.bytes (inv.looks.text.faith.1 hs) ∙ ap (λ k. take k (drop c.loop-at.at (g.T.TextStore.text c.loop-at.store))) is ∙ ap (λ y. take n (drop c.loop-at.at y)) (inv.looks.text.same hs) in
     let short : n < length (buf ++ rest) = ltb-true n (length (buf ++ rest)) less in
     let ends : c.loop-at.at + n ≡ c.args.part.to =
     omega (arith, short, length-append buf rest, c.read_at.auto.buf, is, c.split_at_mut-now.ensures.back_len, c.min-size.ensures, c.loop-at-test.true) in
     let none : (split buf).lines ≡ [] = none_taken buf c.in_ok-lines.lines.taken c.if-lines-eq0.true lines.lines in
     sums_same c.args.sum.now c.sum_lines.new.sum _ _ (last_lines x text buf c.args.part.from c.loop-at.at n inv.low read (inv.whole hs) c.args.part.to ends none)
     (sums_then c.args.sum.now c.loop-at.sum c.sum_lines.new.sum _ _ (inv.sums hi hs)
-    (subst (λ y. Sums c.loop-at.sum c.sum_lines.new.sum (at_lines y buf)) (inv.looks.image.same hi) (lines.sums (inv.looks.image.honesty.1 hi))))
+    (subst (λ y. Sums c.loop-at.sum c.sum_lines.new.sum (at_lines y buf)) (inv.looks.image.same hi) (lines.sums (inv.looks.image.faith.1 hi))))
 
 pub returns-then-lines-eq0-clause-long : goal.returns-then-lines-eq0-clause-long
 returns-then-lines-eq0-clause-long g c = λ hs less.
@@ -83,7 +83,7 @@ returns-then-lines-eq0-clause-long g c = λ hs less.
     let n : ℕ = c.min-size.result in
     let is : length c.split_at_mut-now.result.0.now ≡ n = omega (arith, c.split_at_mut-now.ensures.front_len) in
     let read : c.read_at.new.buf ≡ take n (drop c.loop-at.at text) =
-    now.bytes (inv.looks.text.honesty.1 hs) ∙ ap (λ k. take k (drop c.loop-at.at (g.T.TextStore.text c.loop-at.store))) is ∙ ap (λ y. take n (drop c.loop-at.at y)) (inv.looks.text.same hs) in
+    now.bytes (inv.looks.text.faith.1 hs) ∙ ap (λ k. take k (drop c.loop-at.at (g.T.TextStore.text c.loop-at.store))) is ∙ ap (λ y. take n (drop c.loop-at.at y)) (inv.looks.text.same hs) in
     let size : n ≡ min 65536 (c.args.part.to - c.loop-at.at) = c.min-size.ensures ∙ ap (λ k. min k (c.args.part.to - c.loop-at.at)) inv.window in
     record {
       at = c.loop-at.at;

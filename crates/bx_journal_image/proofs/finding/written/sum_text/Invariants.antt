@@ -13,9 +13,9 @@ invariant-loop-at g l =
     record {
       low : l.part.from ≤ l.at;
       below : l.at ≤ l.part.to;
-      sums : D.honest l.fn.image → T.honest l.fn.store → Sums l.fn.sum l.sum (at_lines (D.image l.fn.image) (rest_to l.at l.part.from (T.text l.fn.store)));
-      whole : T.honest l.fn.store → (split (rest_to l.at l.part.from (T.text l.fn.store))).rest ≡ [];
-      near : IsInPage (D.honest l.fn.image) (D.image l.fn.image) l.page l.near;
+      sums : D.faithful l.fn.image → T.faithful l.fn.store → Sums l.fn.sum l.sum (at_lines (D.image l.fn.image) (rest_to l.at l.part.from (T.text l.fn.store)));
+      whole : T.faithful l.fn.store → (split (rest_to l.at l.part.from (T.text l.fn.store))).rest ≡ [];
+      near : IsInPage (D.faithful l.fn.image) (D.image l.fn.image) l.page l.near;
       page : length l.page ≡ 4096;
       window : length l.window ≡ 65536;
       looks : LooksAtBoth D T false l.fn.image l.image l.fn.store l.store;

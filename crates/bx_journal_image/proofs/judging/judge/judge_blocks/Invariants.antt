@@ -7,8 +7,8 @@ use Rattle.bx_journal_image.proofs.judging.judge.judge_blocks.Given as goal
 abbrev pub invariant-loop-i : goal.invariant-loop-i
 invariant-loop-i g l = record {
   reads : OnlyReadsImage g.D.Device false l.fn.image l.image;
-  long : g.D.Device.honest l.fn.image → l.len ≡ length (g.D.Device.image l.fn.image);
-  read : g.D.Device.honest l.fn.image → AreRead l.i l.total l.marks (g.D.Device.image l.fn.image) l.verdict;
+  long : g.D.Device.faithful l.fn.image → l.len ≡ length (g.D.Device.image l.fn.image);
+  read : g.D.Device.faithful l.fn.image → AreRead l.i l.total l.marks (g.D.Device.image l.fn.image) l.verdict;
   none : l.verdict ≢ Other;
   room : length l.room ≡ 4096;
 }

@@ -8,9 +8,9 @@ use Rattle.bx_journal_image.proofs.MarkLemmas.{marked_more}
 use Rattle.bx_journal_image.proofs.judging.judge.mark_all.Goals as goal
 
 pub read_block-requires-clause-range : goal.read_block-requires-clause-range
-read_block-requires-clause-range g c = λ honest.
+read_block-requires-clause-range g c = λ faithful.
     let before = c.loop-k.invariant.reads in
-    let start = before.goes_on.honesty.0 honest in
+    let start = before.goes_on.faith.0 faithful in
     let long : c.args.total ≡ length (g.D.Device.image c.loop-k.image) = c.requires.long start ∙ ap length (sym (before.image start)) in
     omega (arith, long, block_within c.args.total c.loop-k.k (omega (arith, c.loop-k-test.true)))
 
@@ -20,16 +20,16 @@ loop-k-preserved g c =
     let now = c.in_ok-read_block.ensures in
     record {
       reads = record {
-        image = λ honest. now.reads.image (before.reads.goes_on.honesty.1 honest) ∙ before.reads.image honest;
-        survives = λ honest. NoMore_then _ _ _ (before.reads.survives honest) (now.reads.survives (before.reads.goes_on.honesty.1 honest));
+        image = λ faithful. now.reads.image (before.reads.goes_on.faith.1 faithful) ∙ before.reads.image faithful;
+        survives = λ faithful. NoMore_then _ _ _ (before.reads.survives faithful) (now.reads.survives (before.reads.goes_on.faith.1 faithful));
         goes_on = GoesOn_then _ _ _ _ _ _ _ before.reads.goes_on now.reads.goes_on;
       };
-      marks = λ honest p below.
-          let start = before.reads.image honest in
+      marks = λ faithful p below.
+          let start = before.reads.image faithful in
           let digest : c.in_ok-read_block.field-0 ≡ block_digest c.args.total c.loop-k.k (g.D.Device.image c.args.image.now) =
-          now.digest (before.reads.goes_on.honesty.1 honest) ∙ ap (block_digest c.args.total c.loop-k.k) start in
+          now.digest (before.reads.goes_on.faith.1 faithful) ∙ ap (block_digest c.args.total c.loop-k.k) start in
           marked_more (λ q. Some (block_digest c.args.total q (g.D.Device.image c.args.image.now))) c.loop-k.marks c.loop-k.k (Some c.in_ok-read_block.field-0) p
-          before.long (omega (arith, c.loop-k-test.true)) (before.marks honest) (ap Some digest) below;
+          before.long (omega (arith, c.loop-k-test.true)) (before.marks faithful) (ap Some digest) below;
       long = length-set c.loop-k.marks c.loop-k.k (Some c.in_ok-read_block.field-0) ∙ before.long;
       room = now.room;
     }

@@ -23,8 +23,8 @@ look_and_begin-requires-clause-ordered g c =
     all_ranges c.args.len (2 ^ 64) _ _ c.as_slice-spans.ensures.value (omega (arith, few)) c.in_ok-ranges.ensures.within
 
 pub look_and_begin-requires-clause-ranges : goal.look_and_begin-requires-clause-ranges
-look_and_begin-requires-clause-ranges g c honest =
-    all_ranges c.args.len (length (g.D.Device.image c.args.image.now)) _ _ c.as_slice-spans.ensures.value (omega (arith, c.requires.long honest)) c.in_ok-ranges.ensures.within
+look_and_begin-requires-clause-ranges g c faithful =
+    all_ranges c.args.len (length (g.D.Device.image c.args.image.now)) _ _ c.as_slice-spans.ensures.value (omega (arith, c.requires.long faithful)) c.in_ok-ranges.ensures.within
 
 pub returns-clause-head : goal.returns-clause-head
 returns-clause-head g c =
@@ -51,21 +51,21 @@ returns-clause-long g c =
     c.head_len_of-total.ensures ∙ ap (λ n. min n (2 ^ 64 - 1)) all
 
 pub returns-clause-begins : goal.returns-clause-begins
-returns-clause-begins g c honest =
+returns-clause-begins g c faithful =
     let x : List ℕ = g.D.Device.image c.args.image.now in
     let spans : List Span = c.in_ok-ranges.ranges.items in
     let slice : List Span = c.as_slice-spans.result.now in
     let is : slice ≡ spans = c.as_slice-spans.ensures.value in
     let p : Place = c.in_ok-place.place in
     let page : List ℕ = c.look_and_begin.new.page.items in
-    let long : c.args.len ≡ length x = c.requires.long honest in
+    let long : c.args.len ≡ length x = c.requires.long faithful in
     let within : LieWithin (length x) spans = subst (λ n. LieWithin n spans) long c.in_ok-ranges.ensures.within in
     let begun = c.in_ok-place.ensures in
     record {
       begun = record {
         within = are_ranges (length x) spans within;
-        text = subst (λ r. head_from x r p page c.args.number ≡ head_text c.args.number (kept_over x r)) is (begun.begun honest);
+        text = subst (λ r. head_from x r p page c.args.number ≡ head_text c.args.number (kept_over x r)) is (begun.begun faithful);
       };
       saved_is = sym (kept_as x spans (saved c.args.change.now x) (c.in_ok-ranges.ensures.saved x (sym long)));
-      kept = kept_of_image x spans within (subst (λ r. HaveBytes (kept_over x r).runs) is (begun.bytes honest));
+      kept = kept_of_image x spans within (subst (λ r. HaveBytes (kept_over x r).runs) is (begun.bytes faithful));
     }

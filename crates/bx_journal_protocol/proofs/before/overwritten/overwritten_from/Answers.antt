@@ -11,7 +11,7 @@ use Rattle.bx_journal_protocol.proofs.TakenLemmas.{last_is}
 use Rattle.bx_journal_protocol.proofs.before.overwritten.overwritten_from.Goals as goal
 
 pub returns-clause-overwritten : goal.returns-clause-overwritten
-returns-clause-overwritten g c honest =
+returns-clause-overwritten g c faithful =
     let es : List (EntryRead g.row.A.Denot) = c.args.entries.now in
     let n : ℕ = length es - 1 in
     let e = slice_index_or es n c.index-entries-count.result in
@@ -20,7 +20,7 @@ returns-clause-overwritten g c honest =
     let long : length es ≡ suc n = omega (arith, c.requires.few, c.if-k-eq0.false) in
     let parts : es ≡ take n es ++ e ∷ [] = last_is es n c.index-entries-count.result long in
     let items : c.push.new.self.items ≡ c.in_ok-all.all.items ++ o ∷ [] = grind (arith, common_steps) in
-    let one : IsOverwrittenOf x e o = subst (λ d. IsOverwrittenOf x d o) c.index-entries-count.is (c.in_ok-one.ensures.overwritten honest) in
+    let one : IsOverwrittenOf x e o = subst (λ d. IsOverwrittenOf x d o) c.index-entries-count.is (c.in_ok-one.ensures.overwritten faithful) in
     let rest : AreOverwritten e.kept.len (reverse (take n es)) (reverse c.in_ok-all.all.items) =
     subst (λ d. AreOverwritten d.kept.len (reverse (take n es)) (reverse c.in_ok-all.all.items)) c.index-entries-count.is
     (subst (λ fs. AreOverwritten c.index-entries-count.result.kept.len (reverse fs) (reverse c.in_ok-all.all.items)) c.split_at.ensures.front c.in_ok-all.ensures.overwritten) in

@@ -9,7 +9,7 @@ begin_last-requires-clause-within g c = subst (λ us. IsFirstWithin c.args.len (
 
 pub returns-clause-begun : goal.returns-clause-begun
 returns-clause-begun g c =
-    subst (λ us. IsFirstBegun (g.D.Device.honest c.args.image.now) (g.D.Device.image c.args.image.now) c.args.number (reverse us) c.begin_last.new.page.items c.in_ok-place.place) c.as_slice.ensures.value
+    subst (λ us. IsFirstBegun (g.D.Device.faithful c.args.image.now) (g.D.Device.image c.args.image.now) c.args.number (reverse us) c.begin_last.new.page.items c.in_ok-place.place) c.as_slice.ensures.value
     c.in_ok-place.ensures.begun
 
 pub returns-clause-window : goal.returns-clause-window

@@ -10,7 +10,7 @@ returns-clause-kept g c text count read =
 
 pub returns-clause-roomed : goal.returns-clause-roomed
 returns-clause-roomed g c th =
-    let still = c.take_ranges.ensures.stayed.journal_honesty.1 th in
+    let still = c.take_ranges.ensures.stayed.journal_faith.1 th in
     let text : length (g.T.TextStore.text c.settle.new.devices.journal) ≡ length (g.T.TextStore.text c.take_ranges.new.devices.journal) = ap length (c.settle.ensures.stayed.text_same still) in
     omega (arith, text, c.in-Ok.ensures.roomed th, c.settle.ensures.journal_room)
 

@@ -18,12 +18,12 @@ touched : (g : _) (c : After-make_room g) → AreTouched c.in_ok-len.len (revers
 touched g c = subst (λ fs. AreTouched c.in_ok-len.len (reverse fs) (reverse c.in_ok-again.again.takens.items)) c.as_slice.ensures.value c.in_ok-again.ensures.touched
 
 -- the image is as it was
-image : (g : _) (c : After-make_room g) → g.D.Device.honest c.args.devices.now.image → g.D.Device.image c.make_room.new.devices.image ≡ g.D.Device.image c.args.devices.now.image
-image g c h = c.make_room.ensures.stayed.image_same (c.len.ensures.goes_on.honesty.1 h) ∙ c.len.ensures.image h
+image : (g : _) (c : After-make_room g) → g.D.Device.faithful c.args.devices.now.image → g.D.Device.image c.make_room.new.devices.image ≡ g.D.Device.image c.args.devices.now.image
+image g c h = c.make_room.ensures.stayed.image_same (c.len.ensures.goes_on.faith.1 h) ∙ c.len.ensures.image h
 
 pub begin_first-requires-clause-long : goal.begin_first-requires-clause-long
 begin_first-requires-clause-long g c now =
-    let h = c.len.ensures.goes_on.honesty.0 (c.make_room.ensures.stayed.image_honesty.0 now) in
+    let h = c.len.ensures.goes_on.faith.0 (c.make_room.ensures.stayed.image_faith.0 now) in
     c.in_ok-len.ensures.len h ∙ sym (ap length (image g (goal.at.begin_first-requires-clause-long g c).After-make_room h))
 
 pub begin_first-requires-clause-within : goal.begin_first-requires-clause-within
@@ -40,7 +40,7 @@ returns-clause-kept g c text count read =
 pub returns-clause-ready : goal.returns-clause-ready
 returns-clause-ready g c =
     let at = goal.at.returns-clause-ready g c in
-    let first = λ (h : g.D.Device.honest c.args.devices.now.image). c.make_room.ensures.stayed.image_honesty.1 (c.len.ensures.goes_on.honesty.1 h) in
+    let first = λ (h : g.D.Device.faithful c.args.devices.now.image). c.make_room.ensures.stayed.image_faith.1 (c.len.ensures.goes_on.faith.1 h) in
     let begun = c.in_ok-begun.ensures in
     let o = c.in_ok-begun.begun in
     record {
@@ -57,7 +57,7 @@ returns-clause-ready g c =
 
 pub returns-clause-roomed : goal.returns-clause-roomed
 returns-clause-roomed g c th =
-    let text : length (g.T.TextStore.text c.make_room.new.devices.journal) ≡ length (g.T.TextStore.text c.args.devices.now.journal) = ap length (c.make_room.ensures.stayed.text_same (c.len-2.ensures.goes_on.honesty.1 th) ∙ c.len-2.ensures.text th) in
+    let text : length (g.T.TextStore.text c.make_room.new.devices.journal) ≡ length (g.T.TextStore.text c.args.devices.now.journal) = ap length (c.make_room.ensures.stayed.text_same (c.len-2.ensures.goes_on.faith.1 th) ∙ c.len-2.ensures.text th) in
     let same : entries_over c.in_ok-begun.begun.takens.items ≡ entries_over c.in_ok-again.again.takens.items =
     ap (λ (ts : Vec (Vec Span g.row.A.Denot) g.row.A.Denot). entries_over ts.items) c.in_ok-begun.ensures.takens in
     omega (arith, text, same, c.in_ok-to_len.ensures.len th, c.in_ok-again.ensures.long, c.saturating_add.ensures, c.in_ok-make_room.ensures.journal, c.in_ok-make_room.ensures.limit.0)
@@ -65,9 +65,9 @@ returns-clause-roomed g c th =
 -- the lengths were looked at before
 before_room : (g : _) (c : After-make_room g) → HaveStayed g.D.Device g.T.TextStore c.args.devices.now (record { image = c.len.new.self; journal = c.len-2.new.self; redo = c.args.devices.now.redo })
 before_room g c = record {
-  image_honesty = c.len.ensures.goes_on.honesty;
-  journal_honesty = c.len-2.ensures.goes_on.honesty;
-  redo_honesty = ((λ h. h), λ h. h);
+  image_faith = c.len.ensures.goes_on.faith;
+  journal_faith = c.len-2.ensures.goes_on.faith;
+  redo_faith = ((λ h. h), λ h. h);
   image_same = c.len.ensures.image;
   text_same = c.len-2.ensures.text;
   redo_same = λ h. refl;
@@ -86,10 +86,10 @@ all_stayed : (g : _) (c : After-begin_first g) → HaveStayed g.D.Device g.T.Tex
 all_stayed g c room =
     let last = c.begin_first.ensures in
     record {
-      image_honesty = both_ways last.goes_on.honesty room.image_honesty;
-      journal_honesty = room.journal_honesty;
-      redo_honesty = room.redo_honesty;
-      image_same = λ h. last.image (room.image_honesty.1 h) ∙ room.image_same h;
+      image_faith = both_ways last.goes_on.faith room.image_faith;
+      journal_faith = room.journal_faith;
+      redo_faith = room.redo_faith;
+      image_same = λ h. last.image (room.image_faith.1 h) ∙ room.image_same h;
       text_same = room.text_same;
       redo_same = room.redo_same;
     }
@@ -99,7 +99,7 @@ all_found : (g : _) (c : After-begin_first g) → HaveStayed g.D.Device g.T.Text
     → FoundBefore g.D.Device g.T.TextStore c.args.devices.now (with_device c.make_room.new.devices c.begin_first.new.image)
 all_found g c stayed room =
     record {
-      image_before = λ h. NoMore_then _ _ _ (room.image_before h) (c.begin_first.ensures.survives (stayed.image_honesty.1 h));
+      image_before = λ h. NoMore_then _ _ _ (room.image_before h) (c.begin_first.ensures.survives (stayed.image_faith.1 h));
       journal_before = room.journal_before;
       redo_before = room.redo_before;
     }

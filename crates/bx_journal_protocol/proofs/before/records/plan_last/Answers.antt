@@ -28,5 +28,5 @@ returns-clause-plan g c =
     }
 
 pub returns-clause-overwritten : goal.returns-clause-overwritten
-returns-clause-overwritten g c honest =
-    subst (λ fs. AreOverwrittenOf (g.D.Device.image c.args.image.now) (reverse fs) (reverse c.in_ok-overwritten.overwritten.items)) c.as_slice-entries.ensures.value (c.in_ok-overwritten.ensures.overwritten honest)
+returns-clause-overwritten g c faithful =
+    subst (λ fs. AreOverwrittenOf (g.D.Device.image c.args.image.now) (reverse fs) (reverse c.in_ok-overwritten.overwritten.items)) c.as_slice-entries.ensures.value (c.in_ok-overwritten.ensures.overwritten faithful)

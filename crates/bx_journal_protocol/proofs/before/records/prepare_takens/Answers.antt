@@ -18,18 +18,18 @@ returns-clause-prepared g c =
     let read = c.requires.read in
     let first = c.take_records.ensures.stayed in
     let last = c.settle.ensures in
-    let back = λ (h : g.T.TextStore.honest c.settle.new.devices.journal). first.journal_honesty.0 (last.steps_on.journal_honesty.0 h) in
-    let same = λ (h : g.T.TextStore.honest c.settle.new.devices.journal). last.stayed.text_same (first.journal_honesty.1 (back h)) ∙ first.text_same (back h) in
-    let is = λ (h : g.T.TextStore.honest c.settle.new.devices.journal). same h ∙ read.is (back h) in
+    let back = λ (h : g.T.TextStore.faithful c.settle.new.devices.journal). first.journal_faith.0 (last.steps_on.journal_faith.0 h) in
+    let same = λ (h : g.T.TextStore.faithful c.settle.new.devices.journal). last.stayed.text_same (first.journal_faith.1 (back h)) ∙ first.text_same (back h) in
+    let is = λ (h : g.T.TextStore.faithful c.settle.new.devices.journal). same h ∙ read.is (back h) in
     record {
       entries = es;
       read = record { text = read.text; older = read.older; is = is; mark = read.mark; marked = read.marked };
       few = omega (arith, c.in-Ok.ensures.count, c.requires.few);
-      placed = subst (λ ps. ArePlaced (g.T.TextStore.honest c.settle.new.devices.journal) (g.T.TextStore.text c.settle.new.devices.journal) (reverse es) (reverse ps)) (sym c.in-Ok.ensures.places)
-          (placed_last (g.T.TextStore.honest c.settle.new.devices.journal) (g.T.TextStore.text c.settle.new.devices.journal) read.text read.older 0 (length read.text) es n is read.marked);
+      placed = subst (λ ps. ArePlaced (g.T.TextStore.faithful c.settle.new.devices.journal) (g.T.TextStore.text c.settle.new.devices.journal) (reverse es) (reverse ps)) (sym c.in-Ok.ensures.places)
+          (placed_last (g.T.TextStore.faithful c.settle.new.devices.journal) (g.T.TextStore.text c.settle.new.devices.journal) read.text read.older 0 (length read.text) es n is read.marked);
       ready = λ h.
-          let here = first.image_honesty.0 (last.steps_on.image_honesty.0 h) in
-          subst (λ x. AreReady x (reverse es) (reverse c.in-Ok.taking.takens.items)) (sym (last.stayed.image_same (first.image_honesty.1 here) ∙ first.image_same here)) (c.in-Ok.ensures.filled here);
+          let here = first.image_faith.0 (last.steps_on.image_faith.0 h) in
+          subst (λ x. AreReady x (reverse es) (reverse c.in-Ok.taking.takens.items)) (sym (last.stayed.image_same (first.image_faith.1 here) ∙ first.image_same here)) (c.in-Ok.ensures.filled here);
     }
 
 pub returns-clause-fit : goal.returns-clause-fit
@@ -40,7 +40,7 @@ returns-clause-same g c = places_many c.args.read.entries.items c.args.k c.in-Ok
 
 pub returns-clause-roomed : goal.returns-clause-roomed
 returns-clause-roomed g c th =
-    let still = c.take_records.ensures.stayed.redo_honesty.1 th in
+    let still = c.take_records.ensures.stayed.redo_faith.1 th in
     let text : length (g.T.TextStore.text c.settle.new.devices.redo) ≡ length (g.T.TextStore.text c.take_records.new.devices.redo) = ap length (c.settle.ensures.stayed.redo_same still) in
     omega (arith, text, c.in-Ok.ensures.roomed th, c.settle.ensures.redo_room)
 
@@ -59,4 +59,4 @@ returns-in_err-settle-clause-found_before g c = found_then c.take_records.ensure
 
 pub returns-clause-settled : goal.returns-clause-settled
 returns-clause-settled g c dh th rh =
-    let first = c.take_records.ensures.stayed in c.in_ok-settle.ensures.settled (first.image_honesty.1 dh) (first.journal_honesty.1 th) (first.redo_honesty.1 rh)
+    let first = c.take_records.ensures.stayed in c.in_ok-settle.ensures.settled (first.image_faith.1 dh) (first.journal_faith.1 th) (first.redo_faith.1 rh)

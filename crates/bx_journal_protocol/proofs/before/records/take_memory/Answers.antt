@@ -27,8 +27,8 @@ returns-clause-taken g c =
     }
 
 pub returns-clause-room : goal.returns-clause-room
-returns-clause-room g c honest =
-    subst (λ us. HaveRoom us c.in_ok-takens.takens.items) c.as_slice.ensures.value c.in_ok-takens.ensures.room (g.D.Device.image c.args.image.now) (reverse c.args.read.entries.items) (c.in_ok-plan.ensures.overwritten honest)
+returns-clause-room g c faithful =
+    subst (λ us. HaveRoom us c.in_ok-takens.takens.items) c.as_slice.ensures.value c.in_ok-takens.ensures.room (g.D.Device.image c.args.image.now) (reverse c.args.read.entries.items) (c.in_ok-plan.ensures.overwritten faithful)
 
 -- behind the look at the image only memory is lacking
 pub returns-in_err-clone-clause-looks : goal.returns-in_err-clone-clause-looks

@@ -24,21 +24,21 @@ returns-clause-fit g c =
 
 -- the image is the one that it was, behind the calls up to the room that is made
 pub returns-clause-filled : goal.returns-clause-filled
-returns-clause-filled g c honest =
+returns-clause-filled g c faithful =
     let es = c.args.read.entries.items in
     let ts = c.in-Ok.taking.takens.items in
-    let first = c.len.ensures.goes_on.honesty.1 honest in
-    let second = c.take_memory.ensures.looks.honesty.1 first in
+    let first = c.len.ensures.goes_on.faith.1 faithful in
+    let second = c.take_memory.ensures.looks.faith.1 first in
     let same = c.make_room.ensures.stayed.image_same second ∙ c.take_memory.ensures.looks.same first in
-    let image : g.D.Device.image c.make_room.new.devices.image ≡ g.D.Device.image c.args.devices.now.image = same ∙ c.len.ensures.image honest in
+    let image : g.D.Device.image c.make_room.new.devices.image ≡ g.D.Device.image c.args.devices.now.image = same ∙ c.len.ensures.image faithful in
     let room : AreRoomFrom (g.D.Device.image c.make_room.new.devices.image) (reverse es) (reverse ts) =
     subst (λ x. AreRoomFrom x (reverse es) (reverse ts)) (sym same) (c.in-Ok.ensures.room first) in
-    subst (λ x. AreReady x (reverse es) (reverse c.fill_last.new.takens.items)) image (c.in_ok-fill_last.ensures.filled (c.make_room.ensures.stayed.image_honesty.1 second) (reverse es) room)
+    subst (λ x. AreReady x (reverse es) (reverse c.fill_last.new.takens.items)) image (c.in_ok-fill_last.ensures.filled (c.make_room.ensures.stayed.image_faith.1 second) (reverse es) room)
 
 pub take_memory-requires-clause-long : goal.take_memory-requires-clause-long
 take_memory-requires-clause-long g c now =
-    let honest = c.len.ensures.goes_on.honesty.0 now in
-    c.in_ok-len.ensures.len honest ∙ sym (ap length (c.len.ensures.image honest))
+    let faithful = c.len.ensures.goes_on.faith.0 now in
+    c.in_ok-len.ensures.len faithful ∙ sym (ap length (c.len.ensures.image faithful))
 
 pub returns-clause-places : goal.returns-clause-places
 returns-clause-places g c = c.in-Ok.ensures.taken.places
@@ -60,21 +60,21 @@ returns-clause-page_room g c = c.in-Ok.ensures.taken.page_room
 
 pub returns-clause-roomed : goal.returns-clause-roomed
 returns-clause-roomed g c th =
-    let text : length (g.T.TextStore.text c.make_room.new.devices.redo) ≡ length (g.T.TextStore.text c.args.devices.now.redo) = ap length (c.make_room.ensures.stayed.redo_same (c.len-2.ensures.goes_on.honesty.1 th) ∙ c.len-2.ensures.text th) in
+    let text : length (g.T.TextStore.text c.make_room.new.devices.redo) ≡ length (g.T.TextStore.text c.args.devices.now.redo) = ap length (c.make_room.ensures.stayed.redo_same (c.len-2.ensures.goes_on.faith.1 th) ∙ c.len-2.ensures.text th) in
     let more : entries_len c.as_slice.result.now ≡ entries_len c.in-Ok.taking.takens.items = ap entries_len c.as_slice.ensures.value in
     omega (arith, text, more, c.in_ok-to_len.ensures.len th, c.entries_len-more.ensures, c.fill_last.ensures.entries_len, c.saturating_add.ensures, c.in_ok-make_room.ensures.redo, c.in_ok-make_room.ensures.limit.1)
 
 pub returns-clause-stayed : goal.returns-clause-stayed
 returns-clause-stayed g c =
     let room = c.make_room.ensures.stayed in
-    let first = both_ways c.take_memory.ensures.looks.honesty c.len.ensures.goes_on.honesty in
-    let one = c.len.ensures.goes_on.honesty in
-    let other = c.len-2.ensures.goes_on.honesty in
+    let first = both_ways c.take_memory.ensures.looks.faith c.len.ensures.goes_on.faith in
+    let one = c.len.ensures.goes_on.faith in
+    let other = c.len-2.ensures.goes_on.faith in
     record {
-      image_honesty = both_ways c.fill_last.ensures.goes_on.honesty (both_ways room.image_honesty first);
-      journal_honesty = room.journal_honesty;
-      redo_honesty = both_ways room.redo_honesty other;
-      image_same = λ h. c.fill_last.ensures.image (room.image_honesty.1 (first.1 h)) ∙ room.image_same (first.1 h) ∙ c.take_memory.ensures.looks.same (one.1 h) ∙ c.len.ensures.image h;
+      image_faith = both_ways c.fill_last.ensures.goes_on.faith (both_ways room.image_faith first);
+      journal_faith = room.journal_faith;
+      redo_faith = both_ways room.redo_faith other;
+      image_same = λ h. c.fill_last.ensures.image (room.image_faith.1 (first.1 h)) ∙ room.image_same (first.1 h) ∙ c.take_memory.ensures.looks.same (one.1 h) ∙ c.len.ensures.image h;
       text_same = room.text_same;
       redo_same = λ h. room.redo_same (other.1 h) ∙ c.len-2.ensures.text h;
     }
@@ -82,22 +82,22 @@ returns-clause-stayed g c =
 pub returns-clause-found_before : goal.returns-clause-found_before
 returns-clause-found_before g c =
     let room = c.make_room.ensures in
-    let first = both_ways c.take_memory.ensures.looks.honesty c.len.ensures.goes_on.honesty in
-    let one = c.len.ensures.goes_on.honesty in
+    let first = both_ways c.take_memory.ensures.looks.faith c.len.ensures.goes_on.faith in
+    let one = c.len.ensures.goes_on.faith in
     record {
       image_before = λ h.
           NoMore_then _ _ _ (NoMore_then _ _ _ (c.len.ensures.survives h) (c.take_memory.ensures.survives (one.1 h)))
-          (NoMore_then _ _ _ (room.found_before.image_before (first.1 h)) (c.fill_last.ensures.survives (room.stayed.image_honesty.1 (first.1 h))));
+          (NoMore_then _ _ _ (room.found_before.image_before (first.1 h)) (c.fill_last.ensures.survives (room.stayed.image_faith.1 (first.1 h))));
       journal_before = room.found_before.journal_before;
-      redo_before = λ h. NoMore_then _ _ _ (c.len-2.ensures.survives h) (room.found_before.redo_before (c.len-2.ensures.goes_on.honesty.1 h));
+      redo_before = λ h. NoMore_then _ _ _ (c.len-2.ensures.survives h) (room.found_before.redo_before (c.len-2.ensures.goes_on.faith.1 h));
     }
 
 pub fill_last-requires-clause-range : goal.fill_last-requires-clause-range
 fill_last-requires-clause-range g c now =
     let es = c.args.read.entries.items in
     let ts = c.in-Ok.taking.takens.items in
-    let second = c.make_room.ensures.stayed.image_honesty.0 now in
-    let first = c.take_memory.ensures.looks.honesty.0 second in
+    let second = c.make_room.ensures.stayed.image_faith.0 now in
+    let first = c.take_memory.ensures.looks.faith.0 second in
     let same = c.make_room.ensures.stayed.image_same second ∙ c.take_memory.ensures.looks.same first in
     first_of_rooms (g.D.Device.image c.make_room.new.devices.image) (reverse es) (reverse ts) (subst (λ x. AreRoomFrom x (reverse es) (reverse ts)) (sym same) (c.in-Ok.ensures.room first))
 
@@ -105,13 +105,13 @@ fill_last-requires-clause-range g c now =
 pub returns-in_err-make_room-clause-stayed : goal.returns-in_err-make_room-clause-stayed
 returns-in_err-make_room-clause-stayed g c =
     let room = c.make_room.ensures.stayed in
-    let first = both_ways c.take_memory.ensures.looks.honesty c.len.ensures.goes_on.honesty in
-    let one = c.len.ensures.goes_on.honesty in
-    let other = c.len-2.ensures.goes_on.honesty in
+    let first = both_ways c.take_memory.ensures.looks.faith c.len.ensures.goes_on.faith in
+    let one = c.len.ensures.goes_on.faith in
+    let other = c.len-2.ensures.goes_on.faith in
     record {
-      image_honesty = both_ways room.image_honesty first;
-      journal_honesty = room.journal_honesty;
-      redo_honesty = both_ways room.redo_honesty other;
+      image_faith = both_ways room.image_faith first;
+      journal_faith = room.journal_faith;
+      redo_faith = both_ways room.redo_faith other;
       image_same = λ h. room.image_same (first.1 h) ∙ c.take_memory.ensures.looks.same (one.1 h) ∙ c.len.ensures.image h;
       text_same = room.text_same;
       redo_same = λ h. room.redo_same (other.1 h) ∙ c.len-2.ensures.text h;
@@ -120,25 +120,25 @@ returns-in_err-make_room-clause-stayed g c =
 pub returns-in_err-make_room-clause-found_before : goal.returns-in_err-make_room-clause-found_before
 returns-in_err-make_room-clause-found_before g c =
     let room = c.make_room.ensures.found_before in
-    let one = c.len.ensures.goes_on.honesty in
+    let one = c.len.ensures.goes_on.faith in
     record {
       image_before = λ h.
-          NoMore_then _ _ _ (NoMore_then _ _ _ (c.len.ensures.survives h) (c.take_memory.ensures.survives (one.1 h))) (room.image_before (c.take_memory.ensures.looks.honesty.1 (one.1 h)));
+          NoMore_then _ _ _ (NoMore_then _ _ _ (c.len.ensures.survives h) (c.take_memory.ensures.survives (one.1 h))) (room.image_before (c.take_memory.ensures.looks.faith.1 (one.1 h)));
       journal_before = room.journal_before;
-      redo_before = λ h. NoMore_then _ _ _ (c.len-2.ensures.survives h) (room.redo_before (c.len-2.ensures.goes_on.honesty.1 h));
+      redo_before = λ h. NoMore_then _ _ _ (c.len-2.ensures.survives h) (room.redo_before (c.len-2.ensures.goes_on.faith.1 h));
     }
 
 pub returns-in_err-fill_last-clause-stayed : goal.returns-in_err-fill_last-clause-stayed
 returns-in_err-fill_last-clause-stayed g c =
     let room = c.make_room.ensures.stayed in
-    let first = both_ways c.take_memory.ensures.looks.honesty c.len.ensures.goes_on.honesty in
-    let one = c.len.ensures.goes_on.honesty in
-    let other = c.len-2.ensures.goes_on.honesty in
+    let first = both_ways c.take_memory.ensures.looks.faith c.len.ensures.goes_on.faith in
+    let one = c.len.ensures.goes_on.faith in
+    let other = c.len-2.ensures.goes_on.faith in
     record {
-      image_honesty = both_ways c.fill_last.ensures.goes_on.honesty (both_ways room.image_honesty first);
-      journal_honesty = room.journal_honesty;
-      redo_honesty = both_ways room.redo_honesty other;
-      image_same = λ h. c.fill_last.ensures.image (room.image_honesty.1 (first.1 h)) ∙ room.image_same (first.1 h) ∙ c.take_memory.ensures.looks.same (one.1 h) ∙ c.len.ensures.image h;
+      image_faith = both_ways c.fill_last.ensures.goes_on.faith (both_ways room.image_faith first);
+      journal_faith = room.journal_faith;
+      redo_faith = both_ways room.redo_faith other;
+      image_same = λ h. c.fill_last.ensures.image (room.image_faith.1 (first.1 h)) ∙ room.image_same (first.1 h) ∙ c.take_memory.ensures.looks.same (one.1 h) ∙ c.len.ensures.image h;
       text_same = room.text_same;
       redo_same = λ h. room.redo_same (other.1 h) ∙ c.len-2.ensures.text h;
     }
@@ -146,25 +146,25 @@ returns-in_err-fill_last-clause-stayed g c =
 pub returns-in_err-fill_last-clause-found_before : goal.returns-in_err-fill_last-clause-found_before
 returns-in_err-fill_last-clause-found_before g c =
     let room = c.make_room.ensures in
-    let first = both_ways c.take_memory.ensures.looks.honesty c.len.ensures.goes_on.honesty in
-    let one = c.len.ensures.goes_on.honesty in
+    let first = both_ways c.take_memory.ensures.looks.faith c.len.ensures.goes_on.faith in
+    let one = c.len.ensures.goes_on.faith in
     record {
       image_before = λ h.
           NoMore_then _ _ _ (NoMore_then _ _ _ (c.len.ensures.survives h) (c.take_memory.ensures.survives (one.1 h)))
-          (NoMore_then _ _ _ (room.found_before.image_before (first.1 h)) (c.fill_last.ensures.survives (room.stayed.image_honesty.1 (first.1 h))));
+          (NoMore_then _ _ _ (room.found_before.image_before (first.1 h)) (c.fill_last.ensures.survives (room.stayed.image_faith.1 (first.1 h))));
       journal_before = room.found_before.journal_before;
-      redo_before = λ h. NoMore_then _ _ _ (c.len-2.ensures.survives h) (room.found_before.redo_before (c.len-2.ensures.goes_on.honesty.1 h));
+      redo_before = λ h. NoMore_then _ _ _ (c.len-2.ensures.survives h) (room.found_before.redo_before (c.len-2.ensures.goes_on.faith.1 h));
     }
 
 -- where memory is lacking, or the look for zeros failed
 pub returns-in-Err-clause-stayed : goal.returns-in-Err-clause-stayed
 returns-in-Err-clause-stayed g c =
-    let one = c.len.ensures.goes_on.honesty in
-    let other = c.len-2.ensures.goes_on.honesty in
+    let one = c.len.ensures.goes_on.faith in
+    let other = c.len-2.ensures.goes_on.faith in
     record {
-      image_honesty = both_ways c.take_memory.ensures.looks.honesty one;
-      journal_honesty = (λ h. h, λ h. h);
-      redo_honesty = other;
+      image_faith = both_ways c.take_memory.ensures.looks.faith one;
+      journal_faith = (λ h. h, λ h. h);
+      redo_faith = other;
       image_same = λ h. c.take_memory.ensures.looks.same (one.1 h) ∙ c.len.ensures.image h;
       text_same = λ h. refl;
       redo_same = λ h. c.len-2.ensures.text h;
@@ -172,7 +172,7 @@ returns-in-Err-clause-stayed g c =
 
 pub returns-in-Err-clause-found_before : goal.returns-in-Err-clause-found_before
 returns-in-Err-clause-found_before g c =
-    let one = c.len.ensures.goes_on.honesty in
+    let one = c.len.ensures.goes_on.faith in
     record {
       image_before = λ h. NoMore_then _ _ _ (c.len.ensures.survives h) (c.take_memory.ensures.survives (one.1 h));
       journal_before = λ h text there. there;

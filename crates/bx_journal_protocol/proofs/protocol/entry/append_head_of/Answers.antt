@@ -24,7 +24,7 @@ returns-in_err-put_head_from-clause-survives g c dh th only x stack s starts y t
 pub returns-clause-ok : goal.returns-clause-ok
 returns-clause-ok g c dh th x stack s starts =
     let put = c.in_ok-put_head_from.ensures in
-    let still = put.goes_on.journal_honesty.1 th in
+    let still = put.goes_on.journal_faith.1 th in
     on_ok_weaker c.sync.result
     (λ _. head_ok _ _ x stack s _ starts (c.sync.ensures.text still ∙ put.ok dh th ∙ ap (λ h. g.T.TextStore.text c.args.journal.now ++ h) (c.requires.begun dh).text))
     (c.sync.ensures.settled still)
@@ -32,20 +32,20 @@ returns-clause-ok g c dh th x stack s starts =
 pub returns-clause-fault : goal.returns-clause-fault
 returns-clause-fault g c dh th x stack s starts =
     let put = c.in_ok-put_head_from.ensures in
-    let still = put.goes_on.journal_honesty.1 th in
+    let still = put.goes_on.journal_faith.1 th in
     let head : List ℕ = head_text c.args.head.now.number (kept_over (g.D.Device.image c.args.image.now) c.args.ranges.now) in
     let is = c.sync.ensures.text still ∙ put.ok dh th ∙ ap (λ h. g.T.TextStore.text c.args.journal.now ++ h) (c.requires.begun dh).text in
     at_err _ (head_fault _ _ x stack s head starts (length head, is ∙ ap (λ t. g.T.TextStore.text c.args.journal.now ++ t) (sym (take_all (length head) head (omega arith)))))
 
 pub returns-clause-settled : goal.returns-clause-settled
 returns-clause-settled g c th =
-    let still = c.in_ok-put_head_from.ensures.goes_on.journal_honesty.1 th in
+    let still = c.in_ok-put_head_from.ensures.goes_on.journal_faith.1 th in
     rw (c.sync.ensures.text still) (c.sync.ensures.settled still)
 
 pub returns-clause-text : goal.returns-clause-text
 returns-clause-text g c dh th =
     let put = c.in_ok-put_head_from.ensures in
-    let still = put.goes_on.journal_honesty.1 th in
+    let still = put.goes_on.journal_faith.1 th in
     on_ok_weaker c.sync.result
     (λ _. c.sync.ensures.text still ∙ put.ok dh th ∙ ap (λ h. g.T.TextStore.text c.args.journal.now ++ h) (c.requires.begun dh).text)
     (c.sync.ensures.settled still)
@@ -53,19 +53,19 @@ returns-clause-text g c dh th =
 pub returns-clause-long : goal.returns-clause-long
 returns-clause-long g c th =
     let put = c.in_ok-put_head_from.ensures in
-    let still = put.goes_on.journal_honesty.1 th in
+    let still = put.goes_on.journal_faith.1 th in
     on_ok_weaker c.sync.result (λ _. ap length (c.sync.ensures.text still) ∙ put.long th) (c.sync.ensures.settled still)
 
 pub returns-clause-front : goal.returns-clause-front
 returns-clause-front g c th =
     let put = c.in_ok-put_head_from.ensures in
-    let still = put.goes_on.journal_honesty.1 th in
+    let still = put.goes_on.journal_faith.1 th in
     on_ok_weaker c.sync.result (λ _. prefix_is _ (put.front th) (c.sync.ensures.text still)) (c.sync.ensures.settled still)
 
 pub returns-clause-survives : goal.returns-clause-survives
 returns-clause-survives g c dh th only x stack s starts y there =
     let put = c.in_ok-put_head_from.ensures in
-    let still = put.goes_on.journal_honesty.1 th in
+    let still = put.goes_on.journal_faith.1 th in
     let before = c.sync.ensures.survives still y there in
     let text = g.T.TextStore.text c.args.journal.now in
     let is = (c.requires.begun dh).text in

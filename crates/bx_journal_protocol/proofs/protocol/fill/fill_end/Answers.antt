@@ -16,7 +16,7 @@ both t new x (Ok v) kept read = record { kept = kept; read = read }
 both t new x (Err e) kept read = tt
 
 pub returns-clause-filled : goal.returns-clause-filled
-returns-clause-filled g c honest =
+returns-clause-filled g c faithful =
     let ts = c.args.takens.now in
     let n : ℕ = length ts - 1 in
     let t = slice_index_or ts n c.index-takens-count.result in
@@ -25,7 +25,7 @@ returns-clause-filled g c honest =
     let new : slice_set ts n c.fill.new.self ≡ take n ts ++ c.fill.new.self ∷ [] = last_set ts n c.fill.new.self long in
     let shape : IsShapedAs t c.fill.new.self = record { len = c.fill.ensures.len; runs = c.fill.ensures.shape } in
     let x = g.D.Device.image c.args.image.now in
-    let filled = both t c.fill.new.self x c.fill.result (λ len. c.fill.ensures.kept honest len) (c.fill.ensures.read honest) in
+    let filled = both t c.fill.new.self x c.fill.result (λ len. c.fill.ensures.kept faithful len) (c.fill.ensures.read faithful) in
     on_ok_weaker c.fill.result (λ f es z. subst (λ us. AreReady x es (reverse us)) (sym new)
     (ready_filled x es (take n ts) t c.fill.new.self shape f (subst (λ us. AreRoomFrom x es (reverse us)) old z))) filled
 

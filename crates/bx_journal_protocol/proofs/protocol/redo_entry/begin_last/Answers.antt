@@ -23,11 +23,11 @@ pub look_and_begin-requires-clause-ordered : goal.look_and_begin-requires-clause
 look_and_begin-requires-clause-ordered g c = ranges_in c.args.len (2 ^ 64) _ (omega arith) (within g (goal.at.look_and_begin-requires-clause-ordered g c).After-as_slice-ranges)
 
 pub look_and_begin-requires-clause-ranges : goal.look_and_begin-requires-clause-ranges
-look_and_begin-requires-clause-ranges g c honest =
-    ranges_in c.args.len (length (g.D.Device.image c.args.image.now)) _ (omega (arith, c.requires.long honest)) (within g (goal.at.look_and_begin-requires-clause-ranges g c).After-as_slice-ranges)
+look_and_begin-requires-clause-ranges g c faithful =
+    ranges_in c.args.len (length (g.D.Device.image c.args.image.now)) _ (omega (arith, c.requires.long faithful)) (within g (goal.at.look_and_begin-requires-clause-ranges g c).After-as_slice-ranges)
 
 pub returns-then-count-eq0-clause-begun : goal.returns-then-count-eq0-clause-begun
-returns-then-count-eq0-clause-begun g c = none_begun (g.D.Device.honest c.args.image.now) (g.D.Device.image c.args.image.now) c.args.number c.args.takens.now c.args.page.now.items _ (omega (arith, c.if-count-eq0.true))
+returns-then-count-eq0-clause-begun g c = none_begun (g.D.Device.faithful c.args.image.now) (g.D.Device.image c.args.image.now) c.args.number c.args.takens.now c.args.page.now.items _ (omega (arith, c.if-count-eq0.true))
 
 pub returns-clause-begun : goal.returns-clause-begun
 returns-clause-begun g c =
@@ -35,8 +35,8 @@ returns-clause-begun g c =
     let x : List ℕ = g.D.Device.image c.args.image.now in
     let ts = c.args.takens.now in
     let page : List ℕ = c.look_and_begin.new.page.items in
-    let honest : Type 0 = g.D.Device.honest c.args.image.now in
+    let faithful : Type 0 = g.D.Device.faithful c.args.image.now in
     let did = c.look_and_begin.ensures in
-    let begun = begun_of {honest = honest} x c.args.number c.as_slice-ranges.result.now page c.look_and_begin.result did.begun did.bytes did.long did.some did.place in
-    last_begun honest x c.args.number ts (length ts - 1) c.index-takens-count.result page c.look_and_begin.result (some g at.After-as_slice-ranges)
-    (subst (λ rs. IfOk c.look_and_begin.result (IsHeadBegun honest x c.args.number rs page)) (spans g at.After-as_slice-ranges) begun)
+    let begun = begun_of {faithful = faithful} x c.args.number c.as_slice-ranges.result.now page c.look_and_begin.result did.begun did.bytes did.long did.some did.place in
+    last_begun faithful x c.args.number ts (length ts - 1) c.index-takens-count.result page c.look_and_begin.result (some g at.After-as_slice-ranges)
+    (subst (λ rs. IfOk c.look_and_begin.result (IsHeadBegun faithful x c.args.number rs page)) (spans g at.After-as_slice-ranges) begun)

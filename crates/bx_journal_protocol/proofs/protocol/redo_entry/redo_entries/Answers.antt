@@ -54,19 +54,19 @@ touched g c =
 
 -- its head is begun
 begun : (g : _) (c : After-as_slice-spans g)
-    → IsHeadBegun (g.D.Device.honest c.args.devices.now.image) (g.D.Device.image c.loop-i.devices.image) (c.loop-i.count + 1) c.as_slice-spans.result.now c.loop-i.head.page.items c.loop-i.head.place
+    → IsHeadBegun (g.D.Device.faithful c.args.devices.now.image) (g.D.Device.image c.loop-i.devices.image) (c.loop-i.count + 1) c.as_slice-spans.result.now c.loop-i.head.page.items c.loop-i.head.place
 begun g c =
     let x : List ℕ = g.D.Device.image c.loop-i.devices.image in
     let n : ℕ = c.loop-i.count + 1 in
     let page : List ℕ = c.loop-i.head.page.items in
     let place = c.loop-i.head.place in
-    let honest : Type 0 = g.D.Device.honest c.args.devices.now.image in
-    subst (λ r. IsHeadBegun honest x n r page place) (sym c.as_slice-spans.ensures.value)
-    (begun_pop x n c.take_both-entry.new.takens.items c.take_both-entry.result.1 page place (subst (λ us. IsFirstBegun honest x n (reverse us) page place) c.take_both-entry.ensures.ranges c.loop-i.invariant.begun))
+    let faithful : Type 0 = g.D.Device.faithful c.args.devices.now.image in
+    subst (λ r. IsHeadBegun faithful x n r page place) (sym c.as_slice-spans.ensures.value)
+    (begun_pop x n c.take_both-entry.new.takens.items c.take_both-entry.result.1 page place (subst (λ us. IsFirstBegun faithful x n (reverse us) page place) c.take_both-entry.ensures.ranges c.loop-i.invariant.begun))
 
 -- what its entry keeps
 keeps : (g : _) (c : After-as_slice-spans g)
-    → IsKeptOf (g.D.Device.honest c.args.devices.now.image) (g.D.Device.image c.loop-i.devices.image) c.take_both-entry.result.0 (kept_over (g.D.Device.image c.loop-i.devices.image) c.as_slice-spans.result.now)
+    → IsKeptOf (g.D.Device.faithful c.args.devices.now.image) (g.D.Device.image c.loop-i.devices.image) c.take_both-entry.result.0 (kept_over (g.D.Device.image c.loop-i.devices.image) c.as_slice-spans.result.now)
 keeps g c = kept_by (touched g c).0 c.loop-i.invariant.touched.long (begun g c).bytes
 
 -- the room that its entry takes
@@ -83,21 +83,21 @@ by g c = record {
 }
 
 -- the entry is made again, whether or not the next record is filled
-made : (g : _) (c : After-begin_last g) → IsMadeAgain (g.T.TextStore.honest c.args.devices.now.redo) (g.D.Device.honest c.args.devices.now.image) (g.T.TextStore.honest c.args.devices.now.journal) (g.T.TextStore.text c.loop-i.devices.redo) (g.D.Device.image c.loop-i.devices.image) (g.T.TextStore.text c.loop-i.devices.journal)
+made : (g : _) (c : After-begin_last g) → IsMadeAgain (g.T.TextStore.faithful c.args.devices.now.redo) (g.D.Device.faithful c.args.devices.now.image) (g.T.TextStore.faithful c.args.devices.now.journal) (g.T.TextStore.text c.loop-i.devices.redo) (g.D.Device.image c.loop-i.devices.image) (g.T.TextStore.text c.loop-i.devices.journal)
     (g.T.TextStore.text c.write_change.new.devices.redo) (g.D.Device.image c.begin_last.new.image) (g.T.TextStore.text c.write_change.new.devices.journal) c.take_both-entry.result.0 (kept_over (g.D.Device.image c.loop-i.devices.image) c.as_slice-spans.result.now) c.loop-i.count c.into_change-change.result c.as_bytes.result.now
 made g c =
     let x : List ℕ = g.D.Device.image c.loop-i.devices.image in
     let change = c.into_change-change.result in
     let on = c.loop-i.invariant.steps_on in
     let wrote = c.in_ok-write_change.ensures in
-    let same = λ (h : g.D.Device.honest c.args.devices.now.image). c.begin_last.ensures.image (wrote.steps_on.image_honesty.1 (on.image_honesty.1 h)) in
+    let same = λ (h : g.D.Device.faithful c.args.devices.now.image). c.begin_last.ensures.image (wrote.steps_on.image_faith.1 (on.image_faith.1 h)) in
     record {
-      changed = λ dh. same dh ∙ wrote.image (on.image_honesty.1 dh);
-      good = λ dh. subst (IsAsGood (kept_of (saved change x)) x) (sym (same dh)) (wrote.back (on.image_honesty.1 dh));
-      cut = λ rh. wrote.redo (on.redo_honesty.1 rh);
-      written = λ dh th. wrote.text (on.image_honesty.1 dh) (on.journal_honesty.1 th);
+      changed = λ dh. same dh ∙ wrote.image (on.image_faith.1 dh);
+      good = λ dh. subst (IsAsGood (kept_of (saved change x)) x) (sym (same dh)) (wrote.back (on.image_faith.1 dh));
+      cut = λ rh. wrote.redo (on.redo_faith.1 rh);
+      written = λ dh th. wrote.text (on.image_faith.1 dh) (on.journal_faith.1 th);
       rests = λ dh th stack writes.
-          subst (λ z. IsAtRest (g.T.TextStore.text c.write_change.new.devices.journal) z (effect change x ∷ stack)) (sym (same dh)) (wrote.ok (on.image_honesty.1 dh) (on.journal_honesty.1 th) stack writes);
+          subst (λ z. IsAtRest (g.T.TextStore.text c.write_change.new.devices.journal) z (effect change x ∷ stack)) (sym (same dh)) (wrote.ok (on.image_faith.1 dh) (on.journal_faith.1 th) stack writes);
     }
 
 pub write_change-requires-clause-head : goal.write_change-requires-clause-head
@@ -117,7 +117,7 @@ pub write_change-requires-clause-begun : goal.write_change-requires-clause-begun
 write_change-requires-clause-begun g c now =
     let inv = c.loop-i.invariant in
     let at = (goal.at.write_change-requires-clause-begun g c).After-as_slice-spans in
-    let dh = inv.steps_on.image_honesty.0 now in
+    let dh = inv.steps_on.image_faith.0 now in
     record {
       within = are_ranges (length (g.D.Device.image c.loop-i.devices.image)) _ (subst (λ n. LieWithin n c.as_slice-spans.result.now) (inv.touched.long dh) (touched g at).0.within);
       text = (begun g at).text dh;
@@ -137,12 +137,12 @@ pub write_change-requires-clause-text_room : goal.write_change-requires-clause-t
 write_change-requires-clause-text_room g c now =
     let inv = c.loop-i.invariant in
     let at = goal.at.write_change-requires-clause-text_room g c in
-    omega (arith, inv.fits (inv.steps_on.journal_honesty.0 now), room g at.After-as_slice-spans, (begun g at.After-as_slice-spans).long, line_long g at.After-as_bytes)
+    omega (arith, inv.fits (inv.steps_on.journal_faith.0 now), room g at.After-as_slice-spans, (begun g at.After-as_slice-spans).long, line_long g at.After-as_bytes)
 
 pub write_change-requires-clause-within : goal.write_change-requires-clause-within
 write_change-requires-clause-within g c now =
     let last = turn g (goal.at.write_change-requires-clause-within g c).After-take_both-entry in
-    omega (arith, (places last).0.order, long_at last (c.loop-i.invariant.steps_on.redo_honesty.0 now))
+    omega (arith, (places last).0.order, long_at last (c.loop-i.invariant.steps_on.redo_faith.0 now))
 
 pub returns-in_err-write_change-clause-finds : goal.returns-in_err-write_change-clause-finds
 returns-in_err-write_change-clause-finds g c dh th rh s rest count =
@@ -151,7 +151,7 @@ returns-in_err-write_change-clause-finds g c dh th rh s rest count =
     let here = inv.images dh th rh s (standing rest) count in
     let less : c.loop-i.i < length c.args.takens.now.items = omega (arith, c.loop-i-test.true, c.len-k.ensures) in
     always_err _ (redo_stopped (turn g at.After-take_both-entry) (keeps g at.After-as_slice-spans) (by g at.After-as_bytes) rh dh less s (record { rest = inv.rest dh th rh s rest count; undone = here.0.undone }) here.1
-    (c.in_err-write_change.ensures.left (inv.steps_on.image_honesty.1 dh) (inv.steps_on.journal_honesty.1 th) (inv.steps_on.redo_honesty.1 rh)))
+    (c.in_err-write_change.ensures.left (inv.steps_on.image_faith.1 dh) (inv.steps_on.journal_faith.1 th) (inv.steps_on.redo_faith.1 rh)))
 
 -- before a turn some record is left, so the image's length is one that an entry can tell, and so is the entry's number
 pub returns-in_err-write_change-clause-fault : goal.returns-in_err-write_change-clause-fault
@@ -161,15 +161,15 @@ returns-in_err-write_change-clause-fault g c dh th stack rest count =
     let last = turn g at.After-take_both-entry in
     let less : c.loop-i.i < length c.args.takens.now.items = omega (arith, c.loop-i-test.true, c.len-k.ensures) in
     always_err _ (stopped_on last (keeps g at.After-as_slice-spans) (by g at.After-as_bytes) dh (omega (arith, last.most, inv.bound)) less inv.made stack (some_stands _ _ stack rest.stands) count (inv.on_top dh th stack rest count)
-    (c.in_err-write_change.ensures.fault (inv.steps_on.image_honesty.1 dh) (inv.steps_on.journal_honesty.1 th)))
+    (c.in_err-write_change.ensures.fault (inv.steps_on.image_faith.1 dh) (inv.steps_on.journal_faith.1 th)))
 
 pub begin_last-requires-clause-long : goal.begin_last-requires-clause-long
 begin_last-requires-clause-long g c now =
     let at = goal.at.begin_last-requires-clause-long g c in
     let on = c.loop-i.invariant.steps_on in
     let wrote = c.in_ok-write_change.ensures in
-    let dh = on.image_honesty.0 (wrote.steps_on.image_honesty.0 now) in
-    sym (ap length (restored (turn g at.After-take_both-entry) (keeps g at.After-as_slice-spans) (by g at.After-as_bytes) (wrote.image (on.image_honesty.1 dh)))
+    let dh = on.image_faith.0 (wrote.steps_on.image_faith.0 now) in
+    sym (ap length (restored (turn g at.After-take_both-entry) (keeps g at.After-as_slice-spans) (by g at.After-as_bytes) (wrote.image (on.image_faith.1 dh)))
     ∙ length-restore (kept_of c.take_both-entry.result.0.kept) (g.D.Device.image c.loop-i.devices.image))
 
 pub begin_last-requires-clause-within : goal.begin_last-requires-clause-within
@@ -230,10 +230,10 @@ loop-i-preserved g c =
         long = λ dh. sym (ap length (restored last kept again (done.changed dh)) ∙ length-restore (kept_of e.kept) (g.D.Device.image c.loop-i.devices.image));
         touched = (touched g at.After-as_slice-spans).1;
       };
-      begun = begun_same (c.loop-i.count + 1 + 1) c.begin_last.new.page.items c.in_ok-place.place (λ dh. wrote.steps_on.image_honesty.1 (inv.steps_on.image_honesty.1 dh)) (λ dh. next.image (wrote.steps_on.image_honesty.1 (inv.steps_on.image_honesty.1 dh))) c.as_slice.ensures.value next.begun;
+      begun = begun_same (c.loop-i.count + 1 + 1) c.begin_last.new.page.items c.in_ok-place.place (λ dh. wrote.steps_on.image_faith.1 (inv.steps_on.image_faith.1 dh)) (λ dh. next.image (wrote.steps_on.image_faith.1 (inv.steps_on.image_faith.1 dh))) c.as_slice.ensures.value next.begun;
       made = omega (arith, inv.made);
       bound = omega (arith, inv.bound, last.most);
-      front = λ th. prefix_then _ _ _ (inv.front th) (wrote.front (inv.steps_on.journal_honesty.1 th));
+      front = λ th. prefix_then _ _ _ (inv.front th) (wrote.front (inv.steps_on.journal_faith.1 th));
       steps_on = goes_further inv.steps_on wrote.steps_on next.goes_on;
       fits = λ th. omega (
         arith,
@@ -241,13 +241,13 @@ loop-i-preserved g c =
         room g at.After-as_slice-spans,
         (begun g at.After-as_slice-spans).long,
         line_long g at.After-as_bytes,
-        wrote.long (inv.steps_on.journal_honesty.1 th),
+        wrote.long (inv.steps_on.journal_faith.1 th),
         wrote.journal_room,
       );
       settled = λ dh th rh on.
           let here = inv.steps_on in
-          let d = here.image_honesty.1 dh in
-          looked_at _ _ _ _ (next.image (wrote.steps_on.image_honesty.1 d)) (next.survives (wrote.steps_on.image_honesty.1 d)) (wrote.settles d (here.journal_honesty.1 th) (here.redo_honesty.1 rh));
+          let d = here.image_faith.1 dh in
+          looked_at _ _ _ _ (next.image (wrote.steps_on.image_faith.1 d)) (next.survives (wrote.steps_on.image_faith.1 d)) (wrote.settles d (here.journal_faith.1 th) (here.redo_faith.1 rh));
       on_top = λ dh th stack rest count.
           rests_on last kept again done dh th (omega (arith, last.most, inv.bound)) inv.made stack (some_stands _ _ stack rest.stands) count (inv.on_top dh th stack rest count);
       stood = λ dh th stack stands count.
@@ -333,9 +333,9 @@ pub returns-in_err-write_change-clause-survives : goal.returns-in_err-write_chan
 returns-in_err-write_change-clause-survives g c dh th rh on s rest count =
     let inv = c.loop-i.invariant in
     let at = goal.at.returns-in_err-write_change-clause-survives g c in
-    let d = inv.steps_on.image_honesty.1 dh in
-    let t = inv.steps_on.journal_honesty.1 th in
-    let u = inv.steps_on.redo_honesty.1 rh in
+    let d = inv.steps_on.image_faith.1 dh in
+    let t = inv.steps_on.journal_faith.1 th in
+    let u = inv.steps_on.redo_faith.1 rh in
     let here = inv.images dh th rh s (standing rest) count in
     let less : c.loop-i.i < length c.args.takens.now.items = omega (arith, c.loop-i-test.true, c.len-k.ensures) in
     survive_err c.from_residual.result (λ y new redo. (j : ℕ) × (j ≤ length c.args.takens.now.items) × Finds (shown new) y redo (redo_of j s)) _ _ _ (λ y new redo image_there there redo_there. redo_stopped (turn g at.After-take_both-entry) (keeps g at.After-as_slice-spans) (by g at.After-as_bytes) rh dh less s (record { rest = inv.rest dh th rh s rest count; undone = here.0.undone }) here.1
@@ -353,9 +353,9 @@ returns-in_err-place-clause-survives g c dh th rh on s rest count =
     let next = redone_next last kept again done rh dh th s here.0 here.1 in
     let behind = rests_again last kept again done rh dh th s (record { rest = inv.rest dh th rh s rest count; undone = here.0.undone }) here.1 in
     let did = c.in_ok-write_change.ensures in
-    let d = inv.steps_on.image_honesty.1 dh in
-    let still = did.steps_on.image_honesty.1 d in
-    let settled = looked_at _ _ _ _ (c.in_err-place.ensures.image still) (c.in_err-place.ensures.survives still) (did.settles d (inv.steps_on.journal_honesty.1 th) (inv.steps_on.redo_honesty.1 rh)) in
+    let d = inv.steps_on.image_faith.1 dh in
+    let still = did.steps_on.image_faith.1 d in
+    let settled = looked_at _ _ _ _ (c.in_err-place.ensures.image still) (c.in_err-place.ensures.survives still) (did.settles d (inv.steps_on.journal_faith.1 th) (inv.steps_on.redo_faith.1 rh)) in
     survive_err c.from_residual-in_err-place.result (λ y new redo. (j : ℕ) × (j ≤ length c.args.takens.now.items) × Finds (shown new) y redo (redo_of j s)) _ _ _ (λ y new redo image_there there redo_there. (
       c.loop-i.i + 1,
       omega (arith, c.loop-i-test.true, c.len-k.ensures),

@@ -18,8 +18,8 @@ loop-at-init g c = record {
   text_survives = λ th y there. there;
   window = refl;
   parts = omega arith;
-  image_honesty = ((λ h. h), λ h. h);
-  journal_honesty = ((λ h. h), λ h. h);
+  image_faith = ((λ h. h), λ h. h);
+  journal_faith = ((λ h. h), λ h. h);
   room = omega arith;
   image_failures = refl;
   journal_failures = refl;
@@ -29,14 +29,14 @@ pub returns-in_err-taken-clause-keeps : goal.returns-in_err-taken-clause-keeps
 returns-in_err-taken-clause-keeps g c dh th s r st names =
     let inv = c.loop-at.invariant in
     let before = inv.keeps dh th s r st names in
-    let now = c.in_err-taken.ensures.keeps (inv.image_honesty.1 dh) (inv.journal_honesty.1 th) (g.T.TextStore.text c.args.from.now) (inv.text th) s r st names _ (inv.ok dh th s st) in
+    let now = c.in_err-taken.ensures.keeps (inv.image_faith.1 dh) (inv.journal_faith.1 th) (g.T.TextStore.text c.args.from.now) (inv.text th) s r st names _ (inv.ok dh th s st) in
     (keeps_on r _ _ _ before.0 now.0, Follows_then (KeepsUnmapped r) _ _ _ (keeps_on r) before.1 now.1)
 
 pub returns-then-taken-eq0-clause-keeps : goal.returns-then-taken-eq0-clause-keeps
 returns-then-taken-eq0-clause-keeps g c dh th s r st names =
     let inv = c.loop-at.invariant in
     let before = inv.keeps dh th s r st names in
-    let now = c.in_ok-taken.ensures.keeps (inv.image_honesty.1 dh) (inv.journal_honesty.1 th) (g.T.TextStore.text c.args.from.now) (inv.text th) s r st names _ (inv.ok dh th s st) in
+    let now = c.in_ok-taken.ensures.keeps (inv.image_faith.1 dh) (inv.journal_faith.1 th) (g.T.TextStore.text c.args.from.now) (inv.text th) s r st names _ (inv.ok dh th s st) in
     (keeps_on r _ _ _ before.0 now.0, Follows_then (KeepsUnmapped r) _ _ _ (keeps_on r) before.1 now.1)
 
 pub returns-then-taken-eq0-clause-ok : goal.returns-then-taken-eq0-clause-ok
@@ -44,7 +44,7 @@ returns-then-taken-eq0-clause-ok g c dh th s st x is =
     let inv = c.loop-at.invariant in
     let text : List ℕ = g.T.TextStore.text c.args.from.now in
     let here : ℕ = c.loop-at.at in
-    let window = c.in_ok-taken.ensures.restored (inv.image_honesty.1 dh) (inv.journal_honesty.1 th) text (inv.text th) in
+    let window = c.in_ok-taken.ensures.restored (inv.image_faith.1 dh) (inv.journal_faith.1 th) text (inv.text th) in
     let to = restored_on text st.entries st.version c.args.mark.len _ _ here c.in_ok-taken.taken _ _ _ (inv.ok dh th s st) window in
     let none : c.in_ok-taken.taken ≡ 0 = omega (arith, c.if-taken-eq0.true) in
     let stays : here + c.in_ok-taken.taken ≡ here = omega (arith, none) in
@@ -61,18 +61,18 @@ loop-at-preserved g c =
     record {
       below = now.below;
       ok = λ dh th s st.
-          restored_on text st.entries st.version c.args.mark.len _ _ c.loop-at.at c.in_ok-taken.taken _ _ _ (inv.ok dh th s st) (now.restored (inv.image_honesty.1 dh) (inv.journal_honesty.1 th) text (inv.text th));
+          restored_on text st.entries st.version c.args.mark.len _ _ c.loop-at.at c.in_ok-taken.taken _ _ _ (inv.ok dh th s st) (now.restored (inv.image_faith.1 dh) (inv.journal_faith.1 th) text (inv.text th));
       keeps = λ dh th s r st names.
           let before = inv.keeps dh th s r st names in
-          let next = now.keeps (inv.image_honesty.1 dh) (inv.journal_honesty.1 th) text (inv.text th) s r st names _ (inv.ok dh th s st) in
+          let next = now.keeps (inv.image_faith.1 dh) (inv.journal_faith.1 th) text (inv.text th) s r st names _ (inv.ok dh th s st) in
           (keeps_on r _ _ _ before.0 next.0, Follows_then (KeepsUnmapped r) _ _ _ (keeps_on r) before.1 next.1);
-      long = λ dh is. now.long (inv.image_honesty.1 dh) (inv.long dh is);
-      text = λ th. now.text (inv.journal_honesty.1 th) ∙ inv.text th;
-      text_survives = λ th. NoMore_then _ _ _ (inv.text_survives th) (now.text_survives (inv.journal_honesty.1 th));
+      long = λ dh is. now.long (inv.image_faith.1 dh) (inv.long dh is);
+      text = λ th. now.text (inv.journal_faith.1 th) ∙ inv.text th;
+      text_survives = λ th. NoMore_then _ _ _ (inv.text_survives th) (now.text_survives (inv.journal_faith.1 th));
       window = now.window ∙ inv.window;
       parts = omega (arith, inv.parts, now.parts);
-      image_honesty = ((λ h. inv.image_honesty.0 (now.image_honesty.0 h)), λ h. now.image_honesty.1 (inv.image_honesty.1 h));
-      journal_honesty = ((λ h. inv.journal_honesty.0 (now.journal_honesty.0 h)), λ h. now.journal_honesty.1 (inv.journal_honesty.1 h));
+      image_faith = ((λ h. inv.image_faith.0 (now.image_faith.0 h)), λ h. now.image_faith.1 (inv.image_faith.1 h));
+      journal_faith = ((λ h. inv.journal_faith.0 (now.journal_faith.0 h)), λ h. now.journal_faith.1 (inv.journal_faith.1 h));
       room = omega (arith, inv.room, now.no_less_room);
       image_failures = now.no_failure.0 ∙ inv.image_failures;
       journal_failures = now.no_failure.1 ∙ inv.journal_failures;

@@ -13,17 +13,17 @@ invariant-loop-at g l =
     let T = g.T.TextStore in
     record {
       below : l.at ≤ l.mark.saved;
-      ok : D.honest l.fn.image → T.honest l.fn.from → (s : Kept) (stands : StandsAt (T.text l.fn.from) l.mark s)
+      ok : D.faithful l.fn.image → T.faithful l.fn.from → (s : Kept) (stands : StandsAt (T.text l.fn.from) l.mark s)
           → IsRestoredTo (T.text l.fn.from) stands.entries stands.version l.mark.len l.at (D.image l.fn.image) (D.image l.image);
-      keeps : D.honest l.fn.image → T.honest l.fn.from → (s r : Kept) → StandsAt (T.text l.fn.from) l.mark s → Names r s
+      keeps : D.faithful l.fn.image → T.faithful l.fn.from → (s r : Kept) → StandsAt (T.text l.fn.from) l.mark s → Names r s
           → KeepsUnmapped r (D.image l.fn.image) (D.image l.image) × Follows (KeepsUnmapped r) (D.survives l.fn.image) (D.survives l.image);
-      long : D.honest l.fn.image → length (D.image l.fn.image) ≡ l.mark.len → length (D.image l.image) ≡ l.mark.len;
-      text : T.honest l.fn.from → T.text l.from ≡ T.text l.fn.from;
-      text_survives : T.honest l.fn.from → NoMore (T.survives l.fn.from) (T.survives l.from);
+      long : D.faithful l.fn.image → length (D.image l.fn.image) ≡ l.mark.len → length (D.image l.image) ≡ l.mark.len;
+      text : T.faithful l.fn.from → T.text l.from ≡ T.text l.fn.from;
+      text_survives : T.faithful l.fn.from → NoMore (T.survives l.fn.from) (T.survives l.from);
       window : length l.window ≡ length l.fn.window;
       parts : vec_capacity l.fn.parts ≤ vec_capacity l.parts;
-      image_honesty : D.honest l.image ↔ D.honest l.fn.image;
-      journal_honesty : T.honest l.from ↔ T.honest l.fn.from;
+      image_faith : D.faithful l.image ↔ D.faithful l.fn.image;
+      journal_faith : T.faithful l.from ↔ T.faithful l.fn.from;
       room : D.room l.fn.image ≤ D.room l.image;
       image_failures : D.failures l.image ≡ D.failures l.fn.image;
       journal_failures : T.failures l.from ≡ T.failures l.fn.from;

@@ -19,29 +19,29 @@ part_bytes count from window behind bytes is rest = is ∙ ap (take count) rest
 
 pub loop-part-init : goal.loop-part-init
 loop-part-init g c = record {
-  ok = λ honest. refl;
-  keeps = λ honest r named. keeps_same r _;
-  survives = λ honest r named. Follows_same (KeepsUnmapped r) _ (keeps_same r);
+  ok = λ faithful. refl;
+  keeps = λ faithful r named. keeps_same r _;
+  survives = λ faithful r named. Follows_same (KeepsUnmapped r) _ (keeps_same r);
   goes_on = GoesOn_refl _ _ _ _;
 }
 
 pub returns-in_err-restore_part-clause-keeps : goal.returns-in_err-restore_part-clause-keeps
-returns-in_err-restore_part-clause-keeps g c honest r named =
+returns-in_err-restore_part-clause-keeps g c faithful r named =
     let inv = c.loop-part.invariant in
     let k : ℕ = c.loop-part.part-index in
     let part : Part = slice_index_or c.args.parts.now k no_part in
     let bytes = part_bytes part.count part.from c.args.window.now _ _ c.split_at-in-loop-part.ensures.front c.split_at.ensures.back in
     let here = subst (λ b. IsPartOf r part.at (length b)) (sym bytes) (named_at r c.args.window.now c.args.parts.now k no_part named (omega (arith, c.loop-part-test.true))) in
-    keeps_on r _ _ _ (inv.keeps honest r named) (c.in_err-restore_part.ensures.keeps (inv.goes_on.honesty.1 honest) r here)
+    keeps_on r _ _ _ (inv.keeps faithful r named) (c.in_err-restore_part.ensures.keeps (inv.goes_on.faith.1 faithful) r here)
 
 pub returns-in_err-restore_part-clause-survives : goal.returns-in_err-restore_part-clause-survives
-returns-in_err-restore_part-clause-survives g c honest r named =
+returns-in_err-restore_part-clause-survives g c faithful r named =
     let inv = c.loop-part.invariant in
     let k : ℕ = c.loop-part.part-index in
     let part : Part = slice_index_or c.args.parts.now k no_part in
     let bytes = part_bytes part.count part.from c.args.window.now _ _ c.split_at-in-loop-part.ensures.front c.split_at.ensures.back in
     let here = subst (λ b. IsPartOf r part.at (length b)) (sym bytes) (named_at r c.args.window.now c.args.parts.now k no_part named (omega (arith, c.loop-part-test.true))) in
-    Follows_then (KeepsUnmapped r) _ _ _ (keeps_on r) (inv.survives honest r named) (c.in_err-restore_part.ensures.survives (inv.goes_on.honesty.1 honest) r here)
+    Follows_then (KeepsUnmapped r) _ _ _ (keeps_on r) (inv.survives faithful r named) (c.in_err-restore_part.ensures.survives (inv.goes_on.faith.1 faithful) r here)
 
 pub loop-part-preserved : goal.loop-part-preserved
 loop-part-preserved g c =
@@ -56,17 +56,17 @@ loop-part-preserved g c =
     let mid : List ℕ = g.D.Device.image c.loop-part.image in
     let next : k + 1 ≡ suc k = omega arith in
     record {
-      ok = λ honest.
+      ok = λ faithful.
           ap (λ n. placed (drop n (map (part_run window) parts)) (g.D.Device.image c.restore_part.new.image)) next
-          ∙ ap (placed (drop (suc k) (map (part_run window) parts))) (now.ok (inv.goes_on.honesty.1 honest) ∙ ap (place mid part.at) bytes)
-          ∙ sym (part_placed window parts k no_part mid less) ∙ inv.ok honest;
-      keeps = λ honest r named.
-          keeps_on r _ _ _ (inv.keeps honest r named) (now.keeps (inv.goes_on.honesty.1 honest) r (subst (λ b. IsPartOf r part.at (length b)) (sym bytes) (named_at r window parts k no_part named less)));
-      survives = λ honest r named.
-          Follows_then (KeepsUnmapped r) _ _ _ (keeps_on r) (inv.survives honest r named) (now.survives (inv.goes_on.honesty.1 honest) r (subst (λ b. IsPartOf r part.at (length b)) (sym bytes) (named_at r window parts k no_part named less)));
+          ∙ ap (placed (drop (suc k) (map (part_run window) parts))) (now.ok (inv.goes_on.faith.1 faithful) ∙ ap (place mid part.at) bytes)
+          ∙ sym (part_placed window parts k no_part mid less) ∙ inv.ok faithful;
+      keeps = λ faithful r named.
+          keeps_on r _ _ _ (inv.keeps faithful r named) (now.keeps (inv.goes_on.faith.1 faithful) r (subst (λ b. IsPartOf r part.at (length b)) (sym bytes) (named_at r window parts k no_part named less)));
+      survives = λ faithful r named.
+          Follows_then (KeepsUnmapped r) _ _ _ (keeps_on r) (inv.survives faithful r named) (now.survives (inv.goes_on.faith.1 faithful) r (subst (λ b. IsPartOf r part.at (length b)) (sym bytes) (named_at r window parts k no_part named less)));
       goes_on = GoesOn_then _ _ _ _ _ _ _ inv.goes_on now.goes_on;
     }
 
 pub returns-clause-ok : goal.returns-clause-ok
-returns-clause-ok g c honest =
-    sym (placed_end c.args.window.now c.args.parts.now c.loop-part.part-index _ (omega (arith, c.loop-part-test.false))) ∙ c.loop-part.invariant.ok honest
+returns-clause-ok g c faithful =
+    sym (placed_end c.args.window.now c.args.parts.now c.loop-part.part-index _ (omega (arith, c.loop-part-test.false))) ∙ c.loop-part.invariant.ok faithful

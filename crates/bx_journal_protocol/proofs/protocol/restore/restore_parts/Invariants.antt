@@ -12,8 +12,8 @@ abbrev pub invariant-loop-part : goal.invariant-loop-part
 invariant-loop-part g l =
     let device = g.D.Device in
     record {
-      ok : device.honest l.fn.image → placed (drop l.part-index (map (part_run l.window) l.parts)) (device.image l.image) ≡ placed (map (part_run l.window) l.parts) (device.image l.fn.image);
-      keeps : device.honest l.fn.image → (r : Kept) → AreNamed r (map (part_run l.window) l.parts) → KeepsUnmapped r (device.image l.fn.image) (device.image l.image);
-      survives : device.honest l.fn.image → (r : Kept) → AreNamed r (map (part_run l.window) l.parts) → Follows (KeepsUnmapped r) (device.survives l.fn.image) (device.survives l.image);
-      goes_on : GoesOn device.honest device.room device.failures false l.fn.image l.image;
+      ok : device.faithful l.fn.image → placed (drop l.part-index (map (part_run l.window) l.parts)) (device.image l.image) ≡ placed (map (part_run l.window) l.parts) (device.image l.fn.image);
+      keeps : device.faithful l.fn.image → (r : Kept) → AreNamed r (map (part_run l.window) l.parts) → KeepsUnmapped r (device.image l.fn.image) (device.image l.image);
+      survives : device.faithful l.fn.image → (r : Kept) → AreNamed r (map (part_run l.window) l.parts) → Follows (KeepsUnmapped r) (device.survives l.fn.image) (device.survives l.image);
+      goes_on : GoesOn device.faithful device.room device.failures false l.fn.image l.image;
     }

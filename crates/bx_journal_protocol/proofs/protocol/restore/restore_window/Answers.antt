@@ -18,9 +18,9 @@ returns-in_err-restore_parts-clause-keeps g c dh th text is s r st names x to =
     let window : List ℕ = c.parts_in-taken.new.window in
     let parts : List Part = c.parts_in-taken.new.parts.items in
     let gives = c.parts_in-taken.ensures.read in
-    let here : IsCut (T.honest c.args.from.now) text c.args.at c.args.mark.saved c.read_cut.new.window cut =
-    subst (λ t. IsCut (T.honest c.args.from.now) t c.args.at c.args.mark.saved c.read_cut.new.window cut) is c.in_ok-cut.ensures.cut in
-    let inside = cut_given (T.honest c.args.from.now) text c.args.mark.len c.args.at c.args.mark.saved n c.read_cut.new.window c.split_at_mut-now.result.0.now window cut parts th here c.split_at_mut-now.ensures.front gives
+    let here : IsCut (T.faithful c.args.from.now) text c.args.at c.args.mark.saved c.read_cut.new.window cut =
+    subst (λ t. IsCut (T.faithful c.args.from.now) t c.args.at c.args.mark.saved c.read_cut.new.window cut) is c.in_ok-cut.ensures.cut in
+    let inside = cut_given (T.faithful c.args.from.now) text c.args.mark.len c.args.at c.args.mark.saved n c.read_cut.new.window c.split_at_mut-now.result.0.now window cut parts th here c.split_at_mut-now.ensures.front gives
     st.entries st.version (with_runs [] to.runs) to.inside in
     let within = passed_within cut n c.args.at c.args.mark.saved
     (omega (arith, gives.within, ap length c.split_at_mut-now.ensures.front, length-take cut.count c.read_cut.new.window)) here.below in
@@ -36,9 +36,9 @@ returns-clause-keeps g c dh th text is s r st names x to =
     let window : List ℕ = c.parts_in-taken.new.window in
     let parts : List Part = c.parts_in-taken.new.parts.items in
     let gives = c.parts_in-taken.ensures.read in
-    let here : IsCut (T.honest c.args.from.now) text c.args.at c.args.mark.saved c.read_cut.new.window cut =
-    subst (λ t. IsCut (T.honest c.args.from.now) t c.args.at c.args.mark.saved c.read_cut.new.window cut) is c.in_ok-cut.ensures.cut in
-    let inside = cut_given (T.honest c.args.from.now) text c.args.mark.len c.args.at c.args.mark.saved n c.read_cut.new.window c.split_at_mut-now.result.0.now window cut parts th here c.split_at_mut-now.ensures.front gives
+    let here : IsCut (T.faithful c.args.from.now) text c.args.at c.args.mark.saved c.read_cut.new.window cut =
+    subst (λ t. IsCut (T.faithful c.args.from.now) t c.args.at c.args.mark.saved c.read_cut.new.window cut) is c.in_ok-cut.ensures.cut in
+    let inside = cut_given (T.faithful c.args.from.now) text c.args.mark.len c.args.at c.args.mark.saved n c.read_cut.new.window c.split_at_mut-now.result.0.now window cut parts th here c.split_at_mut-now.ensures.front gives
     st.entries st.version (with_runs [] to.runs) to.inside in
     let within = passed_within cut n c.args.at c.args.mark.saved
     (omega (arith, gives.within, ap length c.split_at_mut-now.ensures.front, length-take cut.count c.read_cut.new.window)) here.below in
@@ -55,15 +55,15 @@ returns-clause-restored g c dh th text is =
     let parts : List Part = c.parts_in-taken.new.parts.items in
     let gives = c.parts_in-taken.ensures.read in
     let more : ℕ = c.args.mark.saved - c.args.at in
-    let here : IsCut (T.honest c.args.from.now) text c.args.at c.args.mark.saved c.read_cut.new.window cut =
-    subst (λ t. IsCut (T.honest c.args.from.now) t c.args.at c.args.mark.saved c.read_cut.new.window cut) is c.in_ok-cut.ensures.cut in
+    let here : IsCut (T.faithful c.args.from.now) text c.args.at c.args.mark.saved c.read_cut.new.window cut =
+    subst (λ t. IsCut (T.faithful c.args.from.now) t c.args.at c.args.mark.saved c.read_cut.new.window cut) is c.in_ok-cut.ensures.cut in
     let begins : BeginsAlike (take more (drop c.args.at text)) c.split_at_mut-now.result.0.now = subst (BeginsAlike (take more (drop c.args.at text))) (sym c.split_at_mut-now.ensures.front)
     (subst (λ t. BeginsAlike (take more (drop c.args.at t)) (take cut.count c.read_cut.new.window)) is (c.in_ok-cut.ensures.begins c.requires.window th)) in
     record {
       runs = map (part_run window) parts;
       within = parts_within c.args.mark.len (length window) window parts refl gives.lie;
       leads = λ es v old inside. subst (λ k. IsIn (take (c.args.at + k) text) es v (record { len = c.args.mark.len; runs = with_runs old (map (part_run window) parts) })) (sym c.passed.ensures)
-          (cut_given (T.honest c.args.from.now) text c.args.mark.len c.args.at c.args.mark.saved n c.read_cut.new.window c.split_at_mut-now.result.0.now window cut parts th here c.split_at_mut-now.ensures.front gives es v old inside);
+          (cut_given (T.faithful c.args.from.now) text c.args.mark.len c.args.at c.args.mark.saved n c.read_cut.new.window c.split_at_mut-now.result.0.now window cut parts th here c.split_at_mut-now.ensures.front gives es v old inside);
       some = cut_some c.args.mark.len (vec_capacity c.args.parts.now) n c.passed.result (take more (drop c.args.at text)) c.split_at_mut-now.result.0.now c.parts_in-taken.ensures.some begins (passed_most cut n c.passed.result c.passed.ensures);
       image = c.in_ok-restore_parts.ensures.ok dh ∙ ap (λ ps. placed (map (part_run window) ps) (g.D.Device.image c.args.image.now)) c.deref.ensures.value;
     }

@@ -43,7 +43,7 @@ returns-clause-ok g c dh th s st stack es v tail =
     let y : List ℕ = g.D.Device.image c.restore_windows.new.image in
     let good = IsAsGood-unmapped s (g.D.Device.image c.args.image.now) y (done.keeps dh th s s st (names_itself s)) tail.sound.unfinished in
     let here = subst (λ t. HasTail (shown t) y stack es (Ending v s) c.args.begins) (sym (done.text th)) (tail_moves _ _ y stack es v s _ tail good) in
-    c.drop_tail.ensures.shown_rests (done.journal_honesty.1 th) y stack es (Ending v s) here (good.same ∙ sym (done.ok dh th s st))
+    c.drop_tail.ensures.shown_rests (done.journal_faith.1 th) y stack es (Ending v s) here (good.same ∙ sym (done.ok dh th s st))
 
 pub returns-clause-fault : goal.returns-clause-fault
 returns-clause-fault g c dh th s st stack es v tail =
@@ -51,12 +51,12 @@ returns-clause-fault g c dh th s st stack es v tail =
     let y : List ℕ = g.D.Device.image c.restore_windows.new.image in
     let good = IsAsGood-unmapped s (g.D.Device.image c.args.image.now) y (done.keeps dh th s s st (names_itself s)) tail.sound.unfinished in
     let here = subst (λ t. HasTail (shown t) y stack es (Ending v s) c.args.begins) (sym (done.text th)) (tail_moves _ _ y stack es v s _ tail good) in
-    c.drop_tail.ensures.shown_stops (done.journal_honesty.1 th) y stack es (Ending v s) here (good.same ∙ sym (done.ok dh th s st))
+    c.drop_tail.ensures.shown_stops (done.journal_faith.1 th) y stack es (Ending v s) here (good.same ∙ sym (done.ok dh th s st))
 
 pub returns-clause-text : goal.returns-clause-text
 returns-clause-text g c th =
     let done = c.in_ok-restore_windows.ensures in
-    on_ok_weaker c.drop_tail.result (λ is. is ∙ ap (take c.args.begins) (done.text th)) (c.drop_tail.ensures.text (done.journal_honesty.1 th))
+    on_ok_weaker c.drop_tail.result (λ is. is ∙ ap (take c.args.begins) (done.text th)) (c.drop_tail.ensures.text (done.journal_faith.1 th))
 
 pub returns-clause-survives : goal.returns-clause-survives
 returns-clause-survives g c dh th s st only text_only stack es v tail y new there text_there =
@@ -65,7 +65,7 @@ returns-clause-survives g c dh th s st only text_only stack es v tail y new ther
     let good = IsAsGood-unmapped s (g.D.Device.image c.args.image.now) now (done.keeps dh th s s st (names_itself s)) tail.sound.unfinished in
     let here = subst (λ t. HasTail (shown t) now stack es (Ending v s) c.args.begins) (sym (done.text th)) (tail_moves _ _ now stack es v s _ tail good) in
     subst (λ z. Recovers (shown new) z stack) (sym (done.settled dh y there))
-    (c.drop_tail.ensures.shown_survives (done.journal_honesty.1 th) (λ d found. text_only d (done.text_survives th d found) ∙ sym (done.text th)) now stack es (Ending v s) here
+    (c.drop_tail.ensures.shown_survives (done.journal_faith.1 th) (λ d found. text_only d (done.text_survives th d found) ∙ sym (done.text th)) now stack es (Ending v s) here
     (good.same ∙ sym (done.ok dh th s st)) new text_there)
 
 pub returns-clause-settled : goal.returns-clause-settled

@@ -25,7 +25,7 @@ returns-in_err-cut_end-clause-order g c th = always_err _ (inl (refl, refl, c.in
 pub returns-in_err-change_undone-clause-order : goal.returns-in_err-change_undone-clause-order
 returns-in_err-change_undone-clause-order g c th =
     let cut = c.in_ok-cut_end.ensures in
-    always_err _ (inr (c.in_err-change_undone.ensures.text (cut.goes_on.honesty.1 th) ∙ cut.text th))
+    always_err _ (inr (c.in_err-change_undone.ensures.text (cut.goes_on.faith.1 th) ∙ cut.text th))
 
 pub returns-in_err-cut_end-clause-keeps : goal.returns-in_err-cut_end-clause-keeps
 returns-in_err-cut_end-clause-keeps g c dh th s st = keeps_same s _
@@ -33,12 +33,12 @@ returns-in_err-cut_end-clause-keeps g c dh th s st = keeps_same s _
 pub returns-in_err-change_undone-clause-keeps : goal.returns-in_err-change_undone-clause-keeps
 returns-in_err-change_undone-clause-keeps g c dh th s st =
     let cut = c.in_ok-cut_end.ensures in
-    c.in_err-change_undone.ensures.keeps dh (cut.goes_on.honesty.1 th) s (stands _ _ c.args.mark s th c.requires.within_text st (cut.text th))
+    c.in_err-change_undone.ensures.keeps dh (cut.goes_on.faith.1 th) s (stands _ _ c.args.mark s th c.requires.within_text st (cut.text th))
 
 pub returns-clause-keeps : goal.returns-clause-keeps
 returns-clause-keeps g c dh th s st =
     let cut = c.in_ok-cut_end.ensures in
-    c.in_ok-change_undone.ensures.keeps dh (cut.goes_on.honesty.1 th) s (stands _ _ c.args.mark s th c.requires.within_text st (cut.text th))
+    c.in_ok-change_undone.ensures.keeps dh (cut.goes_on.faith.1 th) s (stands _ _ c.args.mark s th c.requires.within_text st (cut.text th))
 
 moved : (text x y : List ℕ) (below : List (List ℕ)) → y ≡ x → Recovers text x (x ∷ below) ⊎ RecoversOpen text x below → Recovers text y (x ∷ below) ⊎ RecoversOpen text y below
 moved text x y below same h = subst (λ z. Recovers text z (x ∷ below) ⊎ RecoversOpen text z below) (sym same) h
@@ -56,7 +56,7 @@ returns-in_err-change_undone-clause-survives g c begins dh th rh settled below v
     let x : List ℕ = g.D.Device.image c.args.devices.now.image in
     let r : List ℕ = g.T.TextStore.text c.args.devices.now.redo in
     let cut = c.in_ok-cut_end.ensures in
-    let still = cut.goes_on.honesty.1 th in
+    let still = cut.goes_on.faith.1 th in
     let stopped = c.in_err-change_undone.ensures in
     let text : List ℕ = g.T.TextStore.text c.cut_end.new.journal in
     let opened = first_ok (g.T.TextStore.text c.args.devices.now.journal) x below v e begins c.args.mark.saved t text (cut.text th) in
@@ -71,7 +71,7 @@ returns-clause-survives g c begins dh th rh settled below v e t st y new redo im
     let x : List ℕ = g.D.Device.image c.args.devices.now.image in
     let r : List ℕ = g.T.TextStore.text c.args.devices.now.redo in
     let cut = c.in_ok-cut_end.ensures in
-    let still = cut.goes_on.honesty.1 th in
+    let still = cut.goes_on.faith.1 th in
     let done = c.in_ok-change_undone.ensures in
     let text : List ℕ = g.T.TextStore.text c.cut_end.new.journal in
     let opened = first_ok (g.T.TextStore.text c.args.devices.now.journal) x below v e begins c.args.mark.saved t text (cut.text th) in
@@ -84,7 +84,7 @@ returns-clause-survives g c begins dh th rh settled below v e t st y new redo im
 pub returns-clause-settles : goal.returns-clause-settles
 returns-clause-settles g c dh th rh =
     let cut = c.in_ok-cut_end.ensures in
-    let still = cut.goes_on.honesty.1 th in
+    let still = cut.goes_on.faith.1 th in
     let done = c.in_ok-change_undone.ensures in
     record {
       image = done.settled dh;
@@ -95,14 +95,14 @@ returns-clause-settles g c dh th rh =
 pub returns-clause-text : goal.returns-clause-text
 returns-clause-text g c th =
     let cut = c.in_ok-cut_end.ensures in
-    c.in_ok-change_undone.ensures.text (cut.goes_on.honesty.1 th) ∙ cut.text th
+    c.in_ok-change_undone.ensures.text (cut.goes_on.faith.1 th) ∙ cut.text th
 
 pub returns-clause-undoes : goal.returns-clause-undoes
 returns-clause-undoes g c =
     let cut = c.in_ok-cut_end.ensures in
     let done = c.in_ok-change_undone.ensures.undoes in
     record {
-      image_is = λ dh th s st. done.image_is dh (cut.goes_on.honesty.1 th) s (stands _ _ c.args.mark s th c.requires.within_text st (cut.text th));
+      image_is = λ dh th s st. done.image_is dh (cut.goes_on.faith.1 th) s (stands _ _ c.args.mark s th c.requires.within_text st (cut.text th));
       long = done.long;
       redo_is = done.redo_is;
       room_kept = done.room_kept;

@@ -31,19 +31,19 @@ last g c = placed_turn c.loop-i.invariant.left c.take_last-taken.ensures.entry c
 
 -- the entry is undone, whether or not the next record is filled
 back : (g : _) (c : After-fill_last g) (here : PlacedTurn c.loop-i.invariant.left c.take_last-taken.new.placed.items c.take_last-taken.result.0 c.take_last-taken.new.takens.items c.take_last-taken.result.1)
-    → IsTakenBack (g.T.TextStore.honest c.args.devices.now.journal) (g.D.Device.honest c.args.devices.now.image) (g.T.TextStore.honest c.args.devices.now.redo) (g.T.TextStore.text c.loop-i.devices.journal) (g.D.Device.image c.loop-i.devices.image) (g.T.TextStore.text c.loop-i.devices.redo)
+    → IsTakenBack (g.T.TextStore.faithful c.args.devices.now.journal) (g.D.Device.faithful c.args.devices.now.image) (g.T.TextStore.faithful c.args.devices.now.redo) (g.T.TextStore.text c.loop-i.devices.journal) (g.D.Device.image c.loop-i.devices.image) (g.T.TextStore.text c.loop-i.devices.redo)
     (g.T.TextStore.text c.undo_entry.new.devices.journal) (g.D.Device.image c.fill_last.new.image) (g.T.TextStore.text c.undo_entry.new.devices.redo) here.e c.take_last-taken.result.1 c.loop-i.undone
 back g c here =
     let on = c.loop-i.invariant.steps_on in
     let undo = c.in_ok-undo_entry.ensures in
     let text : List ℕ = g.T.TextStore.text c.loop-i.devices.journal in
-    let same = λ (h : g.D.Device.honest c.args.devices.now.image). c.fill_last.ensures.image (undo.steps_on.image_honesty.1 (on.image_honesty.1 h)) in
+    let same = λ (h : g.D.Device.faithful c.args.devices.now.image). c.fill_last.ensures.image (undo.steps_on.image_faith.1 (on.image_faith.1 h)) in
     record {
-      restored = λ th dh. same dh ∙ undo.undoes.image_is (on.image_honesty.1 dh) (on.journal_honesty.1 th) (kept_of here.e.kept) (here.placed.stands th);
-      cut = λ th. undo.text (on.journal_honesty.1 th) ∙ ap (λ b. take b text) here.placed.begins;
-      kept = λ rh. undo.undoes.redo_is (on.redo_honesty.1 rh) ∙ ap (kept_text (g.T.TextStore.text c.loop-i.devices.redo) (kept_of c.take_last-taken.result.1) (c.loop-i.undone + 1)) here.placed.len;
+      restored = λ th dh. same dh ∙ undo.undoes.image_is (on.image_faith.1 dh) (on.journal_faith.1 th) (kept_of here.e.kept) (here.placed.stands th);
+      cut = λ th. undo.text (on.journal_faith.1 th) ∙ ap (λ b. take b text) here.placed.begins;
+      kept = λ rh. undo.undoes.redo_is (on.redo_faith.1 rh) ∙ ap (kept_text (g.T.TextStore.text c.loop-i.devices.redo) (kept_of c.take_last-taken.result.1) (c.loop-i.undone + 1)) here.placed.len;
       rests = λ dh th below newest. subst (λ z. IsAtRest (g.T.TextStore.text c.undo_entry.new.devices.journal) z below) (sym (same dh))
-          (undo.ok (on.image_honesty.1 dh) (on.journal_honesty.1 th) below here.e.version (entry_of here.e) (placed_marks here.placed newest) (here.placed.stands th));
+          (undo.ok (on.image_faith.1 dh) (on.journal_faith.1 th) below here.e.version (entry_of here.e) (placed_marks here.placed newest) (here.placed.stands th));
     }
 
 pub undo_entry-requires-clause-order : goal.undo_entry-requires-clause-order
@@ -52,7 +52,7 @@ undo_entry-requires-clause-order g c =
     omega (arith, fit.begins, fit.lines)
 
 pub undo_entry-requires-clause-within_text : goal.undo_entry-requires-clause-within_text
-undo_entry-requires-clause-within_text g c th = saved_within (last g (goal.at.undo_entry-requires-clause-within_text g c).After-take_last-taken) (c.loop-i.invariant.steps_on.journal_honesty.0 th)
+undo_entry-requires-clause-within_text g c th = saved_within (last g (goal.at.undo_entry-requires-clause-within_text g c).After-take_last-taken) (c.loop-i.invariant.steps_on.journal_faith.0 th)
 
 pub undo_entry-requires-clause-restorable : goal.undo_entry-requires-clause-restorable
 undo_entry-requires-clause-restorable g c =
@@ -71,7 +71,7 @@ undo_entry-requires-clause-ready g c =
     let here = last g (goal.at.undo_entry-requires-clause-ready g c).After-take_last-taken in
     record {
       within = here.turn.shaped.1;
-      fits = λ now. omega (arith, inv.fits (inv.steps_on.redo_honesty.0 now), here.turn.lens, entry_long (c.loop-i.undone + 1) 0 (kept_of t) (kept_of t) c.take_last-taken.result.0.mark.len 0 refl);
+      fits = λ now. omega (arith, inv.fits (inv.steps_on.redo_faith.0 now), here.turn.lens, entry_long (c.loop-i.undone + 1) 0 (kept_of t) (kept_of t) c.take_last-taken.result.0.mark.len 0 refl);
       empty = inv.empty;
       page_room = inv.page_room;
     }
@@ -83,7 +83,7 @@ returns-in_err-undo_entry-clause-finds g c dh th rh s rest count =
     let less : c.loop-i.i < length c.args.takens.now.items = omega (arith, c.loop-i-test.true, c.len-k.ensures) in
     let at = last g (goal.at.returns-in_err-undo_entry-clause-finds g c).After-take_last-taken in
     always_err _ (undo_stopped at.turn th dh less s (record { rest = inv.rest dh th s.stack rest.rest; undone = here.0.undone }) here.1
-    (λ below newest. at_place at.placed (g.T.TextStore.text c.loop-i.devices.redo) (kept_of c.take_last-taken.result.1) (c.loop-i.undone + 1) (c.in_err-undo_entry.ensures.left (inv.steps_on.image_honesty.1 dh) (inv.steps_on.journal_honesty.1 th) (inv.steps_on.redo_honesty.1 rh) below at.e.version (entry_of at.e) (placed_marks at.placed newest) (at.placed.stands th))))
+    (λ below newest. at_place at.placed (g.T.TextStore.text c.loop-i.devices.redo) (kept_of c.take_last-taken.result.1) (c.loop-i.undone + 1) (c.in_err-undo_entry.ensures.left (inv.steps_on.image_faith.1 dh) (inv.steps_on.journal_faith.1 th) (inv.steps_on.redo_faith.1 rh) below at.e.version (entry_of at.e) (placed_marks at.placed newest) (at.placed.stands th))))
 
 pub returns-in_err-undo_entry-clause-fault : goal.returns-in_err-undo_entry-clause-fault
 returns-in_err-undo_entry-clause-fault g c dh th stack rest =
@@ -91,15 +91,15 @@ returns-in_err-undo_entry-clause-fault g c dh th stack rest =
     let less : c.loop-i.i < length c.args.takens.now.items = omega (arith, c.loop-i-test.true, c.len-k.ensures) in
     let at = last g (goal.at.returns-in_err-undo_entry-clause-fault g c).After-take_last-taken in
     always_err _ (rest_stops at.turn th less stack (inv.rest dh th stack rest)
-    (λ below newest. c.in_err-undo_entry.ensures.fault (inv.steps_on.image_honesty.1 dh) (inv.steps_on.journal_honesty.1 th) below at.e.version (entry_of at.e) (placed_marks at.placed newest) (at.placed.stands th)))
+    (λ below newest. c.in_err-undo_entry.ensures.fault (inv.steps_on.image_faith.1 dh) (inv.steps_on.journal_faith.1 th) below at.e.version (entry_of at.e) (placed_marks at.placed newest) (at.placed.stands th)))
 
 pub fill_last-requires-clause-range : goal.fill_last-requires-clause-range
 fill_last-requires-clause-range g c now =
     let on = c.loop-i.invariant.steps_on in
     let undo = c.in_ok-undo_entry.ensures in
-    let dh = on.image_honesty.0 (undo.steps_on.image_honesty.0 now) in
+    let dh = on.image_faith.0 (undo.steps_on.image_faith.0 now) in
     let here = last g (goal.at.fill_last-requires-clause-range g c).After-take_last-taken in
-    first_below here.turn _ dh (undo.undoes.long (on.image_honesty.1 dh) ∙ here.placed.len)
+    first_below here.turn _ dh (undo.undoes.long (on.image_faith.1 dh) ∙ here.placed.len)
 
 pub returns-in_err-fill_last-clause-finds : goal.returns-in_err-fill_last-clause-finds
 returns-in_err-fill_last-clause-finds g c dh th rh s rest count =
@@ -138,17 +138,17 @@ loop-i-preserved g c =
     let ts = c.take_last-taken.new.takens.items in
     let new = c.fill_last.new.takens.items in
     record {
-      left = one_taken here_at done.cut (λ dh. ap length (filled.image (undo.steps_on.image_honesty.1 (inv.steps_on.image_honesty.1 dh))) ∙ undo.undoes.long (inv.steps_on.image_honesty.1 dh) ∙ here_at.placed.len)
+      left = one_taken here_at done.cut (λ dh. ap length (filled.image (undo.steps_on.image_faith.1 (inv.steps_on.image_faith.1 dh))) ∙ undo.undoes.long (inv.steps_on.image_faith.1 dh) ∙ here_at.placed.len)
           (omega (arith, undo.undoes.room_kept, filled.goes_on.no_less_room)) undo.buffers_kept.window filled.shaped filled.count
-          (λ dh. let here = undo.steps_on.image_honesty.1 (inv.steps_on.image_honesty.1 dh) in subst (λ z. AreFilled z ts new) (sym (filled.image here)) (filled.filled here));
+          (λ dh. let here = undo.steps_on.image_faith.1 (inv.steps_on.image_faith.1 dh) in subst (λ z. AreFilled z ts new) (sym (filled.image here)) (filled.filled here));
       parts = omega (arith, inv.parts, undo.buffers_kept.parts);
       bound = by_len (nat_le c.take_last-taken.result.1.len MAX_LEN) c.loop-i.undone c.undone_with-undone.result (length ts) (length new) (c.args.undone + length c.args.takens.now.items) c.undone_with-undone.ensures filled.count (omega (arith, inv.bound, turn.most));
       steps_on = goes_further inv.steps_on undo.steps_on filled.goes_on;
       fits = λ rh. room_left turn done new rh (inv.fits rh) undo.undoes.redo_room filled.entries_len;
       settled = λ dh th rh on.
           let here = inv.steps_on in
-          let d = here.image_honesty.1 dh in
-          looked_at _ _ _ _ (filled.image (undo.steps_on.image_honesty.1 d)) (filled.survives (undo.steps_on.image_honesty.1 d)) (undo.settles d (here.journal_honesty.1 th) (here.redo_honesty.1 rh));
+          let d = here.image_faith.1 dh in
+          looked_at _ _ _ _ (filled.image (undo.steps_on.image_faith.1 d)) (filled.survives (undo.steps_on.image_faith.1 d)) (undo.settles d (here.journal_faith.1 th) (here.redo_faith.1 rh));
       empty = undo.emptied;
       page_room = omega (arith, inv.page_room, undo.page_kept);
       rest = λ dh th stack rest. rests_below turn done th dh stack (inv.rest dh th stack rest);
@@ -224,9 +224,9 @@ pub returns-in_err-undo_entry-clause-survives : goal.returns-in_err-undo_entry-c
 returns-in_err-undo_entry-clause-survives g c dh th rh on s rest count =
     let inv = c.loop-i.invariant in
     let at = goal.at.returns-in_err-undo_entry-clause-survives g c in
-    let d = inv.steps_on.image_honesty.1 dh in
-    let t = inv.steps_on.journal_honesty.1 th in
-    let u = inv.steps_on.redo_honesty.1 rh in
+    let d = inv.steps_on.image_faith.1 dh in
+    let t = inv.steps_on.journal_faith.1 th in
+    let u = inv.steps_on.redo_faith.1 rh in
     let here = inv.images dh th rh s (standing rest) count in
     let less : c.loop-i.i < length c.args.takens.now.items = omega (arith, c.loop-i-test.true, c.len-k.ensures) in
     let p = last g at.After-take_last-taken in
@@ -244,9 +244,9 @@ returns-in_err-fill_last-clause-survives g c dh th rh on s rest count =
     let next = undone_next turn done th dh rh s here.0 here.1 in
     let behind = rests_below turn done th dh s.stack (inv.rest dh th s.stack rest.rest) in
     let did = c.in_ok-undo_entry.ensures in
-    let d = inv.steps_on.image_honesty.1 dh in
-    let still = did.steps_on.image_honesty.1 d in
-    let settled = looked_at _ _ _ _ (c.in_err-fill_last.ensures.image still) (c.in_err-fill_last.ensures.survives still) (did.settles d (inv.steps_on.journal_honesty.1 th) (inv.steps_on.redo_honesty.1 rh)) in
+    let d = inv.steps_on.image_faith.1 dh in
+    let still = did.steps_on.image_faith.1 d in
+    let settled = looked_at _ _ _ _ (c.in_err-fill_last.ensures.image still) (c.in_err-fill_last.ensures.survives still) (did.settles d (inv.steps_on.journal_faith.1 th) (inv.steps_on.redo_faith.1 rh)) in
     survive_err c.from_residual-in_err-fill_last.result (λ y new redo. (j : ℕ) × (j ≤ length c.args.takens.now.items) × Finds (shown new) y redo (undo_of j s)) _ _ _ (λ y new redo image_there there redo_there. (
       c.loop-i.i + 1,
       omega (arith, c.loop-i-test.true, c.len-k.ensures),

@@ -79,7 +79,7 @@ returns-clause-ok g c dh th below v e t st =
     let done = c.in_ok-open_and_change.ensures in
     let tail = first_tail (g.T.TextStore.text c.args.devices.now.journal) x below v e c.args.entry.begins c.args.entry.mark.saved t text (done.text th) in
     let good = IsAsGood-unmapped e.saved x y (done.keeps dh th e.saved st) tail.sound.unfinished in
-    c.drop_tail.ensures.ok (done.steps_on.journal_honesty.1 th) y below t.entries (Ending v e.saved)
+    c.drop_tail.ensures.ok (done.steps_on.journal_faith.1 th) y below t.entries (Ending v e.saved)
     (tail_moves text x y below t.entries v e.saved c.args.entry.begins tail good) (good.same ∙ sym (done.undoes.image_is dh th e.saved st))
 
 pub returns-clause-left : goal.returns-clause-left
@@ -96,7 +96,7 @@ returns-clause-left g c dh th rh below v e t st =
     let restored = done.undoes.image_is dh th e.saved st in
     on_err_weaker c.drop_tail.result
     (behind_stops (g.T.TextStore.text c.drop_tail.new.journal) y (g.T.TextStore.text c.open_and_change.new.devices.redo) old new restored (done.undoes.redo_is rh))
-    (c.drop_tail.ensures.fault (done.steps_on.journal_honesty.1 th) y below t.entries (Ending v e.saved)
+    (c.drop_tail.ensures.fault (done.steps_on.journal_faith.1 th) y below t.entries (Ending v e.saved)
     (tail_moves text x y below t.entries v e.saved c.args.entry.begins tail good) (good.same ∙ sym restored))
 
 pub returns-clause-fault : goal.returns-clause-fault
@@ -108,7 +108,7 @@ returns-clause-fault g c dh th below v e t st =
     let tail = first_tail (g.T.TextStore.text c.args.devices.now.journal) x below v e c.args.entry.begins c.args.entry.mark.saved t text (done.text th) in
     let good = IsAsGood-unmapped e.saved x y (done.keeps dh th e.saved st) tail.sound.unfinished in
     on_err_weaker c.drop_tail.result inr
-    (c.drop_tail.ensures.fault (done.steps_on.journal_honesty.1 th) y below t.entries (Ending v e.saved)
+    (c.drop_tail.ensures.fault (done.steps_on.journal_faith.1 th) y below t.entries (Ending v e.saved)
     (tail_moves text x y below t.entries v e.saved c.args.entry.begins tail good) (good.same ∙ sym (done.undoes.image_is dh th e.saved st)))
 
 pub returns-in_err-open_and_change-clause-survives : goal.returns-in_err-open_and_change-clause-survives
@@ -132,23 +132,23 @@ returns-clause-survives g c dh th rh settled below v e t st y new redo image_the
     let same : y ≡ z = on_disk.image y image_there in
     behind_stops (shown new) y redo old new_side (same ∙ restored) (on_disk.redo redo redo_there ∙ done.undoes.redo_is rh)
     (subst (λ w. Recovers (shown new) w below) (sym same)
-    (c.drop_tail.ensures.survives (done.steps_on.journal_honesty.1 th) on_disk.journal z below t.entries (Ending v e.saved)
+    (c.drop_tail.ensures.survives (done.steps_on.journal_faith.1 th) on_disk.journal z below t.entries (Ending v e.saved)
     (tail_moves text x z below t.entries v e.saved c.args.entry.begins tail good) first.whole (good.same ∙ sym restored) new there))
 
 pub returns-clause-settles : goal.returns-clause-settles
 returns-clause-settles g c dh th rh =
     let on_disk = c.in_ok-open_and_change.ensures.settles dh th rh in
     on_ok_weaker c.drop_tail.result (λ only. record { image = on_disk.image; journal = only; redo = on_disk.redo })
-    (c.drop_tail.ensures.settled (c.in_ok-open_and_change.ensures.steps_on.journal_honesty.1 th))
+    (c.drop_tail.ensures.settled (c.in_ok-open_and_change.ensures.steps_on.journal_faith.1 th))
 
 pub returns-clause-steps_on : goal.returns-clause-steps_on
 returns-clause-steps_on g c =
     let before = c.in_ok-open_and_change.ensures.steps_on in
     let last = c.drop_tail.ensures.goes_on in
     record {
-      image_honesty = before.image_honesty;
-      journal_honesty = ((λ h. before.journal_honesty.0 (last.honesty.0 h)), (λ h. last.honesty.1 (before.journal_honesty.1 h)));
-      redo_honesty = before.redo_honesty;
+      image_faith = before.image_faith;
+      journal_faith = ((λ h. before.journal_faith.0 (last.faith.0 h)), (λ h. last.faith.1 (before.journal_faith.1 h)));
+      redo_faith = before.redo_faith;
       no_failure = search rules;
       failure = search rules;
     }

@@ -32,37 +32,37 @@ last_put n s line old mid new p q is before put =
     paged_is _ _ _ _ _ (ap (λ l. (first_of n s ++ lines_in s) ++ ended l) is ∙ sym (head_is n s)) (paged_more _ _ _ _ _ _ _ before put)
 
 pub returns-in_err-put_words-clause-fault : goal.returns-in_err-put_words-clause-fault
-returns-in_err-put_words-clause-fault g c honest =
+returns-in_err-put_words-clause-fault g c faithful =
     let n : ℕ = c.args.number in
     let s : Kept = kept_of c.args.kept.now in
     at_err _ (part_is _ _ _ _ (sym (head_is n s ∙ append_assoc (first_of n s) (lines_in s) (last_of n)))
     (part_front (first_of n s) (lines_in s ++ last_of n) _ _
-    (part_is _ _ _ _ (first_is n s c.args.page.now.items c.start_words.result c.requires.empty c.start_words.ensures.text) (c.in_err-put_words.ensures.fault honest))))
+    (part_is _ _ _ _ (first_is n s c.args.page.now.items c.start_words.result c.requires.empty c.start_words.ensures.text) (c.in_err-put_words.ensures.fault faithful))))
 
 pub put_runs-requires-clause-fits : goal.put_runs-requires-clause-fits
 put_runs-requires-clause-fits g c now =
     let n : ℕ = c.args.number in
     let s : Kept = kept_of c.args.kept.now in
-    let honest = c.in_ok-put_words.ensures.goes_on.honesty.0 now in
-    let one = first_put n s _ _ _ _ _ c.requires.empty c.start_words.ensures.text (c.in_ok-put_words.ensures.ok honest) in
-    omega (arith, paged_length (first_of n s) _ _ _ one, start_long n s.len, head_long n s, c.requires.fits honest, c.in_ok-put_words.ensures.goes_on.no_less_room)
+    let faithful = c.in_ok-put_words.ensures.goes_on.faith.0 now in
+    let one = first_put n s _ _ _ _ _ c.requires.empty c.start_words.ensures.text (c.in_ok-put_words.ensures.ok faithful) in
+    omega (arith, paged_length (first_of n s) _ _ _ one, start_long n s.len, head_long n s, c.requires.fits faithful, c.in_ok-put_words.ensures.goes_on.no_less_room)
 
 pub returns-in_err-put_runs-clause-fault : goal.returns-in_err-put_runs-clause-fault
-returns-in_err-put_runs-clause-fault g c honest =
+returns-in_err-put_runs-clause-fault g c faithful =
     let n : ℕ = c.args.number in
     let s : Kept = kept_of c.args.kept.now in
-    let one = first_put n s _ _ _ _ _ c.requires.empty c.start_words.ensures.text (c.in_ok-put_words.ensures.ok honest) in
+    let one = first_put n s _ _ _ _ _ c.requires.empty c.start_words.ensures.text (c.in_ok-put_words.ensures.ok faithful) in
     at_err _ (part_is _ _ _ _ (sym (head_is n s))
     (part_front (first_of n s ++ lines_in s) (last_of n) _ _
-    (part_behind (first_of n s) (lines_in s) _ _ _ _ one (c.in_err-put_runs.ensures.fault (c.in_ok-put_words.ensures.goes_on.honesty.1 honest)))))
+    (part_behind (first_of n s) (lines_in s) _ _ _ _ one (c.in_err-put_runs.ensures.fault (c.in_ok-put_words.ensures.goes_on.faith.1 faithful)))))
 
 pub put_words-requires-2-clause-fits : goal.put_words-requires-2-clause-fits
 put_words-requires-2-clause-fits g c now =
     let n : ℕ = c.args.number in
     let s : Kept = kept_of c.args.kept.now in
-    let mid = c.in_ok-put_runs.ensures.goes_on.honesty.0 now in
-    let honest = c.in_ok-put_words.ensures.goes_on.honesty.0 mid in
-    let one = first_put n s _ _ _ _ _ c.requires.empty c.start_words.ensures.text (c.in_ok-put_words.ensures.ok honest) in
+    let mid = c.in_ok-put_runs.ensures.goes_on.faith.0 now in
+    let faithful = c.in_ok-put_words.ensures.goes_on.faith.0 mid in
+    let one = first_put n s _ _ _ _ _ c.requires.empty c.start_words.ensures.text (c.in_ok-put_words.ensures.ok faithful) in
     let two = paged_more (first_of n s) (lines_in s) _ _ _ _ _ one (c.in_ok-put_runs.ensures.ok mid) in
     omega (
       arith,
@@ -70,103 +70,103 @@ put_words-requires-2-clause-fits g c now =
       length-append (first_of n s) (lines_in s),
       start_long n s.len,
       head_long n s,
-      c.requires.fits honest,
+      c.requires.fits faithful,
       c.in_ok-put_words.ensures.goes_on.no_less_room,
       c.in_ok-put_runs.ensures.goes_on.no_less_room,
     )
 
 pub returns-in_err-put_words-2-clause-fault : goal.returns-in_err-put_words-2-clause-fault
-returns-in_err-put_words-2-clause-fault g c honest =
+returns-in_err-put_words-2-clause-fault g c faithful =
     let n : ℕ = c.args.number in
     let s : Kept = kept_of c.args.kept.now in
-    let mid = c.in_ok-put_words.ensures.goes_on.honesty.1 honest in
-    let one = first_put n s _ _ _ _ _ c.requires.empty c.start_words.ensures.text (c.in_ok-put_words.ensures.ok honest) in
+    let mid = c.in_ok-put_words.ensures.goes_on.faith.1 faithful in
+    let one = first_put n s _ _ _ _ _ c.requires.empty c.start_words.ensures.text (c.in_ok-put_words.ensures.ok faithful) in
     let two = paged_more (first_of n s) (lines_in s) _ _ _ _ _ one (c.in_ok-put_runs.ensures.ok mid) in
     at_err _ (part_is _ _ _ _ (ap (λ l. (first_of n s ++ lines_in s) ++ ended l) c.save_text.ensures.text ∙ sym (head_is n s))
-    (part_behind (first_of n s ++ lines_in s) _ _ _ _ _ two (c.in_err-put_words-2.ensures.fault (c.in_ok-put_runs.ensures.goes_on.honesty.1 mid))))
+    (part_behind (first_of n s ++ lines_in s) _ _ _ _ _ two (c.in_err-put_words-2.ensures.fault (c.in_ok-put_runs.ensures.goes_on.faith.1 mid))))
 
 pub append_page-requires-clause-fits : goal.append_page-requires-clause-fits
 append_page-requires-clause-fits g c now =
     let n : ℕ = c.args.number in
     let s : Kept = kept_of c.args.kept.now in
-    let last = c.in_ok-put_words-2.ensures.goes_on.honesty.0 now in
-    let mid = c.in_ok-put_runs.ensures.goes_on.honesty.0 last in
-    let honest = c.in_ok-put_words.ensures.goes_on.honesty.0 mid in
-    let one = first_put n s _ _ _ _ _ c.requires.empty c.start_words.ensures.text (c.in_ok-put_words.ensures.ok honest) in
+    let last = c.in_ok-put_words-2.ensures.goes_on.faith.0 now in
+    let mid = c.in_ok-put_runs.ensures.goes_on.faith.0 last in
+    let faithful = c.in_ok-put_words.ensures.goes_on.faith.0 mid in
+    let one = first_put n s _ _ _ _ _ c.requires.empty c.start_words.ensures.text (c.in_ok-put_words.ensures.ok faithful) in
     let two = paged_more (first_of n s) (lines_in s) _ _ _ _ _ one (c.in_ok-put_runs.ensures.ok mid) in
     let all = last_put n s _ _ _ _ _ _ c.save_text.ensures.text two (c.in_ok-put_words-2.ensures.ok last) in
     omega (
       arith,
       paged_length (head_text n s) _ _ _ all,
-      c.requires.fits honest,
+      c.requires.fits faithful,
       c.in_ok-put_words.ensures.goes_on.no_less_room,
       c.in_ok-put_runs.ensures.goes_on.no_less_room,
       c.in_ok-put_words-2.ensures.goes_on.no_less_room,
     )
 
 pub returns-clause-ok : goal.returns-clause-ok
-returns-clause-ok g c honest =
+returns-clause-ok g c faithful =
     let n : ℕ = c.args.number in
     let s : Kept = kept_of c.args.kept.now in
-    let mid = c.in_ok-put_words.ensures.goes_on.honesty.1 honest in
-    let last = c.in_ok-put_runs.ensures.goes_on.honesty.1 mid in
-    let one = first_put n s _ _ _ _ _ c.requires.empty c.start_words.ensures.text (c.in_ok-put_words.ensures.ok honest) in
+    let mid = c.in_ok-put_words.ensures.goes_on.faith.1 faithful in
+    let last = c.in_ok-put_runs.ensures.goes_on.faith.1 mid in
+    let one = first_put n s _ _ _ _ _ c.requires.empty c.start_words.ensures.text (c.in_ok-put_words.ensures.ok faithful) in
     let two = paged_more (first_of n s) (lines_in s) _ _ _ _ _ one (c.in_ok-put_runs.ensures.ok mid) in
     let all = last_put n s _ _ _ _ _ _ c.save_text.ensures.text two (c.in_ok-put_words-2.ensures.ok last) in
-    on_ok_weaker c.append_page.result (paged_all (head_text n s) _ _ _ _ all) (c.append_page.ensures.ok (c.in_ok-put_words-2.ensures.goes_on.honesty.1 last))
+    on_ok_weaker c.append_page.result (paged_all (head_text n s) _ _ _ _ all) (c.append_page.ensures.ok (c.in_ok-put_words-2.ensures.goes_on.faith.1 last))
 
 pub returns-clause-fault : goal.returns-clause-fault
-returns-clause-fault g c honest =
+returns-clause-fault g c faithful =
     let n : ℕ = c.args.number in
     let s : Kept = kept_of c.args.kept.now in
-    let mid = c.in_ok-put_words.ensures.goes_on.honesty.1 honest in
-    let last = c.in_ok-put_runs.ensures.goes_on.honesty.1 mid in
-    let one = first_put n s _ _ _ _ _ c.requires.empty c.start_words.ensures.text (c.in_ok-put_words.ensures.ok honest) in
+    let mid = c.in_ok-put_words.ensures.goes_on.faith.1 faithful in
+    let last = c.in_ok-put_runs.ensures.goes_on.faith.1 mid in
+    let one = first_put n s _ _ _ _ _ c.requires.empty c.start_words.ensures.text (c.in_ok-put_words.ensures.ok faithful) in
     let two = paged_more (first_of n s) (lines_in s) _ _ _ _ _ one (c.in_ok-put_runs.ensures.ok mid) in
     let all = last_put n s _ _ _ _ _ _ c.save_text.ensures.text two (c.in_ok-put_words-2.ensures.ok last) in
-    on_err_weaker c.append_page.result (part_last (head_text n s) _ _ _ _ all) (c.append_page.ensures.fault (c.in_ok-put_words-2.ensures.goes_on.honesty.1 last))
+    on_err_weaker c.append_page.result (part_last (head_text n s) _ _ _ _ all) (c.append_page.ensures.fault (c.in_ok-put_words-2.ensures.goes_on.faith.1 last))
 
 pub returns-in_err-put_words-clause-fades : goal.returns-in_err-put_words-clause-fades
-returns-in_err-put_words-clause-fades g c honest =
+returns-in_err-put_words-clause-fades g c faithful =
     let n : ℕ = c.args.number in
     let s : Kept = kept_of c.args.kept.now in
     fades_is _ _ _ _ _ (sym (head_is n s ∙ append_assoc (first_of n s) (lines_in s) (last_of n)))
     (fades_front _ (first_of n s) (lines_in s ++ last_of n) _ _
-    (fades_is _ _ _ _ _ (first_is n s c.args.page.now.items c.start_words.result c.requires.empty c.start_words.ensures.text) (c.in_err-put_words.ensures.fades honest)))
+    (fades_is _ _ _ _ _ (first_is n s c.args.page.now.items c.start_words.result c.requires.empty c.start_words.ensures.text) (c.in_err-put_words.ensures.fades faithful)))
 
 pub returns-in_err-put_runs-clause-fades : goal.returns-in_err-put_runs-clause-fades
-returns-in_err-put_runs-clause-fades g c honest =
+returns-in_err-put_runs-clause-fades g c faithful =
     let n : ℕ = c.args.number in
     let s : Kept = kept_of c.args.kept.now in
-    let one = first_put n s _ _ _ _ _ c.requires.empty c.start_words.ensures.text (c.in_ok-put_words.ensures.ok honest) in
-    let start = fades_is _ _ _ _ _ (first_is n s c.args.page.now.items c.start_words.result c.requires.empty c.start_words.ensures.text) (c.in_ok-put_words.ensures.fades honest) in
+    let one = first_put n s _ _ _ _ _ c.requires.empty c.start_words.ensures.text (c.in_ok-put_words.ensures.ok faithful) in
+    let start = fades_is _ _ _ _ _ (first_is n s c.args.page.now.items c.start_words.result c.requires.empty c.start_words.ensures.text) (c.in_ok-put_words.ensures.fades faithful) in
     fades_is _ _ _ _ _ (sym (head_is n s))
     (fades_front _ (first_of n s ++ lines_in s) (last_of n) _ _
-    (fades_behind (first_of n s) (lines_in s) _ _ _ _ _ _ one start (c.in_err-put_runs.ensures.fades (c.in_ok-put_words.ensures.goes_on.honesty.1 honest))))
+    (fades_behind (first_of n s) (lines_in s) _ _ _ _ _ _ one start (c.in_err-put_runs.ensures.fades (c.in_ok-put_words.ensures.goes_on.faith.1 faithful))))
 
 pub returns-in_err-put_words-2-clause-fades : goal.returns-in_err-put_words-2-clause-fades
-returns-in_err-put_words-2-clause-fades g c honest =
+returns-in_err-put_words-2-clause-fades g c faithful =
     let n : ℕ = c.args.number in
     let s : Kept = kept_of c.args.kept.now in
-    let mid = c.in_ok-put_words.ensures.goes_on.honesty.1 honest in
-    let one = first_put n s _ _ _ _ _ c.requires.empty c.start_words.ensures.text (c.in_ok-put_words.ensures.ok honest) in
+    let mid = c.in_ok-put_words.ensures.goes_on.faith.1 faithful in
+    let one = first_put n s _ _ _ _ _ c.requires.empty c.start_words.ensures.text (c.in_ok-put_words.ensures.ok faithful) in
     let two = paged_more (first_of n s) (lines_in s) _ _ _ _ _ one (c.in_ok-put_runs.ensures.ok mid) in
-    let start = fades_is _ _ _ _ _ (first_is n s c.args.page.now.items c.start_words.result c.requires.empty c.start_words.ensures.text) (c.in_ok-put_words.ensures.fades honest) in
+    let start = fades_is _ _ _ _ _ (first_is n s c.args.page.now.items c.start_words.result c.requires.empty c.start_words.ensures.text) (c.in_ok-put_words.ensures.fades faithful) in
     let lines = fades_behind (first_of n s) (lines_in s) _ _ _ _ _ _ one start (c.in_ok-put_runs.ensures.fades mid) in
     fades_is _ _ _ _ _ (ap (λ l. (first_of n s ++ lines_in s) ++ ended l) c.save_text.ensures.text ∙ sym (head_is n s))
-    (fades_behind (first_of n s ++ lines_in s) _ _ _ _ _ _ _ two lines (c.in_err-put_words-2.ensures.fades (c.in_ok-put_runs.ensures.goes_on.honesty.1 mid)))
+    (fades_behind (first_of n s ++ lines_in s) _ _ _ _ _ _ _ two lines (c.in_err-put_words-2.ensures.fades (c.in_ok-put_runs.ensures.goes_on.faith.1 mid)))
 
 pub returns-clause-fades : goal.returns-clause-fades
-returns-clause-fades g c honest =
+returns-clause-fades g c faithful =
     let n : ℕ = c.args.number in
     let s : Kept = kept_of c.args.kept.now in
-    let mid = c.in_ok-put_words.ensures.goes_on.honesty.1 honest in
-    let last = c.in_ok-put_runs.ensures.goes_on.honesty.1 mid in
-    let one = first_put n s _ _ _ _ _ c.requires.empty c.start_words.ensures.text (c.in_ok-put_words.ensures.ok honest) in
+    let mid = c.in_ok-put_words.ensures.goes_on.faith.1 faithful in
+    let last = c.in_ok-put_runs.ensures.goes_on.faith.1 mid in
+    let one = first_put n s _ _ _ _ _ c.requires.empty c.start_words.ensures.text (c.in_ok-put_words.ensures.ok faithful) in
     let two = paged_more (first_of n s) (lines_in s) _ _ _ _ _ one (c.in_ok-put_runs.ensures.ok mid) in
     let all = last_put n s _ _ _ _ _ _ c.save_text.ensures.text two (c.in_ok-put_words-2.ensures.ok last) in
-    let start = fades_is _ _ _ _ _ (first_is n s c.args.page.now.items c.start_words.result c.requires.empty c.start_words.ensures.text) (c.in_ok-put_words.ensures.fades honest) in
+    let start = fades_is _ _ _ _ _ (first_is n s c.args.page.now.items c.start_words.result c.requires.empty c.start_words.ensures.text) (c.in_ok-put_words.ensures.fades faithful) in
     let lines = fades_behind (first_of n s) (lines_in s) _ _ _ _ _ _ one start (c.in_ok-put_runs.ensures.fades mid) in
     let whole = fades_is _ _ _ _ _ (ap (λ l. (first_of n s ++ lines_in s) ++ ended l) c.save_text.ensures.text ∙ sym (head_is n s))
     (fades_behind (first_of n s ++ lines_in s) _ _ _ _ _ _ _ two lines (c.in_ok-put_words-2.ensures.fades last)) in
-    fades_last (head_text n s) _ _ _ _ _ _ all whole (c.append_page.ensures.fades (c.in_ok-put_words-2.ensures.goes_on.honesty.1 last))
+    fades_last (head_text n s) _ _ _ _ _ _ all whole (c.append_page.ensures.fades (c.in_ok-put_words-2.ensures.goes_on.faith.1 last))

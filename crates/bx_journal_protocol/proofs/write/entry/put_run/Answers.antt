@@ -13,16 +13,16 @@ use Rattle.bx_journal_protocol.proofs.write.entry.put_run.Goals as goal
 pub loop-k-init : goal.loop-k-init
 loop-k-init g c = record {
   most = omega arith;
-  puts = λ honest. paged_here (c.args.page.now.items ++ []) _ _ (sym (append-nil c.args.page.now.items));
-  fades = λ honest. FadesBehind_same _ _ _;
+  puts = λ faithful. paged_here (c.args.page.now.items ++ []) _ _ (sym (append-nil c.args.page.now.items));
+  fades = λ faithful. FadesBehind_same _ _ _;
   room = omega arith;
   goes_on = GoesOn_refl _ _ _ _;
 }
 
 pub put_row-requires-clause-fits : goal.put_row-requires-clause-fits
-put_row-requires-clause-fits g c honest =
+put_row-requires-clause-fits g c faithful =
     let before = c.loop-k.invariant in
-    let first = before.goes_on.honesty.0 honest in
+    let first = before.goes_on.faith.0 faithful in
     let run : Run = run_of c.args.run.now in
     let k : ℕ = c.loop-k.k + c.push_rows-more.result in
     let done : List ℕ = rows_text (map (row run) (range_with_len 0 k)) in
@@ -49,7 +49,7 @@ returns-in_err-put_row-clause-fault g c first =
     let front = rows_front run (k + 1) (omega (arith, ap length c.as_slice-bytes.ensures, c.push_rows-more.ensures.inside)) in
     let grown = rows_grown page c.as_slice-bytes.result.now run c.loop-k.k c.push_rows-more.result _ _ _ _ c.as_slice-bytes.ensures c.push_rows-more.ensures.rows (before.puts first) in
     at_err _ (part_step (page ++ done) _ (page ++ more) (page ++ rows_text (rows run)) front.0 _ _ _ _ grown
-    (c.in_err-put_row.ensures.fault (before.goes_on.honesty.1 first))
+    (c.in_err-put_row.ensures.fault (before.goes_on.faith.1 first))
     (row_step page c.as_slice-bytes.result.now run k c.min-to.result c.as_slice-bytes.ensures c.min-to.ensures)
     (ap (λ t. page ++ t) front.1 ∙ sym (append_assoc page more front.0)))
 
@@ -73,7 +73,7 @@ returns-in_err-put_row-clause-fades g c first =
     let grown = rows_grown page c.as_slice-bytes.result.now run c.loop-k.k c.push_rows-more.result _ _ _ _ c.as_slice-bytes.ensures c.push_rows-more.ensures.rows (before.puts first) in
     fades_step (page ++ done) _ (page ++ more) (page ++ rows_text (rows run)) front.0 _ _ _ _ _ _ grown
     (rows_faded _ page run c.loop-k.k c.push_rows-more.result _ _ (before.fades first))
-    (c.in_err-put_row.ensures.fades (before.goes_on.honesty.1 first))
+    (c.in_err-put_row.ensures.fades (before.goes_on.faith.1 first))
     (row_step page c.as_slice-bytes.result.now run k c.min-to.result c.as_slice-bytes.ensures c.min-to.ensures)
     (ap (λ t. page ++ t) front.1 ∙ sym (append_assoc page more front.0))
 
@@ -89,12 +89,12 @@ loop-k-preserved g c =
       most = omega (arith, c.push_rows-more.ensures.inside);
       puts = λ first. paged_step (page ++ done) _ (page ++ more) _ _ _ _ _
           (rows_grown page c.as_slice-bytes.result.now run c.loop-k.k c.push_rows-more.result _ _ _ _ c.as_slice-bytes.ensures c.push_rows-more.ensures.rows (before.puts first))
-          (c.in_ok-put_row.ensures.ok (before.goes_on.honesty.1 first))
+          (c.in_ok-put_row.ensures.ok (before.goes_on.faith.1 first))
           (row_step page c.as_slice-bytes.result.now run k c.min-to.result c.as_slice-bytes.ensures c.min-to.ensures);
       fades = λ first.
           let grown = rows_grown page c.as_slice-bytes.result.now run c.loop-k.k c.push_rows-more.result _ _ _ _ c.as_slice-bytes.ensures c.push_rows-more.ensures.rows (before.puts first) in
           fades_is _ (page ++ done ++ _) (page ++ more) _ _ (row_step page c.as_slice-bytes.result.now run k c.min-to.result c.as_slice-bytes.ensures c.min-to.ensures)
-          (fades_behind (page ++ done) _ _ _ _ _ _ _ grown (rows_faded _ page run c.loop-k.k c.push_rows-more.result _ _ (before.fades first)) (c.in_ok-put_row.ensures.fades (before.goes_on.honesty.1 first)));
+          (fades_behind (page ++ done) _ _ _ _ _ _ _ grown (rows_faded _ page run c.loop-k.k c.push_rows-more.result _ _ (before.fades first)) (c.in_ok-put_row.ensures.fades (before.goes_on.faith.1 first)));
       room = omega (arith, before.room, c.push_rows-more.ensures.room, c.put_row.ensures.room);
       goes_on = GoesOn_then _ _ _ _ _ _ _ before.goes_on c.in_ok-put_row.ensures.goes_on;
     }

@@ -14,10 +14,10 @@ invariant-loop-k g l =
     let store = g.T.TextStore in
     record {
       most : l.k ≤ l.count;
-      puts : store.honest l.fn.store → IsPaged (l.fn.page.items ++ rows_text (map (row (run_of l.run)) (range_with_len 0 l.k))) (store.text l.fn.store) (store.text l.store) l.page.items;
-      fades : store.honest l.fn.store → FadesBehind (store.text l.fn.store) (l.fn.page.items ++ rows_text (map (row (run_of l.run)) (range_with_len 0 l.k))) (store.survives l.fn.store) (store.survives l.store);
+      puts : store.faithful l.fn.store → IsPaged (l.fn.page.items ++ rows_text (map (row (run_of l.run)) (range_with_len 0 l.k))) (store.text l.fn.store) (store.text l.store) l.page.items;
+      fades : store.faithful l.fn.store → FadesBehind (store.text l.fn.store) (l.fn.page.items ++ rows_text (map (row (run_of l.run)) (range_with_len 0 l.k))) (store.survives l.fn.store) (store.survives l.store);
       room : vec_capacity l.fn.page ≤ vec_capacity l.page;
-      goes_on : GoesOn store.honest store.room store.failures false l.fn.store l.store;
+      goes_on : GoesOn store.faithful store.room store.failures false l.fn.store l.store;
     }
 
 abbrev pub decreases-loop-k : goal.decreases-loop-k

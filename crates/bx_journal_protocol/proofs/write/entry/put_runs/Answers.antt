@@ -11,8 +11,8 @@ use Rattle.bx_journal_protocol.proofs.write.entry.put_runs.Goals as goal
 
 pub loop-run-init : goal.loop-run-init
 loop-run-init g c = record {
-  puts = λ honest. paged_here (c.args.page.now.items ++ []) _ _ (sym (append-nil c.args.page.now.items));
-  fades = λ honest. FadesBehind_same _ _ _;
+  puts = λ faithful. paged_here (c.args.page.now.items ++ []) _ _ (sym (append-nil c.args.page.now.items));
+  fades = λ faithful. FadesBehind_same _ _ _;
   room = omega arith;
   goes_on = GoesOn_refl _ _ _ _;
 }
@@ -24,12 +24,12 @@ put_run-requires-clause-within g c =
     omega (arith, within_at c.args.kept.now.len c.args.kept.now.runs c.run-item.result c.loop-run.run-index c.requires.within inside (c.run-item.is ∙ ap (λ rs. get_or rs c.loop-run.run-index c.run-item.result) same))
 
 pub put_run-requires-clause-fits : goal.put_run-requires-clause-fits
-put_run-requires-clause-fits g c honest =
+put_run-requires-clause-fits g c faithful =
     let same = c.as_slice-run-items.ensures in
     let k : ℕ = c.loop-run.run-index in
     let inside : k < length c.args.kept.now.runs = omega (arith, c.loop-run-test.true, ap length same) in
     let before = c.loop-run.invariant in
-    let first = before.goes_on.honesty.0 honest in
+    let first = before.goes_on.faith.0 faithful in
     let done : List ℕ = rows_text (flat_map rows (map run_of (take k c.args.kept.now.runs))) in
     let more : List ℕ = rows_text (flat_map rows (map run_of (take (k + 1) c.args.kept.now.runs))) in
     let rest : List ℕ = rows_text (flat_map rows (map run_of (drop (k + 1) c.args.kept.now.runs))) in
@@ -60,7 +60,7 @@ returns-in_err-put_run-clause-fault g c first =
     let line : List ℕ = rows_text (rows (run_of c.run-item.result)) in
     let step = runs_step c.args.kept.now.runs c.run-item.result k inside (c.run-item.is ∙ ap (λ rs. get_or rs k c.run-item.result) same) in
     at_err _ (part_step (page ++ done) line (page ++ more) (page ++ rows_text (flat_map rows (map run_of c.args.kept.now.runs))) rest _ _ _ _ (before.puts first)
-    (c.in_err-put_run.ensures.fault (before.goes_on.honesty.1 first))
+    (c.in_err-put_run.ensures.fault (before.goes_on.faith.1 first))
     (append_assoc page done line ∙ ap (λ t. page ++ t) (sym step))
     (ap (λ t. page ++ t) (runs_front c.args.kept.now.runs (k + 1)) ∙ sym (append_assoc page more rest)))
 
@@ -77,7 +77,7 @@ returns-in_err-put_run-clause-fades g c first =
     let line : List ℕ = rows_text (rows (run_of c.run-item.result)) in
     let step = runs_step c.args.kept.now.runs c.run-item.result k inside (c.run-item.is ∙ ap (λ rs. get_or rs k c.run-item.result) same) in
     fades_step (page ++ done) line (page ++ more) (page ++ rows_text (flat_map rows (map run_of c.args.kept.now.runs))) rest _ _ _ _ _ _ (before.puts first) (before.fades first)
-    (c.in_err-put_run.ensures.fades (before.goes_on.honesty.1 first))
+    (c.in_err-put_run.ensures.fades (before.goes_on.faith.1 first))
     (append_assoc page done line ∙ ap (λ t. page ++ t) (sym step))
     (ap (λ t. page ++ t) (runs_front c.args.kept.now.runs (k + 1)) ∙ sym (append_assoc page more rest))
 
@@ -93,9 +93,9 @@ loop-run-preserved g c =
     let line : List ℕ = rows_text (rows (run_of c.run-item.result)) in
     let step = runs_step c.args.kept.now.runs c.run-item.result k inside (c.run-item.is ∙ ap (λ rs. get_or rs k c.run-item.result) same) in
     record {
-      puts = λ first. paged_step (page ++ done) line (page ++ more) _ _ _ _ _ (before.puts first) (c.in_ok-put_run.ensures.ok (before.goes_on.honesty.1 first)) (append_assoc page done line ∙ ap (λ t. page ++ t) (sym step));
+      puts = λ first. paged_step (page ++ done) line (page ++ more) _ _ _ _ _ (before.puts first) (c.in_ok-put_run.ensures.ok (before.goes_on.faith.1 first)) (append_assoc page done line ∙ ap (λ t. page ++ t) (sym step));
       fades = λ first. fades_is _ _ _ _ _ (append_assoc page done line ∙ ap (λ t. page ++ t) (sym step))
-          (fades_behind (page ++ done) line _ _ _ _ _ _ (before.puts first) (before.fades first) (c.in_ok-put_run.ensures.fades (before.goes_on.honesty.1 first)));
+          (fades_behind (page ++ done) line _ _ _ _ _ _ (before.puts first) (before.fades first) (c.in_ok-put_run.ensures.fades (before.goes_on.faith.1 first)));
       room = omega (arith, before.room, c.put_run.ensures.room);
       goes_on = GoesOn_then _ _ _ _ _ _ _ before.goes_on c.in_ok-put_run.ensures.goes_on;
     }

@@ -12,8 +12,8 @@ abbrev pub invariant-loop-run : goal.invariant-loop-run
 invariant-loop-run g l =
     let store = g.T.TextStore in
     record {
-      puts : store.honest l.fn.store → IsPaged (l.fn.page.items ++ rows_text (flat_map rows (map run_of (take l.run-index l.kept.runs)))) (store.text l.fn.store) (store.text l.store) l.page.items;
-      fades : store.honest l.fn.store → FadesBehind (store.text l.fn.store) (l.fn.page.items ++ rows_text (flat_map rows (map run_of (take l.run-index l.kept.runs)))) (store.survives l.fn.store) (store.survives l.store);
+      puts : store.faithful l.fn.store → IsPaged (l.fn.page.items ++ rows_text (flat_map rows (map run_of (take l.run-index l.kept.runs)))) (store.text l.fn.store) (store.text l.store) l.page.items;
+      fades : store.faithful l.fn.store → FadesBehind (store.text l.fn.store) (l.fn.page.items ++ rows_text (flat_map rows (map run_of (take l.run-index l.kept.runs)))) (store.survives l.fn.store) (store.survives l.store);
       room : vec_capacity l.fn.page ≤ vec_capacity l.page;
-      goes_on : GoesOn store.honest store.room store.failures false l.fn.store l.store;
+      goes_on : GoesOn store.faithful store.room store.failures false l.fn.store l.store;
     }

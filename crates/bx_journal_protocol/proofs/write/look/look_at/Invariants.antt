@@ -10,9 +10,9 @@ abbrev pub invariant-loop-range : goal.invariant-loop-range
 invariant-loop-range g l =
     let device = g.D.Device in
     record {
-      bytes : device.honest l.fn.image → HaveBytes (kept_over (device.image l.fn.image) (take l.range-index l.ranges)).runs;
+      bytes : device.faithful l.fn.image → HaveBytes (kept_over (device.image l.fn.image) (take l.range-index l.ranges)).runs;
       window : length l.window ≡ length l.fn.window;
-      image : device.honest l.fn.image → device.image l.image ≡ device.image l.fn.image;
-      survives : device.honest l.fn.image → NoMore (device.survives l.fn.image) (device.survives l.image);
-      goes_on : GoesOn device.honest device.room device.failures false l.fn.image l.image;
+      image : device.faithful l.fn.image → device.image l.image ≡ device.image l.fn.image;
+      survives : device.faithful l.fn.image → NoMore (device.survives l.fn.image) (device.survives l.image);
+      goes_on : GoesOn device.faithful device.room device.failures false l.fn.image l.image;
     }

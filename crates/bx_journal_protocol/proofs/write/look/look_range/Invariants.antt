@@ -11,11 +11,11 @@ invariant-loop-from g l =
     record {
       order : l.at ≤ l.from;
       within : l.from ≤ l.end;
-      bytes : device.honest l.fn.image → AreBytes (take (l.from - l.at) (drop l.at (device.image l.fn.image)));
+      bytes : device.faithful l.fn.image → AreBytes (take (l.from - l.at) (drop l.at (device.image l.fn.image)));
       window : length l.window ≡ length l.fn.window;
-      image : device.honest l.fn.image → device.image l.image ≡ device.image l.fn.image;
-      survives : device.honest l.fn.image → NoMore (device.survives l.fn.image) (device.survives l.image);
-      goes_on : GoesOn device.honest device.room device.failures false l.fn.image l.image;
+      image : device.faithful l.fn.image → device.image l.image ≡ device.image l.fn.image;
+      survives : device.faithful l.fn.image → NoMore (device.survives l.fn.image) (device.survives l.image);
+      goes_on : GoesOn device.faithful device.room device.failures false l.fn.image l.image;
     }
 
 abbrev pub decreases-loop-from : goal.decreases-loop-from

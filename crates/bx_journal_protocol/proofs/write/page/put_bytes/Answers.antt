@@ -3,11 +3,11 @@ use Rattle.bx_journal_protocol.proofs.FadeLemmas.{fades_front}
 use Rattle.bx_journal_protocol.proofs.write.page.put_bytes.Goals as goal
 
 pub returns-in_err-make_room-clause-fault : goal.returns-in_err-make_room-clause-fault
-returns-in_err-make_room-clause-fault g c honest =
-    at_err _ (part_front c.args.page.now.items c.args.bytes.now _ _ (c.in_err-make_room.ensures.fault honest))
+returns-in_err-make_room-clause-fault g c faithful =
+    at_err _ (part_front c.args.page.now.items c.args.bytes.now _ _ (c.in_err-make_room.ensures.fault faithful))
 
 pub returns-in_err-make_room-clause-fades : goal.returns-in_err-make_room-clause-fades
-returns-in_err-make_room-clause-fades g c honest = fades_front _ c.args.page.now.items c.args.bytes.now _ _ (c.in_err-make_room.ensures.fades honest)
+returns-in_err-make_room-clause-fades g c faithful = fades_front _ c.args.page.now.items c.args.bytes.now _ _ (c.in_err-make_room.ensures.fades faithful)
 
 pub returns-clause-fades : goal.returns-clause-fades
-returns-clause-fades g c honest = fades_front _ c.args.page.now.items c.args.bytes.now _ _ (c.in_ok-make_room.ensures.fades honest)
+returns-clause-fades g c faithful = fades_front _ c.args.page.now.items c.args.bytes.now _ _ (c.in_ok-make_room.ensures.fades faithful)

@@ -15,12 +15,12 @@ pub fill_page-requires-clause-place : goal.fill_page-requires-clause-place
 fill_page-requires-clause-place g c = place_first _ c.args.ranges.now c.requires.ordered
 
 pub returns-clause-begun : goal.returns-clause-begun
-returns-clause-begun g c honest =
+returns-clause-begun g c faithful =
     let x : List ℕ = g.D.Device.image c.args.image.now in
     let ranges : List Span = c.args.ranges.now in
     let line : List ℕ = c.start_words.result in
-    ok_more c.fill_page.result (c.fill_page.ensures.put honest)
-    (λ p put. head_over c.args.number x ranges c.fill_page.new.page.items line p (c.start_words.ensures.text ∙ ap (start_line Second c.args.number) (c.requires.long honest))
+    ok_more c.fill_page.result (c.fill_page.ensures.put faithful)
+    (λ p put. head_over c.args.number x ranges c.fill_page.new.page.items line p (c.start_words.ensures.text ∙ ap (start_line Second c.args.number) (c.requires.long faithful))
     (put ∙ ap (λ t. t ++ left_text x ranges 0) (c.push_line.ensures.line ∙ ap (λ t. t ++ ended line) c.requires.empty)))
 
 pub returns-clause-long : goal.returns-clause-long

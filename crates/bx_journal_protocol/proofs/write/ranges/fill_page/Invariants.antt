@@ -11,14 +11,14 @@ invariant-loop-now g l =
     let device = g.D.Device in
     record {
       place : IsPlace l.ranges l.now;
-      put : device.honest l.fn.image → l.page.items ++ rest_text (device.image l.fn.image) l.ranges l.now ≡ l.fn.page.items ++ rest_text (device.image l.fn.image) l.ranges l.fn.place;
+      put : device.faithful l.fn.image → l.page.items ++ rest_text (device.image l.fn.image) l.ranges l.now ≡ l.fn.page.items ++ rest_text (device.image l.fn.image) l.ranges l.fn.place;
       long : length l.page.items + rest_len l.ranges l.now ≡ length l.fn.page.items + rest_len l.ranges l.fn.place;
       grown : ((l.now.range ≡ l.fn.place.range) × (length l.page.items ≡ length l.fn.page.items)) ⊎ (length l.fn.page.items < length l.page.items);
       room : vec_capacity l.fn.page ≤ vec_capacity l.page;
       window : length l.window ≡ length l.fn.window;
-      image : device.honest l.fn.image → device.image l.image ≡ device.image l.fn.image;
-      survives : device.honest l.fn.image → NoMore (device.survives l.fn.image) (device.survives l.image);
-      goes_on : GoesOn device.honest device.room device.failures false l.fn.image l.image;
+      image : device.faithful l.fn.image → device.image l.image ≡ device.image l.fn.image;
+      survives : device.faithful l.fn.image → NoMore (device.survives l.fn.image) (device.survives l.image);
+      goes_on : GoesOn device.faithful device.room device.failures false l.fn.image l.image;
     }
 
 abbrev pub decreases-loop-now : goal.decreases-loop-now

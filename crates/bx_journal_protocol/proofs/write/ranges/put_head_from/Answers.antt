@@ -36,7 +36,7 @@ put_rest_of-requires-clause-head g c = record {
 pub put_rest_of-requires-clause-fits : goal.put_rest_of-requires-clause-fits
 put_rest_of-requires-clause-fits g c now =
     let put = c.in_ok-put_first.ensures in
-    let th = put.goes_on.honesty.0 now in
+    let th = put.goes_on.faith.0 now in
     omega (arith, paged_length c.args.head.now.page.items _ _ _ (put.ok th), c.requires.fits th, put.goes_on.no_less_room)
 
 pub returns-clause-ok : goal.returns-clause-ok
@@ -46,7 +46,7 @@ returns-clause-ok g c dh th =
     let x : List ℕ = g.D.Device.image c.args.image.now in
     on_ok_weaker c.put_rest_of.result
     (put_behind _ _ paged.added _ _ _ paged.text_is (head_split x c.args.ranges.now c.args.head.now.place c.args.head.now.number paged.added _ _ paged.bytes_are))
-    (c.put_rest_of.ensures.ok dh (put.goes_on.honesty.1 th))
+    (c.put_rest_of.ensures.ok dh (put.goes_on.faith.1 th))
 
 pub returns-clause-fault : goal.returns-clause-fault
 returns-clause-fault g c dh th =
@@ -55,7 +55,7 @@ returns-clause-fault g c dh th =
     let x : List ℕ = g.D.Device.image c.args.image.now in
     on_err_weaker c.put_rest_of.result
     (part_behind_first _ _ paged.added _ _ _ paged.text_is (head_split x c.args.ranges.now c.args.head.now.place c.args.head.now.number paged.added _ _ paged.bytes_are))
-    (c.put_rest_of.ensures.fault dh (put.goes_on.honesty.1 th))
+    (c.put_rest_of.ensures.fault dh (put.goes_on.faith.1 th))
 
 pub returns-clause-fades : goal.returns-clause-fades
 returns-clause-fades g c dh th =
@@ -65,7 +65,7 @@ returns-clause-fades g c dh th =
     let page : List ℕ = c.args.head.now.page.items in
     let left : List ℕ = c.put_first.new.page.items in
     fades_is _ _ _ _ _ (sym (append_assoc page rest end))
-    (fades_behind page (rest ++ end) _ _ _ _ _ _ (put.ok th) (put.fades th) (fades_is _ _ _ _ _ (append_assoc left rest end) (c.put_rest_of.ensures.fades dh (put.goes_on.honesty.1 th))))
+    (fades_behind page (rest ++ end) _ _ _ _ _ _ (put.ok th) (put.fades th) (fades_is _ _ _ _ _ (append_assoc left rest end) (c.put_rest_of.ensures.fades dh (put.goes_on.faith.1 th))))
 
 pub returns-clause-first : goal.returns-clause-first
 returns-clause-first g c dh th only =
@@ -74,15 +74,15 @@ returns-clause-first g c dh th only =
     let x : List ℕ = g.D.Device.image c.args.image.now in
     let whole = put_behind _ _ paged.added _ _ _ paged.text_is (head_split x c.args.ranges.now c.args.head.now.place c.args.head.now.number paged.added _ _ paged.bytes_are) refl in
     subst (λ t. AllHaveFirst t (g.T.TextStore.survives c.put_rest_of.new.journal)) whole
-    (all_have_first _ _ _ (put.first th) (left_behind _ _ _ _ (put.settled th only) (c.put_rest_of.ensures.fades dh (put.goes_on.honesty.1 th))))
+    (all_have_first _ _ _ (put.first th) (left_behind _ _ _ _ (put.settled th only) (c.put_rest_of.ensures.fades dh (put.goes_on.faith.1 th))))
 
 pub returns-clause-long : goal.returns-clause-long
 returns-clause-long g c th =
     let put = c.in_ok-put_first.ensures in
-    on_ok_weaker c.put_rest_of.result (λ long. omega (arith, long, paged_length c.args.head.now.page.items _ _ _ (put.ok th))) (c.put_rest_of.ensures.long (put.goes_on.honesty.1 th))
+    on_ok_weaker c.put_rest_of.result (λ long. omega (arith, long, paged_length c.args.head.now.page.items _ _ _ (put.ok th))) (c.put_rest_of.ensures.long (put.goes_on.faith.1 th))
 
 pub returns-clause-front : goal.returns-clause-front
 returns-clause-front g c th =
     let put = c.in_ok-put_first.ensures in
     let paged = put.ok th in
-    on_ok_weaker c.put_rest_of.result (λ front. (paged.added ++ front.0, put_behind _ _ paged.added _ _ _ paged.text_is refl front.1)) (c.put_rest_of.ensures.front (put.goes_on.honesty.1 th))
+    on_ok_weaker c.put_rest_of.result (λ front. (paged.added ++ front.0, put_behind _ _ paged.added _ _ _ paged.text_is refl front.1)) (c.put_rest_of.ensures.front (put.goes_on.faith.1 th))

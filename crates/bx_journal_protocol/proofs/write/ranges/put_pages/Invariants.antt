@@ -14,20 +14,20 @@ invariant-loop-now g l =
     let store = g.T.TextStore in
     record {
       place : IsPlace l.ranges l.now;
-      puts : device.honest l.fn.image → store.honest l.fn.journal → (bytes : List ℕ)
+      puts : device.faithful l.fn.image → store.faithful l.fn.journal → (bytes : List ℕ)
           × (bytes ++ rest_text (device.image l.fn.image) l.ranges l.now ≡ l.fn.page.items ++ rest_text (device.image l.fn.image) l.ranges l.fn.place)
           × IsPaged bytes (store.text l.fn.journal) (store.text l.journal) l.page.items;
-      fades : device.honest l.fn.image → store.honest l.fn.journal
+      fades : device.faithful l.fn.image → store.faithful l.fn.journal
           → FadesBehind (store.text l.fn.journal) (l.fn.page.items ++ rest_text (device.image l.fn.image) l.ranges l.fn.place) (store.survives l.fn.journal) (store.survives l.journal);
-      long : store.honest l.fn.journal → length (store.text l.journal) + length l.page.items + rest_len l.ranges l.now
+      long : store.faithful l.fn.journal → length (store.text l.journal) + length l.page.items + rest_len l.ranges l.now
           ≡ length (store.text l.fn.journal) + length l.fn.page.items + rest_len l.ranges l.fn.place;
-      front : store.honest l.fn.journal → IsPrefix (store.text l.fn.journal) (store.text l.journal);
+      front : store.faithful l.fn.journal → IsPrefix (store.text l.fn.journal) (store.text l.journal);
       room : vec_capacity l.fn.page ≤ vec_capacity l.page;
       window : length l.window ≡ length l.fn.window;
-      image : device.honest l.fn.image → device.image l.image ≡ device.image l.fn.image;
-      survives : device.honest l.fn.image → NoMore (device.survives l.fn.image) (device.survives l.image);
-      image_goes_on : GoesOn device.honest device.room device.failures false l.fn.image l.image;
-      journal_goes_on : GoesOn store.honest store.room store.failures false l.fn.journal l.journal;
+      image : device.faithful l.fn.image → device.image l.image ≡ device.image l.fn.image;
+      survives : device.faithful l.fn.image → NoMore (device.survives l.fn.image) (device.survives l.image);
+      image_goes_on : GoesOn device.faithful device.room device.failures false l.fn.image l.image;
+      journal_goes_on : GoesOn store.faithful store.room store.failures false l.fn.journal l.journal;
     }
 
 abbrev pub decreases-loop-now : goal.decreases-loop-now

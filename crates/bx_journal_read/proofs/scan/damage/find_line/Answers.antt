@@ -9,18 +9,18 @@ pub is_damaged_at-requires-clause-walked : goal.is_damaged_at-requires-clause-wa
 is_damaged_at-requires-clause-walked g c =
     let T = g.T.TextStore in
     let now = c.in_ok-found.ensures in
-    let walked = subst (λ o. IfSome o (IsWalkedTo (T.honest c.args.store.now) (T.text c.args.store.now) false c.args.len)) c.in-Some.is now.walked in
+    let walked = subst (λ o. IfSome o (IsWalkedTo (T.faithful c.args.store.now) (T.text c.args.store.now) false c.args.len)) c.in-Some.is now.walked in
     read_walked T now.reads c.args.len c.in-Some.walk walked
 
 pub returns-then-damaged-clause-line : goal.returns-then-damaged-clause-line
 returns-then-damaged-clause-line g c =
     let T = g.T.TextStore in
     let now = c.in_ok-found.ensures in
-    damaged_before (T.honest c.args.store.now) (T.honest c.walk_in_place.new.store) (take c.args.len (T.text c.args.store.now)) (take c.args.len (T.text c.walk_in_place.new.store)) (c.in-Some.walk.lines + 1)
-    now.reads.goes_on.honesty.1 (λ h. ap (take c.args.len) (now.reads.text h)) (c.in_ok-damaged.ensures.damaged c.if-damaged.true)
+    damaged_before (T.faithful c.args.store.now) (T.faithful c.walk_in_place.new.store) (take c.args.len (T.text c.args.store.now)) (take c.args.len (T.text c.walk_in_place.new.store)) (c.in-Some.walk.lines + 1)
+    now.reads.goes_on.faith.1 (λ h. ap (take c.args.len) (now.reads.text h)) (c.in_ok-damaged.ensures.damaged c.if-damaged.true)
 
 pub overflow_add-result : goal.overflow_add-result
 overflow_add-result g c =
     let T = g.T.TextStore in
-    let walked = subst (λ o. IfSome o (IsWalkedTo (T.honest c.args.store.now) (T.text c.args.store.now) false c.args.len)) c.in-Some.is c.in_ok-found.ensures.walked in
+    let walked = subst (λ o. IfSome o (IsWalkedTo (T.faithful c.args.store.now) (T.text c.args.store.now) false c.args.len)) c.in-Some.is c.in_ok-found.ensures.walked in
     omega (arith, walked.lines, c.if-walk-len.false)

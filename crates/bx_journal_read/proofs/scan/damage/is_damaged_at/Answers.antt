@@ -17,7 +17,7 @@ returns-clause-damaged g c =
     let T = g.T.TextStore in
     let now = c.in_ok-damaged.ensures in
     let line = c.args.walk.lines + 1 in
-    IfOk-weaker c.ends_long.result (λ b. IsTrue b → IsDamagedIn (T.honest c.is_damaged_behind.new.store) (take c.args.len (T.text c.is_damaged_behind.new.store)) line) (λ b. IsTrue b → IsDamagedIn (T.honest c.args.store.now) (take c.args.len (T.text c.args.store.now)) line)
-    (λ b found yes_. damaged_before (T.honest c.args.store.now) (T.honest c.is_damaged_behind.new.store) (take c.args.len (T.text c.args.store.now)) (take c.args.len (T.text c.is_damaged_behind.new.store)) line
-    now.reads.goes_on.honesty.1 (λ h. ap (take c.args.len) (now.reads.text h)) (found yes_))
+    IfOk-weaker c.ends_long.result (λ b. IsTrue b → IsDamagedIn (T.faithful c.is_damaged_behind.new.store) (take c.args.len (T.text c.is_damaged_behind.new.store)) line) (λ b. IsTrue b → IsDamagedIn (T.faithful c.args.store.now) (take c.args.len (T.text c.args.store.now)) line)
+    (λ b found yes_. damaged_before (T.faithful c.args.store.now) (T.faithful c.is_damaged_behind.new.store) (take c.args.len (T.text c.args.store.now)) (take c.args.len (T.text c.is_damaged_behind.new.store)) line
+    now.reads.goes_on.faith.1 (λ h. ap (take c.args.len) (now.reads.text h)) (found yes_))
     c.ends_long.ensures.damaged

@@ -9,5 +9,5 @@ scan_windows-requires-clause-led g c =
       text = f.front;
       is = f.is;
       long = f.long;
-      leads = (f.counted.counted.entries, c.in_ok-read.ensures.read f.front f.counted.counted.entries (front_is (g.T.TextStore.honest c.args.store.now) (g.T.TextStore.text c.args.store.now) c.args.front f), refl);
+      leads = (f.counted.counted.entries, c.in_ok-read.ensures.read f.front f.counted.counted.entries (front_is (g.T.TextStore.faithful c.args.store.now) (g.T.TextStore.text c.args.store.now) c.args.front f), refl);
     }

@@ -11,7 +11,7 @@ returns-in-Some-counted_by-clause-found g c =
     let T = g.T.TextStore in
     let text : List ℕ = T.text c.args.store.now in
     let walk = c.in-Some.walk in
-    let walked = subst (λ o. IfSome o (IsWalkedTo (T.honest c.args.store.now) text false c.args.len)) c.in-Some.is c.in_ok-walked.ensures.walked in
+    let walked = subst (λ o. IfSome o (IsWalkedTo (T.faithful c.args.store.now) text false c.args.len)) c.in-Some.is c.in_ok-walked.ensures.walked in
     record {
       text = walked.led.text;
       is = λ h. sym (walked.led.is h ∙ take_all walk.at text (omega (arith, c.requires.long h, c.if-walk-len.true)));
@@ -23,11 +23,11 @@ pub find_torn-requires-clause-walked : goal.find_torn-requires-clause-walked
 find_torn-requires-clause-walked g c =
     let T = g.T.TextStore in
     let now = c.in_ok-walked.ensures in
-    let walked = subst (λ o. IfSome o (IsWalkedTo (T.honest c.args.store.now) (T.text c.args.store.now) false c.args.len)) c.in-Some.is now.walked in
+    let walked = subst (λ o. IfSome o (IsWalkedTo (T.faithful c.args.store.now) (T.text c.args.store.now) false c.args.len)) c.in-Some.is now.walked in
     read_walked T now.reads c.args.len c.in-Some.walk walked
 
 pub returns-clause-found : goal.returns-clause-found
 returns-clause-found g c =
     let T = g.T.TextStore in
-    let u = subst (λ o. IfSome o (IsUnfinishedIn (T.honest c.walk_windows.new.store) (T.text c.walk_windows.new.store))) c.in-Some-found.is c.in_ok-found.ensures.found in
+    let u = subst (λ o. IfSome o (IsUnfinishedIn (T.faithful c.walk_windows.new.store) (T.text c.walk_windows.new.store))) c.in-Some-found.is c.in_ok-found.ensures.found in
     read_unfinished T c.in_ok-walked.ensures.reads c.in-Some-found.torn u

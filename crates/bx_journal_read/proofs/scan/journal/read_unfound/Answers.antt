@@ -11,11 +11,11 @@ returns-in-Some g c =
     let T = g.T.TextStore in
     let line = c.in-Some.line in
     let now = c.in-Ok.ensures in
-    let d = subst (λ o. IfSome o (IsDamagedIn (T.honest c.args.store.now) (shown (T.text c.args.store.now)))) c.in-Some.is now.line in
+    let d = subst (λ o. IfSome o (IsDamagedIn (T.faithful c.args.store.now) (shown (T.text c.args.store.now)))) c.in-Some.is now.line in
     record {
       found = tt;
       fault = λ h. subst (λ t. IsDamagedAt t line) (sym (d.is h)) d.damaged;
-      looks = record { same = now.reads.looks.same; honesty = now.reads.looks.honesty; no_failure = tt; counts = (now.reads.looks.no_failure, refl) };
+      looks = record { same = now.reads.looks.same; faith = now.reads.looks.faith; no_failure = tt; counts = (now.reads.looks.no_failure, refl) };
       found_before = now.reads.survives;
     }
 

@@ -23,7 +23,7 @@ returns-in-Some g c =
         few = c.in-Some.ensures.few;
       };
       fault = tt;
-      looks = record { same = search rules; honesty = search rules; no_failure = c.in-Ok.ensures.goes_on.counted; counts = tt };
+      looks = record { same = search rules; faith = search rules; no_failure = c.in-Ok.ensures.goes_on.counted; counts = tt };
       found_before = c.in-Ok.ensures.survives;
     }
 
@@ -41,6 +41,6 @@ returns g c =
         order = c.as_torn.ensures.order;
       };
       fault = tt;
-      looks = record { same = search rules; honesty = search rules; no_failure = c.in-Ok.ensures.goes_on.counted; counts = tt };
+      looks = record { same = search rules; faith = search rules; no_failure = c.in-Ok.ensures.goes_on.counted; counts = tt };
       found_before = c.in-Ok.ensures.survives;
     }

@@ -21,4 +21,4 @@ returns-clause-lines g c h within =
     let text : List ℕ = g.T.TextStore.text c.args.store.now in
     let n : ℕ = c.min.result in
     let all : n ≡ c.args.at = omega (arith, c.min.ensures, c.in_ok-len.ensures.len h, within) in
-    c.in-Ok.ensures.lines (c.len.ensures.goes_on.honesty.1 h) ∙ ap (λ t. length (split (take n t)).lines) (c.len.ensures.text h) ∙ ap (λ m. length (split (take m text)).lines) all
+    c.in-Ok.ensures.lines (c.len.ensures.goes_on.faith.1 h) ∙ ap (λ t. length (split (take n t)).lines) (c.len.ensures.text h) ∙ ap (λ m. length (split (take m text)).lines) all

@@ -9,7 +9,7 @@ invariant-loop-at g l =
     let T = g.T.TextStore in
     record {
       below : l.at ≤ l.len;
-      counted : T.honest l.fn.store → l.count ≡ length (split (take l.at (T.text l.fn.store))).lines;
+      counted : T.faithful l.fn.store → l.count ≡ length (split (take l.at (T.text l.fn.store))).lines;
       most : l.count ≤ l.at;
       window : length l.window ≡ length l.fn.window;
       reads : OnlyReadsText T false l.fn.store l.store;

@@ -10,7 +10,7 @@ invariant-loop-at g l =
     let T = g.T.TextStore in
     record {
       below : l.at ≤ l.len;
-      torn : T.honest l.fn.store → is_torn Other (drop l.from (T.text l.fn.store)) ≡ is_torn l.line (drop l.at (T.text l.fn.store));
+      torn : T.faithful l.fn.store → is_torn Other (drop l.from (T.text l.fn.store)) ≡ is_torn l.line (drop l.at (T.text l.fn.store));
       window : length l.window ≡ length l.fn.window;
       reads : OnlyReadsText T false l.fn.store l.store;
     }

@@ -18,7 +18,7 @@ returns-then-torn-clause-shown g c h =
       | then-zero-eq0+else-len-gt1 w ↦ omega (arith, w.if-len-gt1.false, c.requires.long h)
       | else-zero-eq0 w ↦ absurd (w.if-zero-eq0.false none)
     ])
-    (ap (λ t. is_torn Other (drop n t)) (sym (c.in_ok-zero.ensures.reads.text h)) ∙ sym (c.in_ok-torn.ensures.torn (c.in_ok-zero.ensures.reads.goes_on.honesty.1 h)) ∙ c.if-torn.true)
+    (ap (λ t. is_torn Other (drop n t)) (sym (c.in_ok-zero.ensures.reads.text h)) ∙ sym (c.in_ok-torn.ensures.torn (c.in_ok-zero.ensures.reads.goes_on.faith.1 h)) ∙ c.if-torn.true)
 
 pub returns-clause-shown : goal.returns-clause-shown
 returns-clause-shown g c h =
@@ -27,7 +27,7 @@ returns-clause-shown g c h =
     let first : n ≡ length (before_zero text) = omega (arith, c.in_ok-zero.ensures.zero h) in
     take_all c.args.len text (omega (arith, c.requires.long h))
     ∙ sym (whole_shown text n first
-    (ap (λ t. is_torn Other (drop n t)) (sym (c.in_ok-zero.ensures.reads.text h)) ∙ sym (c.in_ok-torn.ensures.torn (c.in_ok-zero.ensures.reads.goes_on.honesty.1 h)) ∙ c.if-torn.false))
+    (ap (λ t. is_torn Other (drop n t)) (sym (c.in_ok-zero.ensures.reads.text h)) ∙ sym (c.in_ok-torn.ensures.torn (c.in_ok-zero.ensures.reads.goes_on.faith.1 h)) ∙ c.if-torn.false))
 
 pub returns-then-len-gt1-clause-shown : goal.returns-then-len-gt1-clause-shown
 returns-then-len-gt1-clause-shown g c h =

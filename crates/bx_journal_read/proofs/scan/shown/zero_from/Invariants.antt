@@ -9,7 +9,7 @@ invariant-loop-at g l =
     let T = g.T.TextStore in
     record {
       below : l.at ≤ l.len;
-      zero : T.honest l.fn.store → l.from + length (before_zero (drop l.from (T.text l.fn.store))) ≡ l.at + length (before_zero (drop l.at (T.text l.fn.store)));
+      zero : T.faithful l.fn.store → l.from + length (before_zero (drop l.from (T.text l.fn.store))) ≡ l.at + length (before_zero (drop l.at (T.text l.fn.store)));
       window : length l.window ≡ length l.fn.window;
       reads : OnlyReadsText T false l.fn.store l.store;
     }

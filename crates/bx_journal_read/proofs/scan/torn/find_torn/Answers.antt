@@ -10,9 +10,9 @@ returns-clause-found g c =
     let T = g.T.TextStore in
     let text : List ℕ = T.text c.args.store.now in
     let t = c.in-Some.torn in
-    let front = subst (λ o. IfSome o (IsTornFront (T.honest c.args.store.now) text c.args.len)) c.in-Some.is c.in_ok-found.ensures.found in
-    plain_found (T.honest c.args.store.now) text c.args.len t c.requires.long (omega (arith, c.if-torn-len.false))
+    let front = subst (λ o. IfSome o (IsTornFront (T.faithful c.args.store.now) text c.args.len)) c.in-Some.is c.in_ok-found.ensures.found in
+    plain_found (T.faithful c.args.store.now) text c.args.len t c.requires.long (omega (arith, c.if-torn-len.false))
     (λ h. no_zero_from text t.begins c.args.len c.in_ok-zero.zero (c.requires.long h) front.within
-    (subst (λ u. c.in_ok-zero.zero ≡ t.begins + length (before_zero (drop t.begins u))) (c.in_ok-found.ensures.reads.text h) (c.in_ok-zero.ensures.zero (c.in_ok-found.ensures.reads.goes_on.honesty.1 h)))
+    (subst (λ u. c.in_ok-zero.zero ≡ t.begins + length (before_zero (drop t.begins u))) (c.in_ok-found.ensures.reads.text h) (c.in_ok-zero.ensures.zero (c.in_ok-found.ensures.reads.goes_on.faith.1 h)))
     (omega (arith, c.if-zero-len.false)))
     front

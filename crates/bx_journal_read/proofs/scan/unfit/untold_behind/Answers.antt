@@ -9,10 +9,10 @@ returns-then-is_untold-clause-line g c =
     let T = g.T.TextStore in
     let first = c.in_ok-all.ensures.reads in
     let second = c.in_ok-before.ensures.reads in
-    let all = subst (λ o. IfSome o (IsFrontCounted (T.honest c.args.store.now) (T.text c.args.store.now) false)) c.in-Some.is c.in_ok-all.ensures.counted in
-    let before = subst (λ o. IfSome o (IsFrontCounted (T.honest c.count_windows.new.store) (T.text c.count_windows.new.store) true)) c.in-Some-before.is c.in_ok-before.ensures.counted in
-    let behind = subst (λ o. IfSome o (IsFrontCounted (T.honest c.count_windows-2.new.store) (T.text c.count_windows-2.new.store) false)) c.in-Some-behind.is c.in_ok-behind.ensures.counted in
-    untold_unfit (T.honest c.args.store.now) (T.text c.args.store.now) c.args.len c.args.changes c.requires.long (T.honest c.count_windows.new.store) (T.honest c.count_windows-2.new.store)
+    let all = subst (λ o. IfSome o (IsFrontCounted (T.faithful c.args.store.now) (T.text c.args.store.now) false)) c.in-Some.is c.in_ok-all.ensures.counted in
+    let before = subst (λ o. IfSome o (IsFrontCounted (T.faithful c.count_windows.new.store) (T.text c.count_windows.new.store) true)) c.in-Some-before.is c.in_ok-before.ensures.counted in
+    let behind = subst (λ o. IfSome o (IsFrontCounted (T.faithful c.count_windows-2.new.store) (T.text c.count_windows-2.new.store) false)) c.in-Some-behind.is c.in_ok-behind.ensures.counted in
+    untold_unfit (T.faithful c.args.store.now) (T.text c.args.store.now) c.args.len c.args.changes c.requires.long (T.faithful c.count_windows.new.store) (T.faithful c.count_windows-2.new.store)
     (T.text c.count_windows.new.store) (T.text c.count_windows-2.new.store) c.in-Some.whole c.in-Some-before.front c.in-Some-behind.next
-    first.goes_on.honesty.1 (λ h. second.goes_on.honesty.1 (first.goes_on.honesty.1 h)) first.text (λ h. second.text (first.goes_on.honesty.1 h) ∙ first.text h)
+    first.goes_on.faith.1 (λ h. second.goes_on.faith.1 (first.goes_on.faith.1 h)) first.text (λ h. second.text (first.goes_on.faith.1 h) ∙ first.text h)
     (c.is_untold.ensures c.if-is_untold.true) all before behind

@@ -8,7 +8,7 @@ abbrev pub invariant-loop-ends : goal.invariant-loop-ends
 invariant-loop-ends g l =
     let T = g.T.TextStore in
     record {
-      reached : IsReached (T.honest l.fn.store) (T.text l.fn.store) (g.S.Scan.Leads l.fn.scan) l.len (record { scan = l.scan; at = l.at });
+      reached : IsReached (T.faithful l.fn.store) (T.text l.fn.store) (g.S.Scan.Leads l.fn.scan) l.len (record { scan = l.scan; at = l.at });
       window : length l.window ≡ length l.fn.window;
       reads : OnlyReadsText T false l.fn.store l.store;
     }

@@ -10,5 +10,5 @@ returns-clause-reached g c first led =
     let long = c.split_at_mut-now.ensures.front_len in
     let leads = subst (λ o. IfSome o (λ t. g.S.Scan.Leads first t.scan (led.text ++ take t.taken buf))) c.in-Some.is (c.in-Ok.ensures.leads first led.text led.long led.leads) in
     let within = subst (λ o. IfSome o (λ t. t.taken ≤ length buf)) c.in-Some.is c.in-Ok.ensures.within in
-    reached_on (T.honest c.args.store.now) (T.text c.args.store.now) buf (g.S.Scan.Leads first) c.args.len c.args.at _ c.in-Some.next.taken c.args.scan c.in-Some.next.scan led c.in_ok-read_at.ensures.bytes within
+    reached_on (T.faithful c.args.store.now) (T.text c.args.store.now) buf (g.S.Scan.Leads first) c.args.len c.args.at _ c.in-Some.next.taken c.args.scan c.in-Some.next.scan led c.in_ok-read_at.ensures.bytes within
     (omega (arith, c.read_at.auto.buf, long, c.min-size.ensures, c.requires.below)) leads

@@ -12,14 +12,14 @@ loop-rest-init g c = record {
   cache = c.requires.cache;
   left = refl;
   within = omega arith;
-  image = stayed_none g.D.Device.honest g.D.Device.image g.D.Device.failures c.args.device.now;
+  image = stayed_none g.D.Device.faithful g.D.Device.image g.D.Device.failures c.args.device.now;
 }
 
 pub push_beside-requires-clause-cache : goal.push_beside-requires-clause-cache
 push_beside-requires-clause-cache g c =
     let inv = c.loop-rest.invariant in
-    cache_again (g.D.Device.honest c.args.device.now) (g.D.Device.honest c.loop-rest.device) (g.D.Device.image c.args.device.now) (g.D.Device.image c.loop-rest.device) c.loop-rest.page c.loop-rest.now
-    inv.image.honesty.0 (λ h. inv.image.same (inv.image.honesty.0 h)) inv.cache
+    cache_again (g.D.Device.faithful c.args.device.now) (g.D.Device.faithful c.loop-rest.device) (g.D.Device.image c.args.device.now) (g.D.Device.image c.loop-rest.device) c.loop-rest.page c.loop-rest.now
+    inv.image.faith.0 (λ h. inv.image.same (inv.image.faith.0 h)) inv.cache
 
 pub loop-rest-preserved : goal.loop-rest-preserved
 loop-rest-preserved g c =
@@ -31,10 +31,10 @@ loop-rest-preserved g c =
     record {
       added = λ h. added_next (diff_line (g.D.Device.image c.args.device.now) c.args.before) c.args.window.now c.loop-rest.rest.now c.loop-rest.taken c.in-Some.i
           c.args.text.now.items c.loop-rest.text.items c.push_beside.new.text.items (inv.added h) inv.left line
-          (subst (λ im. c.push_beside.new.text.items ≡ c.loop-rest.text.items ++ diff_line im c.args.before (take c.in-Some.i c.loop-rest.rest.now)) (inv.image.same h) (now.added (inv.image.honesty.1 h)));
-      cache = cache_again (g.D.Device.honest c.loop-rest.device) (g.D.Device.honest c.args.device.now) (g.D.Device.image c.loop-rest.device) (g.D.Device.image c.args.device.now) c.push_beside.new.page
-          c.in_ok-now.now inv.image.honesty.1 (λ h. sym (inv.image.same h)) now.cache;
+          (subst (λ im. c.push_beside.new.text.items ≡ c.loop-rest.text.items ++ diff_line im c.args.before (take c.in-Some.i c.loop-rest.rest.now)) (inv.image.same h) (now.added (inv.image.faith.1 h)));
+      cache = cache_again (g.D.Device.faithful c.loop-rest.device) (g.D.Device.faithful c.args.device.now) (g.D.Device.image c.loop-rest.device) (g.D.Device.image c.args.device.now) c.push_beside.new.page
+          c.in_ok-now.now inv.image.faith.1 (λ h. sym (inv.image.same h)) now.cache;
       left = c.split_at.ensures.back ∙ ap (drop (c.in-Some.i + 1)) inv.left ∙ drop_twice c.loop-rest.taken (c.in-Some.i + 1) c.args.window.now;
       within = omega (arith, f.0, inv.within, ap length inv.left, long);
-      image = stayed_on inv.image now.puts.stays.same now.puts.stays.honesty now.puts.stays.no_failure;
+      image = stayed_on inv.image now.puts.stays.same now.puts.stays.faith now.puts.stays.no_failure;
     }

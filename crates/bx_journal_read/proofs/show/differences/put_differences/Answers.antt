@@ -13,9 +13,9 @@ use Rattle.bx_journal_read.proofs.show.differences.put_differences.Goals as goal
 
 pub put_windows-requires-clause-cache : goal.put_windows-requires-clause-cache
 put_windows-requires-clause-cache g c =
-    let honesty = c.len.ensures.goes_on.honesty in
+    let faith = c.len.ensures.goes_on.faith in
     record {
-      long = λ h. c.in_ok-len.ensures.len (honesty.0 h) ∙ sym (ap length (c.len.ensures.image (honesty.0 h)));
+      long = λ h. c.in_ok-len.ensures.len (faith.0 h) ∙ sym (ap length (c.len.ensures.image (faith.0 h)));
       are = λ h. refl;
       inside = omega arith;
       room = omega (arith, ap length c.as_mut_slice.ensures.value, c.in_ok-page.ensures.len);
@@ -26,12 +26,12 @@ returns-clause-put g c h k =
     ok_weaker c.put_windows.result
     (λ compared. subst (λ im. Appends (g.W.Write.contents c.args.out.now) (g.W.Write.contents c.put_windows.new.out) (diff_text im c.args.mark.len (split (lines_at (g.T.TextStore.text c.args.store.now) c.args.mark)).lines))
     (c.len.ensures.image h) compared.written)
-    (c.put_windows.ensures.put (c.len.ensures.goes_on.honesty.1 h) k)
+    (c.put_windows.ensures.put (c.len.ensures.goes_on.faith.1 h) k)
 
 pub returns-in_err-len-clause-puts : goal.returns-in_err-len-clause-puts
 returns-in_err-len-clause-puts g c = record {
   kind = search rules;
-  image = record { same = λ h. c.len.ensures.image h; honesty = c.len.ensures.goes_on.honesty; no_failure = search rules };
+  image = record { same = λ h. c.len.ensures.image h; faith = c.len.ensures.goes_on.faith; no_failure = search rules };
   text = search rules;
   counts = search rules;
 }
@@ -41,7 +41,7 @@ returns-clause-puts g c =
     let last = c.put_windows.ensures.puts in
     record {
       kind = last.kind;
-      image = stays_behind (λ h. c.len.ensures.image h) c.len.ensures.goes_on.honesty c.in_ok-len.ensures.goes_on.counted last.image;
+      image = stays_behind (λ h. c.len.ensures.image h) c.len.ensures.goes_on.faith c.in_ok-len.ensures.goes_on.counted last.image;
       text = last.text;
       counts = counts_behind _ _ c.put_windows.result c.in_ok-len.ensures.goes_on.counted refl last.counts;
     }
@@ -49,13 +49,13 @@ returns-clause-puts g c =
 pub returns-clause-counted : goal.returns-clause-counted
 returns-clause-counted g c h k =
     subst (λ im. OnOk c.put_windows.result (CountsBytes c.args.writing.now.written (diff_text im c.args.mark.len (split (lines_at (g.T.TextStore.text c.args.store.now) c.args.mark)).lines) c.put_windows.new.writing.written))
-    (c.len.ensures.image h) (c.put_windows.ensures.counted (c.len.ensures.goes_on.honesty.1 h) k)
+    (c.len.ensures.image h) (c.put_windows.ensures.counted (c.len.ensures.goes_on.faith.1 h) k)
 
 pub returns-clause-stops : goal.returns-clause-stops
 returns-clause-stops g c h k =
     subst (λ im. IfErr c.put_windows.result (StopsPrefix c.args.writing.now.written (diff_text im c.args.mark.len (split (lines_at (g.T.TextStore.text c.args.store.now) c.args.mark)).lines)
     (g.W.Write.contents c.args.out.now) (g.W.Write.contents c.put_windows.new.out)))
-    (c.len.ensures.image h) (c.put_windows.ensures.stops (c.len.ensures.goes_on.honesty.1 h) k)
+    (c.len.ensures.image h) (c.put_windows.ensures.stops (c.len.ensures.goes_on.faith.1 h) k)
 
 pub returns-in_err-clone-clause-stops : goal.returns-in_err-clone-clause-stops
 returns-in_err-clone-clause-stops g c h k =

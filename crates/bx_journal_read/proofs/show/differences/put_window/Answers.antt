@@ -13,7 +13,7 @@ pub returns-clause-put : goal.returns-clause-put
 returns-clause-put g c h k =
     let T = g.T.TextStore in
     let put = subst (Appends (g.W.Write.contents c.args.out.now) (g.W.Write.contents c.put.new.out)) c.as_slice.ensures.value c.in_ok-writing.ensures.put in
-    cut_written (T.honest c.args.store.now) (T.text c.args.store.now) c.read_cut.new.window c.split_at.result.0.now c.args.now.done.at c.args.now.mark.to c.in_ok-cut.cut c.in_ok-cut.ensures.cut c.split_at.ensures.front
+    cut_written (T.faithful c.args.store.now) (T.text c.args.store.now) c.read_cut.new.window c.split_at.result.0.now c.args.now.done.at c.args.now.mark.to c.in_ok-cut.cut c.in_ok-cut.ensures.cut c.split_at.ensures.front
     (diff_line (g.D.Device.image c.args.device.now) c.args.now.mark.len) (diff_alike (g.D.Device.image c.args.device.now) c.args.now.mark.len) c.in_ok-lines.lines.taken c.clear.new.self.items c.push_lines.new.text.items c.in_ok-lines.ensures.within c.clear.ensures.items
     (c.in_ok-lines.ensures.added h)
     c.passed.result (g.W.Write.contents c.args.out.now) (g.W.Write.contents c.put.new.out) c.passed.ensures k put
@@ -21,7 +21,7 @@ returns-clause-put g c h k =
 pub returns-clause-counted : goal.returns-clause-counted
 returns-clause-counted g c h k =
     let T = g.T.TextStore in
-    cut_counted (T.honest c.args.store.now) (T.text c.args.store.now) c.read_cut.new.window c.split_at.result.0.now c.args.now.done.at c.args.now.mark.to c.in_ok-cut.cut c.in_ok-cut.ensures.cut c.split_at.ensures.front
+    cut_counted (T.faithful c.args.store.now) (T.text c.args.store.now) c.read_cut.new.window c.split_at.result.0.now c.args.now.done.at c.args.now.mark.to c.in_ok-cut.cut c.in_ok-cut.ensures.cut c.split_at.ensures.front
     (diff_line (g.D.Device.image c.args.device.now) c.args.now.mark.len) (diff_alike (g.D.Device.image c.args.device.now) c.args.now.mark.len) c.in_ok-lines.lines.taken c.clear.new.self.items c.push_lines.new.text.items c.in_ok-lines.ensures.within c.clear.ensures.items
     (c.in_ok-lines.ensures.added h)
     c.passed.result c.args.writing.now.written c.in_ok-writing.field-0 c.passed.ensures k
@@ -33,7 +33,7 @@ returns-in_err-writing-clause-stops g c h k =
     let w0 = g.W.Write.contents c.args.out.now in
     let w1 = g.W.Write.contents c.put.new.out in
     handed_on c.from_residual-in_err-writing.result _ _ c.from_residual-in_err-writing.ensures.1
-    (cut_stopped (T.honest c.args.store.now) (T.text c.args.store.now) c.read_cut.new.window c.split_at.result.0.now c.args.now.done.at c.args.now.mark.to c.in_ok-cut.cut c.in_ok-cut.ensures.cut c.split_at.ensures.front
+    (cut_stopped (T.faithful c.args.store.now) (T.text c.args.store.now) c.read_cut.new.window c.split_at.result.0.now c.args.now.done.at c.args.now.mark.to c.in_ok-cut.cut c.in_ok-cut.ensures.cut c.split_at.ensures.front
     (diff_line (g.D.Device.image c.args.device.now) c.args.now.mark.len) (diff_alike (g.D.Device.image c.args.device.now) c.args.now.mark.len) c.in_ok-lines.lines.taken c.clear.new.self.items c.push_lines.new.text.items c.in_ok-lines.ensures.within c.clear.ensures.items
     (c.in_ok-lines.ensures.added h)
     c.args.writing.now.written w0 w1 c.in_err-writing.field-0.0 k (subst (λ b. StopsPrefix c.args.writing.now.written b w0 w1 c.in_err-writing.field-0.0) c.as_slice.ensures.value c.in_err-writing.ensures.stops))

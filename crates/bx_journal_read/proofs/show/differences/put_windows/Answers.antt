@@ -13,20 +13,20 @@ loop-done-init g c = record {
   cache = c.requires.cache;
   behind = omega arith;
   within = c.requires.at;
-  image = stayed_none g.D.Device.honest g.D.Device.image g.D.Device.failures c.args.device.now;
-  text = stayed_none g.T.TextStore.honest g.T.TextStore.text g.T.TextStore.failures c.args.store.now;
+  image = stayed_none g.D.Device.faithful g.D.Device.image g.D.Device.failures c.args.device.now;
+  text = stayed_none g.T.TextStore.faithful g.T.TextStore.text g.T.TextStore.failures c.args.store.now;
 }
 
 pub put_window-requires-clause-cache : goal.put_window-requires-clause-cache
 put_window-requires-clause-cache g c =
     let inv = c.loop-done.invariant in
-    cache_again (g.D.Device.honest c.args.device.now) (g.D.Device.honest c.loop-done.device) (g.D.Device.image c.args.device.now) (g.D.Device.image c.loop-done.device) c.loop-done.page c.loop-done.done.cached
-    inv.image.honesty.0 (λ h. inv.image.same (inv.image.honesty.0 h)) inv.cache
+    cache_again (g.D.Device.faithful c.args.device.now) (g.D.Device.faithful c.loop-done.device) (g.D.Device.image c.args.device.now) (g.D.Device.image c.loop-done.device) c.loop-done.page c.loop-done.done.cached
+    inv.image.faith.0 (λ h. inv.image.same (inv.image.faith.0 h)) inv.cache
 
 pub put_window-requires-clause-within : goal.put_window-requires-clause-within
 put_window-requires-clause-within g c =
     let inv = c.loop-done.invariant in
-    λ h. omega (arith, c.requires.within (inv.text.honesty.0 h), ap length (inv.text.same (inv.text.honesty.0 h)))
+    λ h. omega (arith, c.requires.within (inv.text.faith.0 h), ap length (inv.text.same (inv.text.faith.0 h)))
 
 pub loop-done-preserved : goal.loop-done-preserved
 loop-done-preserved g c =
@@ -40,17 +40,17 @@ loop-done-preserved g c =
           inv.behind (omega (arith, now.on.0)) (inv.written h k)
           (written_from (diff_line (g.D.Device.image c.args.device.now) c.args.from.mark.len) (g.T.TextStore.text c.args.store.now) (g.T.TextStore.text c.loop-done.store) c.loop-done.done.at c.in_ok-done.done.at w1 w2 (inv.text.same k)
           (subst (λ im. AreWritten (diff_line im c.args.from.mark.len) (g.T.TextStore.text c.loop-done.store) c.loop-done.done.at c.in_ok-done.done.at w1 w2) (inv.image.same h)
-          (now.put (inv.image.honesty.1 h) (inv.text.honesty.1 k))));
+          (now.put (inv.image.faith.1 h) (inv.text.faith.1 k))));
       counted = λ h k. counted_more (diff_line (g.D.Device.image c.args.device.now) c.args.from.mark.len) (g.T.TextStore.text c.args.store.now) (g.T.TextStore.text c.loop-done.store) c.args.from.done.at c.loop-done.done.at
           c.in_ok-done.done.at c.args.writing.now.written c.loop-done.writing.written c.put_window.new.writing.written w0 w1 inv.behind (omega (arith, now.on.0)) (inv.text.same k) (inv.written h k) (inv.counted h k)
           (subst (λ im. CountsBytes c.loop-done.writing.written (shown_between (diff_line im c.args.from.mark.len) (g.T.TextStore.text c.loop-done.store) c.loop-done.done.at c.in_ok-done.done.at) c.put_window.new.writing.written)
-          (inv.image.same h) (now.counted (inv.image.honesty.1 h) (inv.text.honesty.1 k)));
-      cache = cache_again (g.D.Device.honest c.loop-done.device) (g.D.Device.honest c.args.device.now) (g.D.Device.image c.loop-done.device) (g.D.Device.image c.args.device.now) c.put_window.new.page
-          c.in_ok-done.done.cached inv.image.honesty.1 (λ h. sym (inv.image.same h)) now.cache;
+          (inv.image.same h) (now.counted (inv.image.faith.1 h) (inv.text.faith.1 k)));
+      cache = cache_again (g.D.Device.faithful c.loop-done.device) (g.D.Device.faithful c.args.device.now) (g.D.Device.image c.loop-done.device) (g.D.Device.image c.args.device.now) c.put_window.new.page
+          c.in_ok-done.done.cached inv.image.faith.1 (λ h. sym (inv.image.same h)) now.cache;
       behind = omega (arith, inv.behind, now.on.0);
       within = now.on.1;
-      image = stayed_on inv.image now.puts.image.same now.puts.image.honesty now.puts.image.no_failure;
-      text = stayed_on inv.text now.puts.text.same now.puts.text.honesty now.puts.text.no_failure;
+      image = stayed_on inv.image now.puts.image.same now.puts.image.faith now.puts.image.no_failure;
+      text = stayed_on inv.text now.puts.text.same now.puts.text.faith now.puts.text.no_failure;
     }
 
 pub returns-clause-put : goal.returns-clause-put
@@ -76,4 +76,4 @@ returns-in_err-done-clause-stops g c h k =
     (stopped_more (diff_line (g.D.Device.image c.args.device.now) c.args.from.mark.len) (g.T.TextStore.text c.args.store.now) (g.T.TextStore.text c.loop-done.store) c.args.from.done.at c.loop-done.done.at c.args.from.mark.to
     c.args.writing.now.written c.loop-done.writing.written (g.W.Write.contents c.args.out.now) w1 w2 _ inv.behind inv.within (inv.text.same k) (inv.written h k) (inv.counted h k)
     (subst (λ im. StopsPrefix c.loop-done.writing.written (shown_between (diff_line im c.args.from.mark.len) (g.T.TextStore.text c.loop-done.store) c.loop-done.done.at c.args.from.mark.to) w1 w2 c.in_err-done.field-0.0)
-    (inv.image.same h) (c.in_err-done.ensures.stops (inv.image.honesty.1 h) (inv.text.honesty.1 k))))
+    (inv.image.same h) (c.in_err-done.ensures.stops (inv.image.faith.1 h) (inv.text.faith.1 k))))

@@ -12,13 +12,13 @@ loop-at-init g c = record {
   counted = λ h. counted_none (made_line c.args.mark.len) (g.T.TextStore.text c.args.store.now) c.args.mark.from _;
   behind = omega arith;
   within = c.requires.order;
-  text = stayed_none g.T.TextStore.honest g.T.TextStore.text g.T.TextStore.failures c.args.store.now;
+  text = stayed_none g.T.TextStore.faithful g.T.TextStore.text g.T.TextStore.failures c.args.store.now;
 }
 
 pub put_window-requires-clause-within : goal.put_window-requires-clause-within
 put_window-requires-clause-within g c =
     let inv = c.loop-at.invariant in
-    λ h. omega (arith, c.requires.within (inv.text.honesty.0 h), ap length (inv.text.same (inv.text.honesty.0 h)))
+    λ h. omega (arith, c.requires.within (inv.text.faith.0 h), ap length (inv.text.same (inv.text.faith.0 h)))
 
 pub loop-at-preserved : goal.loop-at-preserved
 loop-at-preserved g c =
@@ -29,12 +29,12 @@ loop-at-preserved g c =
     let w2 = g.W.Write.contents c.put_window.new.out in
     record {
       written = λ h. written_more (made_line c.args.mark.len) (g.T.TextStore.text c.args.store.now) c.args.mark.from c.loop-at.at c.in_ok-at.at w0 w1 w2 inv.behind (omega (arith, now.on.0)) (inv.written h)
-          (written_from (made_line c.args.mark.len) (g.T.TextStore.text c.args.store.now) (g.T.TextStore.text c.loop-at.store) c.loop-at.at c.in_ok-at.at w1 w2 (inv.text.same h) (now.put (inv.text.honesty.1 h)));
+          (written_from (made_line c.args.mark.len) (g.T.TextStore.text c.args.store.now) (g.T.TextStore.text c.loop-at.store) c.loop-at.at c.in_ok-at.at w1 w2 (inv.text.same h) (now.put (inv.text.faith.1 h)));
       counted = λ h. counted_more (made_line c.args.mark.len) (g.T.TextStore.text c.args.store.now) (g.T.TextStore.text c.loop-at.store) c.args.mark.from c.loop-at.at c.in_ok-at.at _ _ _ w0 w1
-          inv.behind (omega (arith, now.on.0)) (inv.text.same h) (inv.written h) (inv.counted h) (now.counted (inv.text.honesty.1 h));
+          inv.behind (omega (arith, now.on.0)) (inv.text.same h) (inv.written h) (inv.counted h) (now.counted (inv.text.faith.1 h));
       behind = omega (arith, inv.behind, now.on.0);
       within = now.on.1;
-      text = stayed_on inv.text now.puts.stays.same now.puts.stays.honesty now.puts.stays.no_failure;
+      text = stayed_on inv.text now.puts.stays.same now.puts.stays.faith now.puts.stays.no_failure;
     }
 
 pub returns-clause-put : goal.returns-clause-put
@@ -56,4 +56,4 @@ returns-in_err-at-clause-stops g c h =
     handed_on c.from_residual.result _ _ c.from_residual.ensures.1
     (stopped_more (made_line c.args.mark.len) (g.T.TextStore.text c.args.store.now) (g.T.TextStore.text c.loop-at.store) c.args.mark.from c.loop-at.at c.args.mark.to _ _ (g.W.Write.contents c.args.out.now)
     (g.W.Write.contents c.loop-at.out) (g.W.Write.contents c.put_window.new.out) _ inv.behind inv.within (inv.text.same h) (inv.written h) (inv.counted h)
-    (c.in_err-at.ensures.stops (inv.text.honesty.1 h)))
+    (c.in_err-at.ensures.stops (inv.text.faith.1 h)))

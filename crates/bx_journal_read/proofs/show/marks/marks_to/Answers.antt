@@ -10,5 +10,5 @@ scan_windows-requires-clause-led g c = record { text = []; is = λ h. refl; long
 pub returns-clause-marks : goal.returns-clause-marks
 returns-clause-marks g c =
     let reached = reached_of _ c.in_ok-scan_windows.field-0 c.in_ok-found.found c.in-Some.end c.in_ok-found.was c.in-Some.is c.in_ok-scan_windows.ensures.reached in
-    marked_all (g.T.TextStore.honest c.args.store.now) (g.T.TextStore.text c.args.store.now) c.args.len c.in-Some.end reached (omega (arith, c.if-end-len.false, reached.below))
+    marked_all (g.T.TextStore.faithful c.args.store.now) (g.T.TextStore.text c.args.store.now) c.args.len c.in-Some.end reached (omega (arith, c.if-end-len.false, reached.below))
     (c.is_between.ensures c.if-not-is_between.false)

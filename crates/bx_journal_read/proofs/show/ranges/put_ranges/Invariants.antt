@@ -6,11 +6,11 @@ use Rattle.bx_journal_read.proofs.show.ranges.put_ranges.Given as goal
 -- the ranges up to a place are put
 abbrev pub invariant-loop-done : goal.invariant-loop-done
 invariant-loop-done g l = record {
-  put : ArePutTo (g.T.TextStore.honest l.fn.store) (g.T.TextStore.text l.fn.store) l.mark l.written l.done (g.W.Write.contents l.fn.out) (g.W.Write.contents l.out);
+  put : ArePutTo (g.T.TextStore.faithful l.fn.store) (g.T.TextStore.text l.fn.store) l.mark l.written l.done (g.W.Write.contents l.fn.out) (g.W.Write.contents l.out);
   behind : l.mark.from ≤ l.done.at;
   within : l.done.at ≤ l.mark.to;
   below : l.done.ranging.at + l.done.ranging.count ≤ l.mark.len;
-  text : HasStayed g.T.TextStore.honest g.T.TextStore.text g.T.TextStore.failures l.fn.store l.store;
+  text : HasStayed g.T.TextStore.faithful g.T.TextStore.text g.T.TextStore.failures l.fn.store l.store;
 }
 
 abbrev pub decreases-loop-done : goal.decreases-loop-done

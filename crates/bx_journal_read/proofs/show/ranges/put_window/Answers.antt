@@ -18,9 +18,9 @@ returns-in_err-written-clause-stops g c h =
     let T = g.T.TextStore in
     let w0 = g.W.Write.contents c.args.out.now in
     let w1 = g.W.Write.contents c.put.new.out in
-    let r = stands_of (T.honest c.args.store.now) (T.text c.args.store.now) c.read_cut.new.window c.split_at.result.0.now c.args.done.at c.args.mark.to c.in_ok-cut.cut c.in_ok-cut.ensures.cut c.split_at.ensures.front
+    let r = stands_of (T.faithful c.args.store.now) (T.text c.args.store.now) c.read_cut.new.window c.split_at.result.0.now c.args.done.at c.args.mark.to c.in_ok-cut.cut c.in_ok-cut.ensures.cut c.split_at.ensures.front
     c.args.mark.len c.args.done.ranging (string_bytes c.new-text.result) (string_bytes c.range_lines.new.text) c.in_ok-lines.lines c.in_ok-lines.ensures.added in
-    let ranged = all_ranged (T.honest c.args.store.now) (T.text c.args.store.now) c.read_cut.new.window c.split_at.result.0.now c.args.done.at c.args.mark.to c.in_ok-cut.cut c.in_ok-cut.ensures.cut c.split_at.ensures.front
+    let ranged = all_ranged (T.faithful c.args.store.now) (T.text c.args.store.now) c.read_cut.new.window c.split_at.result.0.now c.args.done.at c.args.mark.to c.in_ok-cut.cut c.in_ok-cut.ensures.cut c.split_at.ensures.front
     c.args.mark.len c.args.done.ranging (string_bytes c.new-text.result) (string_bytes c.range_lines.new.text) c.in_ok-lines.lines c.in_ok-lines.ensures.added in
     handed_on c.from_residual-in_err-written.result _ _ c.from_residual-in_err-written.ensures.1
     (ranges_stopped (T.text c.args.store.now) r.text c.args.mark c.args.done (record { ranging = c.in_ok-lines.lines.ranging; taken = length r.text }) _ (string_bytes c.new-text.result) (string_bytes c.range_lines.new.text) w0 w1
@@ -33,9 +33,9 @@ returns-clause-put g c =
     let w0 = g.W.Write.contents c.args.out.now in
     let w1 = g.W.Write.contents c.put.new.out in
     let cut = c.in_ok-cut.ensures.cut in
-    let r = stands_of (T.honest c.args.store.now) (T.text c.args.store.now) c.read_cut.new.window c.split_at.result.0.now c.args.done.at c.args.mark.to c.in_ok-cut.cut c.in_ok-cut.ensures.cut c.split_at.ensures.front
+    let r = stands_of (T.faithful c.args.store.now) (T.text c.args.store.now) c.read_cut.new.window c.split_at.result.0.now c.args.done.at c.args.mark.to c.in_ok-cut.cut c.in_ok-cut.ensures.cut c.split_at.ensures.front
     c.args.mark.len c.args.done.ranging (string_bytes c.new-text.result) (string_bytes c.range_lines.new.text) c.in_ok-lines.lines c.in_ok-lines.ensures.added in
-    let ranged = all_ranged (T.honest c.args.store.now) (T.text c.args.store.now) c.read_cut.new.window c.split_at.result.0.now c.args.done.at c.args.mark.to c.in_ok-cut.cut c.in_ok-cut.ensures.cut c.split_at.ensures.front
+    let ranged = all_ranged (T.faithful c.args.store.now) (T.text c.args.store.now) c.read_cut.new.window c.split_at.result.0.now c.args.done.at c.args.mark.to c.in_ok-cut.cut c.in_ok-cut.ensures.cut c.split_at.ensures.front
     c.args.mark.len c.args.done.ranging (string_bytes c.new-text.result) (string_bytes c.range_lines.new.text) c.in_ok-lines.lines c.in_ok-lines.ensures.added in
     let all : take (length r.text) r.text ≡ r.text = take_all (length r.text) r.text (omega arith) in
     let added = string_bytes c.range_lines.new.text in

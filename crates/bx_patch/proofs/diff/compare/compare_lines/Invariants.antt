@@ -7,9 +7,9 @@ abbrev pub invariant-loop-at : goal.invariant-loop-at
 invariant-loop-at g l = record {
   within : l.at ≤ l.end;
   whole : l.at < l.end → l.at % 32768 ≡ 0;
-  old : OnlyReads g.D.Device.honest g.D.Device.image g.D.Device.room g.D.Device.failures g.D.Device.survives false l.fn.old l.old;
-  new : OnlyReads g.E.Device.honest g.E.Device.image g.E.Device.room g.E.Device.failures g.E.Device.survives false l.fn.new l.new;
-  put : g.D.Device.honest l.fn.old → g.E.Device.honest l.fn.new → g.S.Alike.AreAlike l.alike (g.D.Device.image l.fn.old) (g.E.Device.image l.fn.new)
+  old : OnlyReads g.D.Device.faithful g.D.Device.image g.D.Device.room g.D.Device.failures g.D.Device.survives false l.fn.old l.old;
+  new : OnlyReads g.E.Device.faithful g.E.Device.image g.E.Device.room g.E.Device.failures g.E.Device.survives false l.fn.new l.new;
+  put : g.D.Device.faithful l.fn.old → g.E.Device.faithful l.fn.new → g.S.Alike.AreAlike l.alike (g.D.Device.image l.fn.old) (g.E.Device.image l.fn.new)
       → HasPut l.place.head.now (lines_before l.place.extent (g.D.Device.image l.fn.old) (g.E.Device.image l.fn.new) l.at) l.writing.number l.writing.written
       (g.W.Write.contents l.fn.out) (g.W.Write.contents l.out);
 }

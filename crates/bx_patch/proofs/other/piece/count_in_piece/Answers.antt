@@ -13,8 +13,8 @@ loop-done-preserved g c =
       below = omega (arith, on.below);
       has = λ h.
           has_more (image c.args.device.now) (image c.loop-done.device) c.args.bytes.now _ c.args.at c.loop-done.done c.in-Ok.looked.same
-          (inv.reads.stays h) c.split_at.ensures.back (inv.has h) (on.has (inv.reads.goes_on.honesty.1 h));
-      cache = cache_again (g.D.Device.honest c.loop-done.device) (g.D.Device.honest c.args.device.now) (image c.loop-done.device) (image c.args.device.now) c.count_in_page.new.page
-          c.in-Ok.looked.cached (λ h. inv.reads.goes_on.honesty.1 h) (λ h. sym (inv.reads.stays h)) on.cache;
-      reads = reads_on g.D.Device.honest image g.D.Device.room g.D.Device.failures g.D.Device.survives false c.args.device.now c.loop-done.device c.count_in_page.new.device inv.reads on.reads;
+          (inv.reads.stays h) c.split_at.ensures.back (inv.has h) (on.has (inv.reads.goes_on.faith.1 h));
+      cache = cache_again (g.D.Device.faithful c.loop-done.device) (g.D.Device.faithful c.args.device.now) (image c.loop-done.device) (image c.args.device.now) c.count_in_page.new.page
+          c.in-Ok.looked.cached (λ h. inv.reads.goes_on.faith.1 h) (λ h. sym (inv.reads.stays h)) on.cache;
+      reads = reads_on g.D.Device.faithful image g.D.Device.room g.D.Device.failures g.D.Device.survives false c.args.device.now c.loop-done.device c.count_in_page.new.device inv.reads on.reads;
     }

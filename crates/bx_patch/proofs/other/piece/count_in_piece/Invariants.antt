@@ -8,9 +8,9 @@ abbrev pub invariant-loop-done : goal.invariant-loop-done
 invariant-loop-done g l = record {
   within : l.done ≤ length l.bytes;
   below : l.at + l.done < 2 ^ 64;
-  has : g.D.Device.honest l.fn.device → HasFirstBytes (g.D.Device.image l.fn.device) (l.at, l.bytes) l.done;
-  cache : IsImagePage (g.D.Device.honest l.fn.device) (g.D.Device.image l.fn.device) l.page l.kept;
-  reads : OnlyReads g.D.Device.honest g.D.Device.image g.D.Device.room g.D.Device.failures g.D.Device.survives false l.fn.device l.device;
+  has : g.D.Device.faithful l.fn.device → HasFirstBytes (g.D.Device.image l.fn.device) (l.at, l.bytes) l.done;
+  cache : IsImagePage (g.D.Device.faithful l.fn.device) (g.D.Device.image l.fn.device) l.page l.kept;
+  reads : OnlyReads g.D.Device.faithful g.D.Device.image g.D.Device.room g.D.Device.failures g.D.Device.survives false l.fn.device l.device;
 }
 
 abbrev pub decreases-loop-done : goal.decreases-loop-done

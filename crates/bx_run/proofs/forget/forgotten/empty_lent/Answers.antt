@@ -7,16 +7,16 @@ use Rattle.bx_run.proofs.forget.forgotten.empty_lent.Goals as goal
 
 pub close_beside-requires-clause-devices : goal.close_beside-requires-clause-devices
 close_beside-requires-clause-devices g c mid =
-    let old = c.let_change-journal.ensures.honesty.0 mid in
+    let old = c.let_change-journal.ensures.faith.0 mid in
     let lent = c.requires.beside old in (
-      c.forget_devices-outcome.ensures.image_honesty.1 (c.requires.image old),
-      c.forget_devices-outcome.ensures.journal_honesty.1 (c.let_change-journal.ensures.journal old lent.0 lent.1).0,
-      c.forget_devices-outcome.ensures.redo_honesty.1 (c.let_change-journal.ensures.redo old lent.0 lent.1).0,
+      c.forget_devices-outcome.ensures.image_faith.1 (c.requires.image old),
+      c.forget_devices-outcome.ensures.journal_faith.1 (c.let_change-journal.ensures.journal old lent.0 lent.1).0,
+      c.forget_devices-outcome.ensures.redo_faith.1 (c.let_change-journal.ensures.redo old lent.0 lent.1).0,
     )
 
 pub returns-clause-empties : goal.returns-clause-empties
 returns-clause-empties g c old f is alone same =
-    let mid = c.let_change-journal.ensures.honesty.1 old in
+    let mid = c.let_change-journal.ensures.faith.1 old in
     let journal = c.let_change-journal.ensures.journal old f is in
     let redo = c.let_change-journal.ensures.redo old f is in
     let closed = c.close_beside.ensures.closed mid f (c.let_change-journal.ensures.beside old ∙ is) in
@@ -32,13 +32,13 @@ returns-clause-empties g c old f is alone same =
 
 pub returns-clause-only : goal.returns-clause-only
 returns-clause-only g c old f is =
-    let mid = c.let_change-journal.ensures.honesty.1 old in
+    let mid = c.let_change-journal.ensures.faith.1 old in
     spares_then (IsNoText f) (IsNoText f) (IsNoText f) _ _ _ (λ i p. p) (λ i p. p) (c.let_change-journal.ensures.only old f is)
     (c.close_beside.ensures.closed mid f (c.let_change-journal.ensures.beside old ∙ is)).only
 
 pub returns-clause-survives : goal.returns-clause-survives
 returns-clause-survives g c old f is alone same =
-    let mid = c.let_change-journal.ensures.honesty.1 old in
+    let mid = c.let_change-journal.ensures.faith.1 old in
     let beside = c.let_change-journal.ensures.beside old ∙ is in
     let journal = c.let_change-journal.ensures.journal old f is in
     let redo = c.let_change-journal.ensures.redo old f is in
@@ -49,7 +49,7 @@ returns-clause-survives g c old f is alone same =
     let found = g.W.World.survives c.args.world.now in
     let between = g.W.World.survives c.let_change-journal.new.self in
     let behind = g.W.World.survives c.close_beside.new.self in
-    survived g.W.Image.Device g.W.Text.TextStore (texts_of false f) (g.W.World.sight c.args.world.now)
+    survived g.W.Image.Device g.W.Text.TextStore (texts_of false f) (g.W.World.state c.args.world.now)
     (record { image = c.args.devices.image; journal = c.let_change-journal.result.0; redo = c.let_change-journal.result.1 })
     c.forget_devices-outcome.new.devices found behind same journal.1 redo.1
     (c.close_beside.ensures.image_survives mid f beside held) (placed_left f _ behind left.journal_found) left.redo_found

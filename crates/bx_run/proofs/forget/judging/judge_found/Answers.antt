@@ -12,7 +12,7 @@ returns-then-is_whole-clause-may g c x text redo note guard holds =
 pub returns-then-is_whole-clause-image : goal.returns-then-is_whole-clause-image
 returns-then-is_whole-clause-image g c x text redo holds =
     let whole = opened_whole g.D.Device g.T.TextStore c.args.devices x text redo holds _ _ c.in-Ok.ensures (c.is_whole.ensures.0 c.if-is_whole.true) in
-    rw c.closed.ensures (whole.devices.image_honest, whole.devices.image_is)
+    rw c.closed.ensures (whole.devices.image_faithful, whole.devices.image_is)
 
 pub returns-else-is_whole-clause-hides : goal.returns-else-is_whole-clause-hides
 returns-else-is_whole-clause-hides g c x text redo holds =

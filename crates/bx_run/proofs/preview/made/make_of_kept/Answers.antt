@@ -2,9 +2,9 @@ use Rattle.bx_run.proofs.Proposing.{of_kept, unkept}
 use Rattle.bx_run.proofs.preview.made.make_of_kept.Goals as goal
 
 pub returns-in-Ok-clause-made : goal.returns-in-Ok-clause-made
-returns-in-Ok-clause-made g c honest =
-    of_kept g.R.Read.remaining (g.D.Device.image c.args.image.now) c.args.kept c.in-Ok.change (c.in-Ok.ensures.change honest)
+returns-in-Ok-clause-made g c faithful =
+    of_kept g.R.Read.remaining (g.D.Device.image c.args.image.now) c.args.kept c.in-Ok.change (c.in-Ok.ensures.change faithful)
 
 pub returns-in-Err-clause-stops : goal.returns-in-Err-clause-stops
-returns-in-Err-clause-stops g c honest =
-    unkept g.R.Read.remaining (g.D.Device.image c.args.image.now) c.args.kept c.in-Err.why (c.in-Err.ensures.stops honest)
+returns-in-Err-clause-stops g c faithful =
+    unkept g.R.Read.remaining (g.D.Device.image c.args.image.now) c.args.kept c.in-Err.why (c.in-Err.ensures.stops faithful)

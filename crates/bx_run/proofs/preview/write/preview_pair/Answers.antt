@@ -4,10 +4,10 @@ use Rattle.bx_run.proofs.preview.write.preview_pair.Goals as goal
 
 pub returns-in-Err-outcome : goal.returns-in-Err-outcome
 returns-in-Err-outcome g c = record {
-  previews = λ honest twin same.
+  previews = λ faithful twin same.
       let reads = c.in-Ok.ensures.reads in
-      let stays = reads.stays honest in
+      let stays = reads.stays faithful in
       cut_behind g.R.Read.remaining c.args.edit c.args.keeps (g.D.Device.image c.args.pair.image) _ c.in-Ok.made.change c.in-Ok.made.counts _ _ _ _
-      stays c.in-Err-outcome.is (c.in-Ok.ensures.made honest) (c.in-Ok.ensures.fits honest)
-      (c.write_changed-again.ensures.compared (reads.goes_on.honesty.1 honest) twin (same ∙ sym stays));
+      stays c.in-Err-outcome.is (c.in-Ok.ensures.made faithful) (c.in-Ok.ensures.fits faithful)
+      (c.write_changed-again.ensures.compared (reads.goes_on.faith.1 faithful) twin (same ∙ sym stays));
 }

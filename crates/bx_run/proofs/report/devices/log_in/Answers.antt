@@ -2,5 +2,5 @@ use Rattle.bx_run.proofs.Looking.{log_of}
 use Rattle.bx_run.proofs.report.devices.log_in.Goals as goal
 
 pub returns-in-Ok-log_text-clause-log : goal.returns-in-Ok-log_text-clause-log
-returns-in-Ok-log_text-clause-log g c honest has =
-    log_of _ c.in-Ok.rows.items _ _ has (c.in-Ok.ensures.rows honest) (rw c.as_slice.ensures.value at c.in-Ok-log_text.ensures.text)
+returns-in-Ok-log_text-clause-log g c faithful has =
+    log_of _ c.in-Ok.rows.items _ _ has (c.in-Ok.ensures.rows faithful) (rw c.as_slice.ensures.value at c.in-Ok-log_text.ensures.text)

@@ -7,5 +7,5 @@ returns-clause-log g c old = rw c.close.ensures.outcome (c.log_on-seen.ensures.l
 
 pub returns-clause-why : goal.returns-clause-why
 returns-clause-why g c old =
-    rw c.close.ensures.outcome (IfErr-weaker _ _ _ (not_seen c.args.names.now _ (g.W.World.sight c.args.world.now))
+    rw c.close.ensures.outcome (IfErr-weaker _ _ _ (not_seen c.args.names.now _ (g.W.World.state c.args.world.now))
     (c.log_on-seen.ensures.hides _ _ _ (c.in-Ok.ensures.held old)))

@@ -6,5 +6,5 @@ returns-clause-rows g c old = rw c.close.ensures.outcome (c.ranges_on-seen.ensur
 
 pub returns-clause-stops : goal.returns-clause-stops
 returns-clause-stops g c old =
-    rw c.close.ensures.outcome (hidden_named c.args.names.now _ (g.W.World.sight c.args.world.now) _ _ _ _
+    rw c.close.ensures.outcome (hidden_named c.args.names.now _ (g.W.World.state c.args.world.now) _ _ _ _
     (c.ranges_on-seen.ensures.stops _ _ _ (c.in-Ok.ensures.held old)))

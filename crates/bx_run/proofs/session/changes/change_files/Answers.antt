@@ -7,20 +7,20 @@ use Rattle.bx_run.proofs.session.changes.change_files.Goals as goal
 
 pub returns-clause-done : goal.returns-clause-done
 returns-clause-done g c old s holds =
-    let behind = c.run_on_files-answer.ensures.honesty.1 old in
+    let behind = c.run_on_files-answer.ensures.faith.1 old in
     let reply = c.run_on_files-answer.result.reply in
     rw (contents_kept c.args.names.now _ _ (c.tell_recovered.ensures.files behind))
     (changed_by g.R.Read.remaining _ _ s c.args.task reply holds (c.run_on_files-answer.ensures.done old s holds))
 
 pub returns-clause-interrupted : goal.returns-clause-interrupted
 returns-clause-interrupted g c old s holds is =
-    let behind = c.run_on_files-answer.ensures.honesty.1 old in
+    let behind = c.run_on_files-answer.ensures.faith.1 old in
     rw (contents_kept c.args.names.now _ _ (c.tell_recovered.ensures.files behind))
     (interrupted_by g.R.Read.remaining _ s c.args.task c.run_on_files-answer.result.reply is (c.run_on_files-answer.ensures.done old s holds))
 
 pub returns-clause-refused : goal.returns-clause-refused
 returns-clause-refused g c old whole =
-    let behind = c.run_on_files-answer.ensures.honesty.1 old in
+    let behind = c.run_on_files-answer.ensures.faith.1 old in
     record {
       why = λ s holds is_opened. c.run_on_files-answer.ensures.why old s holds is_opened whole;
       left = refused_kept _ _ _ _ _ _ (c.run_on_files-answer.ensures.refused old whole)
@@ -29,7 +29,7 @@ returns-clause-refused g c old whole =
 
 pub returns-clause-survives : goal.returns-clause-survives
 returns-clause-survives g c old =
-    let behind = c.run_on_files-answer.ensures.honesty.1 old in
+    let behind = c.run_on_files-answer.ensures.faith.1 old in
     let nothing = c.tell_recovered.ensures.survives behind in
     let survives = c.run_on_files-answer.ensures.survives old in
     let answer = c.run_on_files-answer.result in
@@ -48,38 +48,38 @@ returns-clause-survives g c old =
 
 pub returns-clause-unopened : goal.returns-clause-unopened
 returns-clause-unopened g c old =
-    let behind = c.run_on_files-answer.ensures.honesty.1 old in
+    let behind = c.run_on_files-answer.ensures.faith.1 old in
     let answer = c.run_on_files-answer.result in
     nothing_kept answer.unopened answer.reply answer.how _ _ _ (c.run_on_files-answer.ensures.unopened old) (c.tell_recovered.ensures.files behind)
     (c.tell_recovered.ensures.output behind) (c.tell_recovered.ensures.errors behind)
 
 pub returns-clause-why_unopened : goal.returns-clause-why_unopened
 returns-clause-why_unopened g c old =
-    let behind = c.run_on_files-answer.ensures.honesty.1 old in
+    let behind = c.run_on_files-answer.ensures.faith.1 old in
     rw (c.tell_recovered.ensures.noted behind) (c.run_on_files-answer.ensures.why_unopened old)
 
 pub returns-clause-recovered : goal.returns-clause-recovered
 returns-clause-recovered g c old s found is_opened =
-    let behind = c.run_on_files-answer.ensures.honesty.1 old in
+    let behind = c.run_on_files-answer.ensures.faith.1 old in
     let answer = c.run_on_files-answer.result in
     subst (λ contents. DoesFound g.R.Read.remaining s c.args.task answer.how answer.reply contents)
     (sym (contents_kept c.args.names.now _ _ (c.tell_recovered.ensures.files behind))) (c.run_on_files-answer.ensures.recovered old s found is_opened)
 
 pub returns-clause-stands : goal.returns-clause-stands
 returns-clause-stands g c old unfailed =
-    let behind = c.run_on_files-answer.ensures.honesty.1 old in
+    let behind = c.run_on_files-answer.ensures.faith.1 old in
     let answer = c.run_on_files-answer.result in
     read_between g.R.Read.remaining c.args.task answer.how answer.reply _ _ _ _ refl
     (contents_kept c.args.names.now _ _ (c.tell_recovered.ensures.files behind)) (c.run_on_files-answer.ensures.stands old unfailed)
 
 pub returns-clause-others : goal.returns-clause-others
 returns-clause-others g c old =
-    let behind = c.run_on_files-answer.ensures.honesty.1 old in
+    let behind = c.run_on_files-answer.ensures.faith.1 old in
     others_kept _ _ _ _ (c.run_on_files-answer.ensures.others old) (c.tell_recovered.ensures.files behind)
 
 pub returns-clause-streams : goal.returns-clause-streams
 returns-clause-streams g c old =
-    let behind = c.run_on_files-answer.ensures.honesty.1 old in
+    let behind = c.run_on_files-answer.ensures.faith.1 old in
     let silent = c.run_on_files-answer.ensures.silent old in
     let tells = c.tell_recovered.ensures.errors behind in
     record {

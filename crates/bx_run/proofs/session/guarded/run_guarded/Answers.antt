@@ -10,13 +10,13 @@ returns-in-Ok-clause-runs g c =
     c.look_at.ensures.looks c.run_looked.ensures.runs
 
 pub returns-in-Ok-clause-judged : goal.returns-in-Ok-clause-judged
-returns-in-Ok-clause-judged g c h honest =
+returns-in-Ok-clause-judged g c h faithful =
     judged_by c.args.guard c.args.missing (g.W.World.note c.args.world.now) (held_by g.W.Image.Device g.W.Text.TextStore c.args.devices) c.args.task
     (record { guard = c.args.guard; missing = c.args.missing; line = c.told_by-told.result.line; unread = c.told_by-told.result.unread })
     (record { guard_is = refl; missing_is = refl; line_is = c.told_by-told.ensures.known h }) c.in-Ok.looked c.run_looked.result.unopened c.run_looked.result.how
-    (c.in-Ok.ensures.looked honest) c.run_looked.ensures.unopened
+    (c.in-Ok.ensures.looked faithful) c.run_looked.ensures.unopened
     ((ran_behind g.W.Image.Device g.W.Text.TextStore g.R.Read.remaining c.args.devices c.look_at.new.devices c.args.task c.run_looked.result
-    c.look_at.ensures.looks c.run_looked.ensures.runs).accepted honest)
+    c.look_at.ensures.looks c.run_looked.ensures.runs).accepted faithful)
 
 pub returns-in-Err-clause-runs : goal.returns-in-Err-clause-runs
 returns-in-Err-clause-runs g c =
@@ -26,7 +26,7 @@ returns-in-Err-clause-runs g c =
     c.look_at.ensures.looks c.in-Err.ensures.fault)
 
 pub returns-in-Err-clause-judged : goal.returns-in-Err-clause-judged
-returns-in-Err-clause-judged g c h honest =
+returns-in-Err-clause-judged g c h faithful =
     unjudged c.args.guard c.args.missing (g.W.World.note c.args.world.now) (held_by g.W.Image.Device g.W.Text.TextStore c.args.devices) c.args.task
     (record { guard = c.args.guard; missing = c.args.missing; line = c.told_by-told.result.line; unread = c.told_by-told.result.unread })
     (record { guard_is = refl; missing_is = refl; line_is = c.told_by-told.ensures.known h }) c.failed.result.unopened c.failed.result.how

@@ -12,8 +12,8 @@ returns-clause-runs g c =
     let ran : RunsTask g.W.Image.Device g.W.Text.TextStore g.R.Read.remaining c.args.devices c.args.task (ended_as c.open_and_run-closed.result) = record {
       accepted = said.accepted;
       how_is = said.how;
-      does = λ honest opened. said.does honest;
-      found = λ honest opened. said.found honest;
+      does = λ faithful opened. said.does faithful;
+      found = λ faithful opened. said.found faithful;
       stands = said.stands;
       whole = said.whole;
       survives = said.survives;
@@ -26,4 +26,4 @@ returns-clause-runs g c =
           (look_still g.W.Image.Device g.W.Text.TextStore c.open_and_run-closed.result.devices)
     ] in
     ran_before g.W.Image.Device g.W.Text.TextStore g.R.Read.remaining c.args.devices c.if-is_ended.devices c.args.task (ended_as c.open_and_run-closed.result)
-    said.honesty ran looks
+    said.faith ran looks

@@ -6,4 +6,4 @@ use Rattle.bx_run.proofs.session.looked.look_at.Goals as goal
 pub returns-in-Err-look_behind-clause-fault : goal.returns-in-Err-look_behind-clause-fault
 returns-in-Err-look_behind-clause-fault g c =
     let looks = c.judge.ensures.looks in
-    finds_back _ _ _ _ c.in-Err-look_behind.fault (λ h. looks.honesty.1.1 h) (λ h. ap shown (looks.journal_same h)) c.in-Err-look_behind.ensures.fault
+    finds_back _ _ _ _ c.in-Err-look_behind.fault (λ h. looks.faith.1.1 h) (λ h. ap shown (looks.journal_same h)) c.in-Err-look_behind.ensures.fault

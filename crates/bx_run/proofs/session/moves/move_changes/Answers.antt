@@ -9,8 +9,8 @@ use Rattle.bx_run.proofs.session.moves.move_changes.Goals as goal
 pub returns-clause-done : goal.returns-clause-done
 returns-clause-done g c old s holds =
     let moved = c.moved_by-moved.ensures in
-    let behind = moved.honesty.1 old in
-    let told = c.tell_recovered.ensures.honesty.1 behind in
+    let behind = moved.faith.1 old in
+    let told = c.tell_recovered.ensures.faith.1 behind in
     let line = c.tell_number-outcome.ensures in
     done_behind _ _ _ _ _ _ _ _ _ (moved.done old s holds) (c.tell_recovered.ensures.files behind) (line.files told) (moved.silent old).output
     (c.tell_recovered.ensures.output behind) (line.done told) (line.refused told)
@@ -18,8 +18,8 @@ returns-clause-done g c old s holds =
 pub returns-clause-stopped : goal.returns-clause-stopped
 returns-clause-stopped g c old s holds =
     let moved = c.moved_by-moved.ensures in
-    let behind = moved.honesty.1 old in
-    let told = c.tell_recovered.ensures.honesty.1 behind in
+    let behind = moved.faith.1 old in
+    let told = c.tell_recovered.ensures.faith.1 behind in
     let line = c.tell_number-outcome.ensures in
     stopped_behind _ _ _ _ _ _ _ _ _ _ _ ((moved.how old).none s holds) (moved.done old s holds) (moved.refused old s holds)
     (c.tell_recovered.ensures.files behind) (line.files told) (moved.silent old).output (c.tell_recovered.ensures.output behind)
@@ -28,14 +28,14 @@ returns-clause-stopped g c old s holds =
 pub returns-clause-how : goal.returns-clause-how
 returns-clause-how g c old =
     let moved = c.moved_by-moved.ensures in
-    let told = c.tell_recovered.ensures.honesty.1 (moved.honesty.1 old) in
+    let told = c.tell_recovered.ensures.faith.1 (moved.faith.1 old) in
     tells_behind _ _ _ _ _ _ (c.tell_number-outcome.ensures.refused told) (moved.how old)
 
 pub returns-clause-spares : goal.returns-clause-spares
 returns-clause-spares g c old =
     let moved = c.moved_by-moved.ensures in
-    let behind = moved.honesty.1 old in
-    let told = c.tell_recovered.ensures.honesty.1 behind in
+    let behind = moved.faith.1 old in
+    let told = c.tell_recovered.ensures.faith.1 behind in
     let line = c.tell_number-outcome.ensures in
     spares_behind _ _ _ _ _ _ _ _ _ (moved.spares old) (c.tell_recovered.ensures.files behind) (c.tell_recovered.ensures.output behind)
     (c.tell_recovered.ensures.errors behind) (line.lost told) (line.refused told)
@@ -43,8 +43,8 @@ returns-clause-spares g c old =
 pub returns-clause-survives : goal.returns-clause-survives
 returns-clause-survives g c old =
     let moved = c.moved_by-moved.ensures in
-    let behind = moved.honesty.1 old in
-    let told = c.tell_recovered.ensures.honesty.1 behind in
+    let behind = moved.faith.1 old in
+    let told = c.tell_recovered.ensures.faith.1 behind in
     let line = c.tell_number-outcome.ensures in
     let first = c.tell_recovered.ensures.survives behind in
     let second = line.survives told in
@@ -70,25 +70,25 @@ returns-clause-survives g c old =
 pub returns-clause-unopened : goal.returns-clause-unopened
 returns-clause-unopened g c old =
     let moved = c.moved_by-moved.ensures in
-    let behind = moved.honesty.1 old in
-    let told = c.tell_recovered.ensures.honesty.1 behind in
+    let behind = moved.faith.1 old in
+    let told = c.tell_recovered.ensures.faith.1 behind in
     unopened_kept _ _ _ _ _ _ _ _ (moved.unopened old) (c.tell_recovered.ensures.files behind) (c.tell_recovered.ensures.output behind)
     (c.tell_recovered.ensures.errors behind) (c.tell_number-outcome.ensures.refused told)
 
 pub returns-clause-why_unopened : goal.returns-clause-why_unopened
 returns-clause-why_unopened g c old =
     let moved = c.moved_by-moved.ensures in
-    let behind = moved.honesty.1 old in
-    let told = c.tell_recovered.ensures.honesty.1 behind in
+    let behind = moved.faith.1 old in
+    let told = c.tell_recovered.ensures.faith.1 behind in
     why_kept _ _ _ _ _ _ _ (λ count u. MayRefuseTask c.args.guard false (g.W.World.note c.args.world.now) (task_of c.args.way c.args.count) c.args.names.now
-    (g.W.World.refusals c.args.world.now < count) (g.W.World.sight c.args.world.now) u)
+    (g.W.World.refusals c.args.world.now < count) (g.W.World.state c.args.world.now) u)
     (moved.unopened old) (c.tell_recovered.ensures.noted behind) (c.tell_number-outcome.ensures.noted told) (moved.why_unopened old)
 
 pub returns-clause-recovered : goal.returns-clause-recovered
 returns-clause-recovered g c old s found is_opened =
     let moved = c.moved_by-moved.ensures in
-    let behind = moved.honesty.1 old in
-    let told = c.tell_recovered.ensures.honesty.1 behind in
+    let behind = moved.faith.1 old in
+    let told = c.tell_recovered.ensures.faith.1 behind in
     let line = c.tell_number-outcome.ensures in
     found_behind _ _ _ _ _ _ _ _ _ _ _ (moved.recovered old s found is_opened) (c.tell_recovered.ensures.files behind) (line.files told)
     (moved.silent old).output (c.tell_recovered.ensures.output behind) (line.done told) (line.lost told) (line.refused told)
@@ -96,29 +96,29 @@ returns-clause-recovered g c old s found is_opened =
 pub returns-clause-others : goal.returns-clause-others
 returns-clause-others g c old =
     let moved = c.moved_by-moved.ensures in
-    let behind = moved.honesty.1 old in
-    let told = c.tell_recovered.ensures.honesty.1 behind in
+    let behind = moved.faith.1 old in
+    let told = c.tell_recovered.ensures.faith.1 behind in
     others_kept _ _ _ _ (moved.others old) (keeps_then _ _ _ (c.tell_recovered.ensures.files behind) (c.tell_number-outcome.ensures.files told))
 
 pub returns-clause-errors : goal.returns-clause-errors
 returns-clause-errors g c old =
     let moved = c.moved_by-moved.ensures in
-    let behind = moved.honesty.1 old in
-    let told = c.tell_recovered.ensures.honesty.1 behind in
+    let behind = moved.faith.1 old in
+    let told = c.tell_recovered.ensures.faith.1 behind in
     tells_alone _ _ _ _ _ (moved.silent old).errors (c.tell_recovered.ensures.errors behind) (c.tell_number-outcome.ensures.errors told)
 
 pub returns-clause-free : goal.returns-clause-free
 returns-clause-free g c old =
     let moved = c.moved_by-moved.ensures in
-    let behind = moved.honesty.1 old in
-    let told = c.tell_recovered.ensures.honesty.1 behind in
+    let behind = moved.faith.1 old in
+    let told = c.tell_recovered.ensures.faith.1 behind in
     (c.tell_number-outcome.ensures.files told).lent ∙ (c.tell_recovered.ensures.files behind).lent ∙ (moved.silent old).lent ∙ c.requires.free old
 
 pub returns-clause-stands : goal.returns-clause-stands
 returns-clause-stands g c old =
     let moved = c.moved_by-moved.ensures in
-    let behind = moved.honesty.1 old in
-    let told = c.tell_recovered.ensures.honesty.1 behind in
+    let behind = moved.faith.1 old in
+    let told = c.tell_recovered.ensures.faith.1 behind in
     let line = c.tell_number-outcome.ensures in
     read_behind _ _ _ _ _ _ _ _ _ _ (moved.stands old) (c.tell_recovered.ensures.files behind) (line.files told) (moved.silent old).output
     (c.tell_recovered.ensures.output behind) (line.done told) (line.refused told)

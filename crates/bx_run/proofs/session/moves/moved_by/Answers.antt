@@ -4,15 +4,15 @@ use Rattle.bx_run.proofs.session.moves.moved_by.Goals as goal
 
 pub returns-clause-done : goal.returns-clause-done
 returns-clause-done g c old s holds =
-    let behind = g.W.World.sight c.run_on_files-answer.new.world in
+    let behind = g.W.World.state c.run_on_files-answer.new.world in
     rw c.standing.ensures
     (moved_ok _ c.args.way s c.args.count c.run_on_files-answer.result.reply (contents_of c.args.names.now behind)
     (rw c.task_by-task.ensures.is at (c.run_on_files-answer.ensures.done old s holds)))
 
 pub returns-clause-refused : goal.returns-clause-refused
 returns-clause-refused g c old s holds =
-    let before = g.W.World.sight c.args.world.now in
-    let behind = g.W.World.sight c.run_on_files-answer.new.world in
+    let before = g.W.World.state c.args.world.now in
+    let behind = g.W.World.state c.run_on_files-answer.new.world in
     let answer = c.run_on_files-answer.result in
     let said = c.run_on_files-answer.ensures in
     rw c.standing.ensures
@@ -27,15 +27,15 @@ returns-clause-how g c old = rw c.standing.ensures (c.run_on_files-answer.ensure
 
 pub returns-clause-spares : goal.returns-clause-spares
 returns-clause-spares g c old =
-    let before = g.W.World.sight c.args.world.now in
-    let behind = g.W.World.sight c.run_on_files-answer.new.world in
+    let before = g.W.World.state c.args.world.now in
+    let behind = g.W.World.state c.run_on_files-answer.new.world in
     let answer = c.run_on_files-answer.result in
     rw c.standing.ensures (spares_by c.args.names.now answer.unopened answer.how before behind answer.reply (c.run_on_files-answer.ensures.refused old))
 
 pub returns-clause-survives : goal.returns-clause-survives
 returns-clause-survives g c old =
-    let before = g.W.World.sight c.args.world.now in
-    let behind = g.W.World.sight c.run_on_files-answer.new.world in
+    let before = g.W.World.state c.args.world.now in
+    let behind = g.W.World.state c.run_on_files-answer.new.world in
     let answer = c.run_on_files-answer.result in
     let said = c.run_on_files-answer.ensures in
     record {
@@ -64,7 +64,7 @@ returns-clause-unopened g c old =
 
 pub returns-clause-recovered : goal.returns-clause-recovered
 returns-clause-recovered g c old s found is_opened =
-    let behind = g.W.World.sight c.run_on_files-answer.new.world in
+    let behind = g.W.World.state c.run_on_files-answer.new.world in
     let answer = c.run_on_files-answer.result in
     rw c.standing.ensures
     (moved_found _ c.args.way s c.args.count answer.how answer.reply (contents_of c.args.names.now behind)

@@ -12,4 +12,4 @@ pub returns-in-Ok-clause-err : goal.returns-in-Ok-clause-err
 returns-in-Ok-clause-err g c old =
     let bytes : c.as_bytes.result.now ≡ decimal c.args.number = c.as_bytes.ensures.value ∙ c.digits_of-digits.ensures in
     after_first _ _ (decimal c.args.number) (codes "\n") _ _ _ (rw bytes at (c.in-Ok.ensures.ok old)) (search rules)
-    (c.put-in-Ok.ensures.err (c.put.ensures.honesty.1 old))
+    (c.put-in-Ok.ensures.err (c.put.ensures.faith.1 old))

@@ -12,40 +12,40 @@ use Rattle.bx_run.proofs.session.named.run_on_files.Goals as goal
 
 pub clear-requires-clause-made : goal.clear-requires-clause-made
 clear-requires-clause-made g c behind =
-    let opening = c.with_devices-done.ensures.honesty.0 behind in
-    let old = c.open_image_files.ensures.honesty.0 opening in
+    let opening = c.with_devices-done.ensures.faith.0 behind in
+    let old = c.open_image_files.ensures.faith.0 opening in
     let by_run = made_by_run _ _ _ _ _ _ _ _ (λ name n e. g.met.W.World.within c.args.world.now name n old e) (c.in-Ok.ensures.ok old)
     (c.with_devices-done.ensures.only opening) (g.met.W.World.begun c.args.world.now old) in
-    let Began : ℕ → Type 0 = λ n. (g.W.World.sight c.with_devices-done.new.world).before ≤ n in
+    let Began : ℕ → Type 0 = λ n. (g.W.World.state c.with_devices-done.new.world).before ≤ n in
     let numbers = numbers_of g.W.World.number c.in-Ok.files in
     let behind_made = subst (λ m. (n : ℕ) → IsOneOfMade m numbers n → Began n) (sym c.with_devices-done.ensures.made) by_run in
     subst (λ t. (n : ℕ) → IsOneOfMade c.with_devices-done.result.files.made t n → Began n) (sym (c.with_devices-done.ensures.files opening)) behind_made
 
 pub clear-requires-clause-apart : goal.clear-requires-clause-apart
 clear-requires-clause-apart g c behind =
-    let opening = c.with_devices-done.ensures.honesty.0 behind in
-    let old = c.open_image_files.ensures.honesty.0 opening in
+    let opening = c.with_devices-done.ensures.faith.0 behind in
+    let old = c.open_image_files.ensures.faith.0 opening in
     rw (c.with_devices-done.ensures.files opening, (c.with_devices-done.ensures.only opening).there) (c.in-Ok.ensures.ok old).apart
 
 pub clear-requires-clause-named : goal.clear-requires-clause-named
 clear-requires-clause-named g c behind =
-    let opening = c.with_devices-done.ensures.honesty.0 behind in
-    let old = c.open_image_files.ensures.honesty.0 opening in
+    let opening = c.with_devices-done.ensures.faith.0 behind in
+    let old = c.open_image_files.ensures.faith.0 opening in
     rw (c.with_devices-done.ensures.files opening)
     (named_behind _ _ _ _ _ _ _ (λ name n e. g.met.W.World.within c.args.world.now name n old e) (c.in-Ok.ensures.ok old) _
     (c.with_devices-done.ensures.only opening))
 
 pub returns-clause-done : goal.returns-clause-done
 returns-clause-done g c old s holds stopped =
-    let opening = c.open_image_files.ensures.honesty.1 old in
-    let within : AreAllThere (g.W.World.sight c.args.world.now) = λ name n e. g.met.W.World.within c.args.world.now name n old e in
+    let opening = c.open_image_files.ensures.faith.1 old in
+    let within : AreAllThere (g.W.World.state c.args.world.now) = λ name n e. g.met.W.World.within c.args.world.now name n old e in
     let opened = c.in-Ok.ensures.ok old in
     let held = subst (λ contents. Holds contents s) (sym (contents_before _ _ _ _ _ _ _ within opened)) holds in
     let named = named_behind _ _ _ _ _ _ _ within opened _ (c.with_devices-done.ensures.only opening) in
     let done = c.with_devices-done.result in
     let is_begun = begun done.unopened done.reply done.how c.with_devices-done.ensures.unbegun stopped in
     let does = unrefused g.R.Read.remaining _ _ _ _ (c.with_devices-done.ensures.does opening is_begun s held) stopped in
-    rw (c.clear.ensures.stays (c.with_devices-done.ensures.honesty.1 opening) (λ whole is. stopped whole), contents_named _ _ _ named) does
+    rw (c.clear.ensures.stays (c.with_devices-done.ensures.faith.1 opening) (λ whole is. stopped whole), contents_named _ _ _ named) does
 
 pub returns-in-Err-clause-survives : goal.returns-in-Err-clause-survives
 returns-in-Err-clause-survives g c old = record {
@@ -57,28 +57,28 @@ returns-in-Err-clause-survives g c old = record {
 
 pub returns-clause-survives : goal.returns-clause-survives
 returns-clause-survives g c old =
-    let opening = c.open_image_files.ensures.honesty.1 old in
-    let within : AreAllThere (g.W.World.sight c.args.world.now) = λ name n e. g.met.W.World.within c.args.world.now name n old e in
+    let opening = c.open_image_files.ensures.faith.1 old in
+    let within : AreAllThere (g.W.World.state c.args.world.now) = λ name n e. g.met.W.World.within c.args.world.now name n old e in
     let opened = c.in-Ok.ensures.ok old in
     let named = named_behind _ _ _ _ _ _ _ within opened _ (c.with_devices-done.ensures.only opening) in
-    let done = c.with_devices-done.ensures.honesty.1 opening in
+    let done = c.with_devices-done.ensures.faith.1 opening in
     let before = sym (contents_before _ _ _ _ _ _ _ within opened) in
     record {
       holds = λ s holds stopped t behind.
           let stays = c.clear.ensures.stays done (λ whole is. stopped whole) in
-          let trio = same_trio _ t _ _ _ behind named (ap g.W.World.sight stays) in
+          let trio = same_trio _ t _ _ _ behind named (ap g.W.World.state stays) in
           rw (stays, trio.0, trio.1, trio.2)
           (c.with_devices-done.ensures.survives opening s (subst (λ contents. Holds contents s) before holds) stopped);
       finds = λ s found stopped t behind.
           let stays = c.clear.ensures.stays done (λ whole is. stopped whole) in
-          let trio = same_trio _ t _ _ _ behind named (ap g.W.World.sight stays) in
+          let trio = same_trio _ t _ _ _ behind named (ap g.W.World.state stays) in
           rw (stays, trio.0, trio.1, trio.2)
           (c.with_devices-done.ensures.endures opening s (subst (λ contents. FoundIn contents s) before found) stopped);
       refused = λ whole is.
           before_all _ _ _ _ _ (c.open_image_files.ensures.survives old) (c.with_devices-done.ensures.before opening whole is) (c.clear.ensures.survives done);
       settled = λ whole other t behind.
           let stays = c.clear.ensures.stays done (λ whole is. other is) in
-          let trio = same_trio _ t _ _ _ behind named (ap g.W.World.sight stays) in
+          let trio = same_trio _ t _ _ _ behind named (ap g.W.World.state stays) in
           rw (stays, trio.0, trio.1, trio.2, contents_named _ _ _ named) (c.with_devices-done.ensures.settled opening whole other);
     }
 
@@ -86,15 +86,15 @@ pub returns-in-Err-clause-refused : goal.returns-in-Err-clause-refused
 returns-in-Err-clause-refused g c old whole = record {
   files = λ unrecovered. c.in-Err.ensures.err old;
   contents = λ opened. absurd (never_another c.args.names.now c.args.guard.mounted c.args.makes (g.W.World.refusals c.args.world.now < g.W.World.refusals c.open_image_files.new.world)
-      (g.W.World.sight c.args.world.now) c.in-Err.unopened (c.in-Err.ensures.why old) opened);
+      (g.W.World.state c.args.world.now) c.in-Err.unopened (c.in-Err.ensures.why old) opened);
 }
 
 pub returns-clause-refused : goal.returns-clause-refused
 returns-clause-refused g c old whole =
-    let opening = c.open_image_files.ensures.honesty.1 old in
-    let within : AreAllThere (g.W.World.sight c.args.world.now) = λ name n e. g.met.W.World.within c.args.world.now name n old e in
+    let opening = c.open_image_files.ensures.faith.1 old in
+    let within : AreAllThere (g.W.World.state c.args.world.now) = λ name n e. g.met.W.World.within c.args.world.now name n old e in
     let opened = c.in-Ok.ensures.ok old in
-    let done = c.with_devices-done.ensures.honesty.1 opening in
+    let done = c.with_devices-done.ensures.faith.1 opening in
     let named = named_behind _ _ _ _ _ _ _ within opened _ (c.with_devices-done.ensures.only opening) in
     left_refused c.with_devices-done.result.unopened c.with_devices-done.result.how c.args.names.now _ _ _ _ (contents_before _ _ _ _ _ _ _ within opened)
     (contents_cleared _ _ _ _ _ named (c.clear.ensures.most done)) (c.with_devices-done.ensures.whole opening whole) (λ unrecovered same.
@@ -109,30 +109,30 @@ returns-clause-unopened g c old =
 
 pub returns-clause-judged : goal.returns-clause-judged
 returns-clause-judged g c old =
-    let opening = c.open_image_files.ensures.honesty.1 old in
-    let within : AreAllThere (g.W.World.sight c.args.world.now) = λ name n e. g.met.W.World.within c.args.world.now name n old e in
+    let opening = c.open_image_files.ensures.faith.1 old in
+    let within : AreAllThere (g.W.World.state c.args.world.now) = λ name n e. g.met.W.World.within c.args.world.now name n old e in
     let opened = c.in-Ok.ensures.ok old in
     let done = c.with_devices-done.result in
     let judged = c.with_devices-done.ensures.judged opening in
     let named = subst (λ contents. WasJudged c.args.guard c.in-Ok.files.made.image (g.W.World.note c.open_image_files.new.world) contents c.args.task done.unopened done.how)
     (contents_before _ _ _ _ _ _ _ within opened) judged in
-    let held = contents_of c.args.names.now (g.W.World.sight c.args.world.now) in
+    let held = contents_of c.args.names.now (g.W.World.state c.args.world.now) in
     let missing = subst (λ (b : Bool). WasJudged c.args.guard b (g.W.World.note c.open_image_files.new.world) held c.args.task done.unopened done.how)
     (made_missing _ _ _ _ _ opened.image) named in
-    subst (λ note. WasJudged c.args.guard (is_missing c.args.names.now.image (g.W.World.sight c.args.world.now)) note held c.args.task done.unopened done.how)
+    subst (λ note. WasJudged c.args.guard (is_missing c.args.names.now.image (g.W.World.state c.args.world.now)) note held c.args.task done.unopened done.how)
     (c.open_image_files.ensures.note old) missing
 
 pub returns-clause-why_unopened : goal.returns-clause-why_unopened
 returns-clause-why_unopened g c old =
     let done = c.with_devices-done.result in
-    why_unbegun c.args.guard c.args.makes (g.W.World.note c.args.world.now) c.args.task c.args.names.now _ (g.W.World.sight c.args.world.now) done.unopened done.reply done.how c.with_devices-done.ensures.unbegun
+    why_unbegun c.args.guard c.args.makes (g.W.World.note c.args.world.now) c.args.task c.args.names.now _ (g.W.World.state c.args.world.now) done.unopened done.reply done.how c.with_devices-done.ensures.unbegun
     (returns-clause-judged g c old)
 
 pub returns-in-Err-clause-judged : goal.returns-in-Err-clause-judged
 returns-in-Err-clause-judged g c old =
-    unopened_judged c.args.guard c.args.makes (is_missing c.args.names.now.image (g.W.World.sight c.args.world.now)) (g.W.World.note c.args.world.now)
-    (contents_of c.args.names.now (g.W.World.sight c.args.world.now)) c.args.task c.args.names.now
-    (g.W.World.refusals c.args.world.now < g.W.World.refusals c.open_image_files.new.world) (g.W.World.sight c.args.world.now) c.in-Err.unopened (c.in-Err.ensures.why old)
+    unopened_judged c.args.guard c.args.makes (is_missing c.args.names.now.image (g.W.World.state c.args.world.now)) (g.W.World.note c.args.world.now)
+    (contents_of c.args.names.now (g.W.World.state c.args.world.now)) c.args.task c.args.names.now
+    (g.W.World.refusals c.args.world.now < g.W.World.refusals c.open_image_files.new.world) (g.W.World.state c.args.world.now) c.in-Err.unopened (c.in-Err.ensures.why old)
 
 pub returns-in-Err-clause-why_unopened : goal.returns-in-Err-clause-why_unopened
 returns-in-Err-clause-why_unopened g c old = inl (c.in-Err.ensures.why old)
@@ -142,45 +142,45 @@ returns-in-Err-clause-how g c old = record { told = λ reading reads. tt; none =
 
 pub returns-clause-how : goal.returns-clause-how
 returns-clause-how g c old =
-    let opening = c.open_image_files.ensures.honesty.1 old in
-    let within : AreAllThere (g.W.World.sight c.args.world.now) = λ name n e. g.met.W.World.within c.args.world.now name n old e in
+    let opening = c.open_image_files.ensures.faith.1 old in
+    let within : AreAllThere (g.W.World.state c.args.world.now) = λ name n e. g.met.W.World.within c.args.world.now name n old e in
     subst (λ contents. TellsUnfinished contents c.with_devices-done.result.how (stands_by c.with_devices-done.result.reply)) (contents_before _ _ _ _ _ _ _ within (c.in-Ok.ensures.ok old))
     (c.with_devices-done.ensures.how opening)
 
 pub returns-clause-why : goal.returns-clause-why
 returns-clause-why g c old s holds is_opened whole =
-    let opening = c.open_image_files.ensures.honesty.1 old in
-    let within : AreAllThere (g.W.World.sight c.args.world.now) = λ name n e. g.met.W.World.within c.args.world.now name n old e in
+    let opening = c.open_image_files.ensures.faith.1 old in
+    let within : AreAllThere (g.W.World.state c.args.world.now) = λ name n e. g.met.W.World.within c.args.world.now name n old e in
     let opened = c.in-Ok.ensures.ok old in
     let held = subst (λ contents. Holds contents s) (sym (contents_before _ _ _ _ _ _ _ within opened)) holds in
     why_refused g.R.Read.remaining _ _ _ _ (c.with_devices-done.ensures.does opening is_opened s held)
 
 pub returns-clause-recovered : goal.returns-clause-recovered
 returns-clause-recovered g c old s found is_opened =
-    let opening = c.open_image_files.ensures.honesty.1 old in
-    let within : AreAllThere (g.W.World.sight c.args.world.now) = λ name n e. g.met.W.World.within c.args.world.now name n old e in
+    let opening = c.open_image_files.ensures.faith.1 old in
+    let within : AreAllThere (g.W.World.state c.args.world.now) = λ name n e. g.met.W.World.within c.args.world.now name n old e in
     let opened = c.in-Ok.ensures.ok old in
     let held = subst (λ contents. FoundIn contents s) (sym (contents_before _ _ _ _ _ _ _ within opened)) found in
     let named = named_behind _ _ _ _ _ _ _ within opened _ (c.with_devices-done.ensures.only opening) in
     subst (λ contents. DoesFound g.R.Read.remaining s c.args.task c.with_devices-done.result.how c.with_devices-done.result.reply contents)
-    (sym (contents_cleared _ _ _ _ _ named (c.clear.ensures.most (c.with_devices-done.ensures.honesty.1 opening)))) (c.with_devices-done.ensures.found opening is_opened s held)
+    (sym (contents_cleared _ _ _ _ _ named (c.clear.ensures.most (c.with_devices-done.ensures.faith.1 opening)))) (c.with_devices-done.ensures.found opening is_opened s held)
 
 pub returns-clause-stands : goal.returns-clause-stands
 returns-clause-stands g c old unfailed =
-    let opening = c.open_image_files.ensures.honesty.1 old in
-    let within : AreAllThere (g.W.World.sight c.args.world.now) = λ name n e. g.met.W.World.within c.args.world.now name n old e in
+    let opening = c.open_image_files.ensures.faith.1 old in
+    let within : AreAllThere (g.W.World.state c.args.world.now) = λ name n e. g.met.W.World.within c.args.world.now name n old e in
     let opened = c.in-Ok.ensures.ok old in
     let named = named_behind _ _ _ _ _ _ _ within opened _ (c.with_devices-done.ensures.only opening) in
     let done = c.with_devices-done.result in
     read_between g.R.Read.remaining c.args.task done.how done.reply _ _ _ _ (contents_before _ _ _ _ _ _ _ within opened)
-    (contents_cleared _ _ _ _ _ named (c.clear.ensures.most (c.with_devices-done.ensures.honesty.1 opening))) (c.with_devices-done.ensures.stands opening unfailed)
+    (contents_cleared _ _ _ _ _ named (c.clear.ensures.most (c.with_devices-done.ensures.faith.1 opening))) (c.with_devices-done.ensures.stands opening unfailed)
 
 pub returns-clause-others : goal.returns-clause-others
 returns-clause-others g c old =
-    let opening = c.open_image_files.ensures.honesty.1 old in
-    let within : AreAllThere (g.W.World.sight c.args.world.now) = λ name n e. g.met.W.World.within c.args.world.now name n old e in
+    let opening = c.open_image_files.ensures.faith.1 old in
+    let within : AreAllThere (g.W.World.state c.args.world.now) = λ name n e. g.met.W.World.within c.args.world.now name n old e in
     let opened = c.in-Ok.ensures.ok old in
-    let done = c.with_devices-done.ensures.honesty.1 opening in
+    let done = c.with_devices-done.ensures.faith.1 opening in
     let result = c.with_devices-done.result in
     let most = rw (c.with_devices-done.ensures.files opening, c.with_devices-done.ensures.made) at (c.clear.ensures.most done) in
     let named = named_behind _ _ _ _ _ _ _ within opened _ (c.with_devices-done.ensures.only opening) in
@@ -190,9 +190,9 @@ returns-clause-others g c old =
           let has = made_behind _ _ _ _ _ _ _ _ within opened (c.with_devices-done.ensures.only opening) (c.requires.free old)
           (c.with_devices-done.ensures.free opening) same in
           c.clear.ensures.left done cleared.0 unrecovered _ within (rw (c.with_devices-done.ensures.files opening, c.with_devices-done.ensures.made) has))).files cleared.1)
-      | inr stayed ↦ inr (ap g.W.World.sight (c.clear.ensures.stays done stayed))
+      | inr stayed ↦ inr (ap g.W.World.state (c.clear.ensures.stays done stayed))
     ])
 
 pub returns-in-Err-clause-fit : goal.returns-in-Err-clause-fit
 returns-in-Err-clause-fit g c old is = absurd (never_another c.args.names.now c.args.guard.mounted c.args.makes (g.W.World.refusals c.args.world.now < g.W.World.refusals c.open_image_files.new.world)
-    (g.W.World.sight c.args.world.now) c.in-Err.unopened (c.in-Err.ensures.why old) is)
+    (g.W.World.state c.args.world.now) c.in-Err.unopened (c.in-Err.ensures.why old) is)

@@ -10,20 +10,20 @@ use Rattle.bx_world.proofs.files.open.open_redo.Goals as goal
 
 pub unmake-requires-clause-made : goal.unmake-requires-clause-made
 unmake-requires-clause-made g c third is =
-    let opened = c.are_ready.ensures.honesty.0 third in
-    let old = c.open_text.ensures.honesty.0 opened in
+    let opened = c.are_ready.ensures.faith.0 third in
+    let old = c.open_text.ensures.faith.0 opened in
     rw (c.are_ready.ensures.same opened) (fresh_later _ _ _ _ (c.in_ok-redo.ensures.ok old).file.files (is, refl) (g.met.W.World.begun _ old))
 
 pub unmake-requires-clause-named : goal.unmake-requires-clause-named
 unmake-requires-clause-named g c third =
-    let opened = c.are_ready.ensures.honesty.0 third in
-    let old = c.open_text.ensures.honesty.0 opened in
+    let opened = c.are_ready.ensures.faith.0 third in
+    let old = c.open_text.ensures.faith.0 opened in
     let redo = rw (c.as_str.ensures) at (c.in_ok-redo.ensures.ok old) in
     rw (c.are_ready.ensures.same opened, c.as_str-in-Err.ensures) redo.file.under.named
 
 pub returns-in-Ok-clause-apart : goal.returns-in-Ok-clause-apart
 returns-in-Ok-clause-apart g c old =
-    let opened = c.open_text.ensures.honesty.1 old in
+    let opened = c.open_text.ensures.faith.1 old in
     let redo = c.in_ok-redo.ensures.ok old in
     let least = redo.file.files.there in
     let one = c.requires.image_there old in
@@ -39,15 +39,15 @@ returns-in-Ok-clause-apart g c old =
 
 pub returns-in-Err-clause-err : goal.returns-in-Err-clause-err
 returns-in-Err-clause-err g c old =
-    let opened = c.open_text.ensures.honesty.1 old in
-    let third = c.are_ready.ensures.honesty.1 opened in
+    let opened = c.open_text.ensures.faith.1 old in
+    let third = c.are_ready.ensures.faith.1 opened in
     c.unmake.ensures.left third _ (λ name n e. g.met.W.World.within _ name n old e)
     (rw (c.are_ready.ensures.same opened) (made_left _ _ _ (c.in_ok-redo.ensures.ok old).file.files))
 
 pub returns-in-Err-clause-why : goal.returns-in-Err-clause-why
 returns-in-Err-clause-why g c old count below =
-    let opened = c.open_text.ensures.honesty.1 old in
-    let third = c.are_ready.ensures.honesty.1 opened in
+    let opened = c.open_text.ensures.faith.1 old in
+    let third = c.are_ready.ensures.faith.1 opened in
     let redo = rw (c.as_str.ensures) at (c.in_ok-redo.ensures.ok old) in
     let least = c.open_text.ensures.counted old in
     let one = c.requires.image_there old in

@@ -9,19 +9,19 @@ use Rattle.bx_world.proofs.files.open.open_texts.Goals as goal
 
 pub open_text-requires-clause-may : goal.open_text-requires-clause-may
 open_text-requires-clause-may g c look =
-    let old = c.look_beside_made.ensures.honesty.0 look in
-    rw (c.look_beside_made.ensures.same old, c.as_str.ensures) (may_be_text (g.W.World.number c.args.image.now.file) c.args.names.now.journal (g.W.World.sight c.args.world.now)
+    let old = c.look_beside_made.ensures.faith.0 look in
+    rw (c.look_beside_made.ensures.same old, c.as_str.ensures) (may_be_text (g.W.World.number c.args.image.now.file) c.args.names.now.journal (g.W.World.state c.args.world.now)
     (c.in_ok-look_beside_made.ensures.fit old).journal)
 
 pub open_text-requires-clause-there : goal.open_text-requires-clause-there
 open_text-requires-clause-there g c look =
-    let old = c.look_beside_made.ensures.honesty.0 look in
+    let old = c.look_beside_made.ensures.faith.0 look in
     rw (c.look_beside_made.ensures.same old) (c.requires.there old)
 
 pub open_redo-requires-clause-image_there : goal.open_redo-requires-clause-image_there
 open_redo-requires-clause-image_there g c texts =
-    let look = c.open_text.ensures.honesty.0 texts in
-    let old = c.look_beside_made.ensures.honesty.0 look in
+    let look = c.open_text.ensures.faith.0 texts in
+    let old = c.look_beside_made.ensures.faith.0 look in
     let same = c.look_beside_made.ensures.same old in
     let there = c.requires.there old in
     let least = rw same at (c.in_ok-journal.ensures.ok look).file.files.there in
@@ -29,26 +29,26 @@ open_redo-requires-clause-image_there g c texts =
 
 pub open_redo-requires-clause-journal_there : goal.open_redo-requires-clause-journal_there
 open_redo-requires-clause-journal_there g c texts =
-    let look = c.open_text.ensures.honesty.0 texts in
+    let look = c.open_text.ensures.faith.0 texts in
     (c.in_ok-journal.ensures.ok look).file.there
 
 pub open_redo-requires-clause-image_fit : goal.open_redo-requires-clause-image_fit
 open_redo-requires-clause-image_fit g c texts =
-    let look = c.open_text.ensures.honesty.0 texts in
-    let old = c.look_beside_made.ensures.honesty.0 look in
+    let look = c.open_text.ensures.faith.0 texts in
+    let old = c.look_beside_made.ensures.faith.0 look in
     let same = c.look_beside_made.ensures.same old in
     let opened = rw same at (c.in_ok-journal.ensures.ok look) in
     rw (opened.file.files.stat _ (c.requires.there old)) (c.requires.image_fit old)
 
 pub open_redo-requires-clause-journal_fit : goal.open_redo-requires-clause-journal_fit
 open_redo-requires-clause-journal_fit g c texts =
-    let look = c.open_text.ensures.honesty.0 texts in
+    let look = c.open_text.ensures.faith.0 texts in
     text_fit _ _ _ _ _ _ _ (c.in_ok-journal.ensures.ok look)
 
 pub open_redo-requires-clause-may : goal.open_redo-requires-clause-may
 open_redo-requires-clause-may g c texts =
-    let look = c.open_text.ensures.honesty.0 texts in
-    let old = c.look_beside_made.ensures.honesty.0 look in
+    let look = c.open_text.ensures.faith.0 texts in
+    let old = c.look_beside_made.ensures.faith.0 look in
     let same = c.look_beside_made.ensures.same old in
     let opened = rw same at (c.in_ok-journal.ensures.ok look) in
     text_later _ c.args.names.now.redo _ _ _ _ _ _ (λ name n e. g.met.W.World.within _ name n old e) (c.requires.there old)
@@ -56,31 +56,31 @@ open_redo-requires-clause-may g c texts =
 
 pub unmake_journal-requires-clause-made : goal.unmake_journal-requires-clause-made
 unmake_journal-requires-clause-made g c refused is =
-    let texts = c.open_redo.ensures.honesty.0 refused in
-    let look = c.open_text.ensures.honesty.0 texts in
+    let texts = c.open_redo.ensures.faith.0 refused in
+    let look = c.open_text.ensures.faith.0 texts in
     let left = c.in-Err.ensures.err texts in
     rw left.streams.before (fresh_later _ _ _ _ (c.in_ok-journal.ensures.ok look).file.files (is, refl) (g.met.W.World.begun _ look))
 
 pub unmake_journal-requires-clause-named : goal.unmake_journal-requires-clause-named
 unmake_journal-requires-clause-named g c refused =
-    let texts = c.open_redo.ensures.honesty.0 refused in
-    let look = c.open_text.ensures.honesty.0 texts in
+    let texts = c.open_redo.ensures.faith.0 refused in
+    let look = c.open_text.ensures.faith.0 texts in
     let opened = rw (c.as_str.ensures) at (c.in_ok-journal.ensures.ok look) in
     (c.in-Err.ensures.err texts).still _ _ opened.file.under.named
 
 pub returns-in-Ok-clause-ok : goal.returns-in-Ok-clause-ok
 returns-in-Ok-clause-ok g c old =
-    let look = c.look_beside_made.ensures.honesty.1 old in
-    let texts = c.open_text.ensures.honesty.1 look in
+    let look = c.look_beside_made.ensures.faith.1 old in
+    let texts = c.open_text.ensures.faith.1 look in
     let same = c.look_beside_made.ensures.same old in
     let opened = rw (same, c.as_str.ensures) at (c.in_ok-journal.ensures.ok look) in
     texts_opened c.args.names.now c.args.makes _ _ _ _ _ (c.requires.there old) opened (c.in-Ok.ensures.ok texts) (c.in-Ok.ensures.apart texts)
 
 pub returns-in-Err-clause-err : goal.returns-in-Err-clause-err
 returns-in-Err-clause-err g c old =
-    let look = c.look_beside_made.ensures.honesty.1 old in
-    let texts = c.open_text.ensures.honesty.1 look in
-    let refused = c.open_redo.ensures.honesty.1 texts in
+    let look = c.look_beside_made.ensures.faith.1 old in
+    let texts = c.open_text.ensures.faith.1 look in
+    let refused = c.open_redo.ensures.faith.1 texts in
     rw (← c.look_beside_made.ensures.same old) (c.unmake_journal.ensures.left refused _ (λ name n e. g.met.W.World.within _ name n look e)
     (left_then _ _ _ _ (c.in_ok-journal.ensures.ok look).file.files (c.in-Err.ensures.err texts)))
 
@@ -94,7 +94,7 @@ returns-in_err-look_beside_made-clause-why g c old count below first within open
 
 pub returns-in_err-journal-clause-why : goal.returns-in_err-journal-clause-why
 returns-in_err-journal-clause-why g c old count below first within opened =
-    let look = c.look_beside_made.ensures.honesty.1 old in
+    let look = c.look_beside_made.ensures.faith.1 old in
     let least = c.look_beside_made.ensures.counted old in
     let found = err_from_is_err_and c.from_residual-in_err-journal.result c.from_residual-in_err-journal.ensures.1 in
     let is : c.from_residual-in_err-journal.result ≡ Err c.in_err-journal.field-0.0 = grind (arith, common_steps, found.1, found.2) in
@@ -103,9 +103,9 @@ returns-in_err-journal-clause-why g c old count below first within opened =
 
 pub returns-in-Err-clause-why : goal.returns-in-Err-clause-why
 returns-in-Err-clause-why g c old count below first within opened =
-    let look = c.look_beside_made.ensures.honesty.1 old in
-    let texts = c.open_text.ensures.honesty.1 look in
-    let refused = c.open_redo.ensures.honesty.1 texts in
+    let look = c.look_beside_made.ensures.faith.1 old in
+    let texts = c.open_text.ensures.faith.1 look in
+    let refused = c.open_redo.ensures.faith.1 texts in
     let first_least = c.look_beside_made.ensures.counted old in
     let second_least = c.open_text.ensures.counted look in
     let text = rw (c.look_beside_made.ensures.same old, c.as_str.ensures) at (c.in_ok-journal.ensures.ok look) in

@@ -6,7 +6,7 @@ use Rattle.bx_world.proofs.files.ready.are_fit.Goals as goal
 
 pub returns-in_err-look_again_at_text-clause-why : goal.returns-in_err-look_again_at_text-clause-why
 returns-in_err-look_again_at_text-clause-why g c old least below fit =
-    let looked = c.look_again.ensures.honesty.1 old in
+    let looked = c.look_again.ensures.faith.1 old in
     let more = c.look_again.ensures.counted old in
     let found = err_from_is_err_and c.from_residual-in_err-look_again_at_text.result c.from_residual-in_err-look_again_at_text.ensures.1 in
     let is : c.from_residual-in_err-look_again_at_text.result ≡ Err c.in_err-look_again_at_text.field-0.0 = grind (arith, common_steps, found.1, found.2) in
@@ -15,8 +15,8 @@ returns-in_err-look_again_at_text-clause-why g c old least below fit =
 
 pub returns-in_err-look_again_at_text-2-clause-why : goal.returns-in_err-look_again_at_text-2-clause-why
 returns-in_err-look_again_at_text-2-clause-why g c old least below fit =
-    let looked = c.look_again.ensures.honesty.1 old in
-    let second = c.look_again_at_text.ensures.honesty.1 looked in
+    let looked = c.look_again.ensures.faith.1 old in
+    let second = c.look_again_at_text.ensures.faith.1 looked in
     let first_more = c.look_again.ensures.counted old in
     let second_more = c.look_again_at_text.ensures.counted looked in
     let found = err_from_is_err_and c.from_residual-in_err-look_again_at_text-2.result c.from_residual-in_err-look_again_at_text-2.ensures.1 in

@@ -1,6 +1,6 @@
 use Rattle.std.proofs.Common.{arith}
 use Rattle.std.proofs.Math.Nat.{mul-le-mul_right, mul-mod_left}
-use Rattle.bx_cli_commands.proofs.jobs.skip.Skip.passable.Goals as goal
+use Rattle.bx_cli_commands.proofs.jobs.skip.Skip.seekable.Goals as goal
 
 pub returns-in-Some-clause-allowed : goal.returns-in-Some-clause-allowed
 returns-in-Some-clause-allowed c =

@@ -11,5 +11,5 @@ returns-clause-rows g c =
     let T = g.T.TextStore in
     let reached = reached_of _ c.in_ok-scan_windows.field-0 c.in_ok-found.found c.in-Some.end c.in_ok-found.was c.in-Some.is c.in_ok-scan_windows.ensures.reached in
     let all = c.are_all.ensures c.if-not-are_all.false in
-    listed_all (T.honest c.args.journal.now) (T.honest c.len.new.self) (T.text c.args.journal.now) (T.text c.len.new.self) c.in_ok-len.len c.args.count c.in-Some.end
-    c.len.ensures.goes_on.honesty.1 c.len.ensures.text c.in_ok-len.ensures.len (omega (arith, c.if-end-len.false, reached.below)) reached all.0 all.1
+    listed_all (T.faithful c.args.journal.now) (T.faithful c.len.new.self) (T.text c.args.journal.now) (T.text c.len.new.self) c.in_ok-len.len c.args.count c.in-Some.end
+    c.len.ensures.goes_on.faith.1 c.len.ensures.text c.in_ok-len.ensures.len (omega (arith, c.if-end-len.false, reached.below)) reached all.0 all.1

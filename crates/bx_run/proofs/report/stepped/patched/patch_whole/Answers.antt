@@ -12,7 +12,7 @@ returns-in-Ok-clause-writes g c x text redo s holds =
     let made = c.in-Ok.ensures.makes x text redo s back holds.images is in
     steps_written g.D.Device g.T.TextStore x text redo s c.args.session c.args.again holds _ _ _ _ _ _ _ _ c.if-have-k.false is
     (ap g.D.Device.image same ∙ back.image_is) (ap (effects c.in-Ok.changes.items) holds.copy.1 ∙ made)
-    (c.put_patch-again.ensures.text (subst g.D.Device.honest (sym same) back.image_honest) holds.copy.0 (holds.copy.1 ∙ sym (ap g.D.Device.image same ∙ back.image_is)))
+    (c.put_patch-again.ensures.text (subst g.D.Device.faithful (sym same) back.image_faithful) holds.copy.0 (holds.copy.1 ∙ sym (ap g.D.Device.image same ∙ back.image_is)))
 
 pub returns-in-Ok-clause-cut : goal.returns-in-Ok-clause-cut
 returns-in-Ok-clause-cut g c x text redo s holds =
@@ -22,7 +22,7 @@ returns-in-Ok-clause-cut g c x text redo s holds =
     let made = c.in-Ok.ensures.makes x text redo s back holds.images is in
     steps_cut g.D.Device g.T.TextStore x text redo s c.args.session c.args.again holds _ _ _ _ _ _ _ _ c.if-have-k.false is
     (ap g.D.Device.image same ∙ back.image_is) (ap (effects c.in-Ok.changes.items) holds.copy.1 ∙ made)
-    (c.put_patch-again.ensures.part (subst g.D.Device.honest (sym same) back.image_honest) holds.copy.0 (holds.copy.1 ∙ sym (ap g.D.Device.image same ∙ back.image_is)))
+    (c.put_patch-again.ensures.part (subst g.D.Device.faithful (sym same) back.image_faithful) holds.copy.0 (holds.copy.1 ∙ sym (ap g.D.Device.image same ∙ back.image_is)))
 
 pub returns-in-Err-clause-cut : goal.returns-in-Err-clause-cut
 returns-in-Err-clause-cut g c x text redo s holds =

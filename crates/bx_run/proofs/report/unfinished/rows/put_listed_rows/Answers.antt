@@ -19,7 +19,7 @@ loop-i-init g c = record {
   rows = λ h. subst (Appends (g.O.Write.contents c.args.out.now) (g.O.Write.contents c.args.out.now)) (sym (rows_none c.args.verbose (g.T.TextStore.text c.args.journal.now) 1)) (Appends-nil (g.O.Write.contents c.args.out.now));
   counted = λ h few. omega (arith, ap length (rows_none c.args.verbose (g.T.TextStore.text c.args.journal.now) 1));
   text = λ h. refl;
-  honesty = ((λ h. h), λ h. h);
+  faith = ((λ h. h), λ h. h);
   failures = refl;
 }
 
@@ -29,11 +29,11 @@ loop-i-preserved g c =
     let now = c.in_ok-written.ensures in
     record {
       rows = λ h. rows_written (g.O.Write.contents c.args.out.now) (g.O.Write.contents c.loop-i.out) (g.O.Write.contents c.put_listed_row.new.out) c.args.verbose (g.T.TextStore.text c.args.journal.now) (g.T.TextStore.text c.loop-i.journal)
-          c.args.marks.now c.loop-i.i none (omega arith) (inv.text h) (inv.rows h) (now.row (inv.honesty.1 h));
+          c.args.marks.now c.loop-i.i none (omega arith) (inv.text h) (inv.rows h) (now.row (inv.faith.1 h));
       counted = λ h. rows_counted c.args.verbose (g.T.TextStore.text c.args.journal.now) (g.T.TextStore.text c.loop-i.journal) c.args.marks.now c.loop-i.i c.args.before c.loop-i.written c.in_ok-written.written none (omega arith) (inv.text h)
-          (inv.counted h) (now.counted (inv.honesty.1 h));
-      text = λ h. now.stays.same (inv.honesty.1 h) ∙ inv.text h;
-      honesty = ((λ h. inv.honesty.0 (now.stays.honesty.0 h)), λ h. now.stays.honesty.1 (inv.honesty.1 h));
+          (inv.counted h) (now.counted (inv.faith.1 h));
+      text = λ h. now.stays.same (inv.faith.1 h) ∙ inv.text h;
+      faith = ((λ h. inv.faith.0 (now.stays.faith.0 h)), λ h. now.stays.faith.1 (inv.faith.1 h));
       failures = now.stays.no_failure ∙ inv.failures;
     }
 
@@ -41,7 +41,7 @@ pub put_listed_row-requires-clause-within : goal.put_listed_row-requires-clause-
 put_listed_row-requires-clause-within g c =
     let inv = c.loop-i.invariant in
     let lies = All-get_or (LiesWithin c.requires.lie.0) c.args.marks.now c.loop-i.i none (omega arith) c.requires.lie.2 in
-    λ h. omega (arith, lies.1, c.requires.lie.1 (inv.honesty.0 h), ap length (inv.text (inv.honesty.0 h)))
+    λ h. omega (arith, lies.1, c.requires.lie.1 (inv.faith.0 h), ap length (inv.text (inv.faith.0 h)))
 
 pub put_listed_row-requires-clause-order : goal.put_listed_row-requires-clause-order
 put_listed_row-requires-clause-order g c = (All-get_or (LiesWithin c.requires.lie.0) c.args.marks.now c.loop-i.i none (omega arith) c.requires.lie.2).0
@@ -55,4 +55,4 @@ returns-in_err-written-clause-stops g c h =
     let inv = c.loop-i.invariant in
     handed_on c.from_residual-in_err-written.result _ _ c.from_residual-in_err-written.ensures.1
     (row_stopped (g.O.Write.contents c.args.out.now) (g.O.Write.contents c.loop-i.out) (g.O.Write.contents c.put_listed_row.new.out) c.args.verbose (g.T.TextStore.text c.args.journal.now) (g.T.TextStore.text c.loop-i.journal)
-    c.args.marks.now c.loop-i.i c.args.before c.loop-i.written none _ (omega arith) (inv.text h) (inv.rows h) (inv.counted h) (c.in_err-written.ensures.stops (inv.honesty.1 h)))
+    c.args.marks.now c.loop-i.i c.args.before c.loop-i.written none _ (omega arith) (inv.text h) (inv.rows h) (inv.counted h) (c.in_err-written.ensures.stops (inv.faith.1 h)))
