@@ -2,7 +2,6 @@
 ghost use Rattle.std.specs.Prelude.{◌≡◌, ◌≤◌, [], IfErr, IfOk, None, length};
 ghost use Rattle.bx_system.specs.Unseen.{unseen};
 
-use crate::facts::alias::is_same;
 use crate::facts::dev::is_among_devices;
 use crate::facts::stat::{caller_of, is_group_given, stat_of};
 use crate::files::counted_file::CountedFile;
@@ -191,10 +190,10 @@ where
 
     /// An image that is open, and may be one of a length that stays.
     fn image(&self, file: File, length: Option<u64>, made: bool) -> OpenFile<'p, 'r, R> {
-        OpenFile {
-            file: CountedFile::image(held(file, self.waits), self.progress),
-            known: Known::of_image(length, made),
-        }
+        OpenFile::new(
+            CountedFile::image(held(file, self.waits), self.progress),
+            Known::of_image(length, made),
+        )
     }
 
     /// The refusal of an image that wasn't made.
@@ -211,10 +210,10 @@ where
 
     /// A text that is open.
     fn text(&self, file: File, is_group_given: bool, made: bool) -> OpenFile<'p, 'r, R> {
-        OpenFile {
-            file: CountedFile::text(Some(held(file, self.waits)), self.progress),
-            known: Known::of_text(is_group_given, made),
-        }
+        OpenFile::new(
+            CountedFile::text(Some(held(file, self.waits)), self.progress),
+            Known::of_text(is_group_given, made),
+        )
     }
 
     /// Puts the names that a folder has on the disk, unless that was done last and no file was made since.
@@ -384,10 +383,10 @@ where
 
     fn open_input(&mut self, name: &str) -> Result<OpenFile<'p, 'r, R>, Refusal> {
         let file = open_there(self.rt, name, false).map_err(unopened)?;
-        Ok(OpenFile {
-            file: CountedFile::image(held(file, self.waits), self.progress),
-            known: Known::of_input(),
-        })
+        Ok(OpenFile::new(
+            CountedFile::image(held(file, self.waits), self.progress),
+            Known::of_input(),
+        ))
     }
 
     fn length(&mut self, file: &OpenFile<'p, 'r, R>) -> Option<u64> {
@@ -431,7 +430,7 @@ where
         a: &OpenFile<'p, 'r, R>,
         b: &OpenFile<'p, 'r, R>,
     ) -> Result<bool, Refusal> {
-        Ok(is_same(&a.metadata()?, &b.metadata()?))
+        Ok(a.identity()? == b.identity()?)
     }
 
     fn take_away(&mut self, name: &str, file: &OpenFile<'p, 'r, R>) {
@@ -489,18 +488,9 @@ where
         self.left = Left::of(&image, &journal, &redo, FIRST_OF_REDO);
         let lent = self.lent;
         (
-            OpenFile {
-                file: image.into_file(),
-                known: lent.image,
-            },
-            OpenFile {
-                file: journal.into_file(),
-                known: lent.journal,
-            },
-            OpenFile {
-                file: redo.into_file(),
-                known: lent.redo,
-            },
+            OpenFile::new(image.into_file(), lent.image),
+            OpenFile::new(journal.into_file(), lent.journal),
+            OpenFile::new(redo.into_file(), lent.redo),
         )
     }
 
@@ -524,10 +514,10 @@ where
     fn open_image_to_read(&mut self, name: &str) -> Result<OpenFile<'p, 'r, R>, Refusal> {
         let file = open_to_read(self.rt, name).map_err(unopened)?;
         let length = fixed_length(&file).map_err(refused)?;
-        Ok(OpenFile {
-            file: CountedFile::image(held(file, false), self.progress),
-            known: Known::of_image(length, false),
-        })
+        Ok(OpenFile::new(
+            CountedFile::image(held(file, false), self.progress),
+            Known::of_image(length, false),
+        ))
     }
 
     fn open_text_to_read(
@@ -538,10 +528,10 @@ where
         let image = stat_of(&image.metadata()?, false);
         let text = look_at_text(self.rt, name, self.caller(), &image)?;
         let file = open_to_read(self.rt, name).map_err(unopened)?;
-        Ok(OpenFile {
-            file: CountedFile::text(Some(held(file, false)), self.progress),
-            known: Known::of_text(text.is_group_given, false),
-        })
+        Ok(OpenFile::new(
+            CountedFile::text(Some(held(file, false)), self.progress),
+            Known::of_text(text.is_group_given, false),
+        ))
     }
 
     fn lock_shared(&mut self, name: &str, file: &OpenFile<'p, 'r, R>) -> Result<(), Refusal> {

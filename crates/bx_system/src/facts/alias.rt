@@ -4,9 +4,26 @@ use std::io;
 use std::os::unix::fs::MetadataExt;
 use std::rt::Files;
 
+/// Which file it is: the device that it stands on, and its number there.
+#[derive(Clone, Copy, PartialEq, Eq)]
+pub struct Identity {
+    device: u64,
+    inode: u64,
+}
+
+impl Identity {
+    /// Of the file of which the system has this.
+    pub fn of(found: &Metadata) -> Identity {
+        Identity {
+            device: found.dev(),
+            inode: found.ino(),
+        }
+    }
+}
+
 /// Whether both are the same file.
 pub fn is_same(a: &Metadata, b: &Metadata) -> bool {
-    a.dev() == b.dev() && a.ino() == b.ino()
+    Identity::of(a) == Identity::of(b)
 }
 
 /// Whether a file is empty, and the name its own and no link.

@@ -4,6 +4,7 @@ use crate::folders::folder_of;
 use bx_world::{Classes, Kind, Stat};
 use std::alloc::AllocError;
 use std::fs::{self, File, Metadata};
+use std::io::{self, Read};
 use std::os::unix::fs::{FileTypeExt, MetadataExt};
 use std::rt::Files;
 
@@ -20,6 +21,9 @@ const OTHERS_WRITE: u32 = 0o002;
 
 /// What the system says of this process, a line for each fact.
 const STATUS: &str = "/proc/self/status";
+
+/// More than stands before its line of users, and behind it: this much takes one read.
+const STATUS_FRONT: usize = 1024;
 
 /// What the system tells of a file, but for what is asked of a device alone. `is_group_given` says whether its folder gives its
 /// group to whatever anybody makes there.
@@ -101,15 +105,22 @@ where
     user == ROOT || user == caller_of(rt)
 }
 
+/// Reads the front of a file, as much as one read gives.
+fn read_front<R: Files<File = File>>(rt: &R, name: &str, front: &mut [u8]) -> io::Result<usize> {
+    let mut file = File::open(rt, name)?;
+    file.read(front)
+}
+
 /// The user that this process acts for. Where the system doesn't say, it acts for nobody.
 pub fn caller_of<R>(rt: &R) -> u32
 where
     R: Files<File = File> + AllocGlobal,
 {
-    let Ok(status) = fs::read(rt, STATUS) else {
+    let mut front = [0; STATUS_FRONT];
+    let Ok(count) = read_front(rt, STATUS, &mut front) else {
         return NOBODY;
     };
-    for line in status.as_slice().split(|byte| *byte == b'\n') {
+    for line in front[..count].split(|byte| *byte == b'\n') {
         if let Some(users) = str::from_utf8(line).unwrap_or("").strip_prefix("Uid:\t") {
             return effective(users).unwrap_or(NOBODY);
         }

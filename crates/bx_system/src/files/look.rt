@@ -1,5 +1,5 @@
 //! What stands under a name, and whether an open file has its name still.
-use crate::facts::alias::is_same;
+use crate::facts::alias::Identity;
 use crate::facts::stat::{is_group_given, stat_of, whole_stat_of};
 use crate::files::opened::{OpenFile, Role};
 use crate::refusal::{refused, unopened};
@@ -66,9 +66,9 @@ pub fn is_in_place<R>(rt: &R, name: &str, file: &OpenFile<'_, '_, R>) -> Result<
 where
     R: Files<File = File> + Eprint + Clock,
 {
-    let opened = file.metadata()?;
+    let opened = file.identity()?;
     let named = file.known.role.found(rt, name).map_err(refused)?;
-    if is_same(&opened, &named) {
+    if Identity::of(&named) == opened {
         Ok(())
     } else {
         Err(Refusal::Moved)

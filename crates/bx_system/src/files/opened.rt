@@ -1,8 +1,12 @@
 //! A file that is open, with what the run knows of it.
+ghost use Rattle.std.specs.Prelude.{◌≡◌};
+
+use crate::facts::alias::Identity;
 use crate::facts::stat::whole_stat_of;
 use crate::files::counted_file::CountedFile;
 use crate::refusal::refused;
 use bx_world::{Refusal, Stat};
+use std::cell::Cell;
 use std::fs::{self, File, Metadata};
 use std::io;
 use std::rt::Files;
@@ -74,9 +78,23 @@ pub struct OpenFile<'p, 'r, R> {
     pub(crate) file: CountedFile<'p, 'r, R>,
     /// What the run knows of it.
     pub(crate) known: Known,
+    // which file it is, once the system was asked: an open file stays the one it is
+    identity: Cell<Option<Identity>>,
 }
 
-impl<R: Eprint + Clock> OpenFile<'_, '_, R> {
+impl<'p, 'r, R: Eprint + Clock> OpenFile<'p, 'r, R> {
+    /// A file of which the system wasn't asked anything.
+    pub(crate) fn new(file: CountedFile<'p, 'r, R>, known: Known) -> Self
+        ensures file { result.file ≡ file }
+        ensures known { result.known ≡ known }
+    {
+        OpenFile {
+            file,
+            known,
+            identity: Cell::new(None),
+        }
+    }
+
     /// The system's file.
     pub fn system(&self) -> Result<&File, Refusal> {
         match self.file.file() {
@@ -87,7 +105,17 @@ impl<R: Eprint + Clock> OpenFile<'_, '_, R> {
 
     /// What the system has of the file.
     pub fn metadata(&self) -> Result<Metadata, Refusal> {
-        self.system()?.metadata().map_err(refused)
+        let found = self.system()?.metadata().map_err(refused)?;
+        self.identity.set(Some(Identity::of(&found)));
+        Ok(found)
+    }
+
+    /// Which file it is.
+    pub fn identity(&self) -> Result<Identity, Refusal> {
+        match self.identity.get() {
+            Some(identity) => Ok(identity),
+            None => Ok(Identity::of(&self.metadata()?)),
+        }
     }
 
     /// The system's file, to hold it no more.
