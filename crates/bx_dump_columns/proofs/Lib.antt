@@ -14,4 +14,5 @@ pub mod DigitParts
 pub mod CellsLemmas
 pub mod NamesLemmas
 pub mod HexLemmas
+pub mod WordsLemmas
 pub mod LaneLemmas

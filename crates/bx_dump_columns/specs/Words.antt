@@ -1,5 +1,5 @@
 -- What xxd -d and -e show: addresses in decimal, and groups of bytes as little-endian numbers.
-use Rattle.std.specs.Prelude.{ℕ, ◌*◌, Bool, false, List, ◌++◌, take, drop, reverse, codes}
+use Rattle.std.specs.Prelude.{◌≡◌, ◌⊎◌, ℕ, ◌*◌, ◌/◌, Bool, false, List, ◌++◌, length, take, drop, reverse, codes}
 use Rattle.std.specs.Fmt.{digits}
 use Rattle.std.specs.List.{flat_map, range_with_len}
 use Rattle.bx_text.specs.Dump.{pair_of}
@@ -16,3 +16,11 @@ word_text upper group bytes = left_filled 32 (2 * group) (flat_map (pair_of uppe
 -- `count` numbers: number k is that of the `group` bytes from place group * k on; the last ones may be missing
 abbrev pub words_text : Bool → ℕ → ℕ → List ℕ → List ℕ
 words_text upper group count bytes = flat_map (λ k. word_text upper group (take group (drop (group * k) bytes))) (range_with_len 0 count)
+
+-- the groups for which there is code of their own
+abbrev pub IsUsualGroup : ℕ → Type 0
+IsUsualGroup group = (group ≡ 2) ⊎ (group ≡ 4) ⊎ (group ≡ 8)
+
+-- the whole groups of some bytes, the last byte of each first
+abbrev pub turned_groups : ℕ → List ℕ → List ℕ
+turned_groups group bytes = flat_map (λ k. reverse (take group (drop (group * k) bytes))) (range_with_len 0 (length bytes / group))
