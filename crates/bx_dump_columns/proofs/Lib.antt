@@ -5,6 +5,7 @@ pub mod OdLemmas
 pub mod SpreadLemmas
 pub mod OdFixed
 pub mod OdHex
+pub mod OdPieces
 pub mod OdOctal
 pub mod OdDecimal
 pub mod OdTwos

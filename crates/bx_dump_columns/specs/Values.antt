@@ -73,6 +73,10 @@ abbrev pub field_width : Kind → ℕ
 field_width Chars = 3
 field_width (Number form size) = number_width form size
 
+-- how long the values of 16 bytes are as text
+abbrev pub line_width : Kind → ℕ
+line_width kind = (field_width kind + 1) * (16 / width_of kind)
+
 -- a space and the field, wherever it stands
 abbrev pub value_text : Kind → ℕ → List ℕ → List ℕ
 value_text kind at bytes = 32 ∷ field_text kind (value_of bytes)

@@ -1,10 +1,11 @@
-//! The digits of many bytes at once, and how they stand in columns.
+//! The digits of many bytes at once, their order, and how they stand in columns.
 ghost use Rattle.std.specs.Prelude.{◌≡◌, ℕ, ◌*◌, ◌/◌, ◌%◌, ◌<◌, ◌≤◌, false, List, map, length, take, slice_index};
 ghost use Rattle.std.specs.Fmt.{digit_glyph};
 ghost use Rattle.std.specs.List.{flat_map, range_with_len};
 ghost use Rattle.bx_text.specs.Dump.{pair_of, shown_byte};
 ghost use Rattle.bx_dump_columns.specs.Cells.{piece_at};
 ghost use Rattle.bx_dump_columns.specs.Hexdump.{canon_columns};
+ghost use Rattle.bx_dump_columns.specs.Words.{IsUsualGroup, turned_groups};
 
 use bx_text::put_text;
 use std::simd::prelude::*;
@@ -53,6 +54,28 @@ pub fn put_sixteen(cells: &mut [u8], bytes: &[u8], upper: bool)
         ],
     );
     pairs.copy_to_slice(cells);
+}
+
+/// 16 bytes in groups, the last byte of each group first.
+#[inline(always)]
+pub fn turn_groups(bytes: u8x16, group: usize) -> u8x16
+    requires { IsUsualGroup group }
+    ensures { result ≡ turned_groups group bytes }
+{
+    match group {
+        2 => bytes.shuffle(
+            bytes,
+            [1, 0, 3, 2, 5, 4, 7, 6, 9, 8, 11, 10, 13, 12, 15, 14],
+        ),
+        4 => bytes.shuffle(
+            bytes,
+            [3, 2, 1, 0, 7, 6, 5, 4, 11, 10, 9, 8, 15, 14, 13, 12],
+        ),
+        _ => bytes.shuffle(
+            bytes,
+            [7, 6, 5, 4, 3, 2, 1, 0, 15, 14, 13, 12, 11, 10, 9, 8],
+        ),
+    }
 }
 
 /// Puts the digits of 16 bytes in two groups of 8, a space after each byte and one more after each group.

@@ -3,7 +3,7 @@ ghost use Rattle.std.specs.Prelude.{◌≡◌, ◌++◌, ◌∷◌, [], false, i
 ghost use Rattle.std.specs.Fmt.{digits};
 ghost use Rattle.bx_text.specs.Field.{left_filled};
 ghost use Rattle.bx_dump_columns.specs.Decimal.{fours, amount_of_four};
-ghost use Rattle.bx_dump_columns.specs.Values.{number_text, number_width, values_text};
+ghost use Rattle.bx_dump_columns.specs.Values.{line_width, number_text, number_width, values_text};
 
 use crate::od::decimal::{put_lead, put_signed_lead};
 use crate::od::decimal_lanes::eights_of;
@@ -161,6 +161,7 @@ fn put_unsigned_pair(text: &mut [u8], v: u64, w: u64)
 pub fn put_signed_fours(text: &mut [u8], bytes: &[u8; 16]) -> usize
     requires room { 80 ≤ length text.old }
     ensures most { result ≤ 80 }
+    ensures value { result ≡ line_width (Kind.Number NumForm.Signed Size.Four) }
     ensures text { take result text.new ≡ values_text (Kind.Number NumForm.Signed Size.Four) bytes.now }
 {
     let values = fours_of(u8x16::from_array(*bytes)).to_array();
@@ -175,6 +176,7 @@ pub fn put_signed_fours(text: &mut [u8], bytes: &[u8; 16]) -> usize
 pub fn put_unsigned_fours(text: &mut [u8], bytes: &[u8; 16]) -> usize
     requires room { 80 ≤ length text.old }
     ensures most { result ≤ 80 }
+    ensures value { result ≡ line_width (Kind.Number NumForm.Unsigned Size.Four) }
     ensures text { take result text.new ≡ values_text (Kind.Number NumForm.Unsigned Size.Four) bytes.now }
 {
     let values = fours_of(u8x16::from_array(*bytes)).to_array();

@@ -2,7 +2,7 @@
 ghost use Rattle.std.specs.Prelude.{◌≡◌, ◌≤◌, ◌++◌, length, map, take};
 ghost use Rattle.std.specs.List.{flat_map};
 ghost use Rattle.bx_dump_columns.specs.Decimal.{words, amount, front, decimal_char, last_char, cells, cells_len, form_of};
-ghost use Rattle.bx_dump_columns.specs.Values.{values_text};
+ghost use Rattle.bx_dump_columns.specs.Values.{line_width, values_text};
 
 use crate::od::options::{Kind, NumForm, Size};
 use std::simd::prelude::*;
@@ -154,6 +154,7 @@ fn put_cells(text: &mut [u8], bytes: &[u8; 16], signed: bool)
 pub fn put_signed_twos(text: &mut [u8], bytes: &[u8; 16]) -> usize
     requires room { 80 ≤ length text.old }
     ensures most { result ≤ 80 }
+    ensures value { result ≡ line_width (Kind.Number NumForm.Signed Size.Two) }
     ensures text { take result text.new ≡ values_text (Kind.Number NumForm.Signed Size.Two) bytes.now }
 {
     put_cells(text, bytes, true);
@@ -164,6 +165,7 @@ pub fn put_signed_twos(text: &mut [u8], bytes: &[u8; 16]) -> usize
 pub fn put_unsigned_twos(text: &mut [u8], bytes: &[u8; 16]) -> usize
     requires room { 80 ≤ length text.old }
     ensures most { result ≤ 80 }
+    ensures value { result ≡ line_width (Kind.Number NumForm.Unsigned Size.Two) }
     ensures text { take result text.new ≡ values_text (Kind.Number NumForm.Unsigned Size.Two) bytes.now }
 {
     put_cells(text, bytes, false);

@@ -1,7 +1,7 @@
 //! od's hexadecimal values, lane by lane.
 ghost use Rattle.std.specs.Prelude.{◌≡◌, ◌≤◌, length, take};
 ghost use Rattle.bx_dump_columns.specs.Cells.{ShowsValues};
-ghost use Rattle.bx_dump_columns.specs.Values.{values_text};
+ghost use Rattle.bx_dump_columns.specs.Values.{line_width, values_text};
 
 use crate::hex_lanes::put_sixteen;
 use crate::od::options::{Kind, NumForm, Size};
@@ -12,6 +12,7 @@ use std::simd::prelude::*;
 fn put_values_of_one(text: &mut [u8], cells: &[u8; 32]) -> usize
     requires { 80 ≤ length text.old }
     ensures most { result ≤ 80 }
+    ensures value { result ≡ line_width (Kind.Number NumForm.Hexadecimal Size.One) }
     ensures text { ShowsValues 1 16 cells.now (take result text.new) }
 {
     let all: u8x64 = u8x32::from_array(*cells).shuffle(
@@ -32,6 +33,7 @@ fn put_values_of_one(text: &mut [u8], cells: &[u8; 32]) -> usize
 fn put_values_of_two(text: &mut [u8], cells: &[u8; 32]) -> usize
     requires { 80 ≤ length text.old }
     ensures most { result ≤ 80 }
+    ensures value { result ≡ line_width (Kind.Number NumForm.Hexadecimal Size.Two) }
     ensures text { ShowsValues 2 8 cells.now (take result text.new) }
 {
     let all: u8x64 = u8x32::from_array(*cells).shuffle(
@@ -52,6 +54,7 @@ fn put_values_of_two(text: &mut [u8], cells: &[u8; 32]) -> usize
 fn put_values_of_four(text: &mut [u8], cells: &[u8; 32]) -> usize
     requires { 80 ≤ length text.old }
     ensures most { result ≤ 80 }
+    ensures value { result ≡ line_width (Kind.Number NumForm.Hexadecimal Size.Four) }
     ensures text { ShowsValues 4 4 cells.now (take result text.new) }
 {
     let all: u8x64 = u8x32::from_array(*cells).shuffle(
@@ -72,6 +75,7 @@ fn put_values_of_four(text: &mut [u8], cells: &[u8; 32]) -> usize
 fn put_values_of_eight(text: &mut [u8], cells: &[u8; 32]) -> usize
     requires { 80 ≤ length text.old }
     ensures most { result ≤ 80 }
+    ensures value { result ≡ line_width (Kind.Number NumForm.Hexadecimal Size.Eight) }
     ensures text { ShowsValues 8 2 cells.now (take result text.new) }
 {
     let all: u8x64 = u8x32::from_array(*cells).shuffle(
@@ -91,6 +95,7 @@ fn put_values_of_eight(text: &mut [u8], cells: &[u8; 32]) -> usize
 pub fn put_hexadecimal_line(text: &mut [u8], size: Size, bytes: &[u8; 16]) -> usize
     requires room { 80 ≤ length text.old }
     ensures most { result ≤ 80 }
+    ensures value { result ≡ line_width (Kind.Number NumForm.Hexadecimal size) }
     ensures text { take result text.new ≡ values_text (Kind.Number NumForm.Hexadecimal size) bytes.now }
 {
     let mut cells = [0; 32];

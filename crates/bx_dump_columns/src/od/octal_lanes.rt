@@ -1,7 +1,7 @@
 //! od's octal values of two bytes, lane by lane.
 ghost use Rattle.std.specs.Prelude.{◌≡◌, ◌+◌, ◌*◌, ◌/◌, ◌%◌, ◌^◌, ◌<◌, ◌≤◌, [], ◌∷◌, length, map, take};
 ghost use Rattle.bx_dump_columns.specs.Cells.{by_twos, octal_cells};
-ghost use Rattle.bx_dump_columns.specs.Values.{values_text};
+ghost use Rattle.bx_dump_columns.specs.Values.{line_width, values_text};
 
 use crate::od::options::{Kind, NumForm, Size};
 use std::simd::prelude::*;
@@ -82,6 +82,7 @@ fn cells_of(bytes: u8x16) -> u8x64
 pub fn put_octal_twos(text: &mut [u8], bytes: &[u8; 16]) -> usize
     requires room { 80 ≤ length text.old }
     ensures most { result ≤ 80 }
+    ensures value { result ≡ line_width (Kind.Number NumForm.Octal Size.Two) }
     ensures text { take result text.new ≡ values_text (Kind.Number NumForm.Octal Size.Two) bytes.now }
 {
     let (front, _) = text.split_at_mut(64);

@@ -1,8 +1,9 @@
 //! The values of a line.
 ghost use Rattle.std.specs.Prelude.{◌≡◌, ℕ, ◌+◌, ◌-◌, ◌*◌, ◌^◌, ◌/◌, ◌<◌, ◌≤◌, ◌∷◌, length, take, drop, get_or, min};
 ghost use Rattle.bx_dump_columns.specs.Lines.{in_lines};
-ghost use Rattle.bx_dump_columns.specs.Values.{value_of, value_in, width_of, field_text, field_width, value_text, value_text_in, values_text};
+ghost use Rattle.bx_dump_columns.specs.Values.{value_of, value_in, width_of, field_text, field_width, line_width, value_text, value_text_in, values_text};
 
+use crate::hex_lanes::turn_groups;
 use crate::od::byte_tables::char_of;
 use crate::od::decimal_fours::{put_signed_fours, put_unsigned_fours};
 use crate::od::decimal_twos::{put_signed_twos, put_unsigned_twos};
@@ -10,6 +11,7 @@ use crate::od::fixed::put_cell;
 use crate::od::hexadecimal::put_hexadecimal_line;
 use crate::od::octal_lanes::put_octal_twos;
 use crate::od::options::{Endian, Kind, NumForm, Size};
+use std::simd::prelude::*;
 
 /// The value of bytes, the lowest first (little-endian).
 #[inline(always)]
@@ -110,22 +112,6 @@ pub(crate) fn put_next(
     kind.field() + 1
 }
 
-/// Puts the values of a line whose bytes stand in an order, and answers how long their text is.
-pub fn put_values(text: &mut [u8], kind: Kind, endian: Endian, bytes: &[u8]) -> usize
-    requires room { (field_width kind + 1) * ((length bytes.now + width_of kind - 1) / width_of kind) ≤ length text.old }
-    requires few { length bytes.now ≤ 4096 }
-    ensures most { result ≤ (field_width kind + 1) * ((length bytes.now + width_of kind - 1) / width_of kind) }
-    ensures text { take result text.new ≡ in_lines (value_text_in endian kind) (width_of kind) 0 bytes.now }
-{
-    let width = kind.width();
-    let count = (bytes.len() + width - 1) / width;
-    let mut used = 0;
-    for k in 0..count {
-        used += put_next(&mut text[used..], kind, endian, bytes, width * k);
-    }
-    used
-}
-
 /// Puts the value whose bytes are all there, from place `begin` on, and answers how long its text is.
 #[inline(always)]
 fn put_exact(text: &mut [u8], kind: Kind, bytes: &[u8], begin: usize) -> usize
@@ -146,6 +132,7 @@ fn put_whole(text: &mut [u8], kind: Kind, bytes: &[u8]) -> usize
     requires room { 80 ≤ length text.old }
     requires full { length bytes.now ≡ 16 }
     ensures most { result ≤ 80 }
+    ensures value { result ≡ line_width kind }
     ensures text { take result text.new ≡ in_lines (value_text kind) (width_of kind) 0 bytes.now }
 {
     let width = kind.width();
@@ -162,6 +149,7 @@ fn put_whole(text: &mut [u8], kind: Kind, bytes: &[u8]) -> usize
 fn put_sized(text: &mut [u8], form: NumForm, size: Size, bytes: &[u8; 16]) -> usize
     requires room { 80 ≤ length text.old }
     ensures most { result ≤ 80 }
+    ensures value { result ≡ line_width (Kind.Number form size) }
     ensures text { take result text.new ≡ values_text (Kind.Number form size) bytes.now }
 {
     match size {
@@ -204,6 +192,7 @@ fn put_sized(text: &mut [u8], form: NumForm, size: Size, bytes: &[u8; 16]) -> us
 pub fn put_full(text: &mut [u8], kind: Kind, bytes: &[u8; 16]) -> usize
     requires room { 80 ≤ length text.old }
     ensures most { result ≤ 80 }
+    ensures value { result ≡ line_width kind }
     ensures text { take result text.new ≡ in_lines (value_text kind) (width_of kind) 0 bytes.now }
 {
     match kind {
@@ -220,6 +209,54 @@ pub fn put_full(text: &mut [u8], kind: Kind, bytes: &[u8; 16]) -> usize
             NumForm::Hexadecimal => put_hexadecimal_line(text, size, bytes),
         },
     }
+}
+
+/// 16 bytes with the lowest byte of each value first.
+#[inline(always)]
+fn lowest_first(bytes: &[u8], kind: Kind, endian: Endian) -> [u8; 16]
+    requires { length bytes.now ≡ 16 }
+    ensures { values_text kind result ≡ in_lines (value_text_in endian kind) (width_of kind) 0 bytes.now }
+{
+    let width = kind.width();
+    let lanes = u8x16::from_slice(bytes);
+    match endian {
+        Endian::Little => lanes.to_array(),
+        Endian::Big if width == 1 => lanes.to_array(),
+        Endian::Big => turn_groups(lanes, width).to_array(),
+    }
+}
+
+/// Puts the values of the first pieces of 16 bytes, as many as there is room for, and answers how many values these are.
+fn put_pieces(text: &mut [u8], kind: Kind, endian: Endian, bytes: &[u8]) -> usize
+    requires few { length bytes.now ≤ 4096 }
+    ensures few { result ≤ 4096 }
+    ensures inside { width_of kind * result ≤ length bytes.now }
+    ensures text { take ((field_width kind + 1) * result) text.new ≡ in_lines (value_text_in endian kind) (width_of kind) 0 (take (width_of kind * result) bytes.now) }
+{
+    let count = (bytes.len() / 16).min(text.len() / 80);
+    let mut used = 0;
+    for k in 0..count {
+        let piece = lowest_first(&bytes[16 * k..16 * k + 16], kind, endian);
+        used += put_full(&mut text[used..], kind, &piece);
+    }
+    16 / kind.width() * count
+}
+
+/// Puts the values of a line whose bytes stand in an order, and answers how long their text is.
+pub fn put_values(text: &mut [u8], kind: Kind, endian: Endian, bytes: &[u8]) -> usize
+    requires room { (field_width kind + 1) * ((length bytes.now + width_of kind - 1) / width_of kind) ≤ length text.old }
+    requires few { length bytes.now ≤ 4096 }
+    ensures most { result ≤ (field_width kind + 1) * ((length bytes.now + width_of kind - 1) / width_of kind) }
+    ensures text { take result text.new ≡ in_lines (value_text_in endian kind) (width_of kind) 0 bytes.now }
+{
+    let width = kind.width();
+    let first = put_pieces(text, kind, endian, bytes);
+    let count = (bytes.len() + width - 1) / width;
+    let mut used = (kind.field() + 1) * first;
+    for k in first..count {
+        used += put_next(&mut text[used..], kind, endian, bytes, width * k);
+    }
+    used
 }
 
 /// Puts the values of a line that may be short.

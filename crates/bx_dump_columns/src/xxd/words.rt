@@ -2,9 +2,9 @@
 ghost use Rattle.std.specs.Prelude.{◌≡◌, ◌+◌, ◌*◌, ◌/◌, ◌≤◌, ◌++◌, map, length, reverse, codes};
 ghost use Rattle.std.specs.List.{flat_map};
 ghost use Rattle.bx_text.specs.Dump.{pair_of, shown_byte};
-ghost use Rattle.bx_dump_columns.specs.Words.{IsUsualGroup, turned_groups, word_text, words_text};
+ghost use Rattle.bx_dump_columns.specs.Words.{IsUsualGroup, word_text, words_text};
 
-use crate::hex_lanes::{put_shown_bytes, put_sixteen};
+use crate::hex_lanes::{put_shown_bytes, put_sixteen, turn_groups};
 use crate::xxd::cells::put_body;
 use bx_text::{blank, hex_digit};
 use std::simd::prelude::*;
@@ -80,28 +80,6 @@ pub fn put_words_body(body: &mut [u8], bytes: &[u8], upper: bool, group: usize, 
     space.copy_from_slice(b" ");
     put_shown_bytes(text, bytes);
     end.copy_from_slice(b"\n");
-}
-
-/// 16 bytes in groups, the last byte of each group first.
-#[inline(always)]
-fn turn_groups(bytes: u8x16, group: usize) -> u8x16
-    requires { IsUsualGroup group }
-    ensures { result ≡ turned_groups group bytes }
-{
-    match group {
-        2 => bytes.shuffle(
-            bytes,
-            [1, 0, 3, 2, 5, 4, 7, 6, 9, 8, 11, 10, 13, 12, 15, 14],
-        ),
-        4 => bytes.shuffle(
-            bytes,
-            [3, 2, 1, 0, 7, 6, 5, 4, 11, 10, 9, 8, 15, 14, 13, 12],
-        ),
-        _ => bytes.shuffle(
-            bytes,
-            [7, 6, 5, 4, 3, 2, 1, 0, 15, 14, 13, 12, 11, 10, 9, 8],
-        ),
-    }
 }
 
 /// Puts what stands behind the address of 16 bytes: numbers of two, four or eight bytes, whose digits are made at once, and the text.

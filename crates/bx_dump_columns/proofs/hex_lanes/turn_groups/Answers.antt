@@ -1,8 +1,8 @@
 use Rattle.std.proofs.Common.{◌≡◌, sym, ap, ◌∙◌, arith}
 use Rattle.bx_dump_columns.specs.Words.{turned_groups}
 use Rattle.bx_dump_columns.proofs.WordsLemmas.{twos_turned, fours_turned, eights_turned}
-use Rattle.bx_dump_columns.proofs.xxd.words.turn_groups.Goals.{in-2, in-4, in_default}
-use Rattle.bx_dump_columns.proofs.xxd.words.turn_groups.Goals as goal
+use Rattle.bx_dump_columns.proofs.hex_lanes.turn_groups.Goals.{in-2, in-4, in_default}
+use Rattle.bx_dump_columns.proofs.hex_lanes.turn_groups.Goals as goal
 
 pub returns : goal.returns
 returns c =
