@@ -32,9 +32,9 @@ impl Digits {
 /// Columns of digits in groups, between the address and the text.
 #[derive(Clone, Copy)]
 pub struct Columns {
-    digits: Digits,
-    cols: usize,
-    group: usize,
+    pub(super) digits: Digits,
+    pub(super) cols: usize,
+    pub(super) group: usize,
     whole: usize,
     field: usize,
     ghost some: { 0 < cols },
