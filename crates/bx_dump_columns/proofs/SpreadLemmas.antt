@@ -1,10 +1,11 @@
 -- Values that are spread over a line.
-use Rattle.std.proofs.Common.{◌≡◌, ℕ, ◌+◌, ◌-◌, ◌*◌, ◌/◌, ◌<◌, ◌≤◌, List, ◌++◌, length, min, replicate, take, drop, refl, ap, ◌∙◌, arith}
-use Rattle.std.proofs.Math.Nat.{mul-le-mul_left}
+use Rattle.std.proofs.Common.{◌≡◌, ℕ, ◌+◌, ◌-◌, ◌*◌, ◌/◌, ◌<◌, ◌≤◌, List, ◌++◌, length, min, replicate, take, drop, refl, sym, ap, ◌∙◌, arith}
+use Rattle.std.proofs.Math.Nat.{div-eq_of_lt, mul-le-mul_left}
 use Rattle.std.proofs.lemmas.List.{length-drop, length-take-le}
 use borrow.Rule.Slice.PartMut.{put_mid}
 use Rattle.bx_text.proofs.FieldLemmas.{div_mono}
 use Rattle.bx_text.proofs.KnownLemmas.{take-put_mid_more}
+use Rattle.bx_text.proofs.RangeLemmas.{flat_map_along}
 use Rattle.bx_dump_columns.specs.Lines.{in_lines}
 use Rattle.bx_dump_columns.specs.Values.{blanks_from, field_width, spread_text, value_text_in, width_of}
 use Rattle.bx_dump_columns.specs.declared.od.options.Endian.{Endian}
@@ -14,6 +15,20 @@ use Rattle.bx_dump_columns.proofs.LinesLemmas.{line_begin, lines_next_at}
 -- fewer blanks stand further behind
 pub fewer_blanks : (pad n a b : ℕ) → 0 < n → a ≤ b → blanks_from pad n b ≤ blanks_from pad n a
 fewer_blanks pad n a b pos le = div_mono (pad * (n - b)) (pad * (n - a)) n pos (mul-le-mul_left {m = n - b} {n = n - a} pad (omega arith))
+
+-- where there are none, the values stand alone
+pub none_spread : (kind : Kind) (endian : Endian) (n : ℕ) (bytes : List ℕ) → 0 < n →
+    in_lines (value_text_in endian kind) (width_of kind) 0 bytes ≡ in_lines (spread_text endian kind 0 n) (width_of kind) 0 bytes
+none_spread kind endian n bytes pos =
+    flat_map_along (λ k. value_text_in endian kind (0 + width_of kind * k) (take (width_of kind) (drop (width_of kind * k) bytes)))
+    (λ k. spread_text endian kind 0 n (0 + width_of kind * k) (take (width_of kind) (drop (width_of kind * k) bytes))) 0 0 ((length bytes + width_of kind - 1) / width_of kind) (λ k inside.
+    let one = 0 + width_of kind * (0 + k) in
+    let value = value_text_in endian kind one (take (width_of kind) (drop (width_of kind * (0 + k)) bytes)) in
+    let few : blanks_from 0 n one - blanks_from 0 n (one + width_of kind) ≡ 0 = omega (arith, none one) in
+    ap (λ m. replicate m 32 ++ value) (sym few))
+  where
+    none : (at : ℕ) → blanks_from 0 n at ≡ 0
+    none at = let z : 0 * (n - at) ≡ 0 = omega arith in ap (λ m. m / n) z ∙ div-eq_of_lt pos
 
 -- one value more with its blanks, behind those of a line so far
 pub spread_next : (kind : Kind) (endian : Endian) (pad cols : ℕ) (bytes text new : List ℕ) (k width used left rest n : ℕ) →

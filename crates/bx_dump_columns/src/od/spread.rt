@@ -4,7 +4,7 @@ ghost use Rattle.bx_dump_columns.specs.Lines.{in_lines};
 ghost use Rattle.bx_dump_columns.specs.Values.{blanks_from, field_width, spread_text, value_text_in, width_of};
 
 use crate::od::options::{Endian, Kind};
-use crate::od::values::put_next;
+use crate::od::values::{put_next, put_values};
 
 /// Of `pad` blanks that are spread over a line, those in front of the values from byte `at` on.
 #[inline(always)]
@@ -60,6 +60,9 @@ pub fn put_spread(
     ensures most { result ≤ pad + (field_width kind + 1) * ((length bytes.now + width_of kind - 1) / width_of kind) }
     ensures text { take result text.new ≡ in_lines (spread_text endian kind pad cols) (width_of kind) 0 bytes.now }
 {
+    if pad == 0 {
+        return put_values(text, kind, endian, bytes);
+    }
     let width = kind.width();
     let count = (bytes.len() + width - 1) / width;
     let mut used = 0;

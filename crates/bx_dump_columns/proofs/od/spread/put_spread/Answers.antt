@@ -1,7 +1,7 @@
 use Rattle.std.proofs.Common.{◌≡◌, ◌+◌, ◌-◌, ◌*◌, ◌/◌, ◌≤◌, length, arith, ap, ◌∙◌}
 use Rattle.std.proofs.Math.Nat.{mul-le-mul_left}
 use Rattle.bx_dump_columns.specs.Values.{blanks_from, field_width, width_of}
-use Rattle.bx_dump_columns.proofs.SpreadLemmas.{fewer_blanks, spread_next}
+use Rattle.bx_dump_columns.proofs.SpreadLemmas.{fewer_blanks, none_spread, spread_next}
 use Rattle.bx_dump_columns.proofs.od.spread.put_spread.Goals as goal
 
 pub loop-k-preserved : goal.loop-k-preserved
@@ -33,3 +33,8 @@ loop-k-preserved c =
       text = spread_next c.args.kind c.args.endian pad cols c.args.bytes.now c.loop-k.text c.put_behind-used.new.text k width c.loop-k.used left rest c.put_behind-used.result
           (omega (arith, before.used, all, count, more_used, c.requires.room, c.loop-k.auto.text)) value pos below before.left c.blanks_from-rest.ensures.value c.put_behind-used.auto.text c.put_behind-used.ensures.value before.text c.put_behind-used.ensures.text;
     }
+
+pub returns-then-pad-eq0-clause-text : goal.returns-then-pad-eq0-clause-text
+returns-then-pad-eq0-clause-text c =
+    let same = none_spread c.args.kind c.args.endian c.args.cols c.args.bytes.now c.requires.some in
+    rw c.if-pad-eq0.true (c.put_values.ensures.text ∙ same)
