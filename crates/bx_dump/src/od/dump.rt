@@ -13,7 +13,6 @@ use crate::od::below::Column;
 use crate::od::lines::{OdLines, OdWide, end_line};
 use crate::od::options::OdOptions;
 use crate::od::rows::OdRows;
-use bx_dump_columns::od::options::Endian;
 use bx_text::{IoFault, Meter, State, emit_after};
 use std::io::{Read, Write};
 
@@ -90,13 +89,14 @@ fn dump_lines<R: Read, W: Write>(
     requires limit { meter.old.limit ≡ 2 ^ 40 }
     ensures lines { DumpsLines (od_lines o.now) meter.old.taken o.now.limit (streams_of R.remaining r.old r.new W.contents w.old w.new) result }
 {
-    match o.endian {
-        Endian::Little if o.width == 16 => dump_sixteen(meter, r, w, o),
-        _ => dump_wide(meter, r, w, o),
+    if o.width == 16 {
+        dump_sixteen(meter, r, w, o)
+    } else {
+        dump_wide(meter, r, w, o)
     }
 }
 
-/// The same of lines of 16 bytes, numbers the lowest byte first.
+/// The same of lines of 16 bytes.
 fn dump_sixteen<R: Read, W: Write>(
     meter: &mut Meter,
     r: &mut R,
@@ -105,7 +105,6 @@ fn dump_sixteen<R: Read, W: Write>(
 ) -> Result<Part, IoFault>
     requires open { meter.old.state ≡ State.Open }
     requires limit { meter.old.limit ≡ 2 ^ 40 }
-    requires endian { o.now.endian ≡ Endian.Little }
     requires width { o.now.width ≡ 16 }
     ensures lines { DumpsLines (od_lines o.now) meter.old.taken o.now.limit (streams_of R.remaining r.old r.new W.contents w.old w.new) result }
 {
@@ -126,6 +125,7 @@ fn dump_plain<R: Read, W: Write>(
     let lines = OdLines {
         address: o.address,
         kind: o.kind,
+        endian: o.endian,
     };
     let mut pages = FoldedPages::new(lines, o.all, o.first + o.skip);
     dump_pages(meter, r, w, &mut pages, o.limit, 0)

@@ -1,7 +1,7 @@
 //! od's lines.
 ghost use Rattle.std.specs.Prelude.{◌≡◌, ℕ, ◌+◌, ◌-◌, ◌*◌, ◌/◌, ◌^◌, ◌<◌, ◌≤◌, length, take};
-ghost use Rattle.bx_dump_columns.specs.Values.{field_width, width_of};
-ghost use Rattle.bx_dump_columns.specs.declared.od.options.Endian.TheVariants.{Little};
+ghost use Rattle.bx_dump_columns.specs.Lines.{in_lines};
+ghost use Rattle.bx_dump_columns.specs.Values.{field_width, value_text_in, width_of};
 ghost use Rattle.bx_dump.specs.Od.{address_text, od_line, od_end};
 
 use crate::driver::folded::Form;
@@ -105,19 +105,34 @@ pub fn end_line(address: Address, at: u64) -> ShortText<24>
     line
 }
 
-/// od's lines of 16 bytes, numbers the lowest byte first.
+/// Puts the values of a line of at most 16 bytes, and answers how long their text is.
+#[inline(always)]
+fn put_few(text: &mut [u8], kind: Kind, endian: Endian, bytes: &[u8]) -> usize
+    requires room { 80 ≤ length text.old }
+    requires few { length bytes.now ≤ 16 }
+    ensures most { result ≤ 80 }
+    ensures text { take result text.new ≡ in_lines (value_text_in endian kind) (width_of kind) 0 bytes.now }
+{
+    match endian {
+        Endian::Little => put_any(text, kind, bytes),
+        Endian::Big => put_values(text, kind, Endian::Big, bytes),
+    }
+}
+
+/// od's lines of 16 bytes.
 #[derive(Drop)]
 pub struct OdLines {
     pub address: Address,
     pub kind: Kind,
+    pub endian: Endian,
 }
 
 impl Form for OdLines {
-    ghost line = { λ l. od_line l.address l.kind Little };
+    ghost line = { λ l. od_line l.address l.kind l.endian };
 
     fn put(&self, page: &mut [u8], at: u64, bytes: &[u8]) -> usize {
         let start = put_start(page, self.address, at);
-        let used = put_any(&mut page[start..], self.kind, bytes);
+        let used = put_few(&mut page[start..], self.kind, self.endian, bytes);
         page[start + used] = b'\n';
         start + used + 1
     }
