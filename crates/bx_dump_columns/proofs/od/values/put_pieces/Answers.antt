@@ -1,4 +1,4 @@
-use Rattle.std.proofs.Common.{◌≡◌, ◌+◌, ◌-◌, ◌*◌, ◌≤◌, length, drop, arith, ◌∙◌}
+use Rattle.std.proofs.Common.{◌+◌, ◌-◌, ◌*◌, ◌≤◌, length, drop, arith, ◌∙◌}
 use Rattle.std.proofs.lemmas.List.{length-drop, length-take-le}
 use Rattle.bx_dump_columns.proofs.OdPieces.{line_room, piece_next}
 use Rattle.bx_dump_columns.proofs.od.values.put_pieces.Goals as goal

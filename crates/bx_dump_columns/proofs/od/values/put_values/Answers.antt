@@ -1,7 +1,4 @@
-use Rattle.std.proofs.Common.{◌≡◌, ◌+◌, ◌-◌, ◌*◌, ◌/◌, ◌≤◌, length, take, arith, ap, ◌∙◌}
-use Rattle.std.proofs.Math.Nat.{mul-le-mul_left}
-use Rattle.bx_dump_columns.specs.Values.{field_width, value_text_in, width_of}
-use Rattle.bx_dump_columns.proofs.LinesLemmas.{line_end, lines_all, lines_within}
+use Rattle.std.proofs.Common.{◌+◌, ◌*◌, take, arith, ap, ◌∙◌}
 use Rattle.bx_dump_columns.proofs.OdLemmas.{value_next}
 use Rattle.bx_dump_columns.proofs.od.values.put_values.Goals as goal
 
