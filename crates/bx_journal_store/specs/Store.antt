@@ -1,5 +1,5 @@
 -- What a call of a text store that failed may leave.
-use Rattle.std.specs.Prelude.{◌≡◌, ◌≤◌, ℕ, Bool, true, false, Result, Ok, Err, List, ◌++◌, length, take}
+use Rattle.std.specs.Prelude.{◌≡◌, ◌⊎◌, ◌≤◌, ℕ, Bool, true, false, Result, Ok, Err, List, [], ◌++◌, length, take}
 use Rattle.bx_journal_store.specs.declared.fault.TextFault.{TextFault}
 use Rattle.bx_journal_store.specs.declared.fault.TextFault.TheVariants.{DeviceFailed, NoMemory}
 
@@ -17,3 +17,7 @@ IsPartlyAppended bytes old new = (k : ℕ) × (new ≡ old ++ take k bytes)
 pub record IsCutInPart (n : ℕ) (old new : List ℕ) : Type 0 where
   pub no_shorter : n ≤ length new
   pub front : new ≡ take (length new) old
+
+-- whatever is found now was found before, or is empty
+abbrev pub MayEmpty : (List ℕ → Type 0) → (List ℕ → Type 0) → Type 0
+MayEmpty old new = (c : List ℕ) → new c → old c ⊎ (c ≡ [])

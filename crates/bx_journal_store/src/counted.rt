@@ -54,6 +54,8 @@ impl<T: TextStore> TextStore for CountedText<T> {
 
     ghost survives = { λ c. T.survives c.within };
 
+    ghost empties_at_once = { T.empties_at_once };
+
     ghost present = { λ c. T.present c.within };
 
     fn len(&mut self) -> Result<u64, DeviceFailed> {

@@ -132,6 +132,8 @@ impl<F: RandomAccess> TextStore for FileText<F> {
 
     ghost survives = { λ f. F.survives f.file };
 
+    ghost empties_at_once = { ⊥ };
+
     ghost present = { λ f. F.present f.file };
 
     fn len(&mut self) -> Result<u64, DeviceFailed> {

@@ -158,6 +158,8 @@ impl<T: TextStore> TextStore for FuseText<T> {
 
     ghost survives = { λ f. T.survives f.within };
 
+    ghost empties_at_once = { ⊥ };
+
     ghost present = { λ f. T.present f.within };
 
     fn len(&mut self) -> Result<u64, DeviceFailed> {

@@ -55,6 +55,8 @@ impl<A: Allocator> TextStore for MemText<A> {
 
     ghost survives = { λ m c. c ≡ m.bytes.items };
 
+    ghost empties_at_once = { Unit {0} };
+
     ghost present = { λ m _. refl };
 
     fn len(&mut self) -> Result<u64, DeviceFailed> {

@@ -2,7 +2,7 @@
 ghost use Rattle.std.specs.Prelude.{◌≡◌, ◌+◌, ◌<◌, ◌≤◌, ◌^◌, List, ℕ, length, take, drop, ◌++◌, IfOk, IsOk, OnOk, OnErr, is_err, false};
 ghost use Rattle.bx_image.specs.Device.{GoesOn};
 ghost use Rattle.bx_image.specs.Power.{FadesBehind, FadesFrom, NoMore, Only};
-ghost use Rattle.bx_journal_store.specs.Store.{IsPartlyAppended, IsCutInPart, text_has_failed};
+ghost use Rattle.bx_journal_store.specs.Store.{IsPartlyAppended, IsCutInPart, MayEmpty, text_has_failed};
 
 use crate::{DeviceFailed, NoMemory, TextFault};
 use std::alloc::Allocator;
@@ -33,6 +33,9 @@ pub trait TextStore {
 
     /// What may be found of the text after a loss of power.
     ghost survives: { Self → List ℕ → Type 0 };
+
+    /// A cut to nothing is one step: where it fails, or loses its power, nothing between the text and an empty one is left.
+    ghost empties_at_once: { Type 0 };
 
     /// How many bytes the text has. It stays.
     fn len(&mut self) -> Result<u64, DeviceFailed>
@@ -83,6 +86,7 @@ pub trait TextStore {
         ensures ok { faithful self.old → OnOk result (text self.new ≡ take n (text self.old)) }
         ensures failed { faithful self.old → OnErr result (IsCutInPart n (text self.old) (text self.new)) }
         ensures fades { faithful self.old → FadesFrom n (survives self.old) (survives self.new) }
+        ensures at_once { empties_at_once → faithful self.old → n ≡ 0 → MayEmpty (survives self.old) (survives self.new) }
         ensures goes_on { GoesOn faithful room failures (is_err result) self.old self.new };
 
     /// Puts all that was written on the disk, so that a loss of power leaves the text as it is. The text stays.

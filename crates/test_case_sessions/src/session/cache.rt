@@ -243,6 +243,8 @@ impl TextStore for CachedText {
 
     ghost survives = { λ _ _. ⊥ };
 
+    ghost empties_at_once = { ⊥ };
+
     ghost present = { λ _ faithful. absurd faithful };
 
     fn len(&mut self) -> Result<u64, DeviceFailed> {

@@ -46,6 +46,8 @@ impl TextStore for LentText {
 
     ghost survives = { λ m c. (c ≡ m.contents.bytes.items) ⊎ (c ≡ m.contents.synced.items) };
 
+    ghost empties_at_once = { Unit {0} };
+
     ghost present = { λ m _. inl refl };
 
     fn len(&mut self) -> Result<u64, DeviceFailed> {
