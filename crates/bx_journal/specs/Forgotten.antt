@@ -50,6 +50,10 @@ ForgetDevicesFault e = ⊥
 abbrev pub IsWhole : List ℕ → List ℕ → Type 0
 IsWhole old new = (new ≡ old) ⊎ (new ≡ [])
 
+-- whatever is found of it is the text as it was, or an empty one: no front of a journal, which would be one of older images
+abbrev pub IsFoundWhole : List ℕ → (List ℕ → Type 0) → Type 0
+IsFoundWhole text survives = (c : List ℕ) → survives c → IsWhole text c
+
 -- an image alone, with nothing undone
 abbrev pub only : List ℕ → Images
 only x = record { stack = x ∷ []; undone = [] }
@@ -86,12 +90,18 @@ module _ {D T : Type 0} (image : D → List ℕ) (text : T → List ℕ) where
   FindsForgotten old new = FindsBehind image text old (λ s.
       IsWhole (text old.journal) (text new.journal) → IsWhole (text old.redo) (text new.redo) → OfSome s (forgotten s) (SessionFinds image text new))
 
+-- Of both texts, where a cut to nothing is one step: each is found whole or empty, and so it is there
+pub record AreFoundWhole {T : Type 0} (t : StoreViews T) (journal redo journal_new redo_new : T) : Type 0 where
+  pub journal_whole : t.empties_at_once → IsFoundWhole (t.text journal) (t.survives journal_new)
+  pub redo_whole : t.empties_at_once → IsFoundWhole (t.text redo) (t.survives redo_new)
+
 -- Of sessions whose devices lose what wasn't put on the disk.
 module _ {D T : Type 0} (d : DeviceViews D) (t : StoreViews T) where
   -- behind a loss of power: the image as it was, and of the texts what is left where the redo text is emptied first
   pub record KeepsImage (old new : SessionView D T) : Type 0 where
     pub image : Only (d.image old.image) (d.survives new.image)
     pub texts : FadesInOrder (t.text old.journal) (t.text old.redo) (t.survives new.journal) (t.survives new.redo)
+    pub whole : AreFoundWhole t old.journal old.redo new.journal new.redo
 
   -- the newest image alone where it was accepted, and behind an interruption, where no text is found cut in part, the old images, the same with
   -- nothing undone, or the newest alone
@@ -134,6 +144,7 @@ module _ {D T : Type 0} (d : DeviceViews D) (t : StoreViews T) where
   pub record KeepImage (old new : Devices D T) : Type 0 where
     pub image : Only (d.image old.image) (d.survives new.image)
     pub texts : FadesInOrder (t.text old.journal) (t.text old.redo) (t.survives new.journal) (t.survives new.redo)
+    pub whole : AreFoundWhole t old.journal old.redo new.journal new.redo
 
   -- what is found behind an interruption, and behind a loss of power
   abbrev pub ForgetsInPart : {V : Type 0} → Devices D T → Devices D T → Result V SessionFault → Type 0

@@ -1,19 +1,31 @@
 //! Forgetting: the history of three devices is dropped, whatever it is. The image isn't written.
 ghost use Rattle.std.specs.Prelude.{◌≡◌, ◌↔◌, ◌<◌, [], IfErr, OnOk, is_err};
 ghost use Rattle.bx_image.specs.Device.{GoesOn};
-ghost use Rattle.bx_image.specs.Power.{AllFade, Only};
+ghost use Rattle.bx_image.specs.Power.{AllFade, FadesFrom, Only};
 ghost use Rattle.bx_journal_model.specs.ThreeDevices.{AreBelow, AreCounted, AreUnfailed, StepsOn};
 ghost use Rattle.bx_journal_model.specs.Power.{FoundBefore};
 ghost use Rattle.bx_journal_protocol.specs.protocol.Written.{AreSettled};
 ghost use Rattle.bx_journal_model.specs.Calls.{AfterFault};
-ghost use Rattle.bx_journal_store.specs.Store.{IsCutInPart};
-ghost use Rattle.bx_journal.specs.Forgotten.{AreAlone, BehindInterruption, FadesInOrder, ForgetDevicesFault, ForgetsInPart, KeepImage, LeavesTexts, LoseOrKeep};
+ghost use Rattle.bx_journal_store.specs.Store.{IsCutInPart, MayEmpty};
+ghost use Rattle.bx_journal.specs.Forgotten.{AreAlone, AreFoundWhole, BehindInterruption, FadesInOrder, ForgetDevicesFault, ForgetsInPart, IsFoundWhole, KeepImage, LeavesTexts, LoseOrKeep};
 ghost use Rattle.bx_journal.specs.Opened.{OfAll};
 
 use bx_image::{Device, DeviceFailed};
 use bx_journal_model::{Devices, SessionFault};
 use bx_journal_protocol::settle;
 use bx_journal_store::TextStore;
+
+/// Cuts a text to nothing, in one cut that keeps no byte: a front of a journal is a journal too, of other images.
+fn cut_all<T: TextStore>(store: &mut T) -> Result<(), DeviceFailed>
+    requires countable { T.failures store.old < u64.MAX }
+    ensures emptied { T.faithful store.old → OnOk result (T.text store.new ≡ []) }
+    ensures part { T.faithful store.old → IsCutInPart 0 (T.text store.old) (T.text store.new) }
+    ensures fades { T.faithful store.old → FadesFrom 0 (T.survives store.old) (T.survives store.new) }
+    ensures at_once { T.empties_at_once → T.faithful store.old → MayEmpty (T.survives store.old) (T.survives store.new) }
+    ensures goes_on { GoesOn T.faithful T.room T.failures (is_err result) store.old store.new }
+{
+    store.cut(0)
+}
 
 /// Empties a text, and puts that on the disk.
 fn empty_text<T: TextStore>(store: &mut T) -> Result<(), DeviceFailed>
@@ -22,11 +34,11 @@ fn empty_text<T: TextStore>(store: &mut T) -> Result<(), DeviceFailed>
     ensures part { T.faithful store.old → IsCutInPart 0 (T.text store.old) (T.text store.new) }
     ensures settled { T.faithful store.old → OnOk result (Only [] (T.survives store.new)) }
     ensures survives { T.faithful store.old → Only (T.text store.old) (T.survives store.old) → AllFade 0 (T.text store.old) (T.survives store.new) }
+    ensures whole { T.faithful store.old → Only (T.text store.old) (T.survives store.old)
+        → T.empties_at_once → IsFoundWhole (T.text store.old) (T.survives store.new) }
     ensures goes_on { GoesOn T.faithful T.room T.failures (is_err result) store.old store.new }
 {
-    // In one cut, and no byte is kept: a front of a journal is a journal too, of other images. `docs/DECISIONS.md`, "History that
-    // is dropped".
-    store.cut(0)?;
+    cut_all(store)?;
     store.sync()
 }
 
@@ -42,6 +54,8 @@ pub fn empty_texts<D: Device, T: TextStore>(devices: &mut Devices<D, T>) -> Resu
         → OnOk result (AreSettled D.Device T.TextStore devices.new) }
     ensures survives { T.faithful devices.old.journal → T.faithful devices.old.redo → AreSettled D.Device T.TextStore devices.old
         → FadesInOrder (T.text devices.old.journal) (T.text devices.old.redo) (T.survives devices.new.journal) (T.survives devices.new.redo) }
+    ensures whole { T.faithful devices.old.journal → T.faithful devices.old.redo → AreSettled D.Device T.TextStore devices.old
+        → AreFoundWhole T.TextStore devices.old.journal devices.old.redo devices.new.journal devices.new.redo }
     ensures steps_on { StepsOn D.Device T.TextStore result devices.old devices.new }
 {
     empty_text(&mut devices.redo)?;
@@ -53,7 +67,7 @@ pub fn empty_texts<D: Device, T: TextStore>(devices: &mut Devices<D, T>) -> Resu
 ///
 /// The redo text is emptied, and then the journal, each put on the disk. `DeviceFailed` comes of putting all three on the disk before that,
 /// and changes nothing; `Interrupted` comes from the first cut on. What opening finds behind it, or behind a loss of power, is said where no
-/// text is found cut in part.
+/// text is found cut in part, and none is where the stores empty a text at once.
 pub fn forget_devices<D: Device, T: TextStore>(
     devices: &mut Devices<D, T>,
 ) -> Result<(), SessionFault>

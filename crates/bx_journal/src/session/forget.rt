@@ -23,7 +23,8 @@ impl<D: Device, T: TextStore, A: Allocator + Clone> Session<D, T, A> {
     ///
     /// The faults come in this order: `Broken`, `DeviceFailed` of putting the three on the disk, and `Interrupted` from the
     /// first cut on. Each but the last changes nothing. No store is asked for memory. A cut to nothing that is stopped, or loses
-    /// its power, leaves a faithful store a front of its text; what opening then finds is said where none is cut in part.
+    /// its power, leaves a faithful store a front of its text, or all or nothing where the store empties it at once; what opening
+    /// then finds is said where none is cut in part.
     pub fn forget(&mut self) -> Result<u32, SessionFault>
         requires image_countable { D.failures self.old.image < u64.MAX }
         requires journal_countable { T.failures self.old.journal < u64.MAX }
