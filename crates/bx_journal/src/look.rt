@@ -1,5 +1,6 @@
 //! A look at the changes of a text, without a session: nothing is recovered, and the text stays.
 ghost use Rattle.std.specs.Prelude.{◌≡◌, ◌<◌, ◌≤◌, ◌++◌, ℕ, All, IsTrue, length, OnOk, IfOk, IfErr, IfSome, IfNone};
+ghost use Rattle.bx_image.specs.Power.{NoMore};
 ghost use Rattle.bx_journal_read.specs.show.Showing.{RangesOf, StopsLog, StopsRows, LiesWithin, LookCounts, PutFault, Stays};
 ghost use Rattle.bx_journal_read.specs.show.ShownSteps.{RefusesSteps, StopsFound, StopsSteps, CannotStep, FindsSteps, IsChecked, IsFoundPut, IsLeftIn, IsSettled, few_that, fault_that, newest_steps, torn_text};
 ghost use Rattle.bx_journal_read.specs.show.Stopping.{CountsBytes};
@@ -38,6 +39,7 @@ pub fn log_ranges<T: TextStore, A: Allocator + Clone, W: Write>(
     ensures fault { IfErr result (StopsLog (T.faithful journal.old) (T.text journal.old)) }
     ensures stops { T.faithful journal.old → IfErr result (StopsRows (T.text journal.old) (W.contents out.old) (W.contents out.new)) }
     ensures text { Stays T.faithful T.text T.failures result journal.old journal.new }
+    ensures survives { T.faithful journal.old → NoMore (T.survives journal.old) (T.survives journal.new) }
     ensures counts { IfErr result (λ f. LookCounts f (T.failures journal.old) 0 (T.failures journal.new) 0) }
 {
     let marks = match all_marks(alloc, journal) {
@@ -100,7 +102,7 @@ fn find_steps<T: TextStore, A: Allocator + Clone>(
     steps: Steps,
 ) -> Result<Marked<A>, SessionFault>
     requires { T.failures journal.old < u64.MAX }
-    ensures { FindsSteps T.faithful T.text T.failures steps result journal.old journal.new }
+    ensures { FindsSteps T.faithful T.text T.survives T.failures steps result journal.old journal.new }
 {
     let found = match front_marks(alloc, journal) {
         Ok(found) => found,
@@ -137,6 +139,8 @@ fn put_found<D: Device, T: TextStore, A: Allocator + Clone, W: Write>(
     ensures kind { IfErr result PutFault }
     ensures image { Stays D.faithful D.image D.failures result image.old image.new }
     ensures stays { Stays T.faithful T.text T.failures result journal.old journal.new }
+    ensures image_survives { D.faithful image.old → NoMore (D.survives image.old) (D.survives image.new) }
+    ensures text_survives { T.faithful journal.old → NoMore (T.survives journal.old) (T.survives journal.new) }
     ensures counts { IfErr result (λ f. LookCounts f (D.failures image.old) (T.failures journal.old) (D.failures image.new) (T.failures journal.new)) }
 {
     let before = put_torn(alloc, found.torn, out)?;
@@ -182,6 +186,8 @@ pub fn show_steps<D: Device, T: TextStore, A: Allocator + Clone, W: Write>(
         (StopsShownPatch (T.text journal.old) (D.image image.old) steps (W.contents out.old) (W.contents out.new)) }
     ensures image { Stays D.faithful D.image D.failures result image.old image.new }
     ensures text { Stays T.faithful T.text T.failures result journal.old journal.new }
+    ensures image_survives { D.faithful image.old → NoMore (D.survives image.old) (D.survives image.new) }
+    ensures text_survives { T.faithful journal.old → NoMore (T.survives journal.old) (T.survives journal.new) }
     ensures counts { IfErr result (λ f. LookCounts f (D.failures image.old) (T.failures journal.old) (D.failures image.new) (T.failures journal.new)) }
 {
     let found = match find_steps(alloc, journal, steps) {

@@ -3,6 +3,8 @@ use Rattle.std.proofs.Common.{◌≡◌, ℕ, ◌+◌, ◌-◌, ◌<◌, ◌≤�
 use Rattle.std.proofs.Math.Nat.{eq-or-lt_of_le}
 use Rattle.std.proofs.lemmas.List.{drop-take, take_all}
 use Rattle.std.specs.Prelude.{◌↔◌, IfErr, OnOk, codes}
+use Rattle.bx_image.specs.Power.{NoMore}
+use Rattle.bx_image.proofs.Survivors.{NoMore_then}
 use Rattle.bx_journal_format.proofs.ReadLoop.{drop_twice}
 use Rattle.bx_journal_format.proofs.TallyLemmas.{take_less}
 use Rattle.bx_journal_read.specs.show.Differences.{signed_line, HasCached, IsCache}
@@ -60,20 +62,22 @@ stays_behind {failures = failures} {r = r} {new = new} same faith unfailed next 
 }
 
 -- calls that only looked and did not fail, up to now
-pub record HasStayed {T : Type 0} (faithful : T → Type 0) (text : T → List ℕ) (failures : T → ℕ) (old now : T) : Type 0 where
+pub record HasStayed {T : Type 0} (faithful : T → Type 0) (text : T → List ℕ) (left : T → List ℕ → Type 0) (failures : T → ℕ) (old now : T) : Type 0 where
   pub same : faithful old → text now ≡ text old
+  pub survives : faithful old → NoMore (left old) (left now)
   pub faith : faithful now ↔ faithful old
   pub no_failure : failures now ≡ failures old
 
 -- none yet
-pub stayed_none : {T : Type 0} (faithful : T → Type 0) (text : T → List ℕ) (failures : T → ℕ) (now : T) → HasStayed faithful text failures now now
-stayed_none faithful text failures now = record { same = λ h. refl; faith = ((λ h. h), λ h. h); no_failure = refl }
+pub stayed_none : {T : Type 0} (faithful : T → Type 0) (text : T → List ℕ) (left : T → List ℕ → Type 0) (failures : T → ℕ) (now : T) → HasStayed faithful text left failures now now
+stayed_none faithful text left failures now = record { same = λ h. refl; survives = λ h y there. there; faith = ((λ h. h), λ h. h); no_failure = refl }
 
 -- one more
-pub stayed_on : {T : Type 0} {faithful : T → Type 0} {text : T → List ℕ} {failures : T → ℕ} {old now new : T} → HasStayed faithful text failures old now → (faithful now → text new ≡ text now) → (faithful new ↔ faithful now)
-    → failures new ≡ failures now → HasStayed faithful text failures old new
-stayed_on first same faith unfailed = record {
+pub stayed_on : {T : Type 0} {faithful : T → Type 0} {text : T → List ℕ} {left : T → List ℕ → Type 0} {failures : T → ℕ} {old now new : T} → HasStayed faithful text left failures old now
+    → (faithful now → text new ≡ text now) → (faithful now → NoMore (left now) (left new)) → (faithful new ↔ faithful now) → failures new ≡ failures now → HasStayed faithful text left failures old new
+stayed_on first same more faith unfailed = record {
   same = λ h. same (first.faith.1 h) ∙ first.same h;
+  survives = λ h. NoMore_then _ _ _ (first.survives h) (more (first.faith.1 h));
   faith = ((λ h. first.faith.0 (faith.0 h)), λ h. faith.1 (first.faith.1 h));
   no_failure = unfailed ∙ first.no_failure;
 }

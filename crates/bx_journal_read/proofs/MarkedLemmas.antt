@@ -3,6 +3,8 @@ use Rattle.std.proofs.Common.{◌≡◌, ℕ, List, [], ◌++◌, length, map, t
 use Rattle.std.specs.Prelude.{Vec}
 use Rattle.std.proofs.lemmas.List.{take_all}
 use Rattle.std.proofs.lemmas.Result.{IfErr-weaker, IfOk-weaker}
+use Rattle.bx_image.specs.Power.{NoMore}
+use Rattle.bx_image.proofs.Survivors.{NoMore_then}
 use Rattle.bx_journal_format.specs.Shown.{shown}
 use Rattle.bx_journal_model.specs.declared.fault.SessionFault.{SessionFault}
 use Rattle.bx_journal_model.specs.Looking.{LooksAt}
@@ -54,10 +56,12 @@ marks_all faithful now stored text len marks still same long of = record {
 
 -- what is said of a text behind a call that only looked at it
 module _ {T V : Type 0} {faithful : T → Type 0} {text : T → List ℕ} {failures : T → ℕ} {v : V} {old now : T} (first : LooksAt faithful text failures (Ok v) old now) where
-  pub marks_behind : {A : Type 0} {new : T} → (r : Result (Vec Mark A) SessionFault) → FindsMarks faithful text failures r now new → FindsMarks faithful text failures r old new
-  marks_behind r next = record {
+  pub marks_behind : {A : Type 0} {new : T} {left : T → List ℕ → Type 0} → (faithful old → NoMore (left old) (left now)) → (r : Result (Vec Mark A) SessionFault) → FindsMarks faithful text left failures r now new
+      → FindsMarks faithful text left failures r old new
+  marks_behind before r next = record {
     marks = IfOk-weaker r (λ m. AreAllMarks (faithful now) (text now) m.items) (λ m. AreAllMarks (faithful old) (text old) m.items)
         (λ m a. record { text = a.text; is = λ h. sym (first.same h) ∙ a.is (first.faith.1 h); entries = a.entries; spelled = a.spelled; marks_are = a.marks_are }) next.marks;
     fault = IfErr-weaker r (FindFault (faithful now) (shown (text now))) (FindFault (faithful old) (shown (text old))) (fault_is first) next.fault;
     looks = looks_before first next.looks;
+    survives = λ h. NoMore_then _ _ _ (before h) (next.survives (first.faith.1 h));
   }

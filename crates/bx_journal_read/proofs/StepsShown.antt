@@ -27,6 +27,8 @@ use Rattle.bx_journal_read.specs.declared.show.way.Steps.{Steps}
 use Rattle.bx_journal_read.specs.declared.show.way.Direction.{Direction}
 use Rattle.bx_journal_read.specs.declared.show.way.Direction.TheVariants.{Undo, Redo}
 use Rattle.bx_journal_read.specs.declared.show.unfinished.Marked.{Marked}
+use Rattle.bx_image.specs.Power.{NoMore}
+use Rattle.bx_image.proofs.Survivors.{NoMore_then}
 use Rattle.bx_journal_model.specs.declared.mark.Mark.{Mark as Place}
 use Rattle.bx_journal_read.specs.declared.scan.torn.Torn.{Torn}
 use Rattle.bx_journal_model.specs.declared.fault.SessionFault.{SessionFault}
@@ -102,17 +104,24 @@ module _ {T V : Type 0} {faithful : T → Type 0} {text : T → List ℕ} {failu
     order = u.order;
   }
 
-  pub front_behind : {A : Type 0} {new : T} → (r : Result (Marked A) SessionFault) → FindsFront faithful text failures r now new → FindsFront faithful text failures r old new
-  front_behind r next = record {
+  pub front_behind : {A : Type 0} {new : T} {left : T → List ℕ → Type 0} → (faithful old → NoMore (left old) (left now)) → (r : Result (Marked A) SessionFault) → FindsFront faithful text left failures r now new
+      → FindsFront faithful text left failures r old new
+  front_behind before r next = record {
     marks = IfOk-weaker r (λ m. AreFrontMarks (faithful now) (text now) m.marks.items m.torn) (λ m. AreFrontMarks (faithful old) (text old) m.marks.items m.torn) (λ m a. front_is m.marks.items m.torn a) next.marks;
     fault = IfErr-weaker r (FindFault (faithful now) (shown (text now))) (FindFault (faithful old) (shown (text old))) (fault_is first) next.fault;
     looks = looks_before first next.looks;
+    survives = λ h. NoMore_then _ _ _ (before h) (next.survives (first.faith.1 h));
   }
 
 -- what is found of a text behind a call that looked at it
-pub front_found : {T A V : Type 0} {faithful : T → Type 0} {text : T → List ℕ} {failures : T → ℕ} {v : V} {old now : T} → (found : Marked A) → LooksAt faithful text failures (Ok v) old now
-    → AreFrontMarks (faithful old) (text old) found.marks.items found.torn → FindsFront faithful text failures (Ok found) old now
-front_found found looks a = record { marks = a; fault = tt; looks = record { same = looks.same; faith = looks.faith; no_failure = looks.no_failure; counts = tt } }
+pub front_found : {T A V : Type 0} {faithful : T → Type 0} {text : T → List ℕ} {left : T → List ℕ → Type 0} {failures : T → ℕ} {v : V} {old now : T} → (found : Marked A) → LooksAt faithful text failures (Ok v) old now
+    → (faithful old → NoMore (left old) (left now)) → AreFrontMarks (faithful old) (text old) found.marks.items found.torn → FindsFront faithful text left failures (Ok found) old now
+front_found found looks before a = record {
+  marks = a;
+  fault = tt;
+  looks = record { same = looks.same; faith = looks.faith; no_failure = looks.no_failure; counts = tt };
+  survives = before;
+}
 
 -- how many marks there are
 pub front_few : (faithful : Type 0) (stored : List ℕ) (marks : List Mark) (torn : Option Torn) → AreFrontMarks faithful stored marks torn → length marks ≤ 65535
@@ -182,8 +191,8 @@ few_counts Undo have n m same = (same, refl)
 few_counts Redo have n m same = (same, refl)
 
 -- what is found, where it isn't read
-pub front_refused : {T A : Type 0} {faithful : T → Type 0} {text : T → List ℕ} {failures : T → ℕ} {old new : T} → (s : Steps) (e f : SessionFault) → FindsFront {A = A} faithful text failures (Err e) old new → f ≡ fault_that s.way e
-    → FindsSteps {A = A} faithful text failures s (Err f) old new
+pub front_refused : {T A : Type 0} {faithful : T → Type 0} {text : T → List ℕ} {left : T → List ℕ → Type 0} {failures : T → ℕ} {old new : T} → (s : Steps) (e f : SessionFault) → FindsFront {A = A} faithful text left failures (Err e) old new → f ≡ fault_that s.way e
+    → FindsSteps {A = A} faithful text left failures s (Err f) old new
 front_refused {faithful = faithful} {text = text} {failures = failures} {old = old} {new = new} s e f finds is = record {
   marks = tt;
   can = tt;
@@ -194,16 +203,18 @@ front_refused {faithful = faithful} {text = text} {failures = failures} {old = o
     no_failure = tt;
     counts = subst (λ x. FaultCounts x (failures old) 0 (failures new) 0) (sym is) (that_counts s.way e (failures old) (failures new) finds.looks.counts);
   };
+  survives = finds.survives;
 }
 
 -- and where it is checked
-pub front_checked : {T A : Type 0} {faithful : T → Type 0} {text : T → List ℕ} {failures : T → ℕ} {old new : T} → (s : Steps) (found : Marked A) (r : Result (Marked A) SessionFault) → FindsFront faithful text failures (Ok found) old new
-    → IfOk r (IsChecked s found) → IfErr r (CannotStep s found) → FindsSteps faithful text failures s r old new
+pub front_checked : {T A : Type 0} {faithful : T → Type 0} {text : T → List ℕ} {left : T → List ℕ → Type 0} {failures : T → ℕ} {old new : T} → (s : Steps) (found : Marked A) (r : Result (Marked A) SessionFault) → FindsFront faithful text left failures (Ok found) old new
+    → IfOk r (IsChecked s found) → IfErr r (CannotStep s found) → FindsSteps faithful text left failures s r old new
 front_checked {faithful = faithful} {text = text} {old = old} s found (Ok checked) finds ok err = record {
   marks = subst (λ torn. AreFrontMarks (faithful old) (text old) checked.marks.items torn) (sym ok.1) (subst (λ items. AreFrontMarks (faithful old) (text old) items found.torn) (sym ok.0) finds.marks);
   can = ok.2;
   fault = tt;
   looks = record { same = finds.looks.same; faith = finds.looks.faith; no_failure = finds.looks.no_failure; counts = tt };
+  survives = finds.survives;
 }
 front_checked {faithful = faithful} {text = text} {failures = failures} {old = old} {new = new} s found (Err e) finds ok err = record {
   marks = tt;
@@ -215,28 +226,30 @@ front_checked {faithful = faithful} {text = text} {failures = failures} {old = o
     no_failure = tt;
     counts = subst (λ x. FaultCounts x (failures old) 0 (failures new) 0) (sym err.1) (few_counts s.way (length found.marks.items) (failures old) (failures new) finds.looks.no_failure);
   };
+  survives = finds.survives;
 }
 
 -- a redo text with something unfinished isn't stepped over
-pub left_refused : {T A V : Type 0} {faithful : T → Type 0} {text : T → List ℕ} {failures : T → ℕ} {v : V} {old now new : T} → (s : Steps) (found : Marked A) (torn : Torn) (line : ℕ) → FindsFront faithful text failures (Ok found) old now
-    → IsLeftIn s.way found.torn torn → LooksAt faithful text failures (Ok v) now new → (faithful now → torn.begins ≤ length (text now) → BeginsLine (text now) torn.begins line)
-    → FindsSteps {A = A} faithful text failures s (Err (RedoDamaged line)) old new
-left_refused {faithful = faithful} {text = text} {failures = failures} {old = old} {now = now} {new = new} s found torn line finds left then begins = record {
+pub left_refused : {T A V : Type 0} {faithful : T → Type 0} {text : T → List ℕ} {left : T → List ℕ → Type 0} {failures : T → ℕ} {v : V} {old now new : T} → (s : Steps) (found : Marked A) (torn : Torn) (line : ℕ) → FindsFront faithful text left failures (Ok found) old now
+    → IsLeftIn s.way found.torn torn → LooksAt faithful text failures (Ok v) now new → (faithful now → NoMore (left now) (left new)) → (faithful now → torn.begins ≤ length (text now) → BeginsLine (text now) torn.begins line)
+    → FindsSteps {A = A} faithful text left failures s (Err (RedoDamaged line)) old new
+left_refused {faithful = faithful} {text = text} {failures = failures} {old = old} {now = now} {new = new} s found torn line finds is then more begins = record {
   marks = tt;
   can = tt;
-  fault = (left.0, λ h. inr (left_at h));
+  fault = (is.0, λ h. inr (left_at h));
   looks = record {
     same = λ h. then.same (finds.looks.faith.1 h) ∙ finds.looks.same h;
     faith = ((λ h. finds.looks.faith.0 (then.faith.0 h)), λ h. then.faith.1 (finds.looks.faith.1 h));
     no_failure = tt;
     counts = (then.no_failure ∙ finds.looks.no_failure, refl);
   };
+  survives = λ h. NoMore_then _ _ _ (finds.survives h) (more (finds.looks.faith.1 h));
 }
   where
     left_at : faithful old → IsLeftAt (text old) line
     left_at h =
         let a = finds.marks in
-        let b = subst (StandsBehind (text old) a.front a.entries) left.1 (a.behind h) in
+        let b = subst (StandsBehind (text old) a.front a.entries) is.1 (a.behind h) in
         let at : line ≡ suc (length (split (take torn.begins (text old))).lines) =
         subst (λ t. BeginsLine t torn.begins line) (finds.looks.same h) (begins (finds.looks.faith.1 h) (subst (λ t. torn.begins ≤ length t) (sym (finds.looks.same h)) b.4.within)) in
         record {
@@ -247,9 +260,9 @@ left_refused {faithful = faithful} {text = text} {failures = failures} {old = ol
         }
 
 -- its line isn't found where the text can't be read
-pub left_unread : {T A V : Type 0} {faithful : T → Type 0} {text : T → List ℕ} {failures : T → ℕ} {old now new : T} → (s : Steps) (found : Marked A) (e : SessionFault) → FindsFront faithful text failures (Ok found) old now
-    → LooksAt {R = V} faithful text failures (Err e) now new → LacksOrFails e → FindsSteps {A = A} faithful text failures s (Err e) old new
-left_unread {faithful = faithful} {text = text} {failures = failures} {old = old} {now = now} {new = new} s found e finds then lacks = record {
+pub left_unread : {T A V : Type 0} {faithful : T → Type 0} {text : T → List ℕ} {left : T → List ℕ → Type 0} {failures : T → ℕ} {old now new : T} → (s : Steps) (found : Marked A) (e : SessionFault) → FindsFront faithful text left failures (Ok found) old now
+    → LooksAt {R = V} faithful text failures (Err e) now new → (faithful now → NoMore (left now) (left new)) → LacksOrFails e → FindsSteps {A = A} faithful text left failures s (Err e) old new
+left_unread {faithful = faithful} {text = text} {failures = failures} {old = old} {now = now} {new = new} s found e finds then more lacks = record {
   marks = tt;
   can = tt;
   fault = lacks_stops (faithful old) (text old) s e lacks;
@@ -259,6 +272,7 @@ left_unread {faithful = faithful} {text = text} {failures = failures} {old = old
     no_failure = tt;
     counts = subst (λ n. FaultCounts e n 0 (failures new) 0) finds.looks.no_failure then.counts;
   };
+  survives = λ h. NoMore_then _ _ _ (finds.survives h) (more (finds.looks.faith.1 h));
 }
 
 -- a fault of writing

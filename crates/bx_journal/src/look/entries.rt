@@ -1,6 +1,7 @@
 //! The entries of a text that are marked, a row for each.
 ghost use Rattle.std.specs.Prelude.{◌≡◌, ◌<◌, ◌≤◌, ◌++◌, ℕ, All, OnOk, IfOk, IfErr, length, string_bytes};
 ghost use Rattle.std.specs.Io.KnownBytes.{Appends};
+ghost use Rattle.bx_image.specs.Power.{NoMore};
 ghost use Rattle.bx_journal_read.specs.show.Showing.{CountsNone, LiesWithin, LookCounts, PutFault, Stays, mark_row, mark_rows, places_at, row_front};
 ghost use Rattle.bx_journal_read.specs.show.Stopping.{CountsBytes, StopsPrefix};
 
@@ -59,6 +60,7 @@ fn put_places<T: TextStore, A: Allocator + Clone, W: Write>(
         (StopsPrefix written (places_at (T.text journal.old) mark) (W.contents out.old) (W.contents out.new)) }
     ensures kind { IfErr result PutFault }
     ensures stays { Stays T.faithful T.text T.failures result journal.old journal.new }
+    ensures survives { T.faithful journal.old → NoMore (T.survives journal.old) (T.survives journal.new) }
     ensures counts { IfErr result (λ f. LookCounts f (T.failures journal.old) 0 (T.failures journal.new) 0) }
 {
     if mark.saved == 0 {
@@ -93,6 +95,7 @@ fn put_row<T: TextStore, A: Allocator + Clone, W: Write>(
         (StopsPrefix written (mark_row (T.text journal.old) change.number change.mark) (W.contents out.old) (W.contents out.new)) }
     ensures kind { IfErr result PutFault }
     ensures stays { Stays T.faithful T.text T.failures result journal.old journal.new }
+    ensures survives { T.faithful journal.old → NoMore (T.survives journal.old) (T.survives journal.new) }
     ensures counts { IfErr result (λ f. LookCounts f (T.failures journal.old) 0 (T.failures journal.new) 0) }
 {
     let front = put_front(alloc, change.number, change.mark, written, out)?;
@@ -114,6 +117,7 @@ pub fn put_rows<T: TextStore, A: Allocator + Clone, W: Write>(
         (StopsPrefix 0 (mark_rows (T.text journal.old) 1 marks.now) (W.contents out.old) (W.contents out.new)) }
     ensures kind { IfErr result PutFault }
     ensures stays { Stays T.faithful T.text T.failures result journal.old journal.new }
+    ensures survives { T.faithful journal.old → NoMore (T.survives journal.old) (T.survives journal.new) }
     ensures counts { IfErr result (λ f. LookCounts f (T.failures journal.old) 0 (T.failures journal.new) 0) }
 {
     let mut window = vec![in alloc.clone()?; 0u8; WINDOW as usize]?;

@@ -1,6 +1,7 @@
 -- What a look at the changes of a text writes.
 use Rattle.std.specs.Prelude.{ℕ, suc, ◌==◌, None, Some, Option, List, [], ◌∷◌, ◌++◌, length, map, sum, if◌then◌else◌, codes, decimal, ◌≡◌, ◌↔◌, ◌<◌, ◌≤◌, ◌+◌, ◌-◌, Vec, Result, IfOk, IfErr, OnOk, take, drop}
 use Rattle.std.specs.Io.KnownBytes.{Appends}
+use Rattle.bx_image.specs.Power.{NoMore}
 use Rattle.bx_image.specs.declared.device.Device.{Ghosts as DeviceViews}
 use Rattle.bx_journal_store.specs.declared.store.TextStore.{Ghosts as StoreViews}
 use Rattle.bx_journal_format.specs.Finished.{IsFinished}
@@ -94,11 +95,12 @@ pub record AreAllMarks (faithful : Type 0) (stored : List ℕ) (marks : List Mar
   pub marks_are : marks ≡ marks_of entries
 
 -- A call that looks for the marks of all entries of a text: it answers them, or a fault of reading it
-pub record FindsMarks {T A : Type 0} (faithful : T → Type 0) (text : T → List ℕ) (failures : T → ℕ) (result : Result (Vec Mark A) SessionFault)
-    (old new : T) : Type 0 where
+pub record FindsMarks {T A : Type 0} (faithful : T → Type 0) (text : T → List ℕ) (left : T → List ℕ → Type 0) (failures : T → ℕ)
+    (result : Result (Vec Mark A) SessionFault) (old new : T) : Type 0 where
   pub marks : IfOk result (λ marks. AreAllMarks (faithful old) (text old) marks.items)
   pub fault : IfErr result (FindFault (faithful old) (shown (text old)))
   pub looks : LooksAt faithful text failures result old new
+  pub survives : faithful old → NoMore (left old) (left new)
 
 -- a call that only looks at a text, whatever its faults are: the text stays, and no call failed where it is accepted
 pub record Stays {T R E : Type 0} (faithful : T → Type 0) (text : T → List ℕ) (failures : T → ℕ) (result : Result R E) (old new : T) : Type 0 where
@@ -106,10 +108,13 @@ pub record Stays {T R E : Type 0} (faithful : T → Type 0) (text : T → List �
   pub faith : faithful new ↔ faithful old
   pub no_failure : OnOk result (failures new ≡ failures old)
 
--- a call that writes what it reads of a device, the image's or a text's: which fault it answers, and that it changes nothing there
-pub record WritesFrom {T R : Type 0} (faithful : T → Type 0) (view : T → List ℕ) (failures : T → ℕ) (result : Result R ShowFault) (old new : T) : Type 0 where
+-- a call that writes what it reads of a device, the image's or a text's: which fault it answers, and that it changes nothing there, nor what a
+-- loss of power leaves to be found
+pub record WritesFrom {T R : Type 0} (faithful : T → Type 0) (view : T → List ℕ) (left : T → List ℕ → Type 0) (failures : T → ℕ)
+    (result : Result R ShowFault) (old new : T) : Type 0 where
   pub kind : IfErr result PutFault
   pub stays : Stays faithful view failures result old new
+  pub survives : faithful old → NoMore (left old) (left new)
   pub counts : IfErr result (λ f. LookCounts f (failures old) 0 (failures new) 0)
 
 -- the same of one that reads a text beside an image
@@ -117,6 +122,8 @@ pub record WritesBeside {D T R : Type 0} (d : DeviceViews D) (t : StoreViews T) 
   pub kind : IfErr result PutFault
   pub image : Stays d.faithful d.image d.failures result image_old image_new
   pub text : Stays t.faithful t.text t.failures result text_old text_new
+  pub image_survives : d.faithful image_old → NoMore (d.survives image_old) (d.survives image_new)
+  pub text_survives : t.faithful text_old → NoMore (t.survives text_old) (t.survives text_new)
   pub counts : IfErr result (λ f. LookCounts f (d.failures image_old) (t.failures text_old) (d.failures image_new) (t.failures text_new))
 
 -- whole lines at a place of an entry's saved lines end ranges, which were written; the lines are the store's, where that is faithful

@@ -7,6 +7,7 @@ use Rattle.bx_journal_format.specs.Shown.{shown}
 use Rattle.bx_journal_format.specs.Spelled.{EntryLines, IsSpelled, entry_in}
 use Rattle.bx_journal_format.specs.Text.{Entry, Stage, Between, Saving, Ending, IsPrefix, Reading, Reads, IsDamagedAt, split}
 use Rattle.bx_journal_read.specs.show.Differences.{diff_text, made_text}
+use Rattle.bx_image.specs.Power.{NoMore}
 use Rattle.bx_journal_model.specs.Fault.{DeviceFault, redo_fault}
 use Rattle.bx_journal_model.specs.Redo.{BeginsAt, IsClean}
 use Rattle.bx_journal_read.specs.show.Showing.{after_text, bytes_of, PutFault, lines_at, ranges_at}
@@ -265,11 +266,12 @@ pub record AreFrontMarks (faithful : Type 0) (stored : List ℕ) (marks : List M
   pub behind : faithful → StandsBehind stored front entries torn
 
 -- A call that looks for the marks of the finished entries of a text: it answers them, or a fault of reading it
-pub record FindsFront {T A : Type 0} (faithful : T → Type 0) (text : T → List ℕ) (failures : T → ℕ) (result : Result (Marked A) SessionFault)
-    (old new : T) : Type 0 where
+pub record FindsFront {T A : Type 0} (faithful : T → Type 0) (text : T → List ℕ) (left : T → List ℕ → Type 0) (failures : T → ℕ)
+    (result : Result (Marked A) SessionFault) (old new : T) : Type 0 where
   pub marks : IfOk result (λ found. AreFrontMarks (faithful old) (text old) found.marks.items found.torn)
   pub fault : IfErr result (FindFault (faithful old) (shown (text old)))
   pub looks : LooksAt faithful text failures result old new
+  pub survives : faithful old → NoMore (left old) (left new)
 
 -- a fault of reading the text, as the call that steps answers it
 abbrev pub fault_that : Direction → SessionFault → SessionFault
@@ -302,12 +304,13 @@ abbrev pub CannotStep : {A : Type 0} → Steps → Marked A → SessionFault →
 CannotStep s found fault = (length found.marks.items < s.count) × (fault ≡ few_that s.way (length found.marks.items))
 
 -- A call that looks for the marks of the entries that are to be stepped over: it answers them, or why they aren't
-pub record FindsSteps {T A : Type 0} (faithful : T → Type 0) (text : T → List ℕ) (failures : T → ℕ) (s : Steps) (result : Result (Marked A) SessionFault)
-    (old new : T) : Type 0 where
+pub record FindsSteps {T A : Type 0} (faithful : T → Type 0) (text : T → List ℕ) (left : T → List ℕ → Type 0) (failures : T → ℕ) (s : Steps)
+    (result : Result (Marked A) SessionFault) (old new : T) : Type 0 where
   pub marks : IfOk result (λ found. AreFrontMarks (faithful old) (text old) found.marks.items found.torn)
   pub can : IfOk result (CanStep s)
   pub fault : IfErr result (λ e. StopsSteps (faithful old) (text old) s (Text e))
   pub looks : LooksAt faithful text failures result old new
+  pub survives : faithful old → NoMore (left old) (left new)
 
 -- the line on what is unfinished was written, and the steps over what was found
 abbrev pub IsFoundPut : {A : Type 0} → Steps → List ℕ → List ℕ → Marked A → Option (List ℕ) → Option (List ℕ) → Type 0

@@ -1,5 +1,6 @@
 //! Bytes of an image that are kept in a page: lines that lie near one another take one read.
 ghost use Rattle.std.specs.Prelude.{◌≡◌, ◌+◌, ◌<◌, ◌≤◌, length, IfOk, IsTrue, OnErr};
+ghost use Rattle.bx_image.specs.Power.{NoMore};
 ghost use Rattle.bx_journal_read.specs.show.Differences.{HasCached, IsCache};
 ghost use Rattle.bx_journal_read.specs.show.Showing.{Stays};
 
@@ -42,6 +43,7 @@ pub fn keep<D: Device>(
     ensures cache { IfOk result (IsCache (D.faithful device.old) (D.image device.old) page.new) }
     ensures has { IfOk result (λ now. HasCached now at count) }
     ensures stays { Stays D.faithful D.image D.failures result device.old device.new }
+    ensures survives { D.faithful device.old → NoMore (D.survives device.old) (D.survives device.new) }
     ensures counts { OnErr result (D.failures device.new ≡ D.failures device.old + 1) }
 {
     if has_bytes(cached, at, count) {

@@ -57,7 +57,7 @@ fn push_now<D: Device, A: Allocator>(
     ensures added { D.faithful device.old → OnOk result
         (text.new.items ≡ text.old.items ++ signed_line (codes "-") at (take count (drop at (D.image device.old)))) }
     ensures cache { IfOk result (IsCache (D.faithful device.old) (D.image device.old) page.new) }
-    ensures puts { WritesFrom D.faithful D.image D.failures result device.old device.new }
+    ensures puts { WritesFrom D.faithful D.image D.survives D.failures result device.old device.new }
     ensures read { IfErr result IsOfReading }
 {
     if cached.len <= at {
@@ -84,7 +84,7 @@ fn push_beside<D: Device, A: Allocator>(
     requires cache { IsCache (D.faithful device.old) (D.image device.old) page.old cached }
     ensures added { D.faithful device.old → OnOk result (text.new.items ≡ text.old.items ++ diff_line (D.image device.old) before line.now) }
     ensures cache { IfOk result (IsCache (D.faithful device.old) (D.image device.old) page.new) }
-    ensures puts { WritesFrom D.faithful D.image D.failures result device.old device.new }
+    ensures puts { WritesFrom D.faithful D.image D.survives D.failures result device.old device.new }
     ensures read { IfErr result IsOfReading }
 {
     let Some(saved) = saved_in(before, line) else {
@@ -111,7 +111,7 @@ fn push_lines<D: Device, A: Allocator>(
     ensures added { D.faithful device.old → IfOk result (λ lines. AreAdded (diff_line (D.image device.old) before)
         window.now lines.taken text.old.items text.new.items) }
     ensures cache { IfOk result (λ lines. IsCache (D.faithful device.old) (D.image device.old) page.new lines.cached) }
-    ensures puts { WritesFrom D.faithful D.image D.failures result device.old device.new }
+    ensures puts { WritesFrom D.faithful D.image D.survives D.failures result device.old device.new }
     ensures read { IfErr result IsOfReading }
 {
     let mut taken: usize = 0;

@@ -130,7 +130,7 @@ fn put_where<T: TextStore, A: Allocator + Clone, W: Write>(
     ensures counted { T.faithful store.old → IfOk result (CountsBytes written (where_at (T.text store.old) mark)) }
     ensures stops { T.faithful store.old → IfErr result
         (StopsPrefix written (where_at (T.text store.old) mark) (W.contents out.old) (W.contents out.new)) }
-    ensures puts { WritesFrom T.faithful T.text T.failures result store.old store.new }
+    ensures puts { WritesFrom T.faithful T.text T.survives T.failures result store.old store.new }
 {
     if mark.saved == 0 {
         return Ok(written);
@@ -180,7 +180,7 @@ pub fn put_heading<T: TextStore, A: Allocator + Clone, W: Write>(
     ensures stops { T.faithful store.old → IfErr result (StopsPrefix writing.old.written
         (heading_at (T.text store.old) step.steps.way step.number step.mark ++ length_told step.steps step.mark.after step.mark.len)
         (W.contents out.old) (W.contents out.new)) }
-    ensures puts { WritesFrom T.faithful T.text T.failures result store.old store.new }
+    ensures puts { WritesFrom T.faithful T.text T.survives T.failures result store.old store.new }
 {
     let alloc = &writing.alloc;
     let way = step.steps.way;

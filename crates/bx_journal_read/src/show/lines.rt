@@ -93,7 +93,7 @@ fn put_window<T: TextStore, A: Allocator, W: Write>(
     ensures stops { T.faithful store.old → IfErr result (StopsPrefix writing.old.written
         (shown_between (made_line mark.len) (T.text store.old) at mark.to) (W.contents out.old) (W.contents out.new)) }
     ensures on { IfOk result (λ next. (at < next) × (next ≤ mark.to)) }
-    ensures puts { WritesFrom T.faithful T.text T.failures result store.old store.new }
+    ensures puts { WritesFrom T.faithful T.text T.survives T.failures result store.old store.new }
 {
     let window = writing.window.as_mut_slice();
     let cut = read_cut(store, window, at, mark.to)?;
@@ -127,7 +127,7 @@ pub fn put_lines<T: TextStore, A: Allocator, W: Write>(
         (made_text mark.len (split (lines_at (T.text store.old) mark)).lines) writing.new.written) }
     ensures stops { T.faithful store.old → IfErr result (StopsPrefix writing.old.written
         (made_text mark.len (split (lines_at (T.text store.old) mark)).lines) (W.contents out.old) (W.contents out.new)) }
-    ensures puts { WritesFrom T.faithful T.text T.failures result store.old store.new }
+    ensures puts { WritesFrom T.faithful T.text T.survives T.failures result store.old store.new }
 {
     let mut at = mark.from;
     while at < mark.to {

@@ -1,6 +1,7 @@
 //! The marks of a text's entries, from a text that is read in windows.
 ghost use Rattle.std.specs.Prelude.{◌≡◌, ◌<◌, ◌≤◌, length, true, IfOk, IfErr, IfSome};
 ghost use Rattle.bx_journal_format.specs.count.Marks.{IsMarked};
+ghost use Rattle.bx_image.specs.Power.{NoMore};
 ghost use Rattle.bx_journal_model.specs.Looking.{LooksAt};
 ghost use Rattle.bx_journal_model.specs.Fault.{LacksOrFails};
 ghost use Rattle.bx_journal_read.specs.show.Showing.{AreAllMarks, AreMarksOf, FindsMarks};
@@ -86,6 +87,7 @@ pub fn marks_to<T: TextStore, A: Allocator + Clone>(
     ensures marks { IfOk result (λ found. IfSome found (λ marks. AreMarksOf (T.faithful store.old) (T.text store.old) len marks.items)) }
     ensures fault { IfErr result LacksOrFails }
     ensures looks { LooksAt T.faithful T.text T.failures result store.old store.new }
+    ensures survives { T.faithful store.old → NoMore (T.survives store.old) (T.survives store.new) }
 {
     let size = WINDOW.min(len) as usize;
     let mut window = vec![in alloc.clone()?; 0u8; size]?;
@@ -116,6 +118,7 @@ pub fn marks_in_windows<T: TextStore, A: Allocator + Clone>(
     ensures marks { IfOk result (λ found. IfSome found (λ marks. AreAllMarks (T.faithful store.old) (T.text store.old) marks.items)) }
     ensures fault { IfErr result LacksOrFails }
     ensures looks { LooksAt T.faithful T.text T.failures result store.old store.new }
+    ensures survives { T.faithful store.old → NoMore (T.survives store.old) (T.survives store.new) }
 {
     let len = store.len()?;
     let found = marks_to(alloc, store, len)?;
@@ -128,7 +131,7 @@ fn refuse_marks<T: TextStore, A: Allocator + Clone>(
     store: &mut T,
 ) -> Result<Vec<Mark, A>, SessionFault>
     requires { T.failures store.old < u64.MAX }
-    ensures { FindsMarks T.faithful T.text T.failures result store.old store.new }
+    ensures { FindsMarks T.faithful T.text T.survives T.failures result store.old store.new }
 {
     match read_text(alloc, store) {
         Ok(_) => Err(SessionFault::NoMemory),
@@ -142,7 +145,7 @@ pub fn all_marks<T: TextStore, A: Allocator + Clone>(
     store: &mut T,
 ) -> Result<Vec<Mark, A>, SessionFault>
     requires { T.failures store.old < u64.MAX }
-    ensures { FindsMarks T.faithful T.text T.failures result store.old store.new }
+    ensures { FindsMarks T.faithful T.text T.survives T.failures result store.old store.new }
 {
     let found = match marks_in_windows(alloc, store) {
         Ok(found) => found,

@@ -35,7 +35,7 @@ fn put_window<T: TextStore, A: Allocator + Clone, W: Write>(
     requires below { done.ranging.at + done.ranging.count ≤ mark.len }
     ensures put { IfOk result (λ next. PutsOn (T.faithful store.old) (T.text store.old) mark done next (W.contents out.old) (W.contents out.new)) }
     ensures stops { T.faithful store.old → IfErr result (StopsRanges (T.text store.old) mark done (W.contents out.old) (W.contents out.new)) }
-    ensures puts { WritesFrom T.faithful T.text T.failures result store.old store.new }
+    ensures puts { WritesFrom T.faithful T.text T.survives T.failures result store.old store.new }
 {
     let cut = read_cut(store, window, done.at, mark.to)?;
     let (now, _) = window.split_at(cut.count);
@@ -68,7 +68,7 @@ pub fn put_ranges<T: TextStore, A: Allocator + Clone, W: Write>(
     ensures counted { T.faithful store.old → IfOk result (CountsBytes written (ranges_at (T.text store.old) mark)) }
     ensures stops { T.faithful store.old → IfErr result
         (StopsPrefix written (ranges_at (T.text store.old) mark) (W.contents out.old) (W.contents out.new)) }
-    ensures puts { WritesFrom T.faithful T.text T.failures result store.old store.new }
+    ensures puts { WritesFrom T.faithful T.text T.survives T.failures result store.old store.new }
 {
     let mut done = Done {
         ranging: nothing_ranged(),

@@ -32,7 +32,7 @@ fn marks_before<T: TextStore, A: Allocator + Clone>(
 ) -> Result<Marked<A>, SessionFault>
     requires countable { T.failures store.old < u64.MAX }
     requires unfinished { IsUnfinishedIn (T.faithful store.old) (T.text store.old) torn }
-    ensures { FindsFront T.faithful T.text T.failures result store.old store.new }
+    ensures { FindsFront T.faithful T.text T.survives T.failures result store.old store.new }
 {
     let found = match marks_to(alloc, store, torn.begins) {
         Ok(found) => found,
@@ -53,7 +53,7 @@ fn marks_of_unfinished<T: TextStore, A: Allocator + Clone>(
     store: &mut T,
 ) -> Result<Marked<A>, SessionFault>
     requires { T.failures store.old < u64.MAX }
-    ensures { FindsFront T.faithful T.text T.failures result store.old store.new }
+    ensures { FindsFront T.faithful T.text T.survives T.failures result store.old store.new }
 {
     let found = match read_text(alloc, store) {
         Ok(found) => found,
@@ -71,7 +71,7 @@ pub fn front_marks<T: TextStore, A: Allocator + Clone>(
     store: &mut T,
 ) -> Result<Marked<A>, SessionFault>
     requires { T.failures store.old < u64.MAX }
-    ensures { FindsFront T.faithful T.text T.failures result store.old store.new }
+    ensures { FindsFront T.faithful T.text T.survives T.failures result store.old store.new }
 {
     let found = match marks_in_windows(alloc, store) {
         Ok(found) => found,

@@ -13,7 +13,7 @@ returns-in_default g c = front_checked c.args.steps c.in-Ok.found c.check_steps.
 
 pub returns-in-Ok-line_from : goal.returns-in-Ok-line_from
 returns-in-Ok-line_from g c =
-    left_refused c.args.steps c.in-Ok.found c.in-Some.left c.in-Ok-line_from.line c.in-Ok.ensures c.in-Some.ensures.some c.in-Ok-line_from.ensures.reads.looks c.in-Ok-line_from.ensures.line
+    left_refused c.args.steps c.in-Ok.found c.in-Some.left c.in-Ok-line_from.line c.in-Ok.ensures c.in-Some.ensures.some c.in-Ok-line_from.ensures.reads.looks c.in-Ok-line_from.ensures.reads.survives c.in-Ok-line_from.ensures.line
 
 pub returns : goal.returns
-returns g c = left_unread c.args.steps c.in-Ok.found c.in-Err-line_from.fault c.in-Ok.ensures c.in-Err-line_from.ensures.reads.looks c.in-Err-line_from.ensures.reads.fault
+returns g c = left_unread c.args.steps c.in-Ok.found c.in-Err-line_from.fault c.in-Ok.ensures c.in-Err-line_from.ensures.reads.looks c.in-Err-line_from.ensures.reads.survives c.in-Err-line_from.ensures.reads.fault

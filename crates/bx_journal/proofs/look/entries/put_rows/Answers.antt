@@ -2,6 +2,7 @@ use Rattle.std.proofs.lemmas.Result.{err_from_is_err_and}
 use Rattle.std.proofs.Common.{◌≡◌, ◌∙◌, length, refl, ap, subst, sym, arith, None, Result, Err}
 use Rattle.std.proofs.KnownBytes.{Appends-nil}
 use Rattle.std.specs.Io.KnownBytes.{Appends}
+use Rattle.bx_image.proofs.Survivors.{NoMore_then}
 use Rattle.bx_journal_read.proofs.RowTexts.{rows_none, rows_written}
 use Rattle.bx_journal_read.proofs.StopLemmas.{handed_on, refused_on}
 use Rattle.bx_journal_model.specs.declared.fault.SessionFault.TheVariants.{NoMemory}
@@ -25,6 +26,7 @@ loop-i-init g c = record {
   rows = λ h. subst (Appends (g.W.Write.contents c.args.out.now) (g.W.Write.contents c.args.out.now)) (sym (rows_none (g.T.TextStore.text c.args.journal.now) 1)) (Appends-nil (g.W.Write.contents c.args.out.now));
   counted = λ h few. omega (arith, ap length (rows_none (g.T.TextStore.text c.args.journal.now) 1));
   text = λ h. refl;
+  survives = λ h y there. there;
   faith = ((λ h. h), λ h. h);
   failures = refl;
 }
@@ -39,6 +41,7 @@ loop-i-preserved g c =
       counted = λ h. row_counted (g.T.TextStore.text c.args.journal.now) (g.T.TextStore.text c.loop-i.journal) c.args.marks.now c.loop-i.i c.loop-i.written c.in_ok-written.written none (omega arith) (inv.text h)
           (inv.counted h) (now.counted (inv.faith.1 h));
       text = λ h. now.stays.same (inv.faith.1 h) ∙ inv.text h;
+      survives = λ h. NoMore_then _ _ _ (inv.survives h) (now.survives (inv.faith.1 h));
       faith = ((λ h. inv.faith.0 (now.stays.faith.0 h)), λ h. now.stays.faith.1 (inv.faith.1 h));
       failures = now.stays.no_failure ∙ inv.failures;
     }
@@ -52,6 +55,11 @@ returns-in_err-written-clause-stays g c =
       faith = ((λ h. inv.faith.0 (now.stays.faith.0 h)), λ h. now.stays.faith.1 (inv.faith.1 h));
       no_failure = none_ok _ c.from_residual-in_err-written.result _ (err_from_is_err_and c.from_residual-in_err-written.result c.from_residual-in_err-written.ensures.1).1;
     }
+
+pub returns-in_err-written-clause-survives : goal.returns-in_err-written-clause-survives
+returns-in_err-written-clause-survives g c h =
+    let inv = c.loop-i.invariant in
+    NoMore_then _ _ _ (inv.survives h) (c.in_err-written.ensures.survives (inv.faith.1 h))
 
 pub put_row-requires-clause-within : goal.put_row-requires-clause-within
 put_row-requires-clause-within g c =

@@ -26,8 +26,8 @@ loop-i-init g c = record {
     ap length (steps_none c.args.steps (g.D.Device.image c.args.image.now) (g.T.TextStore.text c.args.journal.now)
         (first_number c.args.steps.way c.args.steps.changes (length c.args.marks.now)) c.args.marks.now),
   );
-  image = stayed_none g.D.Device.faithful g.D.Device.image g.D.Device.failures c.args.image.now;
-  text = stayed_none g.T.TextStore.faithful g.T.TextStore.text g.T.TextStore.failures c.args.journal.now;
+  image = stayed_none g.D.Device.faithful g.D.Device.image g.D.Device.survives g.D.Device.failures c.args.image.now;
+  text = stayed_none g.T.TextStore.faithful g.T.TextStore.text g.T.TextStore.survives g.T.TextStore.failures c.args.journal.now;
 }
 
 pub loop-i-preserved : goal.loop-i-preserved
@@ -41,8 +41,8 @@ loop-i-preserved g c =
       counted = λ h hd. step_counted c.args.writing.now.written c.loop-i.writing.written c.put_step.new.writing.written c.args.steps (g.D.Device.image c.args.image.now) (g.D.Device.image c.loop-i.image)
           (g.T.TextStore.text c.args.journal.now) (g.T.TextStore.text c.loop-i.journal) (first_number c.args.steps.way c.args.steps.changes (length c.args.marks.now)) c.loop-i.i c.step_number-number.result c.args.marks.now none
           (omega (arith, c.requires.enough)) (λ t. inv.image.same (hd t)) (inv.text.same h) c.step_number-number.ensures (inv.counted h hd) (now.counted (inv.text.faith.1 h) (λ t. inv.image.faith.1 (hd t)));
-      image = stayed_on inv.image now.puts.image.same now.puts.image.faith now.puts.image.no_failure;
-      text = stayed_on inv.text now.puts.text.same now.puts.text.faith now.puts.text.no_failure;
+      image = stayed_on inv.image now.puts.image.same now.puts.image_survives now.puts.image.faith now.puts.image.no_failure;
+      text = stayed_on inv.text now.puts.text.same now.puts.text_survives now.puts.text.faith now.puts.text.no_failure;
     }
 
 pub put_step-requires-clause-within : goal.put_step-requires-clause-within

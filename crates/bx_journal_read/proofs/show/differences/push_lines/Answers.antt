@@ -12,7 +12,7 @@ loop-rest-init g c = record {
   cache = c.requires.cache;
   left = refl;
   within = omega arith;
-  image = stayed_none g.D.Device.faithful g.D.Device.image g.D.Device.failures c.args.device.now;
+  image = stayed_none g.D.Device.faithful g.D.Device.image g.D.Device.survives g.D.Device.failures c.args.device.now;
 }
 
 pub push_beside-requires-clause-cache : goal.push_beside-requires-clause-cache
@@ -36,5 +36,5 @@ loop-rest-preserved g c =
           c.in_ok-now.now inv.image.faith.1 (λ h. sym (inv.image.same h)) now.cache;
       left = c.split_at.ensures.back ∙ ap (drop (c.in-Some.i + 1)) inv.left ∙ drop_twice c.loop-rest.taken (c.in-Some.i + 1) c.args.window.now;
       within = omega (arith, f.0, inv.within, ap length inv.left, long);
-      image = stayed_on inv.image now.puts.stays.same now.puts.stays.faith now.puts.stays.no_failure;
+      image = stayed_on inv.image now.puts.stays.same now.puts.survives now.puts.stays.faith now.puts.stays.no_failure;
     }

@@ -10,7 +10,7 @@ invariant-loop-rest g l = record {
   cache : IsCache (g.D.Device.faithful l.fn.device) (g.D.Device.image l.fn.device) l.page l.now;
   left : l.rest ≡ drop l.taken l.window;
   within : l.taken ≤ length l.window;
-  image : HasStayed g.D.Device.faithful g.D.Device.image g.D.Device.failures l.fn.device l.device;
+  image : HasStayed g.D.Device.faithful g.D.Device.image g.D.Device.survives g.D.Device.failures l.fn.device l.device;
 }
 
 abbrev pub decreases-loop-rest : goal.decreases-loop-rest

@@ -1,5 +1,6 @@
 use Rattle.std.proofs.Common.{rules, length, refl, ap, sym, ◌∙◌, subst, arith}
 use Rattle.std.specs.Io.KnownBytes.{Appends}
+use Rattle.bx_image.proofs.Survivors.{NoMore_then}
 use Rattle.bx_journal_format.specs.Text.{split}
 use Rattle.std.specs.Prelude.{IfErr, OnOk}
 use Rattle.bx_journal_read.specs.show.Differences.{diff_text}
@@ -33,6 +34,8 @@ returns-in_err-len-clause-puts g c = record {
   kind = search rules;
   image = record { same = λ h. c.len.ensures.image h; faith = c.len.ensures.goes_on.faith; no_failure = search rules };
   text = search rules;
+  image_survives = λ h. c.len.ensures.survives h;
+  text_survives = λ h y there. there;
   counts = search rules;
 }
 
@@ -43,6 +46,8 @@ returns-clause-puts g c =
       kind = last.kind;
       image = stays_behind (λ h. c.len.ensures.image h) c.len.ensures.goes_on.faith c.in_ok-len.ensures.goes_on.counted last.image;
       text = last.text;
+      image_survives = λ h. NoMore_then _ _ _ (c.len.ensures.survives h) (last.image_survives (c.len.ensures.goes_on.faith.1 h));
+      text_survives = last.text_survives;
       counts = counts_behind _ _ c.put_windows.result c.in_ok-len.ensures.goes_on.counted refl last.counts;
     }
 

@@ -13,8 +13,8 @@ loop-done-init g c = record {
   cache = c.requires.cache;
   behind = omega arith;
   within = c.requires.at;
-  image = stayed_none g.D.Device.faithful g.D.Device.image g.D.Device.failures c.args.device.now;
-  text = stayed_none g.T.TextStore.faithful g.T.TextStore.text g.T.TextStore.failures c.args.store.now;
+  image = stayed_none g.D.Device.faithful g.D.Device.image g.D.Device.survives g.D.Device.failures c.args.device.now;
+  text = stayed_none g.T.TextStore.faithful g.T.TextStore.text g.T.TextStore.survives g.T.TextStore.failures c.args.store.now;
 }
 
 pub put_window-requires-clause-cache : goal.put_window-requires-clause-cache
@@ -49,8 +49,8 @@ loop-done-preserved g c =
           c.in_ok-done.done.cached inv.image.faith.1 (λ h. sym (inv.image.same h)) now.cache;
       behind = omega (arith, inv.behind, now.on.0);
       within = now.on.1;
-      image = stayed_on inv.image now.puts.image.same now.puts.image.faith now.puts.image.no_failure;
-      text = stayed_on inv.text now.puts.text.same now.puts.text.faith now.puts.text.no_failure;
+      image = stayed_on inv.image now.puts.image.same now.puts.image_survives now.puts.image.faith now.puts.image.no_failure;
+      text = stayed_on inv.text now.puts.text.same now.puts.text_survives now.puts.text.faith now.puts.text.no_failure;
     }
 
 pub returns-clause-put : goal.returns-clause-put

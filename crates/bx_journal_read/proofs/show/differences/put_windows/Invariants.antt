@@ -14,8 +14,8 @@ invariant-loop-done g l = record {
   cache : IsCache (g.D.Device.faithful l.fn.device) (g.D.Device.image l.fn.device) l.page l.done.cached;
   behind : l.fn.from.done.at ≤ l.done.at;
   within : l.done.at ≤ l.from.mark.to;
-  image : HasStayed g.D.Device.faithful g.D.Device.image g.D.Device.failures l.fn.device l.device;
-  text : HasStayed g.T.TextStore.faithful g.T.TextStore.text g.T.TextStore.failures l.fn.store l.store;
+  image : HasStayed g.D.Device.faithful g.D.Device.image g.D.Device.survives g.D.Device.failures l.fn.device l.device;
+  text : HasStayed g.T.TextStore.faithful g.T.TextStore.text g.T.TextStore.survives g.T.TextStore.failures l.fn.store l.store;
 }
 
 abbrev pub decreases-loop-done : goal.decreases-loop-done

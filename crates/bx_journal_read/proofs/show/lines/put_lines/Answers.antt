@@ -12,7 +12,7 @@ loop-at-init g c = record {
   counted = λ h. counted_none (made_line c.args.mark.len) (g.T.TextStore.text c.args.store.now) c.args.mark.from _;
   behind = omega arith;
   within = c.requires.order;
-  text = stayed_none g.T.TextStore.faithful g.T.TextStore.text g.T.TextStore.failures c.args.store.now;
+  text = stayed_none g.T.TextStore.faithful g.T.TextStore.text g.T.TextStore.survives g.T.TextStore.failures c.args.store.now;
 }
 
 pub put_window-requires-clause-within : goal.put_window-requires-clause-within
@@ -34,7 +34,7 @@ loop-at-preserved g c =
           inv.behind (omega (arith, now.on.0)) (inv.text.same h) (inv.written h) (inv.counted h) (now.counted (inv.text.faith.1 h));
       behind = omega (arith, inv.behind, now.on.0);
       within = now.on.1;
-      text = stayed_on inv.text now.puts.stays.same now.puts.stays.faith now.puts.stays.no_failure;
+      text = stayed_on inv.text now.puts.stays.same now.puts.survives now.puts.stays.faith now.puts.stays.no_failure;
     }
 
 pub returns-clause-put : goal.returns-clause-put

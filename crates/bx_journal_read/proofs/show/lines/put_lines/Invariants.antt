@@ -11,7 +11,7 @@ invariant-loop-at g l = record {
   counted : g.T.TextStore.faithful l.fn.store → CountsBytes l.fn.writing.written (shown_between (made_line l.mark.len) (g.T.TextStore.text l.fn.store) l.mark.from l.at) l.writing.written;
   behind : l.mark.from ≤ l.at;
   within : l.at ≤ l.mark.to;
-  text : HasStayed g.T.TextStore.faithful g.T.TextStore.text g.T.TextStore.failures l.fn.store l.store;
+  text : HasStayed g.T.TextStore.faithful g.T.TextStore.text g.T.TextStore.survives g.T.TextStore.failures l.fn.store l.store;
 }
 
 abbrev pub decreases-loop-at : goal.decreases-loop-at

@@ -19,7 +19,7 @@ loop-done-init g c = record {
   behind = omega arith;
   within = c.requires.order;
   below = omega (arith, c.nothing_ranged.ensures.within);
-  text = stayed_none g.T.TextStore.faithful g.T.TextStore.text g.T.TextStore.failures c.args.store.now;
+  text = stayed_none g.T.TextStore.faithful g.T.TextStore.text g.T.TextStore.survives g.T.TextStore.failures c.args.store.now;
 }
 
 pub loop-done-preserved : goal.loop-done-preserved
@@ -37,7 +37,7 @@ loop-done-preserved g c =
       behind = omega (arith, inv.behind, more.some);
       within = more.within;
       below = more.below;
-      text = stayed_on inv.text now.puts.stays.same now.puts.stays.faith now.puts.stays.no_failure;
+      text = stayed_on inv.text now.puts.stays.same now.puts.survives now.puts.stays.faith now.puts.stays.no_failure;
     }
 
 pub returns-clause-put : goal.returns-clause-put

@@ -10,7 +10,7 @@ invariant-loop-done g l = record {
   behind : l.mark.from ≤ l.done.at;
   within : l.done.at ≤ l.mark.to;
   below : l.done.ranging.at + l.done.ranging.count ≤ l.mark.len;
-  text : HasStayed g.T.TextStore.faithful g.T.TextStore.text g.T.TextStore.failures l.fn.store l.store;
+  text : HasStayed g.T.TextStore.faithful g.T.TextStore.text g.T.TextStore.survives g.T.TextStore.failures l.fn.store l.store;
 }
 
 abbrev pub decreases-loop-done : goal.decreases-loop-done

@@ -10,5 +10,5 @@ marks_to-requires-clause-long g c h = torn_within (g.T.TextStore.faithful c.args
 pub returns : goal.returns
 returns g c =
     let there = subst (λ o. IfSome o (λ m. AreMarksOf (g.T.TextStore.faithful c.args.store.now) (g.T.TextStore.text c.args.store.now) c.args.torn.begins m.items)) c.in-Some.is c.in-Ok.ensures.marks in
-    front_found (record { marks = c.in-Some.marks; torn = Some c.args.torn }) c.in-Ok.ensures.looks
+    front_found (record { marks = c.in-Some.marks; torn = Some c.args.torn }) c.in-Ok.ensures.looks c.in-Ok.ensures.survives
     (torn_front (g.T.TextStore.faithful c.args.store.now) (g.T.TextStore.text c.args.store.now) c.args.torn c.in-Some.marks.items there c.requires.unfinished)
