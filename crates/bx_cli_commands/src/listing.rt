@@ -1,6 +1,7 @@
 //! The log of a session as text.
 ghost use Rattle.std.specs.Prelude.{◌≡◌, ◌<◌, ◌++◌, IfErr, IfOk, OnOk, IsOkUnless, IsTrue, string_bytes};
 ghost use Rattle.std.specs.List.{flat_map};
+ghost use Rattle.bx_image.specs.Power.{NoMore};
 ghost use Rattle.bx_journal.specs.Showing.{RangesOf, Stays};
 ghost use Rattle.bx_journal.specs.ShownText.{ShowsText};
 ghost use Rattle.bx_cli_commands.specs.Listing.{ListCounts, RefusesShowing, StopsListed, StopsListing, StopsShowing, StopsShownList, log_line};
@@ -49,6 +50,7 @@ pub fn list_ranges<T: TextStore, A: Allocator + Clone, W: Write>(
     ensures fault { IfErr result (StopsListing (T.faithful journal.old) (T.text journal.old)) }
     ensures stops { T.faithful journal.old → IfErr result (StopsListed (T.text journal.old) (W.contents out.old) (W.contents out.new)) }
     ensures text { Stays T.faithful T.text T.failures result journal.old journal.new }
+    ensures survives { T.faithful journal.old → NoMore (T.survives journal.old) (T.survives journal.new) }
     ensures counts { IfErr result (λ f. ListCounts f (T.failures journal.old) 0 (T.failures journal.new) 0) }
 {
     match log_ranges(alloc, journal, out) {
@@ -80,6 +82,8 @@ pub fn list_steps<D: Device, T: TextStore, A: Allocator + Clone, W: Write>(
         (StopsShownList (T.text journal.old) (D.image image.old) steps (W.contents out.old) (W.contents out.new)) }
     ensures image { Stays D.faithful D.image D.failures result image.old image.new }
     ensures text { Stays T.faithful T.text T.failures result journal.old journal.new }
+    ensures image_survives { D.faithful image.old → NoMore (D.survives image.old) (D.survives image.new) }
+    ensures text_survives { T.faithful journal.old → NoMore (T.survives journal.old) (T.survives journal.new) }
     ensures counts { IfErr result (λ f. ListCounts f (D.failures image.old) (T.failures journal.old) (D.failures image.new) (T.failures journal.new)) }
 {
     match show_steps(alloc, image, journal, steps, out) {
