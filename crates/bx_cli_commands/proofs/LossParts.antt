@@ -14,7 +14,9 @@ use Rattle.bx_journal.specs.SessionView.{SessionView, devices_of}
 use Rattle.bx_journal.proofs.LossLaws.{opening_finds}
 use Rattle.bx_cli_commands.specs.declared.command.Command.{Command}
 use Rattle.bx_cli_commands.specs.declared.command.Reply.{Reply}
-use Rattle.bx_cli_commands.specs.Loss.{AllFoundInPart, AreOnDisk, opened_as}
+use Rattle.bx_cli_commands.specs.Loss.{AllFoundBehind, AllFoundInPart, AreOnDisk, opened_as}
+use Rattle.bx_cli_commands.specs.Obeys.{Obeys}
+use Rattle.bx_cli_commands.specs.Refusal.{IsWholeRefusal}
 use Rattle.bx_cli_commands.specs.Power.{RunFinds, images_of}
 use Rattle.bx_cli_commands.specs.Standing.{HoldsAt, Standing}
 use Rattle.bx_cli_commands.proofs.Stopped.{ends_in_part}
@@ -71,3 +73,19 @@ module _ {D T : Type 0} (d : DeviceViews D) (t : StoreViews T) where
     λ list replies new run. run_in_part remaining o.0 new (opened_as o.1.how s) list replies (opened_holds x o s on opens) (opened_found x o s on opens) run,
   )
   finds_in_part A remaining x (Err e) s opens on = opening_finds d t x (Err e) s on.image on.journal on.redo opens on.found on.all
+
+  -- what is found behind an opening, and behind one call from there
+  pub one_in_part : (x : Devices D T) (o : SessionView D T × Recovered) (s : Images) → OpensDevices d t x (Ok o) → AreOnDisk d t x s
+      → (reply : Reply) (new : SessionView D T) (Step : Standing → Reply → Standing → Type 0) → Obeys d t o.0 new reply Step
+      → (IsWholeRefusal reply → AllFound d t (devices_of new) (opened_as o.1.how s))
+      × ((IsWholeRefusal reply → ⊥) → AllFoundBehind d t (devices_of new) (opened_as o.1.how s) reply Step)
+  one_in_part x o s opens on reply new Step obeys =
+      let holds = opened_holds x o s on opens in
+      let all = opened_found x o s on opens in (
+        (λ whole y text redo image_there there redo_there.
+            let before = obeys.found_before whole in
+            all y text redo (before.image_before holds.0 y image_there) (before.journal_before holds.1 text there) (before.redo_before holds.2 redo redo_there)),
+        (λ made y text redo image_there there redo_there.
+            let end = obeys.finds made (Standing.Up (opened_as o.1.how s)) holds y text redo image_there there redo_there in
+            (end.0, end.1, end.2)),
+      )

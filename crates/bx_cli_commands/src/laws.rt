@@ -1,6 +1,6 @@
 //! Laws of commands, over their definitions alone.
 ghost use Rattle.bx_cli_commands.specs.Inputs.{DumpIsPut};
-ghost use Rattle.bx_cli_commands.specs.Loss.{LossAtAnyCall, LossGoesOn};
+ghost use Rattle.bx_cli_commands.specs.Loss.{LossAtAnyCall, LossGoesOn, LossInEachCall};
 ghost use Rattle.bx_cli_commands.specs.ShowDump.{ShownIsADump, ShownIsUndone, ShownReverts, ShownUnheaded, UnfinishedUnheaded};
 ghost use Rattle.bx_cli_commands.specs.Laws.{KChangesAndUndo, KeptNeverGrows, RedoGivesBack, RedoGivesPart, RunsJoin, StackRunsJoin, StopsInPart, UndoGivesBack, UnfailedRuns};
 
@@ -58,6 +58,12 @@ pub fn stops_in_part<R: Read, A: Allocator>()
 /// or the images after all commands that were answered, or a part of the one that was stopped.
 pub fn loss_at_any_call<D: Device, T: TextStore, R: Read, A: Allocator>()
     ensures { LossAtAnyCall D.Device T.TextStore ⟦<FuseImage<D> as Device>⟧ ⟦<FuseText<T> as TextStore>⟧ R A R.remaining }
+{}
+
+/// The same of one call alone, as a program makes it of a session that it opens: of a command, of a change that was read, and of one that
+/// isn't to make the image longer. Behind a whole refusal what opening found is found, else what the call's step leads to, or a part of it.
+pub fn loss_in_each_call<D: Device, T: TextStore, R: Read, A: Allocator>()
+    ensures { LossInEachCall D.Device T.TextStore ⟦<FuseImage<D> as Device>⟧ ⟦<FuseText<T> as TextStore>⟧ R A R.remaining }
 {}
 
 /// What such a loss leaves has images on the disk again, so all of this holds of the next process too, and of a loss inside it.
