@@ -1,5 +1,5 @@
 -- What a dump of a part leaves where it stops or ends.
-use Rattle.std.proofs.Common.{◌≡◌, ℕ, ◌+◌, ◌-◌, ◌^◌, ◌<◌, ◌≤◌, true, false, List, [], ◌++◌, length, take, drop, Option, None, Some, IfSome, refl, sym, ap, ◌∙◌, arith, length-append, append_assoc, inl, inr, ⊎_elim}
+use Rattle.std.proofs.Common.{◌≡◌, ℕ, ◌+◌, ◌-◌, ◌^◌, ◌<◌, ◌≤◌, true, false, List, [], ◌∷◌, ◌++◌, length, take, drop, Option, None, Some, IfSome, refl, sym, ap, ◌∙◌, arith, length-append, append_assoc, inl, inr, ⊎_elim}
 use Rattle.std.specs.Io.KnownBytes.{Appends, Consumes, IsAtEnd}
 use Rattle.std.proofs.lemmas.List.{take-append-le, take_all, take_at, drop_all}
 use Rattle.std.proofs.Math.Seq.{take-append-add, drop-append-add}
@@ -58,56 +58,61 @@ pub capped_all : (limit : Option ℕ) (xs : List ℕ) → IfSome limit (λ most.
 capped_all None xs within = refl
 capped_all (Some most) xs within = take_all most xs within
 
--- the reader stopped, behind bytes that are held
-pub rest_read_stop : (text : List ℕ → List ℕ) (limit : Option ℕ) (before : ℕ) (r0 r1 r2 w0 w1 : Option (List ℕ)) (input held : List ℕ) (from taken less : ℕ) (fault : IoFault) →
+-- the reader stopped, behind bytes that are held; `old` was written
+pub rest_read_stop : (slack : ℕ) (text : List ℕ → List ℕ) (limit : Option ℕ) (before : ℕ) (r0 r1 r2 w0 w1 : Option (List ℕ)) (input held old : List ℕ) (from taken less : ℕ) (fault : IoFault) →
     from + length (input ++ held) ≡ taken → taken ≤ 2 ^ 40 → IfSome limit (λ most. length (input ++ held) + less ≤ most) →
-    ((more : List ℕ) → (rest : List ℕ) × (text (input ++ more) ≡ text input ++ rest)) → Consumes r0 r1 (input ++ held) → Appends w0 w1 (text input) →
-    StopsAfter r1 r2 less (2 ^ 40 - taken) fault → WritesFrontBut 0 (λ xs. text (limited_to limit xs)) 0 limit from before (streams r0 r2 w0 w1) fault
-rest_read_stop text limit before r0 r1 r2 w0 w1 input held from taken less fault len few within goes reads writes stop =
+    ((more : List ℕ) → (rest : List ℕ) × (text (input ++ more) ≡ old ++ rest)) → Consumes r0 r1 (input ++ held) → Appends w0 w1 old →
+    StopsAfter r1 r2 less (2 ^ 40 - taken) fault → WritesFrontBut slack (λ xs. text (limited_to limit xs)) 0 limit from before (streams r0 r2 w0 w1) fault
+rest_read_stop slack text limit before r0 r1 r2 w0 w1 input held old from taken less fault len few within goes reads writes stop =
     let read = input ++ held in
     let join : read ++ stop.0 ≡ input ++ (held ++ stop.0) = append_assoc input held stop.0 in
     let cut = capped_more limit input (held ++ stop.0) (within_along limit (length read + less) (length input) (omega (arith, length-append input held)) within) in
     let more = goes cut.0 in
-    let is : text (limited_to limit (read ++ stop.0)) ≡ text input ++ more.0 = ap (λ xs. text (limited_to limit xs)) join ∙ ap text cut.1 ∙ more.1 in
-    let front : take (length (text input)) (text (limited_to limit (read ++ stop.0))) ≡ text input =
-    ap (take (length (text input))) is ∙ take_at (text input) more.0 (length (text input)) refl in
+    let is : text (limited_to limit (read ++ stop.0)) ≡ old ++ more.0 = ap (λ xs. text (limited_to limit xs)) join ∙ ap text cut.1 ∙ more.1 in
+    let front : take (length old) (text (limited_to limit (read ++ stop.0))) ≡ old =
+    ap (take (length old)) is ∙ take_at old more.0 (length old) refl in
     let all : from + length (read ++ stop.0) ≡ taken + length stop.0 = omega (arith, length-append read stop.0) in record {
       input = read ++ stop.0;
-      written = length (text input);
+      written = length old;
       consumed = Consumes-trans r0 r1 r2 read stop.0 reads stop.1;
       asked = asked_behind limit 0 (length read + less) (length (read ++ stop.0))
           (omega (arith, length-append read stop.0, read_within fault less (2 ^ 40 - taken) (length stop.0) stop.2)) within;
-      within = omega (arith, ap length is, length-append (text input) more.0);
+      within = omega (arith, ap length is, length-append old more.0);
       appended = rw front writes;
-      cause = rw all (dump_cause fault (taken + less) (taken + length stop.0) (before + length (text input)) _ (cause_more fault less (taken + less) (2 ^ 40 - taken) (2 ^ 40) (length stop.0) (taken + length stop.0) taken stop.2 refl (omega arith) (omega arith)));
-      ahead = keeps_read fault less (2 ^ 40 - taken) (length stop.0) 0 (length (text input)) (λ xs. text (limited_to limit xs)) (read ++ stop.0) stop.2;
+      cause = rw all (dump_cause fault (taken + less) (taken + length stop.0) (before + length old) _ (cause_more fault less (taken + less) (2 ^ 40 - taken) (2 ^ 40) (length stop.0) (taken + length stop.0) taken stop.2 refl (omega arith) (omega arith)));
+      ahead = keeps_read fault less (2 ^ 40 - taken) (length stop.0) slack (length old) (λ xs. text (limited_to limit xs)) (read ++ stop.0) stop.2;
     }
 
--- the writer stopped
-pub rest_write_stop : (text : List ℕ → List ℕ) (limit : Option ℕ) (from before : ℕ) (r0 r1 w0 w1 w2 : Option (List ℕ)) (front last page : List ℕ) (written : ℕ) (fault : IoFault) →
-    Consumes r0 r1 (front ++ last) → from + length (front ++ last) ≤ 2 ^ 40 → length last ≤ 2 ^ 14 → IfSome limit (λ most. length (front ++ last) ≤ most) → Appends w0 w1 (text front) →
-    length (text front) ≡ written → text (front ++ last) ≡ text front ++ page → WritesFront (before + written) w1 w2 page fault →
-    WritesFrontBut 0 (λ xs. text (limited_to limit xs)) 0 limit from before (streams r0 r1 w0 w2) fault
-rest_write_stop text limit from before r0 r1 w0 w1 w2 front last page written (WriteFailed n) reads few block within writes len is stop =
+-- the writer stopped in a page behind `old`
+pub rest_write_stop : (slack : ℕ) (text : List ℕ → List ℕ) (limit : Option ℕ) (from before : ℕ) (r0 r1 w0 w1 w2 : Option (List ℕ)) (front last old page more : List ℕ) (written : ℕ) (fault : IoFault) →
+    Consumes r0 r1 (front ++ last) → from + length (front ++ last) ≤ 2 ^ 40 → length last ≤ 2 ^ 14 → IfSome limit (λ most. length (front ++ last) ≤ most) → Appends w0 w1 old →
+    length old ≡ written → length (text front) ≤ length old + slack → text (front ++ last) ≡ old ++ (page ++ more) → WritesFront (before + written) w1 w2 page fault →
+    WritesFrontBut slack (λ xs. text (limited_to limit xs)) 0 limit from before (streams r0 r1 w0 w2) fault
+rest_write_stop slack text limit from before r0 r1 w0 w1 w2 front last old page more written (WriteFailed n) reads few block within writes len kept is stop =
     let input = front ++ last in
-    let old = text front in
-    let same : text (limited_to limit input) ≡ old ++ page = ap text (capped_all limit input within) ∙ is in
+    let same : text (limited_to limit input) ≡ old ++ (page ++ more) = ap text (capped_all limit input within) ∙ is in
+    let page_part : take stop.0 (page ++ more) ≡ take stop.0 page = take-append-le stop.0 page more (omega (arith, stop.2)) in
     let begun : take (written + stop.0) (text (limited_to limit input)) ≡ old ++ take stop.0 page =
-    rw (same, ← len) (take-append-add old page stop.0) in
-    let known : text (limited_to limit front) ≡ old = ap text (capped_all limit front (within_along limit (length input) (length front) (omega (arith, length-append front last)) within)) in record {
+    rw (same, ← len, ← page_part) (take-append-add old (page ++ more) stop.0) in
+    let known : text (limited_to limit front) ≡ text front = ap text (capped_all limit front (within_along limit (length input) (length front) (omega (arith, length-append front last)) within)) in record {
       input = input;
       written = written + stop.0;
       consumed = reads;
       asked = asked_behind limit 0 (length input) (length input) (omega arith) within;
-      within = omega (arith, ap length same, length-append old page, stop.2);
+      within = omega (arith, ap length same, length-append old (page ++ more), length-append page more, stop.2);
       appended = rw begun (Appends-trans w0 w1 w2 old (take stop.0 page) writes stop.3);
-      cause = (omega (arith, stop.1), omega (arith, ap length same, length-append old page, stop.2), few);
-      ahead = (front, last, refl, block, omega (arith, ap length known, len));
+      cause = (omega (arith, stop.1), omega (arith, ap length same, length-append old (page ++ more), length-append page more, stop.2), few);
+      ahead = (front, last, refl, block, omega (arith, ap length known, len, kept));
     }
-rest_write_stop text limit from before r0 r1 w0 w1 w2 front last page written NoMemory reads few block within writes len is stop = absurd stop
-rest_write_stop text limit from before r0 r1 w0 w1 w2 front last page written ReadFailed reads few block within writes len is stop = absurd stop
-rest_write_stop text limit from before r0 r1 w0 w1 w2 front last page written InputTooLong reads few block within writes len is stop = absurd stop
-rest_write_stop text limit from before r0 r1 w0 w1 w2 front last page written SkipPastEnd reads few block within writes len is stop = absurd stop
+rest_write_stop slack text limit from before r0 r1 w0 w1 w2 front last old page more written NoMemory reads few block within writes len kept is stop = absurd stop
+rest_write_stop slack text limit from before r0 r1 w0 w1 w2 front last old page more written ReadFailed reads few block within writes len kept is stop = absurd stop
+rest_write_stop slack text limit from before r0 r1 w0 w1 w2 front last old page more written InputTooLong reads few block within writes len kept is stop = absurd stop
+rest_write_stop slack text limit from before r0 r1 w0 w1 w2 front last old page more written SkipPastEnd reads few block within writes len kept is stop = absurd stop
+
+-- where the whole text is empty, nothing was put
+pub none_put : (text old rest : List ℕ) → text ≡ [] → text ≡ old ++ rest → old ≡ []
+none_put text [] rest none is = refl
+none_put text (x ∷ old) rest none is = absurd (omega (arith, ap length none, ap length is))
 
 -- what is held is no more than is asked for
 pub held_fits : (limit : Option ℕ) (done held want size : ℕ) → held ≤ size → IfSome limit (λ most. done + held ≤ most) → (want < size → limit ≡ Some (done + want)) → held ≤ want

@@ -72,8 +72,12 @@ abbrev pub WritesNext : (List ℕ → List ℕ) → ℕ → Option ℕ → Strea
 WritesNext text from limit io part = WritesRest text from limit io part.read part.written
 
 -- a front of it was written, after `before` bytes of other texts
+abbrev pub StopsNextBut : ℕ → (List ℕ → List ℕ) → ℕ → Option ℕ → ℕ → Streams → IoFault → Type 0
+StopsNextBut slack text from limit before io fault = WritesFrontBut slack (λ input. text (limited_to limit input)) 0 limit from before io fault
+
+-- the same where no text is kept until more is known
 abbrev pub StopsNext : (List ℕ → List ℕ) → ℕ → Option ℕ → ℕ → Streams → IoFault → Type 0
-StopsNext text from limit before io fault = WritesFrontBut 0 (λ input. text (limited_to limit input)) 0 limit from before io fault
+StopsNext text from limit before io fault = StopsNextBut 0 text from limit before io fault
 
 -- the same where a front of what comes next was read before, which `taken` counts too
 abbrev pub WritesBegun : List ℕ → (List ℕ → List ℕ) → ℕ → Asked → Streams → Part → Type 0
@@ -81,10 +85,10 @@ WritesBegun front text taken asked io part =
     (from : ℕ) (old : Option (List ℕ)) → from + length front ≡ taken → Consumes old io.old_input front →
     WritesNext text from asked.limit (streams old io.new_input io.old_output io.new_output) part
 
-abbrev pub StopsBegun : List ℕ → (List ℕ → List ℕ) → ℕ → Asked → Streams → IoFault → Type 0
-StopsBegun front text taken asked io fault =
+abbrev pub StopsBegun : ℕ → List ℕ → (List ℕ → List ℕ) → ℕ → Asked → Streams → IoFault → Type 0
+StopsBegun slack front text taken asked io fault =
     (from : ℕ) (old : Option (List ℕ)) → from + length front ≡ taken → Consumes old io.old_input front →
-    StopsNext text from asked.limit asked.before (streams old io.new_input io.old_output io.new_output) fault
+    StopsNextBut slack text from asked.limit asked.before (streams old io.new_input io.old_output io.new_output) fault
 
 -- the text of the part was written
 abbrev pub WritesTextOf : (List ℕ → List ℕ) → ℕ → Option ℕ → Streams → Part → Type 0

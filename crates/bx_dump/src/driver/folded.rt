@@ -126,6 +126,10 @@ impl<F: Form> FoldedPages<F> {
 impl<F: Form> Pages for FoldedPages<F> {
     ghost written = { λ p. folded (F.line p.form) p.all p.start };
 
+    ghost text = { λ p. folded (F.line p.form) p.all p.start };
+
+    ghost kept = { λ _. 0 };
+
     ghost Seen = { λ p input. (k : ℕ) × (length input ≡ 16 * k) × IsTaken p.all p.fold input k };
 
     ghost block = { λ _. 16384 };

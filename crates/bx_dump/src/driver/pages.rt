@@ -3,7 +3,7 @@ ghost use Rattle.std.specs.Prelude.{◌≡◌, ℕ, ◌+◌, ◌-◌, ◌^◌, �
 ghost use Rattle.std.specs.Io.KnownBytes.{Appends};
 ghost use Rattle.bx_text.specs.Stream.{IsReadCause, Skips, StopsIn};
 ghost use Rattle.bx_text.specs.Writing.{WritesFront};
-ghost use Rattle.bx_dump.specs.private.Pages.{StopsBegun, StopsNext, StopsTextOf, WritesBegun, WritesNext, WritesTextOf, streams_of};
+ghost use Rattle.bx_dump.specs.private.Pages.{StopsBegun, StopsNextBut, StopsTextOf, WritesBegun, WritesNext, WritesTextOf, streams_of};
 
 use bx_text::{IoFault, Meter, State, emit_after};
 use std::io::{Read, Write};
@@ -25,8 +25,14 @@ pub const SMALL_PAGE: usize = 4096;
 
 /// What turns the bytes of an input into text, a block at a time.
 pub trait Pages {
-    /// The text for bytes at the front of an input, which more bytes only make longer.
+    /// The text that is put for bytes at the front of an input, in whole blocks. More bytes only make it longer.
     ghost written: { Self → List ℕ → List ℕ };
+
+    /// The text of a whole input: what is put for its blocks, and what was kept at their end until more is known.
+    ghost text: { Self → List ℕ → List ℕ };
+
+    /// The most bytes of text that are kept.
+    ghost kept: { Self → ℕ };
 
     /// These bytes were put, in whole blocks.
     ghost Seen: { Self → List ℕ → Type 0 };
@@ -44,28 +50,34 @@ pub trait Pages {
         ensures most { result ≤ BLOCK }
         ensures fits { (n : ℕ) → n ≤ result → room self.now n ≤ PAGE };
 
-    /// How many bytes a small page has room for, of those that are read first.
+    /// How many bytes are read first: a small page has room for fewer.
     fn start_len(&self) -> usize
         ensures most { result ≤ START }
-        ensures fits { (n : ℕ) → n ≤ result → room self.now n ≤ SMALL_PAGE };
+        ensures fits { (n : ℕ) → n < result → room self.now n ≤ SMALL_PAGE };
 
-    /// Puts the text for the next bytes at the front of the page, and answers how long it is. The rest of the page is working space.
+    /// Puts the text for the next bytes at the front of the page, and answers how long it is. The rest of the page is working
+    /// space. Fewer bytes than a block are the last, so that nothing is kept behind them; there may be none.
     fn put(&mut self, page: &mut [u8], done: u64, bytes: &[u8]) -> usize
         requires page { room self.old (length bytes.now) ≤ length page.old }
         requires few { done + length bytes.now ≤ 2 ^ 40 }
         requires fits { length bytes.now ≤ block self.old }
         ensures most { result ≤ length page.old }
         ensures text { (x : List ℕ) → length x ≡ done → Seen self.old x →
-            written self.old (x ++ bytes.now) ≡ written self.old x ++ take result page.new }
+            length bytes.now ≡ block self.old → written self.old (x ++ bytes.now) ≡ written self.old x ++ take result page.new }
+        ensures last { (x : List ℕ) → length x ≡ done → Seen self.old x →
+            length bytes.now < block self.old → text self.old (x ++ bytes.now) ≡ written self.old x ++ take result page.new }
         ensures seen { (input : List ℕ) → length input ≡ done → Seen self.old input →
             length bytes.now ≡ block self.old → Seen self.new (input ++ bytes.now) }
         ensures same { (xs : List ℕ) → written self.new xs ≡ written self.old xs }
+        ensures whole { (xs : List ℕ) → text self.new xs ≡ text self.old xs }
+        ensures bound { kept self.new ≡ kept self.old }
         ensures size { block self.new ≡ block self.old }
         ensures room { (n : ℕ) → room self.new n ≡ room self.old n };
 
-    /// Says that later bytes only make the text longer.
+    /// Says that later bytes only make the text longer, and how much of it is kept.
     fn grows(&self)
-        ensures { (input more : List ℕ) → Seen self.now input → (rest : List ℕ) × (written self.now (input ++ more) ≡ written self.now input ++ rest) };
+        ensures more { (input more : List ℕ) → Seen self.now input → (rest : List ℕ) × (text self.now (input ++ more) ≡ written self.now input ++ rest) }
+        ensures few { (input : List ℕ) → Seen self.now input → length (text self.now input) ≤ length (written self.now input) + kept self.now };
 }
 
 /// How much was dumped, and how much text was written.
@@ -105,14 +117,14 @@ fn dump_start<W: Write, P: Pages>(
     requires before { before ≤ 2 ^ 63 }
     requires seen { P.Seen pages.old [] }
     requires empty { P.written pages.old [] ≡ [] }
-    requires fits { length bytes.now ≤ P.block pages.old }
+    requires fits { length bytes.now < P.block pages.old }
     requires few { length bytes.now ≤ START }
     requires room { P.room pages.old (length bytes.now) ≤ SMALL_PAGE }
     ensures read { IfOk result (λ part. part.read ≡ length bytes.now) }
-    ensures long { IfOk result (λ part. part.written ≡ length (P.written pages.old bytes.now)) }
+    ensures long { IfOk result (λ part. part.written ≡ length (P.text pages.old bytes.now)) }
     ensures few { IfOk result (λ part. part.written ≤ SMALL_PAGE) }
-    ensures ok { OnOk result (Appends (W.contents w.old) (W.contents w.new) (P.written pages.old bytes.now)) }
-    ensures err { IfErr result (WritesFront before (W.contents w.old) (W.contents w.new) (P.written pages.old bytes.now)) }
+    ensures ok { OnOk result (Appends (W.contents w.old) (W.contents w.new) (P.text pages.old bytes.now)) }
+    ensures err { IfErr result (WritesFront before (W.contents w.old) (W.contents w.new) (P.text pages.old bytes.now)) }
 {
     let mut page = [0; SMALL_PAGE];
     let used = pages.put(&mut page, 0, bytes);
@@ -145,8 +157,8 @@ fn dump_blocks<R: Read, W: Write, P: Pages>(
     requires fits { length start.now ≤ P.block pages.old }
     requires asked { IfSome asked.limit (λ most. length start.now ≤ most) }
     requires taken { length start.now ≤ meter.old.taken }
-    ensures ok { IfOk result (WritesBegun start.now (P.written pages.old) meter.old.taken asked (streams_of R.remaining r.old r.new W.contents w.old w.new)) }
-    ensures err { IfErr result (StopsBegun start.now (P.written pages.old) meter.old.taken asked (streams_of R.remaining r.old r.new W.contents w.old w.new)) }
+    ensures ok { IfOk result (WritesBegun start.now (P.text pages.old) meter.old.taken asked (streams_of R.remaining r.old r.new W.contents w.old w.new)) }
+    ensures err { IfErr result (StopsBegun (P.kept pages.old) start.now (P.text pages.old) meter.old.taken asked (streams_of R.remaining r.old r.new W.contents w.old w.new)) }
     ensures few { IfOk result (λ part. part.written ≤ 2 ^ 60) }
     ensures count { IfOk result (λ part. part.read ≤ 2 ^ 40) }
 {
@@ -168,6 +180,7 @@ fn dump_blocks<R: Read, W: Write, P: Pages>(
         };
         held = 0;
         let used = pages.put(&mut page, part.read, &block[..n]);
+        pages.grows();
         if let Err(fault) = emit_after(w, asked.before + part.written, &page[..used]) {
             return Err(fault);
         }
@@ -192,9 +205,9 @@ pub fn dump_pages<R: Read, W: Write, P: Pages>(
     requires limit { meter.old.limit ≡ 2 ^ 40 }
     requires before { before ≤ 2 ^ 63 }
     requires seen { P.Seen pages.old [] }
-    requires empty { P.written pages.old [] ≡ [] }
-    ensures ok { IfOk result (WritesNext (P.written pages.old) meter.old.taken limit (streams_of R.remaining r.old r.new W.contents w.old w.new)) }
-    ensures err { IfErr result (StopsNext (P.written pages.old) meter.old.taken limit before (streams_of R.remaining r.old r.new W.contents w.old w.new)) }
+    requires empty { P.text pages.old [] ≡ [] }
+    ensures ok { IfOk result (WritesNext (P.text pages.old) meter.old.taken limit (streams_of R.remaining r.old r.new W.contents w.old w.new)) }
+    ensures err { IfErr result (StopsNextBut (P.kept pages.old) (P.text pages.old) meter.old.taken limit before (streams_of R.remaining r.old r.new W.contents w.old w.new)) }
     ensures few { IfOk result (λ part. part.written ≤ 2 ^ 60) }
     ensures count { IfOk result (λ part. part.read ≤ 2 ^ 40) }
 {
@@ -250,9 +263,9 @@ pub fn dump_part<R: Read, W: Write, P: Pages>(
 ) -> Result<Part, IoFault>
     requires before { before ≤ 2 ^ 63 }
     requires seen { P.Seen pages.old [] }
-    requires empty { P.written pages.old [] ≡ [] }
-    ensures ok { IfOk result (WritesTextOf (P.written pages.old) from limit (streams_of R.remaining r.old r.new W.contents w.old w.new)) }
-    ensures err { IfErr result (StopsTextOf 0 (P.written pages.old) from limit before (streams_of R.remaining r.old r.new W.contents w.old w.new)) }
+    requires empty { P.text pages.old [] ≡ [] }
+    ensures ok { IfOk result (WritesTextOf (P.text pages.old) from limit (streams_of R.remaining r.old r.new W.contents w.old w.new)) }
+    ensures err { IfErr result (StopsTextOf (P.kept pages.old) (P.text pages.old) from limit before (streams_of R.remaining r.old r.new W.contents w.old w.new)) }
     ensures few { IfOk result (λ part. part.written ≤ 2 ^ 60) }
     ensures count { IfOk result (λ part. part.read ≤ 2 ^ 40) }
 {

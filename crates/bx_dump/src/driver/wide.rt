@@ -158,6 +158,10 @@ impl<F: WideForm> WidePages<F> {
 impl<F: WideForm> Pages for WidePages<F> {
     ghost written = { λ p. folded_by (F.cols p.form) (F.line p.form) p.all p.start };
 
+    ghost text = { λ p. folded_by (F.cols p.form) (F.line p.form) p.all p.start };
+
+    ghost kept = { λ _. 0 };
+
     ghost Seen = { λ p input. (k : ℕ) × (length input ≡ F.cols p.form * k) × IsTakenInLines (F.cols p.form) p.all p.fold input k };
 
     ghost block = { λ p. F.cols p.form * p.lines };

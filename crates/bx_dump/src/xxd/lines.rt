@@ -190,6 +190,10 @@ impl<F: LineForm> Lines<F> {
 impl<F: LineForm> Pages for Lines<F> {
     ghost written = { λ p. in_lines (F.line p.form) (F.cols p.form) p.start };
 
+    ghost text = { λ p. in_lines (F.line p.form) (F.cols p.form) p.start };
+
+    ghost kept = { λ _. 0 };
+
     ghost Seen = { λ p input. (k : ℕ) × (length input ≡ F.cols p.form * k) };
 
     ghost block = { λ p. F.cols p.form * p.lines };

@@ -126,6 +126,10 @@ pub struct Unbroken {
 impl Pages for Unbroken {
     ghost written = { λ p. flat_map (pair_of p.upper) };
 
+    ghost text = { λ p. flat_map (pair_of p.upper) };
+
+    ghost kept = { λ _. 0 };
+
     ghost Seen = { λ _ _. Unit {0} };
 
     ghost block = { λ _. 16384 };

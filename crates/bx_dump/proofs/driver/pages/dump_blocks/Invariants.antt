@@ -15,6 +15,8 @@ invariant-loop-n g l = record {
   size : g.P.Pages.block l.pages ≡ l.size;
   room : (n : ℕ) → n ≤ l.size → g.P.Pages.room l.pages n ≤ 131072;
   same : (xs : List ℕ) → g.P.Pages.written l.pages xs ≡ g.P.Pages.written l.initial.pages xs;
+  whole : (xs : List ℕ) → g.P.Pages.text l.pages xs ≡ g.P.Pages.text l.initial.pages xs;
+  bound : g.P.Pages.kept l.pages ≡ g.P.Pages.kept l.initial.pages;
   fits : l.held ≤ l.size;
   within : IfSome l.asked.limit (λ most. l.part.read + l.held ≤ most);
   so_far : (input : List ℕ) × (length input ≡ l.part.read)
