@@ -3,6 +3,7 @@
 /// The option of one letter that such a word stands for, as xxd takes it; any other word as it is.
 pub(crate) fn by_letter(word: &str) -> &str {
     match word {
+        "-autoskip" => "-a",
         "-bits" => "-b",
         "-cols" => "-c",
         "-decimal" => "-d",

@@ -60,6 +60,14 @@ impl Given<'_, '_> {
         }
     }
 
+    /// How often the option was given.
+    pub fn get_count(&self, id: &str) -> u8 {
+        match self {
+            Given::Read(matches) => matches.get_count(id),
+            Given::Alone { .. } => 0,
+        }
+    }
+
     /// Whether the option was given.
     pub fn get_flag(&self, id: &str) -> bool {
         match self {

@@ -70,6 +70,7 @@ fn short_of_od(long: &str) -> &'static str {
 
 fn short_of_xxd(long: &str) -> &'static str {
     match long {
+        "--autoskip" => "give -a",
         "--len" | "--length" => "give -l COUNT",
         "--seek" | "--skip" => "give -s OFFSET",
         "--offset" => "give -o OFFSET",

@@ -289,6 +289,7 @@ fn xxd(alloc: Global, m: &Given<'_, '_>) -> Result<XxdJob, Fault> {
             seek,
             shift: number_or(m.get_str("shift"), SizeStyle::Bare, 0)?,
             upper: m.get_flag("upper"),
+            autoskip: m.get_count("autoskip") % 2 == 1,
         },
         from_end,
         array: name(alloc, m, "array")?,
@@ -331,6 +332,9 @@ fn back(alloc: Global, m: &Given<'_, '_>) -> Result<Job, Fault> {
 
 /// The first option that means nothing beside `-r`.
 pub(crate) fn beside_back(m: &Given<'_, '_>) -> Option<&'static str> {
+    if m.get_count("autoskip") > 0 {
+        return Some("-a");
+    }
     for (id, option) in &FLAGS {
         if m.get_flag(id) {
             return Some(*option);

@@ -23,7 +23,7 @@ onto_few (suc k) base n acc =
 pub digits_few : (base n : ℕ) → length (digits base false n) ≤ 64
 digits_few base n = omega (arith, ap length (digits_start 64 base false n refl), onto_few 64 base n [])
 
-filled_few : (width : ℕ) (text : List ℕ) → width ≤ 64 → length text ≤ 64 → length (left_filled 48 width text) ≤ 64
+pub filled_few : (width : ℕ) (text : List ℕ) → width ≤ 64 → length text ≤ 64 → length (left_filled 48 width text) ≤ 64
 filled_few width text small few = omega (arith, length-append (replicate (width - length text) 48) text, length-replicate {A = ℕ} (width - length text) 48)
 
 pub canon_end_few : (at : ℕ) → length (canon_end at) ≤ 2 ^ 7

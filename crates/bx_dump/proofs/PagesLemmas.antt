@@ -407,17 +407,17 @@ all_of d r0 r1 w0 w1 read written p = record {
   appended = p.appended;
 }
 
-stop_of : (text : List ℕ → List ℕ) (input : List ℕ) (written : ℕ) (fault : IoFault) → StopsDump fault (0 + length input) (0 + written) (0 + length (text input)) →
-    KeepsUp (2 ^ 7) text input written fault → IsDumpStop text input written fault
-stop_of text input written ReadFailed cause ahead = omega (arith, cause)
-stop_of text input written InputTooLong cause ahead = omega (arith, cause)
-stop_of text input written (WriteFailed n) cause ahead = (omega (arith, cause.0), omega (arith, cause.1), omega (arith, cause.2), ahead)
-stop_of text input written NoMemory cause ahead = absurd cause
-stop_of text input written SkipPastEnd cause ahead = absurd cause
+stop_of : (held : ℕ) (text : List ℕ → List ℕ) (input : List ℕ) (written : ℕ) (fault : IoFault) → StopsDump fault (0 + length input) (0 + written) (0 + length (text input)) →
+    KeepsUp held text input written fault → IsDumpStop held text input written fault
+stop_of held text input written ReadFailed cause ahead = omega (arith, cause)
+stop_of held text input written InputTooLong cause ahead = omega (arith, cause)
+stop_of held text input written (WriteFailed n) cause ahead = (omega (arith, cause.0), omega (arith, cause.1), omega (arith, cause.2), ahead)
+stop_of held text input written NoMemory cause ahead = absurd cause
+stop_of held text input written SkipPastEnd cause ahead = absurd cause
 
 -- a front of one was
 pub front_of : (d : Dump) (r0 r1 w0 w1 : Option (List ℕ)) (fault : IoFault) →
-    WritesFrontBut (2 ^ 7) (λ xs. d.text (bytes_dumped d.skip d.limit xs)) d.skip d.limit 0 0 (streams r0 r1 w0 w1) fault → WritesFrontOf d r0 r1 w0 w1 fault
+    WritesFrontBut d.held (λ xs. d.text (bytes_dumped d.skip d.limit xs)) d.skip d.limit 0 0 (streams r0 r1 w0 w1) fault → WritesFrontOf d r0 r1 w0 w1 fault
 front_of d r0 r1 w0 w1 fault p = record {
   input = p.input;
   written = p.written;
@@ -425,5 +425,5 @@ front_of d r0 r1 w0 w1 fault p = record {
   asked = p.asked;
   within = p.within;
   appended = p.appended;
-  cause = stop_of (λ xs. d.text (bytes_dumped d.skip d.limit xs)) p.input p.written fault p.cause p.ahead;
+  cause = stop_of d.held (λ xs. d.text (bytes_dumped d.skip d.limit xs)) p.input p.written fault p.cause p.ahead;
 }

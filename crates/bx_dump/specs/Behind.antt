@@ -15,7 +15,7 @@ text_of d input = d.text (bytes_dumped d.skip d.limit input)
 
 -- the dump of what stands behind n of the bytes to skip: its text is the same, and n fewer are skipped
 abbrev pub behind : ℕ → Dump → Dump
-behind n d = record { text = d.text; skip = d.skip - n; limit = d.limit }
+behind n d = record { text = d.text; skip = d.skip - n; limit = d.limit; held = d.held }
 
 -- The dump of what stands behind some bytes is the dump of the whole input that skips them.
 abbrev pub DumpsBehind : Type 0
@@ -40,6 +40,7 @@ pub record IsXxdRest (n : ℕ) (whole rest : XxdOptions) : Type 0 where
   pub seek : rest.seek + n ≡ whole.seek
   pub shift : rest.shift ≡ whole.shift + n
   pub shown : (rest.cols ≡ whole.cols) × (rest.group ≡ whole.group) × (rest.limit ≡ whole.limit) × (rest.upper ≡ whole.upper)
+      × (rest.autoskip ≡ whole.autoskip)
 
 -- The rest of the options asks for the dump of what stands behind n bytes.
 abbrev pub RestAsksBehind : Type 0

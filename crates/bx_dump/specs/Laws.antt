@@ -1,10 +1,14 @@
 -- What the definitions say, in other words.
-use Rattle.std.specs.Prelude.{◌≡◌, ℕ, ◌+◌, ◌-◌, ◌*◌, ◌/◌, ◌^◌, ◌<◌, ◌==◌, nat_lt, false, if◌then◌else◌, List, ◌++◌, length, take, drop, slice_index, sum_by, codes}
+use Rattle.std.specs.Prelude.{◌≡◌, ℕ, ◌+◌, ◌-◌, ◌*◌, ◌/◌, ◌^◌, ◌<◌, ◌≤◌, ◌==◌, nat_lt, false, if◌then◌else◌, List, ◌++◌, length, take, drop, slice_index, sum_by, codes}
 use Rattle.std.specs.List.{flat_map, join_by, range_with_len}
 use Rattle.bx_text.specs.Dump.{pair_of}
 use Rattle.bx_dump_columns.specs.Values.{value_of}
-use Rattle.bx_dump.specs.Styles.{include_items, styled}
+use Rattle.bx_dump.specs.Styles.{include_items, styled_by}
 use Rattle.bx_dump.specs.Pages.{bytes_dumped}
+use Rattle.bx_dump.specs.FoldBy.{line_bytes_by}
+use Rattle.bx_dump.specs.Zeros.{all_zeros, show_zeros, zeros_skipped}
+use Rattle.bx_dump_columns.specs.Lines.{in_lines}
+use Rattle.bx_text.specs.declared.line.fold.Show.TheVariants.{Line}
 use Rattle.bx_dump.specs.declared.xxd.options.XxdStyle.{XxdStyle}
 use Rattle.bx_dump.specs.declared.xxd.options.XxdOptions.{XxdOptions}
 
@@ -42,6 +46,15 @@ abbrev pub ItemsAreLines : Type 0
 ItemsAreLines = (cols : ℕ) (bytes : List ℕ) → 0 < cols →
     include_items cols bytes ≡ flat_map (array_line cols bytes) (range_with_len 0 (item_lines cols (length bytes)))
 
--- xxd's text of an input
+-- xxd's text of an input, with all its lines
 abbrev pub xxd_text : XxdStyle → XxdOptions → List ℕ → List ℕ
-xxd_text style o input = styled style o (bytes_dumped o.seek o.limit input)
+xxd_text style o input = styled_by false style o (bytes_dumped o.seek o.limit input)
+
+-- Where no line is one of zeros, none is left out.
+abbrev pub PlainWithoutZeros : Type 0
+PlainWithoutZeros = (line : ℕ → List ℕ → List ℕ) (cols at : ℕ) (bytes : List ℕ) → ((k : ℕ) → all_zeros (line_bytes_by cols bytes k) ≡ false) →
+    zeros_skipped line cols at bytes ≡ in_lines line cols at bytes
+
+-- The first line is shown, and so is the last one.
+abbrev pub EndsAreShown : Type 0
+EndsAreShown = (cols k : ℕ) (bytes : List ℕ) → (show_zeros cols bytes 0 ≡ Line) × (length bytes ≤ cols * (k + 1) → show_zeros cols bytes k ≡ Line)

@@ -18,7 +18,7 @@ shown_line o = plain_or_rows o.text o.below.count (od_line o.address o.kind o.en
 
 -- the dump that the options ask for
 abbrev pub od_of : OdOptions → Dump
-od_of o = record { text = od_text o.address (shown_line o) o.width o.all (o.first + o.skip); skip = o.skip; limit = o.limit }
+od_of o = record { text = od_text o.address (shown_line o) o.width o.all (o.first + o.skip); skip = o.skip; limit = o.limit; held = 2 ^ 7 }
 
 -- the input ended before `count` bytes
 abbrev pub EndsBefore : ℕ → Option (List ℕ) → Option (List ℕ) → Type 0

@@ -5,11 +5,13 @@ use Rattle.std.specs.Io.KnownBytes.{Appends, Consumes, IsAtEnd}
 use Rattle.bx_text.specs.declared.fault.IoFault.{IoFault}
 use Rattle.bx_dump.specs.Dumped.{IsDumpStop}
 
--- A dump: the text that it makes of bytes, the place from which it is asked for those of an input, and how many at most.
+-- A dump: the text that it makes of bytes, the place from which it is asked for those of an input, and how many at most. No
+-- more than `held` bytes at the end of its text wait for what comes next.
 pub record Dump : Type 0 where
   pub text : List ℕ → List ℕ
   pub skip : ℕ
   pub limit : Option ℕ
+  pub held : ℕ
 
 -- the bytes from place `skip` on, at most `limit` of them
 abbrev pub bytes_dumped : ℕ → Option ℕ → List ℕ → List ℕ
@@ -32,4 +34,4 @@ pub record WritesFrontOf (d : Dump) (r0 r1 w0 w1 : Option (List ℕ)) (fault : I
   pub asked : IfSome d.limit (λ most. length input ≤ d.skip + most)
   pub within : written ≤ length (d.text (bytes_dumped d.skip d.limit input))
   pub appended : Appends w0 w1 (take written (d.text (bytes_dumped d.skip d.limit input)))
-  pub cause : IsDumpStop (λ input. d.text (bytes_dumped d.skip d.limit input)) input written fault
+  pub cause : IsDumpStop d.held (λ input. d.text (bytes_dumped d.skip d.limit input)) input written fault

@@ -1,5 +1,5 @@
 -- The printable runs of an input, and the text of strings (POSIX strings).
-use Rattle.std.specs.Prelude.{ℕ, zero, suc, ◌+◌, Bool, false, ◌&&◌, not, nat_le, if◌then◌else◌, List, [], ◌++◌, length, take, drop, slice_index, codes, None}
+use Rattle.std.specs.Prelude.{ℕ, ◌^◌, zero, suc, ◌+◌, Bool, false, ◌&&◌, not, nat_le, if◌then◌else◌, List, [], ◌++◌, length, take, drop, slice_index, codes, None}
 use Rattle.std.specs.List.{flat_map, range_with_len, prefix_len}
 use Rattle.bx_text.specs.Ascii.{is_printable}
 use Rattle.bx_dump_columns.specs.Places.{place_text}
@@ -32,4 +32,4 @@ encoded_text e least offsets x = char_lines e least offsets 0 0 x
 
 -- the dump that the options ask for
 abbrev pub strings_of : StringsOptions → Dump
-strings_of o = record { text = encoded_text o.encoding o.least o.offsets; skip = 0; limit = None }
+strings_of o = record { text = encoded_text o.encoding o.least o.offsets; skip = 0; limit = None; held = 2 ^ 7 }

@@ -13,3 +13,4 @@ pub mod Strings
 pub mod Styles
 pub mod Xxd
 pub mod XxdDump
+pub mod Zeros

@@ -2,7 +2,7 @@
 ghost use Rattle.std.specs.Prelude.{ℕ, ◌<◌, List};
 ghost use Rattle.bx_dump_columns.specs.declared.od.options.Address.{Address};
 ghost use Rattle.bx_dump.specs.Behind.{DumpsBehind, RestAsksBehind};
-ghost use Rattle.bx_dump.specs.Laws.{ItemsAreBytes, ItemsAreLines, ValueIsSum};
+ghost use Rattle.bx_dump.specs.Laws.{EndsAreShown, ItemsAreBytes, ItemsAreLines, PlainWithoutZeros, ValueIsSum};
 ghost use Rattle.bx_dump.specs.Runs.{ShowsRuns};
 
 /// Says that the text of `strings` shows the maximal printable runs that are long enough, each of them and no others, by
@@ -35,4 +35,14 @@ pub fn dumps_behind()
 /// for the dump of what stands behind n bytes.
 pub fn rest_asks_behind()
     ensures { RestAsksBehind }
+{}
+
+/// Says that no line is left out of a dump of `xxd` with `autoskip` where none is of zeros: it is the plain dump then.
+pub fn plain_without_zeros()
+    ensures { PlainWithoutZeros }
+{}
+
+/// Says that with `autoskip` the first line is shown, and so is the last one, whatever stands on them.
+pub fn ends_are_shown()
+    ensures { EndsAreShown }
 {}

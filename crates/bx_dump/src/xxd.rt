@@ -6,6 +6,7 @@ mod lines;
 mod options;
 mod rows;
 mod words;
+mod zeros;
 
 pub use columns::Digits;
 pub use dump::xxd;

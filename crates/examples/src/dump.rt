@@ -14,6 +14,7 @@ fn dump_of<A: Allocator>(alloc: A, bytes: &[u8]) -> Result<Vec<u8, A>, IoFault> 
         seek: 0,
         shift: 0,
         upper: false,
+        autoskip: false,
     };
     let mut input = bytes;
     let mut out = Vec::new(alloc);

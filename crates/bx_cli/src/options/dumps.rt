@@ -318,7 +318,9 @@ pub fn xxd<'a>(alloc: Global) -> Result<Command<'a>, AllocError> {
     let styled = one_style(alloc, command)?;
     let grouped = one_case(alloc, styled)?;
     let placed = with_rows(alloc, grouped, &XXD)?.arg(seek(alloc))?;
-    let read = reader(alloc, placed, &XXD_LAST)?.arg(out(alloc))?;
+    let read = reader(alloc, placed, &XXD_LAST)?
+        .arg(out(alloc))?
+        .arg(autoskip(alloc))?;
     with_more(alloc, read, &XXD_MORE)
 }
 
@@ -327,6 +329,15 @@ fn out<'a>(alloc: Global) -> Arg<'a> {
     Arg::new(alloc, "out").value_name("OUT").help(
         "File to change under -r, as bx revert does [default: standard output]",
     )
+}
+
+/// Given twice it is off again.
+fn autoskip<'a>(alloc: Global) -> Arg<'a> {
+    Arg::new(alloc, "autoskip")
+        .help_heading(ALSO)
+        .short('a')
+        .action(ArgAction::Count)
+        .help("A * for the lines behind the first of a row of zeros, -a -a none")
 }
 
 /// A negative place counts from the end.

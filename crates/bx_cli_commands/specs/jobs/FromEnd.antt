@@ -11,5 +11,6 @@ pub record IsXxdAt (place : ℕ) (old new : XxdJob) : Type 0 where
   pub seek : new.options.seek ≡ place
   pub counted : new.from_end ≡ None
   pub shown : (new.options.cols ≡ old.options.cols) × (new.options.group ≡ old.options.group) × (new.options.upper ≡ old.options.upper)
+      × (new.options.autoskip ≡ old.options.autoskip)
   pub part : (new.options.limit ≡ old.options.limit) × (new.options.shift ≡ old.options.shift)
   pub named : (new.look ≡ old.look) × (new.array ≡ old.array) × (new.file ≡ old.file)

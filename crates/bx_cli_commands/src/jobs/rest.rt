@@ -60,6 +60,7 @@ pub fn xxd_rest(o: &XxdOptions, passed: u64) -> XxdOptions
         seek: o.seek - passed,
         shift: o.shift + passed,
         upper: o.upper,
+        autoskip: o.autoskip,
     }
 }
 
@@ -93,6 +94,7 @@ fn xxd_at(alloc: Global, job: &XxdJob, seek: u64) -> Result<XxdJob, Fault>
             seek,
             shift: o.shift,
             upper: o.upper,
+            autoskip: o.autoskip,
         },
         from_end: None,
         array: copied(alloc, &job.array)?,

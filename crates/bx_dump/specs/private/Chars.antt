@@ -80,7 +80,7 @@ StopsChars first r0 r1 w0 w1 fault = DumpsFrontBut 0 (front_text first) r0 r1 w0
 
 -- the runs of bytes that print, and those of characters, by steps
 abbrev pub bytes_dump : StringsOptions → Dump
-bytes_dump o = record { text = strings_text o.least o.offsets; skip = 0; limit = None }
+bytes_dump o = record { text = strings_text o.least o.offsets; skip = 0; limit = None; held = 2 ^ 7 }
 
 abbrev pub chars_dump : StringsOptions → Dump
-chars_dump o = record { text = char_lines o.encoding o.least o.offsets 0 0; skip = 0; limit = None }
+chars_dump o = record { text = char_lines o.encoding o.least o.offsets 0 0; skip = 0; limit = None; held = 2 ^ 7 }

@@ -5,7 +5,7 @@ use Rattle.bx_text.specs.Dump.{pair_of}
 use Rattle.bx_dump_columns.specs.Lines.{in_lines}
 use Rattle.bx_dump.specs.private.Rows.{plain_line}
 use Rattle.bx_dump.specs.declared.xxd.options.XxdOptions.{XxdOptions}
-use Rattle.bx_dump.specs.Styles.{group_of, include_items}
+use Rattle.bx_dump.specs.Styles.{group_of, include_items, lines_by}
 use Rattle.bx_dump.specs.declared.xxd.columns.Digits.{Digits}
 use Rattle.bx_dump.specs.private.Xxd.{columns_line, decimal_line}
 use Rattle.bx_dump.specs.Xxd.{words_line}
@@ -17,15 +17,15 @@ named_text name cols bytes = include_head name ++ include_items cols bytes ++ in
 
 -- lines with columns of digits, the first at the address where the part begins
 abbrev pub columns_text : Digits → XxdOptions → List ℕ → List ℕ
-columns_text digits o bytes = in_lines (columns_line digits o.cols (group_of o.cols o.group)) o.cols (o.seek + o.shift) bytes
+columns_text digits o bytes = lines_by o.autoskip (columns_line digits o.cols (group_of o.cols o.group)) o.cols (o.seek + o.shift) bytes
 
 -- the same with addresses in decimal
 abbrev pub decimal_text : Digits → XxdOptions → List ℕ → List ℕ
-decimal_text digits o bytes = in_lines (decimal_line digits o.cols (group_of o.cols o.group)) o.cols (o.seek + o.shift) bytes
+decimal_text digits o bytes = lines_by o.autoskip (decimal_line digits o.cols (group_of o.cols o.group)) o.cols (o.seek + o.shift) bytes
 
 -- lines of little-endian numbers
 abbrev pub numbers_text : Bool → XxdOptions → List ℕ → List ℕ
-numbers_text decimal o bytes = in_lines (words_line decimal o.upper o.cols (group_of o.cols o.group)) o.cols (o.seek + o.shift) bytes
+numbers_text decimal o bytes = lines_by o.autoskip (words_line decimal o.upper o.cols (group_of o.cols o.group)) o.cols (o.seek + o.shift) bytes
 
 -- all digits on one line
 abbrev pub unbroken_text : Bool → List ℕ → List ℕ

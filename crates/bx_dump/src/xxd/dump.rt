@@ -1,10 +1,10 @@
 //! xxd's dump.
-ghost use Rattle.std.specs.Prelude.{◌≡◌, ◌+◌, ◌^◌, ◌<◌, ◌≤◌, length, IfOk, IfErr};
+ghost use Rattle.std.specs.Prelude.{◌≡◌, ℕ, ◌+◌, ◌^◌, ◌<◌, ◌≤◌, List, length, IfOk, IfErr};
 ghost use Rattle.bx_dump.specs.Pages.{WritesAll, WritesFrontOf};
-ghost use Rattle.bx_dump.specs.Styles.{group_of, include_items, xxd_of, IsCountable};
+ghost use Rattle.bx_dump.specs.Styles.{group_of, include_items, lines_by, xxd_of, IsCountable};
 ghost use Rattle.bx_dump.specs.private.Pages.{streams_of};
 ghost use Rattle.bx_dump.specs.private.Styles.{columns_text, decimal_text, named_text, numbers_text, plain_text, unbroken_text};
-ghost use Rattle.bx_dump.specs.private.XxdDump.{StopsFront, StopsItems, StopsLines, StopsStyle, WritesLines, WritesStyle, WritesText};
+ghost use Rattle.bx_dump.specs.private.XxdDump.{StopsFront, StopsItems, StopsKept, StopsLines, StopsStyle, WritesLines, WritesStyle, WritesText};
 
 use crate::driver::pages::{Part, dump_part};
 use crate::xxd::columns::{Columns, Digits};
@@ -13,6 +13,7 @@ use crate::xxd::lines::{LineForm, Lines};
 use crate::xxd::options::{XxdOptions, XxdStyle};
 use crate::xxd::rows::{Items, Plain, Unbroken};
 use crate::xxd::words::Words;
+use crate::xxd::zeros::SkippingPages;
 use bx_dump_columns::xxd::names::{emit_head, emit_tail};
 use bx_text::{IoFault, emit_after};
 use std::io::{Read, Write};
@@ -49,6 +50,28 @@ fn group_len(o: &XxdOptions) -> usize
     }
 }
 
+/// Writes lines with addresses, or those of them that are shown where rows of zeros are left out.
+fn dump_addressed<R: Read, W: Write, F: LineForm + Drop>(
+    r: &mut R,
+    w: &mut W,
+    form: F,
+    o: &XxdOptions,
+) -> Result<Part, IoFault>
+    requires star { 2 ≤ F.room form }
+    requires thin { F.room form ≤ 4096 }
+    requires short { (at : ℕ) (bytes : List ℕ) → length bytes ≤ F.cols form → length (F.line form at bytes) ≤ 2 ^ 12 }
+    ensures ok { IfOk result (WritesText (lines_by o.now.autoskip (F.line form) (F.cols form) (o.now.seek + o.now.shift)) o.now
+        (streams_of R.remaining r.old r.new W.contents w.old w.new)) }
+    ensures err { IfErr result (StopsKept (lines_by o.now.autoskip (F.line form) (F.cols form) (o.now.seek + o.now.shift)) o.now
+        (streams_of R.remaining r.old r.new W.contents w.old w.new)) }
+{
+    if o.autoskip {
+        let mut pages = SkippingPages::new(Lines::new(form, o.seek + o.shift));
+        return dump_part(r, w, &mut pages, o.seek, o.limit, 0);
+    }
+    dump_lines(r, w, form, o.seek + o.shift, o, 0)
+}
+
 /// Writes lines with columns of digits.
 fn dump_columns<R: Read, W: Write>(
     r: &mut R,
@@ -57,11 +80,11 @@ fn dump_columns<R: Read, W: Write>(
     o: &XxdOptions,
 ) -> Result<Part, IoFault>
     ensures ok { IfOk result (WritesText (columns_text digits o.now) o.now (streams_of R.remaining r.old r.new W.contents w.old w.new)) }
-    ensures err { IfErr result (StopsFront (columns_text digits o.now) o.now (streams_of R.remaining r.old r.new W.contents w.old w.new)) }
+    ensures err { IfErr result (StopsKept (columns_text digits o.now) o.now (streams_of R.remaining r.old r.new W.contents w.old w.new)) }
 {
     let group = group_len(o);
     let form = Columns::new(digits, o.cols as usize, group);
-    dump_lines(r, w, form, o.seek + o.shift, o, 0)
+    dump_addressed(r, w, form, o)
 }
 
 /// Writes lines with columns of digits, and addresses in decimal.
@@ -72,10 +95,10 @@ fn dump_decimal<R: Read, W: Write>(
     o: &XxdOptions,
 ) -> Result<Part, IoFault>
     ensures ok { IfOk result (WritesText (decimal_text digits o.now) o.now (streams_of R.remaining r.old r.new W.contents w.old w.new)) }
-    ensures err { IfErr result (StopsFront (decimal_text digits o.now) o.now (streams_of R.remaining r.old r.new W.contents w.old w.new)) }
+    ensures err { IfErr result (StopsKept (decimal_text digits o.now) o.now (streams_of R.remaining r.old r.new W.contents w.old w.new)) }
 {
     let columns = Columns::new(digits, o.cols as usize, group_len(o));
-    dump_lines(r, w, Decimal { columns }, o.seek + o.shift, o, 0)
+    dump_addressed(r, w, Decimal { columns }, o)
 }
 
 /// Writes lines of little-endian numbers.
@@ -86,10 +109,10 @@ fn dump_words<R: Read, W: Write>(
     o: &XxdOptions,
 ) -> Result<Part, IoFault>
     ensures ok { IfOk result (WritesText (numbers_text decimal o.now) o.now (streams_of R.remaining r.old r.new W.contents w.old w.new)) }
-    ensures err { IfErr result (StopsFront (numbers_text decimal o.now) o.now (streams_of R.remaining r.old r.new W.contents w.old w.new)) }
+    ensures err { IfErr result (StopsKept (numbers_text decimal o.now) o.now (streams_of R.remaining r.old r.new W.contents w.old w.new)) }
 {
     let words = Words::new(decimal, o.upper, o.cols as usize, group_len(o));
-    dump_lines(r, w, words, o.seek + o.shift, o, 0)
+    dump_addressed(r, w, words, o)
 }
 
 /// Writes lines of plain digits.
@@ -222,7 +245,7 @@ fn dump_styled<R: Read, W: Write>(
 /// A seek past the end of the input gives no bytes. The input may have 2^40 bytes, those included that are skipped, and no
 /// more of it is read than is needed. Nothing is flushed. After a fault a front of the text of the bytes that were read
 /// was written; `WriteFailed` counts it, and at most 2^14 bytes were read ahead of it. `upper` has no effect on `Bits`
-/// and `Include`, nor have `group` and `shift` on `Plain`, `Include` and `Unbroken`, nor has `cols` on `Unbroken`.
+/// and `Include`, nor have `group`, `shift` and `autoskip` on `Plain`, `Include` and `Unbroken`, nor has `cols` on `Unbroken`.
 pub fn xxd<R: Read, W: Write>(
     r: &mut R,
     w: &mut W,

@@ -121,6 +121,7 @@ fn put_lines<F: LineForm>(form: &F, text: &mut [u8], at: u64, bytes: &[u8], cell
     requires cells { cells.now ≡ flat_map (F.cell form.now) bytes.now }
     requires long { length cells.now ≡ F.width form.now * length bytes.now }
     ensures within { result ≤ length text.old }
+    ensures most { result ≤ F.room form.now * ((length bytes.now + F.cols form.now - 1) / F.cols form.now) }
     ensures text { take result text.new ≡ in_lines (F.line form.now) (F.cols form.now) at bytes.now }
 {
     let cols = form.line_len();
@@ -134,7 +135,7 @@ fn put_lines<F: LineForm>(form: &F, text: &mut [u8], at: u64, bytes: &[u8], cell
 }
 
 /// Puts the lines for some bytes, the digits of those that need them in front into `cells`, and answers how long they are.
-fn put_text<F: LineForm>(
+pub fn put_text<F: LineForm>(
     form: &F,
     text: &mut [u8],
     cells: &mut [u8],
@@ -146,6 +147,7 @@ fn put_text<F: LineForm>(
     requires address { at + length bytes.now ≤ 2 ^ 63 + 2 ^ 40 }
     requires cells { F.width form.now * length bytes.now ≤ length cells.old }
     ensures within { result ≤ length text.old }
+    ensures most { result ≤ F.room form.now * ((length bytes.now + F.cols form.now - 1) / F.cols form.now) }
     ensures text { take result text.new ≡ in_lines (F.line form.now) (F.cols form.now) at bytes.now }
 {
     form.even();
@@ -161,9 +163,9 @@ fn put_text<F: LineForm>(
 /// Lines of a form, with the place of the first byte.
 #[derive(Drop)]
 pub struct Lines<F: LineForm> {
-    form: F,
-    start: u64,
-    lines: usize,
+    pub form: F,
+    pub start: u64,
+    pub lines: usize,
     ghost low: { start ≤ 2 ^ 63 },
     ghost broad: { 0 < F.cols form },
     ghost some: { 0 < lines },

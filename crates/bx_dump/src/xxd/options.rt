@@ -41,6 +41,8 @@ pub struct XxdOptions {
     pub shift: u64,
     /// Hexadecimal digits above 9 in upper case.
     pub upper: bool,
+    /// A `*` stands for all but the first of three and more lines of zeros in a row; the last line is shown (autoskip).
+    pub autoskip: bool,
     ghost some: { 0 < cols },
     ghost few: { cols ≤ 256 },
     ghost small_groups: { group ≤ 256 },

@@ -1,10 +1,10 @@
 use Rattle.std.proofs.Common.{◌≡◌, ℕ, ◌+◌, ◌^◌, Bool, List, ap, ◌∙◌, arith}
-use Rattle.bx_dump_columns.specs.Lines.{in_lines}
 use Rattle.bx_dump.specs.Pages.{bytes_dumped}
-use Rattle.bx_dump.specs.Styles.{group_of}
+use Rattle.bx_dump.specs.Styles.{group_of, held_by, lines_by}
 use Rattle.bx_dump.specs.Xxd.{words_line}
 use Rattle.bx_dump.proofs.DumpLemmas.{ok_along, err_along}
 use Rattle.bx_dump.proofs.PagesLemmas.{part_along, front_along}
+use Rattle.bx_dump.proofs.WidthLemmas.{words_short}
 use Rattle.bx_dump.proofs.xxd.dump.dump_words.Goals as goal
 
 pub returns-clause-ok : goal.returns-clause-ok
@@ -12,29 +12,34 @@ returns-clause-ok g c =
     let o = c.args.o.now in
     let form = c.new-words.result in
     let start = o.seek + o.shift in
-    let text = λ (xs : List ℕ). in_lines (words_line form.decimal form.upper form.cols form.group) form.cols start (bytes_dumped o.seek o.limit xs) in
-    let other = λ (xs : List ℕ). in_lines (words_line c.args.decimal o.upper o.cols (group_of o.cols o.group)) o.cols start (bytes_dumped o.seek o.limit xs) in
+    let text = λ (xs : List ℕ). lines_by o.autoskip (words_line form.decimal form.upper form.cols form.group) form.cols start (bytes_dumped o.seek o.limit xs) in
+    let other = λ (xs : List ℕ). lines_by o.autoskip (words_line c.args.decimal o.upper o.cols (group_of o.cols o.group)) o.cols start (bytes_dumped o.seek o.limit xs) in
     let made = c.new-words.ensures in
     let same : (xs : List ℕ) → text xs ≡ other xs = λ xs.
     let ys = bytes_dumped o.seek o.limit xs in
-    ap (λ (v : Bool). in_lines (words_line v form.upper form.cols form.group) form.cols start ys) made.decimal
-    ∙ ap (λ (v : Bool). in_lines (words_line c.args.decimal v form.cols form.group) form.cols start ys) made.upper
-    ∙ ap (λ (n : ℕ). in_lines (words_line c.args.decimal o.upper n form.group) n start ys) made.cols
-    ∙ ap (λ (n : ℕ). in_lines (words_line c.args.decimal o.upper o.cols n) o.cols start ys) (made.group ∙ c.group_len.ensures.value) in
-    ok_along c.dump_lines.result _ _ (λ d p. part_along text other o.seek o.limit _ _ _ _ d.read d.written same p) c.dump_lines.ensures.ok
+    ap (λ (v : Bool). lines_by o.autoskip (words_line v form.upper form.cols form.group) form.cols start ys) made.decimal
+    ∙ ap (λ (v : Bool). lines_by o.autoskip (words_line c.args.decimal v form.cols form.group) form.cols start ys) made.upper
+    ∙ ap (λ (n : ℕ). lines_by o.autoskip (words_line c.args.decimal o.upper n form.group) n start ys) made.cols
+    ∙ ap (λ (n : ℕ). lines_by o.autoskip (words_line c.args.decimal o.upper o.cols n) o.cols start ys) (made.group ∙ c.group_len.ensures.value) in
+    ok_along c.dump_addressed.result _ _ (λ d p. part_along text other o.seek o.limit _ _ _ _ d.read d.written same p) c.dump_addressed.ensures.ok
 
 pub returns-clause-err : goal.returns-clause-err
 returns-clause-err g c =
     let o = c.args.o.now in
     let form = c.new-words.result in
     let start = o.seek + o.shift in
-    let text = λ (xs : List ℕ). in_lines (words_line form.decimal form.upper form.cols form.group) form.cols start (bytes_dumped o.seek o.limit xs) in
-    let other = λ (xs : List ℕ). in_lines (words_line c.args.decimal o.upper o.cols (group_of o.cols o.group)) o.cols start (bytes_dumped o.seek o.limit xs) in
+    let text = λ (xs : List ℕ). lines_by o.autoskip (words_line form.decimal form.upper form.cols form.group) form.cols start (bytes_dumped o.seek o.limit xs) in
+    let other = λ (xs : List ℕ). lines_by o.autoskip (words_line c.args.decimal o.upper o.cols (group_of o.cols o.group)) o.cols start (bytes_dumped o.seek o.limit xs) in
     let made = c.new-words.ensures in
     let same : (xs : List ℕ) → text xs ≡ other xs = λ xs.
     let ys = bytes_dumped o.seek o.limit xs in
-    ap (λ (v : Bool). in_lines (words_line v form.upper form.cols form.group) form.cols start ys) made.decimal
-    ∙ ap (λ (v : Bool). in_lines (words_line c.args.decimal v form.cols form.group) form.cols start ys) made.upper
-    ∙ ap (λ (n : ℕ). in_lines (words_line c.args.decimal o.upper n form.group) n start ys) made.cols
-    ∙ ap (λ (n : ℕ). in_lines (words_line c.args.decimal o.upper o.cols n) o.cols start ys) (made.group ∙ c.group_len.ensures.value) in
-    err_along c.dump_lines.result _ _ (λ e p. front_along 0 (2 ^ 7) text other o.seek o.limit 0 0 _ _ _ _ e same (omega arith) p) c.dump_lines.ensures.err
+    ap (λ (v : Bool). lines_by o.autoskip (words_line v form.upper form.cols form.group) form.cols start ys) made.decimal
+    ∙ ap (λ (v : Bool). lines_by o.autoskip (words_line c.args.decimal v form.cols form.group) form.cols start ys) made.upper
+    ∙ ap (λ (n : ℕ). lines_by o.autoskip (words_line c.args.decimal o.upper n form.group) n start ys) made.cols
+    ∙ ap (λ (n : ℕ). lines_by o.autoskip (words_line c.args.decimal o.upper o.cols n) o.cols start ys) (made.group ∙ c.group_len.ensures.value) in
+    err_along c.dump_addressed.result _ _ (λ e p. front_along (held_by o.autoskip) (held_by o.autoskip) text other o.seek o.limit 0 0 _ _ _ _ e same (omega arith) p) c.dump_addressed.ensures.err
+
+pub dump_addressed-requires-clause-short : goal.dump_addressed-requires-clause-short
+dump_addressed-requires-clause-short g c at bytes fits =
+    let form = c.new-words.result in
+    words_short form.decimal form.upper form.cols form.group at bytes (rw form.groups at form.narrow) form.few fits

@@ -63,3 +63,16 @@ returns-clause-within g c =
     let last : c.loop-k.k ≤ (n + C - 1) / C = end first in
     let count : R * c.loop-k.k ≤ R * ((n + C - 1) / C) = mul-le-mul_left {m = c.loop-k.k} {n = (n + C - 1) / C} R last in
     omega (arith, c.loop-k.invariant.within, c.requires.room)
+
+pub returns-clause-most : goal.returns-clause-most
+returns-clause-most g c =
+    let C = g.F.LineForm.cols c.args.form.now in
+    let R = g.F.LineForm.room c.args.form.now in
+    let n = length c.args.bytes.now in
+    let value = c.line_len-cols.ensures.value in
+    let pos = rw value at c.line_len-cols.ensures.some in
+    let first : c.put_common-first.result.lines ≤ (n + C - 1) / C = lines_within n C c.put_common-first.result.lines pos c.put_common-first.ensures.inside in
+    let end = rw value at c.loop-k.auto.k-end in
+    let last : c.loop-k.k ≤ (n + C - 1) / C = end first in
+    let count : R * c.loop-k.k ≤ R * ((n + C - 1) / C) = mul-le-mul_left {m = c.loop-k.k} {n = (n + C - 1) / C} R last in
+    omega (arith, c.loop-k.invariant.within)

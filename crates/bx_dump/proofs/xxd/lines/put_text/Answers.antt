@@ -1,4 +1,4 @@
-use Rattle.std.proofs.Common.{◌≡◌, ◌+◌, ◌-◌, ◌*◌, ◌++◌, length, take, drop, arith, sym, ap, ◌∙◌}
+use Rattle.std.proofs.Common.{◌≡◌, ◌+◌, ◌-◌, ◌*◌, ◌/◌, ◌++◌, length, take, drop, arith, sym, ap, ◌∙◌}
 use Rattle.std.proofs.lemmas.List.{length-drop, take_rest}
 use Rattle.std.proofs.Math.Seq.{take-append-add}
 use Rattle.bx_dump_columns.specs.Lines.{in_lines}
@@ -42,3 +42,17 @@ returns-clause-text g c =
     ap (λ n. take (n + c.put_lines.result) (front ++ more)) (sym c.split_at_mut-more.ensures.front_len)
     ∙ take-append-add front more c.put_lines.result
     ∙ lines_join line C c.args.at first.lines bytes front (take c.put_lines.result more) pos c.put_alone-first.ensures.inside (c.split_at_mut-more.ensures.front ∙ c.put_alone-first.ensures.text) after
+
+pub returns-clause-most : goal.returns-clause-most
+returns-clause-most g c =
+    let C = g.F.LineForm.cols c.args.form.now in
+    let R = g.F.LineForm.room c.args.form.now in
+    let bytes = c.args.bytes.now in
+    let first = c.put_alone-first.result in
+    let pos = rw c.line_len.ensures.value at c.line_len.ensures.some in
+    let begin = c.line_len.result * first.lines in
+    let place : begin ≡ C * first.lines = ap (λ n. n * first.lines) c.line_len.ensures.value in
+    let rest : length (take (length bytes - begin) (drop begin bytes)) ≡ length bytes - C * first.lines =
+    ap length (take_rest bytes begin) ∙ length-drop begin bytes ∙ ap (λ m. length bytes - m) place in
+    let back = rw rest at c.put_lines.ensures.most in
+    omega (arith, back, rest_fits (length bytes) C first.lines R first.used (R * ((length bytes + C - 1) / C)) pos c.put_alone-first.ensures.inside c.put_alone-first.ensures.most (omega arith))
