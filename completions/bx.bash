@@ -77,7 +77,7 @@ _bx() {
         _bx_words "$commands"
         return
         ;;
-    xxd) options='-b -c -d -e -g -i -l -n -o -p -r -s -u' ;;
+    xxd) options='-a -b -c -d -e -g -i -l -n -o -p -r -s -u' ;;
     od) options='-A -N -b -c -d -i -j -l -o -s -t -v -w -x --endian --width' ;;
     hexdump) options='-C -n -s -v' ;;
     strings) options='-a -e -f -n -t' ;;

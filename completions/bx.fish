@@ -62,6 +62,7 @@ complete -c bx -n '__fish_seen_subcommand_from help' -a "$commands"
 complete -c bx -n '__fish_seen_subcommand_from xxd od hexdump strings diff' -F
 complete -c bx -n '__fish_seen_subcommand_from revert undo redo log show patch forget' -a '(__bx_image (commandline -ct))'
 
+complete -c bx -n '__fish_seen_subcommand_from xxd' -s a -d 'A star for all but the first line of a row of zeros'
 complete -c bx -n '__fish_seen_subcommand_from xxd' -s b -d 'Eight binary digits for each byte'
 complete -c bx -n '__fish_seen_subcommand_from xxd' -s c -x -d 'Bytes on a line, 1 to 256'
 complete -c bx -n '__fish_seen_subcommand_from xxd' -s d -d 'Addresses in decimal'

@@ -141,7 +141,7 @@ What the completion of zsh adds, at a terminal of its own, is written down by a 
 # Options: zsh lists them in its own way (by bash_offers, fish_offers)
 
   $ bx xxd -<TAB>
-  -b -c -d -e -g -i -l -n -o -p -r -s -u
+  -a -b -c -d -e -g -i -l -n -o -p -r -s -u
   $ bx od -<TAB>
   --endian --width -A -N -b -c -d -i -j -l -o -s -t -v -w -x
   $ bx hexdump -<TAB>

@@ -173,6 +173,28 @@ def hand_cases(tool, rng):
     yield from (Case(tool, line.split(), some_row(rng, 21), line) for line in HAND_WORDS)
 
 
+# Lines of zeros in rows for xxd -a: what stands on each line, by its letter, with what comes before and behind a page, and each
+# line that an option makes.
+ZERO_ROWS = ["", "s", "z", "zs", "zz", "zzs", "zzz", "zzzs", "zzzz", "zzzzz", "xz", "xzz", "xzzz", "xzzzz", "zx", "zzx", "zzzx", "zzzzx",
+             "xzzxzzzxzx", "zzy", "zzzy", "xs", "xzs", "xzzs", "xzzzs", "xzxzxz", "zzxzz", "zzzxzzz", "zzzzxzzzz", "lzfzzl", "zlzfzzzl"]
+ZERO_LINES = ["-a -b", "-a -e", "-a -d", "-a -u", "-a -c 8", "-a -c 5 -g 2", "-a -p", "-a -i", "-a -o 4294967200", "-a -s 8 in.bin", "-a -l 56",
+              "-a -d -b", "-e -d -a", "-a -a", "-a -a -a", "-autoskip", "-a -c 256 -b", "-a -c 1", "-a -g 0", "-a -p -c 0"]
+ZERO_SIZES = {"-a": (496, 512, 528, 12784, 12800), "-a -c 5": (7445, 7450), "-a -b": (4086, 4092, 4098)}
+ZERO_TEXTS = {"x": b"sixteen letters.", "z": bytes(16), "s": bytes(5), "y": b"less", "f": b"\1" + bytes(15), "l": bytes(15) + b"\1"}
+
+
+def zero_cases(tool, rng):
+    """All cases of rows of zeros: as they are drawn above, under other options, and at the bounds of a page and of a small one."""
+    made = {row: b"".join(ZERO_TEXTS[letter] for letter in row) for row in ZERO_ROWS}
+    yield from (Case(tool, ["-a"], data, f"-a, {row or 'nothing'}") for row, data in made.items())
+    yield from (Case(tool, line.split(), made[row], f"{line}, {row}") for line in ZERO_LINES for row in ("xzzxzzzxzx", "zzzzs", "xzzzz")
+                if row in made)
+    yield from (Case(tool, line.split(), bytes(size) + tail, f"{line}, {size} zeros and {len(tail)} others")
+                for line, sizes in ZERO_SIZES.items() for size in sizes for tail in (b"", b"a"))
+    yield from (Case(tool, ["-a", "-b", "-c", "16"], bytes(4096 - 16 * k - 16) + b"a" * 16 + bytes(16 * n) + tail, f"{n} of zeros, {k} in a page")
+                for n in (1, 2, 3, 4, 5) for k in range(n + 1) for tail in (b"", b"b"))
+
+
 def some_row(rng, size):
     """So many bytes, half of which print."""
     return bytes(rng.randrange(256) if rng.randrange(2) else rng.randrange(32, 127) for _ in range(size))
@@ -332,7 +354,7 @@ def differs(tools, bx, case):
 FILES = [*((tool, "words", tool, word_cases) for tool in ("xxd", "od", "hexdump", "strings", "dd")),
          ("dd_images", "commands", "dd", image_cases), ("xxd_hands", "words", "xxd", hand_cases),
          ("dd_hands", "words", "dd", dd_hand_cases), ("od_rows", "words", "od", row_cases),
-         ("strings_chars", "words", "strings", char_cases)]
+         ("strings_chars", "words", "strings", char_cases), ("xxd_zeros", "words", "xxd", zero_cases)]
 
 
 def run(options):

@@ -5,7 +5,7 @@ use Rattle.bx_dump.specs.Behind.{behind, DumpsBehind, IsOdRest, IsHexdumpRest, I
 use Rattle.bx_dump.specs.Hexdump.{hexdump_of}
 use Rattle.bx_dump.specs.OdDump.{od_of}
 use Rattle.bx_dump.specs.Pages.{Dump}
-use Rattle.bx_dump.specs.Styles.{group_of, held_by, held_of, include_items, lines_by, styled, xxd_of}
+use Rattle.bx_dump.specs.Styles.{group_of, kept_by, held_of, include_items, lines_by, styled, xxd_of}
 use Rattle.bx_dump.specs.Xxd.{behind_address, bits_columns, bits_line, byte_columns, words_line}
 use Rattle.bx_dump_columns.specs.Words.{decimal_at}
 use Rattle.bx_dump_columns.specs.Lines.{in_lines}
@@ -107,11 +107,11 @@ same_text n (Include None) whole rest is = ap include_items is.shown.0
 same_text n (Include (Some name)) whole rest is = ap (named_text name.now) is.shown.0
 
 same_held : (style : XxdStyle) (whole rest : XxdOptions) → rest.autoskip ≡ whole.autoskip → held_of style rest ≡ held_of style whole
-same_held Normal whole rest e = ap held_by e
-same_held Bits whole rest e = ap held_by e
+same_held Normal whole rest e = ap kept_by e
+same_held Bits whole rest e = ap kept_by e
 same_held Plain whole rest e = refl
-same_held (Decimal bits) whole rest e = ap held_by e
-same_held (Words decimal) whole rest e = ap held_by e
+same_held (Decimal bits) whole rest e = ap kept_by e
+same_held (Words decimal) whole rest e = ap kept_by e
 same_held Unbroken whole rest e = refl
 same_held (Include name) whole rest e = refl
 

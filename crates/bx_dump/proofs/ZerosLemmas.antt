@@ -16,9 +16,9 @@ use Rattle.bx_text.specs.declared.line.fold.Show.TheVariants.{Line, Star, Nothin
 use Rattle.bx_dump_columns.specs.Lines.{in_lines}
 use Rattle.bx_dump_columns.proofs.LinesLemmas.{in_lines-one, in_lines-none, lines_step, line_begin, line_end}
 use Rattle.bx_dump.specs.FoldBy.{line_bytes_by}
-use Rattle.bx_dump.specs.Zeros.{all_zeros, follows_quiet, is_quiet, show_zeros, zeros_line, zeros_skipped}
+use Rattle.bx_dump.specs.Zeros.{all_zeros, follows_skippable, is_skippable, show_zeros, zeros_line, zeros_skipped}
 use Rattle.bx_dump.specs.Laws.{EndsAreShown, PlainWithoutZeros}
-use Rattle.bx_dump.specs.private.Zeros.{counted, dump_end, line_put, put_to, row_end, row_room, zeros_put, HasCounted, PutsRows}
+use Rattle.bx_dump.specs.private.Zeros.{zeros_before, dump_end, line_put, put_to, row_end, row_room, zeros_put, HasCounted, PutsRows}
 
 -- bytes that are all zeros
 pub zeros_are : (bytes : List ℕ) → all_zeros bytes ≡ true → bytes ≡ replicate (length bytes) 0
@@ -44,23 +44,23 @@ pub zeros_front : (line : List ℕ) (most : ℕ) → length line ≤ most → by
 zeros_front line most fits = ap (bytes_eq line) (blank_line (length line) most (replicate most 0) refl fits)
 
 -- a line that another follows is quiet where its bytes are zeros
-pub quiet_at : (n k : ℕ) (whole : List ℕ) → n * (k + 1) < length whole → is_quiet n whole k ≡ all_zeros (line_bytes_by n whole k)
+pub quiet_at : (n k : ℕ) (whole : List ℕ) → n * (k + 1) < length whole → is_skippable n whole k ≡ all_zeros (line_bytes_by n whole k)
 quiet_at n k whole follows =
     let e : nat_lt (n * (k + 1)) (length whole) ≡ true = grind (arith, nat_tests) in
     rw e refl
 
 -- the last line is not
-pub last_shown : (n k : ℕ) (whole : List ℕ) → length whole ≤ n * (k + 1) → is_quiet n whole k ≡ false
+pub last_shown : (n k : ℕ) (whole : List ℕ) → length whole ≤ n * (k + 1) → is_skippable n whole k ≡ false
 last_shown n k whole last =
     let e : nat_lt (n * (k + 1)) (length whole) ≡ false = grind (arith, nat_tests) in
     rw e refl
 
 -- a quiet line is followed, and has n zeros
-quiet_follows : (n k : ℕ) (whole : List ℕ) → is_quiet n whole k ≡ true → n * (k + 1) < length whole
+quiet_follows : (n k : ℕ) (whole : List ℕ) → is_skippable n whole k ≡ true → n * (k + 1) < length whole
 quiet_follows n k whole quiet =
     elim (cases_lt (n * (k + 1)) (length whole)) [
       | inl below ↦ below
-      | inr over ↦ absurd (no_both (is_quiet n whole k) quiet (last_shown n k whole over))
+      | inr over ↦ absurd (no_both (is_skippable n whole k) quiet (last_shown n k whole over))
     ]
   where
     no_both : (b : Bool) → b ≡ true → b ≡ false → ⊥
@@ -70,7 +70,7 @@ quiet_follows n k whole quiet =
 line_is_long : (n k : ℕ) (whole : List ℕ) → n * (k + 1) ≤ length whole → length (line_bytes_by n whole k) ≡ n
 line_is_long n k whole fits = length-take-le n (drop (n * k) whole) (omega (arith, length-drop (n * k) whole))
 
-pub quiet_zeros : (n k : ℕ) (whole : List ℕ) → is_quiet n whole k ≡ true → line_bytes_by n whole k ≡ replicate n 0
+pub quiet_zeros : (n k : ℕ) (whole : List ℕ) → is_skippable n whole k ≡ true → line_bytes_by n whole k ≡ replicate n 0
 quiet_zeros n k whole quiet =
     let below = quiet_follows n k whole quiet in
     let zeros : all_zeros (line_bytes_by n whole k) ≡ true = sym (quiet_at n k whole below) ∙ quiet in
@@ -102,19 +102,19 @@ put_next line n at whole k =
     let step : put_to line n at whole (suc k) ≡ put_to line n at whole k ++ line_put line n at whole k = refl in
     ap (put_to line n at whole) e ∙ step
 
-counted_next : (n : ℕ) (whole : List ℕ) (k : ℕ) → is_quiet n whole k ≡ true → counted n whole (k + 1) ≡ min (counted n whole k + 1) 4
-unfolding counted
+counted_next : (n : ℕ) (whole : List ℕ) (k : ℕ) → is_skippable n whole k ≡ true → zeros_before n whole (k + 1) ≡ min (zeros_before n whole k + 1) 4
+unfolding zeros_before
 counted_next n whole k quiet =
     let e : k + 1 ≡ suc k = omega arith in
-    let step : counted n whole (suc k) ≡ min (counted n whole k + 1) 4 = rw quiet refl in
-    ap (counted n whole) e ∙ step
+    let step : zeros_before n whole (suc k) ≡ min (zeros_before n whole k + 1) 4 = rw quiet refl in
+    ap (zeros_before n whole) e ∙ step
 
-counted_none : (n : ℕ) (whole : List ℕ) (k : ℕ) → is_quiet n whole k ≡ false → counted n whole (k + 1) ≡ 0
-unfolding counted
+counted_none : (n : ℕ) (whole : List ℕ) (k : ℕ) → is_skippable n whole k ≡ false → zeros_before n whole (k + 1) ≡ 0
+unfolding zeros_before
 counted_none n whole k loud =
     let e : k + 1 ≡ suc k = omega arith in
-    let step : counted n whole (suc k) ≡ 0 = rw loud refl in
-    ap (counted n whole) e ∙ step
+    let step : zeros_before n whole (suc k) ≡ 0 = rw loud refl in
+    ap (zeros_before n whole) e ∙ step
 
 -- no line
 pub rows_none : (line : ℕ → List ℕ → List ℕ) (n count at : ℕ) (bytes : List ℕ) → PutsRows line n 0 count count at bytes []
@@ -127,34 +127,34 @@ pub rows_zero : (line : ℕ → List ℕ → List ℕ) (n old at : ℕ) (bytes t
 rows_zero line n old at bytes text pos zeros is whole m start place part follows was =
     let same = line_of_rows n m 1 0 whole bytes part (omega arith) in
     let nil : m + 0 ≡ m = omega arith in
-    let quiet : is_quiet n whole m ≡ true = quiet_at n m whole follows ∙ ap all_zeros (sym (same ∙ ap (line_bytes_by n whole) nil)) ∙ zeros in
+    let quiet : is_skippable n whole m ≡ true = quiet_at n m whole follows ∙ ap all_zeros (sym (same ∙ ap (line_bytes_by n whole) nil)) ∙ zeros in
     let put : line_put line n start whole m ≡ text = rw (quiet, quiet_zeros n m whole quiet, ← was, ← place) (sym is) in
     (put_next line n start whole m ∙ ap (λ t. put_to line n start whole m ++ t) put, ap (λ c. min (c + 1) 4) was ∙ sym (counted_next n whole m quiet))
 
 -- lines that are shown, from line m on
 module _ (line : ℕ → List ℕ → List ℕ) (n start : ℕ) (pos : 0 < n) (whole : List ℕ) (m : ℕ) where
   pub busy_text : ℕ → List ℕ
-  busy_text k = row_end line n (start + n * m) (counted n whole m) ++ in_lines line n (start + n * m) (take (n * k) (drop (n * m) whole))
+  busy_text k = row_end line n (start + n * m) (zeros_before n whole m) ++ in_lines line n (start + n * m) (take (n * k) (drop (n * m) whole))
 
-  pub busy_to : (e : ℕ) → ((k : ℕ) → k ≤ e → is_quiet n whole (m + k) ≡ false) → n * (m + e) < length whole →
-      (put_to line n start whole (m + (e + 1)) ≡ put_to line n start whole m ++ busy_text (e + 1)) × (counted n whole (m + (e + 1)) ≡ 0)
+  pub busy_to : (e : ℕ) → ((k : ℕ) → k ≤ e → is_skippable n whole (m + k) ≡ false) → n * (m + e) < length whole →
+      (put_to line n start whole (m + (e + 1)) ≡ put_to line n start whole m ++ busy_text (e + 1)) × (zeros_before n whole (m + (e + 1)) ≡ 0)
   unfolding busy_text
   busy_to zero loud inside =
       let nil : m + 0 ≡ m = omega arith in
-      let quiet : is_quiet n whole m ≡ false = rw nil at (loud 0 (omega arith)) in
+      let quiet : is_skippable n whole m ≡ false = rw nil at (loud 0 (omega arith)) in
       let one : n * (0 + 1) ≡ n = omega arith in
       let rest = drop (n * m) whole in
       let some : 0 < length (take n rest) = omega (arith, length-drop (n * m) whole, length-take n rest) in
       let only : in_lines line n (start + n * m) (take (n * (0 + 1)) rest) ≡ line (start + n * m) (line_bytes_by n whole m) =
       ap (λ j. in_lines line n (start + n * m) (take j rest)) one ∙ in_lines-one line n (start + n * m) (take n rest) some (omega (arith, length-take n rest)) in
-      let put : line_put line n start whole m ≡ busy_text 1 = rw quiet (ap (λ t. row_end line n (start + n * m) (counted n whole m) ++ t) (sym only)) in
+      let put : line_put line n start whole m ≡ busy_text 1 = rw quiet (ap (λ t. row_end line n (start + n * m) (zeros_before n whole m) ++ t) (sym only)) in
       (put_next line n start whole m ∙ ap (λ t. put_to line n start whole m ++ t) put, counted_none n whole m quiet)
   busy_to (suc e) loud inside =
       let k = e + 1 in
       let wide : n * (m + suc e) ≡ n * m + n * k = omega arith in
       let near : n * (m + e) ≤ n * m + n * k = omega arith in
       let so_far = busy_to e (λ j le. loud j (omega arith)) (omega arith) in
-      let quiet : is_quiet n whole (m + k) ≡ false = loud k (omega arith) in
+      let quiet : is_skippable n whole (m + k) ≡ false = loud k (omega arith) in
       let rest = drop (n * m) whole in
       let begins : n * k < length rest = omega (arith, length-drop (n * m) whole) in
       let size = min (n * k + n) (length rest) - n * k in
@@ -171,18 +171,18 @@ module _ (line : ℕ → List ℕ → List ℕ) (n start : ℕ) (pos : 0 < n) (w
       let last : suc e + 1 ≡ k + 1 = omega arith in
       let all : put_to line n start whole (m + k + 1) ≡ put_to line n start whole m ++ busy_text (k + 1) =
       put_next line n start whole (m + k) ∙ ap (λ t. t ++ line_put line n start whole (m + k)) so_far.0
-      ∙ joined (put_to line n start whole m) (row_end line n (start + n * m) (counted n whole m)) _ _ _ _ put more in
-      (ap (put_to line n start whole) next ∙ all ∙ ap (λ j. put_to line n start whole m ++ busy_text j) (sym last), ap (counted n whole) next ∙ counted_none n whole (m + k) quiet)
+      ∙ joined (put_to line n start whole m) (row_end line n (start + n * m) (zeros_before n whole m)) _ _ _ _ put more in
+      (ap (put_to line n start whole) next ∙ all ∙ ap (λ j. put_to line n start whole m ++ busy_text j) (sym last), ap (zeros_before n whole) next ∙ counted_none n whole (m + k) quiet)
     where
       joined : (a b c d p q : List ℕ) → p ≡ d → q ≡ c ++ d → (a ++ (b ++ c)) ++ p ≡ a ++ (b ++ q)
       joined a b c d p q e f = rw (e, f) (append_assoc a (b ++ c) d ∙ ap (λ t. a ++ t) (append_assoc b c d))
 
   -- the last line, perhaps of fewer bytes
   pub last_row : n * m < length whole → length whole ≤ n * (m + 1) →
-      put_to line n start whole (m + 1) ≡ put_to line n start whole m ++ (row_end line n (start + n * m) (counted n whole m) ++ in_lines line n (start + n * m) (drop (n * m) whole))
+      put_to line n start whole (m + 1) ≡ put_to line n start whole m ++ (row_end line n (start + n * m) (zeros_before n whole m) ++ in_lines line n (start + n * m) (drop (n * m) whole))
   unfolding busy_text
   last_row inside last =
-      let loud : (k : ℕ) → k ≤ 0 → is_quiet n whole (m + k) ≡ false = λ k le.
+      let loud : (k : ℕ) → k ≤ 0 → is_skippable n whole (m + k) ≡ false = λ k le.
       let same : m + k ≡ m = omega arith in
       rw same (last_shown n m whole last) in
       let place : n * (m + 0) ≡ n * m = omega arith in
@@ -196,7 +196,7 @@ pub rows_busy : (line : ℕ → List ℕ → List ℕ) (n e old at : ℕ) (bytes
     text ≡ row_end line n at old ++ in_lines line n at bytes → PutsRows line n (e + 1) old 0 at bytes text
 unfolding busy_text
 rows_busy line n e old at bytes text pos busy is whole m start place part follows was =
-    let loud : (k : ℕ) → k ≤ e → is_quiet n whole (m + k) ≡ false = λ k le.
+    let loud : (k : ℕ) → k ≤ e → is_skippable n whole (m + k) ≡ false = λ k le.
     let next : n * (m + k + 1) ≤ n * (m + (e + 1)) = mul-le-mul_left {m = m + k + 1} {n = m + (e + 1)} n (omega arith) in
     quiet_at n (m + k) whole (omega arith) ∙ ap all_zeros (sym (line_of_rows n m (e + 1) k whole bytes part (omega arith))) ∙ busy k (omega arith) in
     let near : n * (m + e) ≤ n * (m + (e + 1)) = mul-le-mul_left {m = m + e} {n = m + (e + 1)} n (omega arith) in
@@ -248,7 +248,7 @@ rows_join line n a b old now new at next all xs ys first second at_is front back
     let two = q whole (m + a) start (omega arith) backs (omega (arith, follows, ap (λ j. n * j) sum)) one.1 in
     let text : put_to line n start whole (m + a + b) ≡ put_to line n start whole m ++ (first ++ second) =
     two.0 ∙ ap (λ t. t ++ second) one.0 ∙ append_assoc (put_to line n start whole m) first second in
-    (ap (put_to line n start whole) sum ∙ text, two.1 ∙ ap (counted n whole) (sym sum))
+    (ap (put_to line n start whole) sum ∙ text, two.1 ∙ ap (zeros_before n whole) (sym sum))
 
 pub rows_next : (line : ℕ → List ℕ → List ℕ) (n a b old now new at next : ℕ) (bytes ys first second : List ℕ) → next ≡ at + n * a → ys ≡ take (n * b) (drop (n * a) bytes) →
     PutsRows line n a old now at (take (n * a) bytes) first → PutsRows line n b now new next ys second → PutsRows line n (a + b) old new at (take (n * (a + b)) bytes) (first ++ second)
@@ -310,22 +310,22 @@ row_room_most room count = elim (cases_Bool (nat_lt count 2)) [
 
 -- the rows are those by position
 module _ (line : ℕ → List ℕ → List ℕ) (n start : ℕ) (whole : List ℕ) where
-  step_count : (j : ℕ) → 0 < counted n whole (suc j) → (is_quiet n whole j ≡ true) × (counted n whole (suc j) ≡ min (counted n whole j + 1) 4)
-  unfolding counted
-  step_count j some = elim (cases_Bool (is_quiet n whole j)) [
+  step_count : (j : ℕ) → 0 < zeros_before n whole (suc j) → (is_skippable n whole j ≡ true) × (zeros_before n whole (suc j) ≡ min (zeros_before n whole j + 1) 4)
+  unfolding zeros_before
+  step_count j some = elim (cases_Bool (is_skippable n whole j)) [
     | inl quiet ↦ (quiet, rw quiet refl)
-    | inr loud ↦ absurd (none_some (is_quiet n whole j) (min (counted n whole j + 1) 4) loud some)
+    | inr loud ↦ absurd (none_some (is_skippable n whole j) (min (zeros_before n whole j + 1) 4) loud some)
   ]
     where
       none_some : (b : Bool) (k : ℕ) → b ≡ false → 0 < (if b then k else 0) → ⊥
       none_some true k e p = absurd cc
       none_some false k e p = absurd (omega arith)
 
-  before_none : (k : ℕ) → counted n whole k ≡ 0 → follows_quiet n whole k ≡ false
-  unfolding counted
+  before_none : (k : ℕ) → zeros_before n whole k ≡ 0 → follows_skippable n whole k ≡ false
+  unfolding zeros_before
   before_none zero none = refl
-  before_none (suc j) none = elim (cases_Bool (is_quiet n whole j)) [
-    | inl quiet ↦ absurd (some_none (is_quiet n whole j) (counted n whole j) quiet none)
+  before_none (suc j) none = elim (cases_Bool (is_skippable n whole j)) [
+    | inl quiet ↦ absurd (some_none (is_skippable n whole j) (zeros_before n whole j) quiet none)
     | inr loud ↦ loud
   ]
     where
@@ -333,35 +333,35 @@ module _ (line : ℕ → List ℕ → List ℕ) (n start : ℕ) (whole : List �
       some_none true k e p = absurd (omega arith)
       some_none false k e p = absurd cc
 
-  before_some : (k : ℕ) → 0 < counted n whole k → follows_quiet n whole k ≡ true
-  unfolding counted
+  before_some : (k : ℕ) → 0 < zeros_before n whole k → follows_skippable n whole k ≡ true
+  unfolding zeros_before
   before_some zero some = absurd (omega arith)
   before_some (suc j) some = (step_count j some).0
 
-  show_loud : (k : ℕ) → is_quiet n whole k ≡ false → show_zeros n whole k ≡ Line
+  show_loud : (k : ℕ) → is_skippable n whole k ≡ false → show_zeros n whole k ≡ Line
   show_loud zero loud = refl
   show_loud (suc j) loud = rw loud refl
 
-  show_first : (k : ℕ) → counted n whole k ≡ 0 → show_zeros n whole k ≡ Line
+  show_first : (k : ℕ) → zeros_before n whole k ≡ 0 → show_zeros n whole k ≡ Line
   show_first zero none = refl
   show_first (suc j) none =
-      let before : is_quiet n whole j ≡ false = before_none (suc j) none in
-      cond-false _ _ _ (and_right (is_quiet n whole (suc j)) (is_quiet n whole j) before)
+      let before : is_skippable n whole j ≡ false = before_none (suc j) none in
+      cond-false _ _ _ (and_right (is_skippable n whole (suc j)) (is_skippable n whole j) before)
 
-  show_second : (k : ℕ) → is_quiet n whole k ≡ true → counted n whole k ≡ 1 → show_zeros n whole k ≡ (if is_quiet n whole (suc k) then Star else Line)
-  unfolding counted
+  show_second : (k : ℕ) → is_skippable n whole k ≡ true → zeros_before n whole k ≡ 1 → show_zeros n whole k ≡ (if is_skippable n whole (suc k) then Star else Line)
+  unfolding zeros_before
   show_second zero quiet one = absurd (omega arith)
   show_second (suc j) quiet one =
       let step = step_count j (omega arith) in
-      let first : follows_quiet n whole j ≡ false = before_none j (omega (arith, one, step.1)) in
+      let first : follows_skippable n whole j ≡ false = before_none j (omega (arith, one, step.1)) in
       rw (quiet, step.0, first) refl
 
-  show_later : (k : ℕ) → is_quiet n whole k ≡ true → 2 ≤ counted n whole k → show_zeros n whole k ≡ Nothing
-  unfolding counted
+  show_later : (k : ℕ) → is_skippable n whole k ≡ true → 2 ≤ zeros_before n whole k → show_zeros n whole k ≡ Nothing
+  unfolding zeros_before
   show_later zero quiet many = absurd (omega arith)
   show_later (suc j) quiet many =
       let step = step_count j (omega arith) in
-      let later : follows_quiet n whole j ≡ true = before_some j (omega (arith, many, step.1)) in
+      let later : follows_skippable n whole j ≡ true = before_some j (omega (arith, many, step.1)) in
       rw (quiet, step.0, later) refl
 
   -- what isn't put yet of the first k lines
@@ -399,40 +399,40 @@ module _ (line : ℕ → List ℕ → List ℕ) (n start : ℕ) (whole : List �
     | inr other ↦ star_left k count true (omega arith)
   ]
 
-  none_put : (k : ℕ) → is_quiet n whole k ≡ true → 0 < counted n whole k → line_put line n start whole k ≡ []
-  none_put k quiet some = let e : (counted n whole k == 0) ≡ false = ne_eqb (counted n whole k) 0 (λ q. omega arith) in rw (quiet, e) refl
+  none_put : (k : ℕ) → is_skippable n whole k ≡ true → 0 < zeros_before n whole k → line_put line n start whole k ≡ []
+  none_put k quiet some = let e : (zeros_before n whole k == 0) ≡ false = ne_eqb (zeros_before n whole k) 0 (λ q. omega arith) in rw (quiet, e) refl
 
-  by_loud : (k : ℕ) → is_quiet n whole k ≡ false → texts k ≡ put_to line n start whole k ++ left_at k (counted n whole k) (is_quiet n whole k) →
-      texts (k + 1) ≡ put_to line n start whole (k + 1) ++ left_at (k + 1) (counted n whole (k + 1)) (is_quiet n whole (k + 1))
+  by_loud : (k : ℕ) → is_skippable n whole k ≡ false → texts k ≡ put_to line n start whole k ++ left_at k (zeros_before n whole k) (is_skippable n whole k) →
+      texts (k + 1) ≡ put_to line n start whole (k + 1) ++ left_at (k + 1) (zeros_before n whole (k + 1)) (is_skippable n whole (k + 1))
   unfolding left_at
   by_loud k loud so_far =
-      let c = counted n whole k in
+      let c = zeros_before n whole k in
       let L = line (start + n * k) (line_bytes_by n whole k) in
       let E = row_end line n (start + n * k) c in
       let before : texts k ≡ put_to line n start whole k ++ E = rw loud at so_far in
       let is : zeros_line line n start whole k ≡ L = ap (λ v. shown_text v L) (show_loud k loud) in
       let puts : line_put line n start whole k ≡ E ++ L = rw loud refl in
-      let none : left_at (k + 1) (counted n whole (k + 1)) (is_quiet n whole (k + 1)) ≡ [] = rw (counted_none n whole k loud) refl in
+      let none : left_at (k + 1) (zeros_before n whole (k + 1)) (is_skippable n whole (k + 1)) ≡ [] = rw (counted_none n whole k loud) refl in
       rw none (one_more k E L (E ++ L) [] before is puts (sym (append-nil (E ++ L))))
 
-  by_first : (k : ℕ) → is_quiet n whole k ≡ true → counted n whole k ≡ 0 → texts k ≡ put_to line n start whole k ++ left_at k (counted n whole k) (is_quiet n whole k) →
-      texts (k + 1) ≡ put_to line n start whole (k + 1) ++ left_at (k + 1) (counted n whole (k + 1)) (is_quiet n whole (k + 1))
+  by_first : (k : ℕ) → is_skippable n whole k ≡ true → zeros_before n whole k ≡ 0 → texts k ≡ put_to line n start whole k ++ left_at k (zeros_before n whole k) (is_skippable n whole k) →
+      texts (k + 1) ≡ put_to line n start whole (k + 1) ++ left_at (k + 1) (zeros_before n whole (k + 1)) (is_skippable n whole (k + 1))
   unfolding left_at
   by_first k quiet first so_far =
       let L = line (start + n * k) (line_bytes_by n whole k) in
       let before : texts k ≡ put_to line n start whole k ++ [] = rw first at so_far in
       let is : zeros_line line n start whole k ≡ L = ap (λ v. shown_text v L) (show_first k first) in
       let puts : line_put line n start whole k ≡ L = rw (quiet, first) refl in
-      let count : counted n whole (k + 1) ≡ 1 = counted_next n whole k quiet ∙ ap (λ c. min (c + 1) 4) first in
-      let none : left_at (k + 1) (counted n whole (k + 1)) (is_quiet n whole (k + 1)) ≡ [] = rw count refl in
+      let count : zeros_before n whole (k + 1) ≡ 1 = counted_next n whole k quiet ∙ ap (λ c. min (c + 1) 4) first in
+      let none : left_at (k + 1) (zeros_before n whole (k + 1)) (is_skippable n whole (k + 1)) ≡ [] = rw count refl in
       rw none (one_more k [] L L [] before is puts (sym (append-nil L)))
 
-  by_second : (k : ℕ) → is_quiet n whole k ≡ true → counted n whole k ≡ 1 → texts k ≡ put_to line n start whole k ++ left_at k (counted n whole k) (is_quiet n whole k) →
-      texts (k + 1) ≡ put_to line n start whole (k + 1) ++ left_at (k + 1) (counted n whole (k + 1)) (is_quiet n whole (k + 1))
+  by_second : (k : ℕ) → is_skippable n whole k ≡ true → zeros_before n whole k ≡ 1 → texts k ≡ put_to line n start whole k ++ left_at k (zeros_before n whole k) (is_skippable n whole k) →
+      texts (k + 1) ≡ put_to line n start whole (k + 1) ++ left_at (k + 1) (zeros_before n whole (k + 1)) (is_skippable n whole (k + 1))
   unfolding left_at
   by_second k quiet second so_far =
       let L = line (start + n * k) (line_bytes_by n whole k) in
-      let q = is_quiet n whole (k + 1) in
+      let q = is_skippable n whole (k + 1) in
       let Z = line (start + n * (k + 1) - n) (replicate n 0) in
       let T = if q then codes "*\n" else Z in
       let before : texts k ≡ put_to line n start whole k ++ [] = rw second at so_far in
@@ -440,36 +440,36 @@ module _ (line : ℕ → List ℕ → List ℕ) (n start : ℕ) (whole : List �
       let place : start + n * k ≡ start + n * (k + 1) - n = omega arith in
       let zeros : L ≡ Z = ap (λ a. line a (line_bytes_by n whole k)) place ∙ ap (line (start + n * (k + 1) - n)) (quiet_zeros n k whole quiet) in
       let is : zeros_line line n start whole k ≡ T =
-      ap (λ v. shown_text v L) (show_second k quiet second ∙ ap (λ j. if is_quiet n whole j then Star else Line) next) ∙ either q L Z zeros in
-      let count : counted n whole (k + 1) ≡ 2 = counted_next n whole k quiet ∙ ap (λ c. min (c + 1) 4) second in
-      let left : left_at (k + 1) (counted n whole (k + 1)) q ≡ T = rw count refl in
+      ap (λ v. shown_text v L) (show_second k quiet second ∙ ap (λ j. if is_skippable n whole j then Star else Line) next) ∙ either q L Z zeros in
+      let count : zeros_before n whole (k + 1) ≡ 2 = counted_next n whole k quiet ∙ ap (λ c. min (c + 1) 4) second in
+      let left : left_at (k + 1) (zeros_before n whole (k + 1)) q ≡ T = rw count refl in
       rw left (one_more k [] T [] T before is (none_put k quiet (omega arith)) refl)
     where
       either : (b : Bool) (xs ys : List ℕ) → xs ≡ ys → shown_text (if b then Star else Line) xs ≡ (if b then codes "*\n" else ys)
       either true xs ys e = refl
       either false xs ys e = e
 
-  by_later : (k : ℕ) → is_quiet n whole k ≡ true → 2 ≤ counted n whole k → texts k ≡ put_to line n start whole k ++ left_at k (counted n whole k) (is_quiet n whole k) →
-      texts (k + 1) ≡ put_to line n start whole (k + 1) ++ left_at (k + 1) (counted n whole (k + 1)) (is_quiet n whole (k + 1))
+  by_later : (k : ℕ) → is_skippable n whole k ≡ true → 2 ≤ zeros_before n whole k → texts k ≡ put_to line n start whole k ++ left_at k (zeros_before n whole k) (is_skippable n whole k) →
+      texts (k + 1) ≡ put_to line n start whole (k + 1) ++ left_at (k + 1) (zeros_before n whole (k + 1)) (is_skippable n whole (k + 1))
   by_later k quiet later so_far =
       let L = line (start + n * k) (line_bytes_by n whole k) in
-      let star : left_at k (counted n whole k) (is_quiet n whole k) ≡ codes "*\n" = ap (left_at k (counted n whole k)) quiet ∙ star_at k (counted n whole k) later in
+      let star : left_at k (zeros_before n whole k) (is_skippable n whole k) ≡ codes "*\n" = ap (left_at k (zeros_before n whole k)) quiet ∙ star_at k (zeros_before n whole k) later in
       let before : texts k ≡ put_to line n start whole k ++ codes "*\n" = rw star at so_far in
       let is : zeros_line line n start whole k ≡ [] = ap (λ v. shown_text v L) (show_later k quiet later) in
-      let count : 3 ≤ counted n whole (k + 1) = omega (arith, counted_next n whole k quiet) in
-      let left = star_left (k + 1) (counted n whole (k + 1)) (is_quiet n whole (k + 1)) count in
+      let count : 3 ≤ zeros_before n whole (k + 1) = omega (arith, counted_next n whole k quiet) in
+      let left = star_left (k + 1) (zeros_before n whole (k + 1)) (is_skippable n whole (k + 1)) count in
       rw left (one_more k (codes "*\n") [] [] (codes "*\n") before is (none_put k quiet (omega arith)) refl)
 
-  by_none : texts 0 ≡ put_to line n start whole 0 ++ left_at 0 (counted n whole 0) (is_quiet n whole 0)
-  unfolding texts left_at put_to counted
+  by_none : texts 0 ≡ put_to line n start whole 0 ++ left_at 0 (zeros_before n whole 0) (is_skippable n whole 0)
+  unfolding texts left_at put_to zeros_before
   by_none = refl
 
-  by_next : (k : ℕ) → texts k ≡ put_to line n start whole k ++ left_at k (counted n whole k) (is_quiet n whole k) →
-      texts (k + 1) ≡ put_to line n start whole (k + 1) ++ left_at (k + 1) (counted n whole (k + 1)) (is_quiet n whole (k + 1))
-  by_next k so_far = elim (cases_Bool (is_quiet n whole k)) [
-    | inl quiet ↦ elim (cases_eq (counted n whole k) 0) [
+  by_next : (k : ℕ) → texts k ≡ put_to line n start whole k ++ left_at k (zeros_before n whole k) (is_skippable n whole k) →
+      texts (k + 1) ≡ put_to line n start whole (k + 1) ++ left_at (k + 1) (zeros_before n whole (k + 1)) (is_skippable n whole (k + 1))
+  by_next k so_far = elim (cases_Bool (is_skippable n whole k)) [
+    | inl quiet ↦ elim (cases_eq (zeros_before n whole k) 0) [
       | inl first ↦ by_first k quiet first so_far
-      | inr some ↦ elim (cases_eq (counted n whole k) 1) [
+      | inr some ↦ elim (cases_eq (zeros_before n whole k) 1) [
         | inl second ↦ by_second k quiet second so_far
         | inr many ↦ by_later k quiet (omega arith) so_far
       ]
@@ -477,15 +477,15 @@ module _ (line : ℕ → List ℕ → List ℕ) (n start : ℕ) (whole : List �
     | inr loud ↦ by_loud k loud so_far
   ]
 
-  by_rows : (k : ℕ) → texts k ≡ put_to line n start whole k ++ left_at k (counted n whole k) (is_quiet n whole k)
+  by_rows : (k : ℕ) → texts k ≡ put_to line n start whole k ++ left_at k (zeros_before n whole k) (is_skippable n whole k)
   by_rows zero = by_none
   by_rows (suc k) =
       let next : suc k ≡ k + 1 = omega arith in
-      subst (λ j. texts j ≡ put_to line n start whole j ++ left_at j (counted n whole j) (is_quiet n whole j)) (sym next) (by_next k (by_rows k))
+      subst (λ j. texts j ≡ put_to line n start whole j ++ left_at j (zeros_before n whole j) (is_skippable n whole j)) (sym next) (by_next k (by_rows k))
 
   -- no row is open behind the last line
-  closed : (k : ℕ) → length whole ≤ n * k → counted n whole k ≡ 0
-  unfolding counted
+  closed : (k : ℕ) → length whole ≤ n * k → zeros_before n whole k ≡ 0
+  unfolding zeros_before
   closed zero all = refl
   closed (suc j) all = let loud = last_shown n j whole (omega (arith, all)) in rw loud refl
 
@@ -493,19 +493,19 @@ module _ (line : ℕ → List ℕ → List ℕ) (n start : ℕ) (whole : List �
   unfolding texts left_at
   text_is k count pos =
       let all : length whole ≤ n * k = rw (← count) at (line_end (length whole) n pos) in
-      let none : left_at k (counted n whole k) (is_quiet n whole k) ≡ [] = rw (closed k all) refl in
+      let none : left_at k (zeros_before n whole k) (is_skippable n whole k) ≡ [] = rw (closed k all) refl in
       ap (λ j. flat_map (zeros_line line n start whole) (range_with_len 0 j)) (sym count) ∙ by_rows k ∙ ap (λ t. put_to line n start whole k ++ t) none ∙ append-nil (put_to line n start whole k)
 
 -- what stands in front stays, whatever comes behind it
 module _ (n : ℕ) (pos : 0 < n) (xs ys zs : List ℕ) (m : ℕ) (whole : length xs ≡ n * m) (some : 0 < length ys) (other : 0 < length zs) where
-  quiet_stays : (k : ℕ) → k < m → is_quiet n (xs ++ ys) k ≡ is_quiet n (xs ++ zs) k
+  quiet_stays : (k : ℕ) → k < m → is_skippable n (xs ++ ys) k ≡ is_skippable n (xs ++ zs) k
   quiet_stays k below =
       let next : n * (k + 1) ≤ n * m = mul-le-mul_left {m = k + 1} {n = m} n (omega arith) in
       quiet_at n k (xs ++ ys) (omega (arith, length-append xs ys)) ∙ ap all_zeros (bytes_stay_by n pos xs ys m whole k below ∙ sym (bytes_stay_by n pos xs zs m whole k below))
       ∙ sym (quiet_at n k (xs ++ zs) (omega (arith, length-append xs zs)))
 
-  pub counted_stays : (k : ℕ) → k ≤ m → counted n (xs ++ ys) k ≡ counted n (xs ++ zs) k
-  unfolding counted
+  pub counted_stays : (k : ℕ) → k ≤ m → zeros_before n (xs ++ ys) k ≡ zeros_before n (xs ++ zs) k
+  unfolding zeros_before
   counted_stays zero le = refl
   counted_stays (suc k) le = rw (quiet_stays k (omega arith), counted_stays k (omega arith)) refl
 
@@ -555,7 +555,7 @@ module _ (line : ℕ → List ℕ → List ℕ) (n start : ℕ) (pos : 0 < n) (x
       ∙ ap (take (n * lines)) (drop-append-add xs (bytes ++ 0 ∷ []) 0) ∙ take-append-le (n * lines) bytes (0 ∷ []) (omega arith) ∙ take_all (n * lines) bytes (omega arith)) in
       let size : length (xs ++ bytes) ≡ n * (m + lines) = omega (arith, length-append xs bytes) in
       let some : 0 < length (bytes ++ 0 ∷ []) = omega (arith, length-append bytes (0 ∷ [])) in
-      let old_is : old ≡ counted n all m = has.1 ∙ counted_stays n pos xs (0 ∷ []) (bytes ++ 0 ∷ []) m whole (omega arith) some m (omega arith) ∙ ap (λ t. counted n t m) (sym same) in
+      let old_is : old ≡ zeros_before n all m = has.1 ∙ counted_stays n pos xs (0 ∷ []) (bytes ++ 0 ∷ []) m whole (omega arith) some m (omega arith) ∙ ap (λ t. zeros_before n t m) (sym same) in
       let both = puts all m start (ap (λ j. start + j) whole) part (omega (arith, length-append (xs ++ bytes) (0 ∷ []), size)) old_is in
       let count : length (xs ++ bytes) / n ≡ m + lines =
       let e : length (xs ++ bytes) ≡ n * (m + lines) + 0 = omega arith in
@@ -577,7 +577,7 @@ module _ (line : ℕ → List ℕ → List ℕ) (n start : ℕ) (pos : 0 < n) (x
       let size : length all ≡ n * m + length bytes = omega (arith, length-append xs bytes) in
       let lower : n * (m + lines) < length all = omega arith in
       let upper : length all ≤ n * (m + lines + 1) = omega arith in
-      let old_is : old ≡ counted n all m = has.1 ∙ counted_stays n pos xs (0 ∷ []) bytes m whole (omega arith) some m (omega arith) in
+      let old_is : old ≡ zeros_before n all m = has.1 ∙ counted_stays n pos xs (0 ∷ []) bytes m whole (omega arith) some m (omega arith) in
       let both = puts all m start (ap (λ j. start + j) whole) part lower old_is in
       let place : start + n * (m + lines) ≡ start + length xs + n * lines = omega arith in
       let tail : drop (n * (m + lines)) all ≡ drop (n * lines) bytes =
@@ -604,9 +604,9 @@ row_end_one_less line n at c some = elim (cases_lt c 4) [
       rw (e, a, b) refl
 ]
 
-put_nothing : (line : ℕ → List ℕ → List ℕ) (n start : ℕ) → 0 < n → (xs : List ℕ) (count : ℕ) → length xs ≡ 0 → count ≡ counted n (xs ++ 0 ∷ []) 0 →
+put_nothing : (line : ℕ → List ℕ → List ℕ) (n start : ℕ) → 0 < n → (xs : List ℕ) (count : ℕ) → length xs ≡ 0 → count ≡ zeros_before n (xs ++ 0 ∷ []) 0 →
     zeros_skipped line n start xs ≡ zeros_put line n start xs ++ dump_end line n (start + length xs) count
-unfolding counted put_to
+unfolding zeros_before put_to
 put_nothing line n start pos [] count none is =
     let z : (0 + n - 1) / n ≡ 0 = div-eq_of_lt (omega arith) in
     let y : 0 / n ≡ 0 = div-eq_of_lt (omega arith) in
@@ -628,38 +628,38 @@ module _ (line : ℕ → List ℕ → List ℕ) (n start : ℕ) (pos : 0 < n) wh
       let X = xs ++ 0 ∷ [] in
       let puts : put_to line n start xs j ≡ put_to line n start X j =
       ap (λ t. put_to line n start t j) (sym parts) ∙ put_stays n pos front tail (tail ++ 0 ∷ []) j front_len (omega arith) some line start j (omega arith) ∙ ap (λ t. put_to line n start t j) longer in
-      let counts : counted n xs j ≡ counted n X j =
-      ap (λ t. counted n t j) (sym parts) ∙ counted_stays n pos front tail (tail ++ 0 ∷ []) j front_len (omega arith) some j (omega arith) ∙ ap (λ t. counted n t j) longer in
+      let counts : zeros_before n xs j ≡ zeros_before n X j =
+      ap (λ t. zeros_before n t j) (sym parts) ∙ counted_stays n pos front tail (tail ++ 0 ∷ []) j front_len (omega arith) some j (omega arith) ∙ ap (λ t. zeros_before n t j) longer in
       let bytes : line_bytes_by n xs j ≡ line_bytes_by n X j =
       sym (ap (take n) (drop-append-le (n * j) xs (0 ∷ []) (omega arith)) ∙ take-append-le n tail (0 ∷ []) (omega arith)) in
       let count_is : (length xs + n - 1) / n ≡ j + 1 = div-eq_of_lt-le n (omega arith) (omega arith) in
-      let loud : is_quiet n xs j ≡ false = last_shown n j xs (omega arith) in
+      let loud : is_skippable n xs j ≡ false = last_shown n j xs (omega arith) in
       let L = line (start + n * j) (line_bytes_by n X j) in
-      let E = row_end line n (start + n * j) (counted n X j) in
+      let E = row_end line n (start + n * j) (zeros_before n X j) in
       let shown : line_put line n start xs j ≡ E ++ L = rw (loud, counts, bytes) refl in
       let text : zeros_skipped line n start xs ≡ put_to line n start X j ++ (E ++ L) =
       text_is line n start xs (j + 1) (sym count_is) pos ∙ put_next line n start xs j ∙ ap (λ t. t ++ line_put line n start xs j) puts ∙ ap (λ t. put_to line n start X j ++ t) shown in
       let next : suc j ≡ j + 1 = omega arith in
       let known : zeros_put line n start xs ≡ put_to line n start X j ++ line_put line n start X j =
       ap (put_to line n start X) (lines_in line n start pos xs (suc j) has.0 ∙ next) ∙ put_next line n start X j in
-      let is : count ≡ counted n X (j + 1) = has.1 ∙ ap (counted n X) next in
+      let is : count ≡ zeros_before n X (j + 1) = has.1 ∙ ap (zeros_before n X) next in
       text ∙ ap (λ t. put_to line n start X j ++ t) (ending j X L E count (start + length xs) (omega (arith, size)) refl refl is) ∙ sym (append_assoc (put_to line n start X j) (line_put line n start X j) _)
       ∙ ap (λ t. t ++ dump_end line n (start + length xs) count) (sym known)
     where
-      ending : (j : ℕ) (X L E : List ℕ) (count at : ℕ) → at ≡ start + n * j + n → L ≡ line (start + n * j) (line_bytes_by n X j) → E ≡ row_end line n (start + n * j) (counted n X j) → count ≡ counted n X (j + 1) →
+      ending : (j : ℕ) (X L E : List ℕ) (count at : ℕ) → at ≡ start + n * j + n → L ≡ line (start + n * j) (line_bytes_by n X j) → E ≡ row_end line n (start + n * j) (zeros_before n X j) → count ≡ zeros_before n X (j + 1) →
           E ++ L ≡ line_put line n start X j ++ dump_end line n at count
-      ending j X L E count at place is ends counts = elim (cases_Bool (is_quiet n X j)) [
+      ending j X L E count at place is ends counts = elim (cases_Bool (is_skippable n X j)) [
         | inl quiet ↦
             let back : at - n ≡ start + n * j = omega arith in
-            let total : count ≡ min (counted n X j + 1) 4 = counts ∙ counted_next n X j quiet in
-            elim (cases_eq (counted n X j) 0) [
+            let total : count ≡ min (zeros_before n X j + 1) 4 = counts ∙ counted_next n X j quiet in
+            elim (cases_eq (zeros_before n X j) 0) [
               | inl first ↦
                   let one : count ≡ 1 = total ∙ ap (λ c. min (c + 1) 4) first in
                   rw (quiet, first, one, ends, is) (rw first (sym (append-nil (line (start + n * j) (line_bytes_by n X j)))))
               | inr more ↦
-                  let e : (counted n X j == 0) ≡ false = ne_eqb (counted n X j) 0 more in
+                  let e : (zeros_before n X j == 0) ≡ false = ne_eqb (zeros_before n X j) 0 more in
                   let two : nat_lt count 2 ≡ false = grind (arith, nat_tests) in
-                  rw (quiet, e, two, back, is, quiet_zeros n j X quiet, ends) (ap (λ t. t ++ line (start + n * j) (replicate n 0)) (sym (ap (λ c. row_end line n (start + n * j) (c - 1)) total ∙ row_end_one_less line n (start + n * j) (counted n X j) (omega arith))))
+                  rw (quiet, e, two, back, is, quiet_zeros n j X quiet, ends) (ap (λ t. t ++ line (start + n * j) (replicate n 0)) (sym (ap (λ c. row_end line n (start + n * j) (c - 1)) total ∙ row_end_one_less line n (start + n * j) (zeros_before n X j) (omega arith))))
             ]
         | inr loud ↦
             let none : count ≡ 0 = counts ∙ counted_none n X j loud in
@@ -675,7 +675,7 @@ module _ (line : ℕ → List ℕ → List ℕ) (n start : ℕ) (pos : 0 < n) wh
 
   -- no line
   pub none_counted : (count : ℕ) → count ≡ 0 → HasCounted n count [] 0
-  unfolding counted
+  unfolding zeros_before
   none_counted count none = (omega arith, none)
 
   pub skipped_none : zeros_skipped line n start [] ≡ []

@@ -50,15 +50,15 @@ abbrev pub styled : XxdStyle → XxdOptions → List ℕ → List ℕ
 styled style o bytes = styled_by o.autoskip style o bytes
 
 -- how much of the text may wait: where rows of zeros are left out, two lines of at most 2^12 characters each
-abbrev pub held_by : Bool → ℕ
-held_by skips = if skips then 2 ^ 13 else 2 ^ 7
+abbrev pub kept_by : Bool → ℕ
+kept_by skips = if skips then 2 ^ 13 else 2 ^ 7
 
 -- the same of a style
 abbrev pub held_of : XxdStyle → XxdOptions → ℕ
 held_of Plain o = 2 ^ 7
 held_of Unbroken o = 2 ^ 7
 held_of (Include name) o = 2 ^ 7
-held_of style o = held_by o.autoskip
+held_of style o = kept_by o.autoskip
 
 -- the dump that style and options ask for
 abbrev pub xxd_of : XxdStyle → XxdOptions → Dump

@@ -337,7 +337,7 @@ fn autoskip<'a>(alloc: Global) -> Arg<'a> {
         .help_heading(ALSO)
         .short('a')
         .action(ArgAction::Count)
-        .help("A * for the lines behind the first of a row of zeros, -a -a none")
+        .help("A row of zeros as its first line and a *; -a -a is off again")
 }
 
 /// A negative place counts from the end.

@@ -2,7 +2,7 @@
 use Rattle.std.specs.Prelude.{ℕ, ◌^◌, List, Result, IfErr}
 use Rattle.bx_text.specs.declared.fault.IoFault.{IoFault}
 use Rattle.bx_dump_columns.specs.Lines.{in_lines}
-use Rattle.bx_dump.specs.Styles.{held_by, held_of, include_items, styled}
+use Rattle.bx_dump.specs.Styles.{kept_by, held_of, include_items, styled}
 use Rattle.bx_dump.specs.private.Pages.{Streams, WritesTextOf, StopsTextOf}
 use Rattle.bx_dump.specs.declared.driver.pages.Part.{Part}
 use Rattle.bx_dump.specs.declared.xxd.options.XxdStyle.{XxdStyle}
@@ -20,9 +20,9 @@ StopsText slack text o before io fault = StopsTextOf slack text o.seek o.limit b
 abbrev pub StopsFront : (List ℕ → List ℕ) → XxdOptions → Streams → IoFault → Type 0
 StopsFront text o io fault = StopsText (2 ^ 7) text o 0 io fault
 
--- where lines stop of which rows of zeros may be left out
+-- where lines stop that rows of zeros may be left out of
 abbrev pub StopsKept : (List ℕ → List ℕ) → XxdOptions → Streams → IoFault → Type 0
-StopsKept text o io fault = StopsText (held_by o.autoskip) text o 0 io fault
+StopsKept text o io fault = StopsText (kept_by o.autoskip) text o 0 io fault
 
 -- The same of lines, the first of them for an address.
 abbrev pub WritesLines : (ℕ → List ℕ → List ℕ) → ℕ → ℕ → XxdOptions → Streams → Part → Type 0

@@ -1,4 +1,4 @@
-//! Lines of which a row of zeros is shown as its first line and a star (autoskip).
+//! Lines in which a row of zeros is shown as its first line and a star (autoskip).
 ghost use Rattle.std.specs.Prelude.{◌≡◌, ℕ, ◌+◌, ◌-◌, ◌*◌, ◌/◌, ◌^◌, ◌<◌, ◌≤◌, ◌==◌, false, true, if◌then◌else◌, List, [], ◌++◌, length, take, drop, replicate, min};
 ghost use Rattle.bx_dump_columns.specs.Lines.{in_lines};
 ghost use Rattle.bx_dump.specs.FoldBy.{line_bytes_by};

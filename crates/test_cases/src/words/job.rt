@@ -161,6 +161,7 @@ fn xxd_field<'a>(job: &'a XxdJob, name: &str) -> Field<'a> {
         "from_end" => limit(job.from_end),
         "shift" => Field::Number(job.options.shift),
         "upper" => flag(job.options.upper),
+        "autoskip" => flag(job.options.autoskip),
         "array" => file(&job.array),
         "file" => file(&job.file),
         _ => Field::Missing,

@@ -1,6 +1,6 @@
 use Rattle.std.proofs.Common.{◌≡◌, ℕ, ◌+◌, ◌^◌, Bool, List, ap, ◌∙◌, arith}
 use Rattle.bx_dump.specs.Pages.{bytes_dumped}
-use Rattle.bx_dump.specs.Styles.{group_of, held_by, lines_by}
+use Rattle.bx_dump.specs.Styles.{group_of, kept_by, lines_by}
 use Rattle.bx_dump.specs.Xxd.{words_line}
 use Rattle.bx_dump.proofs.DumpLemmas.{ok_along, err_along}
 use Rattle.bx_dump.proofs.PagesLemmas.{part_along, front_along}
@@ -37,7 +37,7 @@ returns-clause-err g c =
     ∙ ap (λ (v : Bool). lines_by o.autoskip (words_line c.args.decimal v form.cols form.group) form.cols start ys) made.upper
     ∙ ap (λ (n : ℕ). lines_by o.autoskip (words_line c.args.decimal o.upper n form.group) n start ys) made.cols
     ∙ ap (λ (n : ℕ). lines_by o.autoskip (words_line c.args.decimal o.upper o.cols n) o.cols start ys) (made.group ∙ c.group_len.ensures.value) in
-    err_along c.dump_addressed.result _ _ (λ e p. front_along (held_by o.autoskip) (held_by o.autoskip) text other o.seek o.limit 0 0 _ _ _ _ e same (omega arith) p) c.dump_addressed.ensures.err
+    err_along c.dump_addressed.result _ _ (λ e p. front_along (kept_by o.autoskip) (kept_by o.autoskip) text other o.seek o.limit 0 0 _ _ _ _ e same (omega arith) p) c.dump_addressed.ensures.err
 
 pub dump_addressed-requires-clause-short : goal.dump_addressed-requires-clause-short
 dump_addressed-requires-clause-short g c at bytes fits =
