@@ -24,3 +24,4 @@ pub mod XxdRows
 pub mod XxdReverts
 pub mod PassedLemmas
 pub mod PutTexts
+pub mod RunStated

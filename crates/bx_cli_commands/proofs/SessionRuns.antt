@@ -15,7 +15,8 @@ use Rattle.bx_cli_commands.specs.declared.command.Reply.{Reply}
 use Rattle.bx_cli_commands.specs.Obeys.{Obeys}
 use Rattle.bx_cli_commands.specs.Power.{FindsEnd, IsAt, RunFinds, images_of}
 use Rattle.bx_cli_commands.specs.Refusal.{IsOwnRefusal, IsWholeRefusal, KeepsImageAndJournal}
-use Rattle.bx_cli_commands.specs.Run.{is_failure, CommandRun, CommandStep, StackRun, Unfailed, CountsOn}
+use Rattle.bx_cli_commands.specs.Run.{is_failure, CommandRun, CommandStep, StackRun, Unfailed}
+use Rattle.bx_cli_commands.proofs.RunStated.{CountsOn}
 use Rattle.bx_cli_commands.specs.SessionRun.{SessionRun, SessionStep}
 use Rattle.bx_cli_commands.specs.Tells.{Tells}
 use Rattle.bx_cli_commands.specs.Standing.{CountsBy, HoldsAt, LeadsOn, Shows, Standing}

@@ -5,7 +5,8 @@ use Rattle.bx_image.specs.declared.change.Change.{Change}
 use Rattle.bx_read.specs.declared.fault.ReadFault.{ReadFault}
 use Rattle.bx_read.specs.declared.fault.ReadFault.TheVariants.{NoMemory as ReadNoMemory}
 use Rattle.bx_cli_commands.specs.declared.command.Reply.{Reply}
-use Rattle.bx_cli_commands.specs.Run.{ReadStep, ChangeStep, RefusesStep}
+use Rattle.bx_cli_commands.specs.Run.{ReadStep, ChangeStep}
+use Rattle.bx_cli_commands.proofs.RunStated.{RefusesStep}
 use Rattle.bx_cli_commands.specs.Standing.{Standing}
 
 -- a text that was read as a change, or refused

@@ -1,5 +1,5 @@
 -- The machine of commands.
-use Rattle.std.specs.Prelude.{◌≡◌, ℕ, ◌⊎◌, Bool, true, false, Option, Result, Ok, Err, List, [], ◌∷◌, ◌≤◌, None, Some}
+use Rattle.std.specs.Prelude.{◌≡◌, ℕ, ◌⊎◌, Bool, true, false, Option, Result, Ok, Err, List, [], ◌∷◌, None, Some}
 use Rattle.bx_dd.specs.declared.fault.DdFault.{DdFault}
 use Rattle.bx_image.specs.declared.change.Change.{Change}
 use Rattle.bx_image.specs.declared.device.Device.{Ghosts as DeviceViews}
@@ -27,7 +27,7 @@ use Rattle.bx_journal.specs.SessionView.{SessionView}
 use Rattle.bx_cli_commands.specs.declared.changes.DdChange.{DdChange}
 use Rattle.bx_cli_commands.specs.Command.{dump_change, plain_change}
 use Rattle.bx_cli_commands.specs.Copy.{MakesCopy, MakesBy}
-use Rattle.bx_cli_commands.specs.Standing.{Standing, LeadsOn, MovesUp, PerformUp, CountsBy}
+use Rattle.bx_cli_commands.specs.Standing.{Standing, LeadsOn, MovesUp, PerformUp}
 use Rattle.bx_dd.specs.declared.counts.Counts.{Counts}
 
 -- the reply that tells what the session answered; `made` tells what was done
@@ -128,10 +128,6 @@ made_reply (Some counts) = λ n. Copied n counts
 abbrev pub ChangeStep : {A : Type 0} → Standing → Change A → Option Counts → Reply → Standing → Type 0
 ChangeStep before c counts reply after = CallStep (made_reply counts) (PerformUp c) before reply after
 
--- nothing is done for this fault of the command's own
-abbrev pub RefusesStep : Standing → ReadFault → Reply → Standing → Type 0
-RefusesStep before e reply after = (reply ≡ Refused (Read e)) × (after ≡ before)
-
 -- an undo of k, from images
 abbrev pub UndoUp : ℕ → Images → Result ℕ SessionFault → Standing → Type 0
 UndoUp k old r after = MovesUp (λ s k r t. UndoStep s.stack k r t.stack) undo_of k old r after
@@ -155,7 +151,3 @@ DumpStep A before text offset reply after = TextStep before (dump_change {A = A}
 -- plain hexadecimal that is put onto the image from a place on
 abbrev pub PlainStep : (A : Type 0) → Standing → List ℕ → ℕ → Reply → Standing → Type 0
 PlainStep A before text at reply after = TextStep before (plain_change {A = A} at) (plain_answer text) reply after
-
--- No count of failed calls falls, and the three together rise by at most `calls`
-abbrev pub CountsOn : {D T : Type 0} → DeviceViews D → StoreViews T → SessionView D T → SessionView D T → ℕ → Type 0
-CountsOn d t old new calls = (failed : ℕ) × (failed ≤ calls) × CountsBy d t old new failed

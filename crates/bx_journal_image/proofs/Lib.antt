@@ -9,3 +9,4 @@ pub mod SealLemmas
 pub mod BlockLaws
 pub mod MarkLemmas
 pub mod NamedLemmas
+pub mod UnfinishedStated

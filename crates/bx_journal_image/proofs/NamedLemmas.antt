@@ -32,7 +32,8 @@ use Rattle.bx_journal_image.specs.declared.judging.judge.Verdict.TheVariants.{Ot
 use Rattle.bx_journal_image.specs.declared.line.form.ImageLine.{ImageLine}
 use Rattle.bx_journal_image.specs.declared.line.ranges.Range.{Range}
 use Rattle.bx_journal_image.specs.Blocks.{AreTrueMarks, AreStruck, DiffersWithin, is_in, is_in_one, ranges_in, rest_from}
-use Rattle.bx_journal_image.specs.Unfinished.{AreAllIn, IsJudgedWithout, IsUnfinishedJudged, HasLongSavedLine}
+use Rattle.bx_journal_image.specs.Unfinished.{IsJudgedWithout, IsUnfinishedJudged, HasLongSavedLine}
+use Rattle.bx_journal_image.proofs.UnfinishedStated.{AreAllIn}
 use Rattle.bx_journal_image.proofs.BlockLaws.{right_line}
 
 -- a line that is a saved one in a short image is one in any

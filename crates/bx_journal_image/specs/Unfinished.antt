@@ -1,6 +1,6 @@
 -- What is said of an image whose journal has something unfinished, before that is recovered.
-use Rattle.std.specs.Prelude.{◌≡◌, ◌⊎◌, ◌<◌, ◌≤◌, ◌^◌, ℕ, false, Option, None, Some, List, ◌∷◌, length}
-use Rattle.bx_image.specs.Change.{byte_in, restore}
+use Rattle.std.specs.Prelude.{◌≡◌, ◌⊎◌, ◌<◌, ◌≤◌, ◌^◌, ℕ, Option, None, Some, List, ◌∷◌, length}
+use Rattle.bx_image.specs.Change.{restore}
 use Rattle.bx_image.specs.declared.change.TheConstants.{MAX_LEN}
 use Rattle.bx_journal_format.specs.Kept.{Kept}
 use Rattle.bx_journal_format.specs.Shown.{shown}
@@ -15,7 +15,7 @@ use Rattle.bx_journal_image.specs.declared.judging.judge.Verdict.{Verdict}
 use Rattle.bx_journal_image.specs.declared.judging.judge.Verdict.TheVariants.{Other, Untold}
 use Rattle.bx_journal_image.specs.declared.line.form.ImageLine.{ImageLine}
 use Rattle.bx_journal_image.specs.declared.line.ranges.Range.{Range}
-use Rattle.bx_journal_image.specs.Blocks.{AreTrueMarks, AreStruck, HasLongLine, IsJudged, is_in_one, ranges_in, rest_from}
+use Rattle.bx_journal_image.specs.Blocks.{AreTrueMarks, AreStruck, HasLongLine, IsJudged, ranges_in, rest_from}
 
 -- what a change may touch whose record stands at a mark of a text: what its saved lines name, and all behind the length that it restores
 abbrev pub touched_at : List ℕ → Mark → List Range
@@ -61,10 +61,6 @@ LeavesImage text = IsClean text ⊎ ((torn : Torn) × IsTornIn text torn × (tor
 abbrev pub IsUnfinishedJudged : Option ImageLine → List ℕ → List ℕ → Option Verdict → Type 0
 IsUnfinishedJudged line text x None = LeavesImage text
 IsUnfinishedJudged line text x (Some verdict) = IsOpenJudged line text x verdict
-
--- each address that a record names below its length is in one of the ranges
-abbrev pub AreAllIn : Kept → List Range → Type 0
-AreAllIn s ranges = (a : ℕ) → a < s.len → is_in_one ranges a ≡ false → byte_in s.runs a ≡ None
 
 -- The right image is never refused: a line says nothing wrong of the image x, as it was when the line was written; a journal's text has an unfinished
 -- change behind its save line; restoring its record makes the same image of y, which is found, as of x; and y has a length between the line's two. Then y

@@ -17,7 +17,7 @@ use Rattle.bx_journal_format.proofs.Runs.{SafeRun, Goes, safe_prefix}
 use Rattle.bx_journal_model.proofs.Phases.{Fine, ReadsShort, ended_fine, extends, length-stack_of, open_fine, open_is_whole, open_recovers, recovers_by}
 use Rattle.bx_journal_model.proofs.Cuts.{Newest, newest_of, cut_leaves}
 use Rattle.bx_journal_model.specs.Redo.{IsClean, RecoversOpen}
-use Rattle.bx_journal_model.specs.RedoLaws.{OpenIsNotClean, EndIsSharp, CutIsSharp}
+use Rattle.bx_journal_protocol.proofs.RedoLawsStated.{OpenIsNotClean, EndIsSharp, CutIsSharp}
 use Rattle.bx_journal_protocol.proofs.RedoText.{one_reading}
 
 -- a text that reads as something unfinished isn't finished entries alone

@@ -35,3 +35,5 @@ pub mod TouchedLemmas
 pub mod TurnLemmas
 pub mod UndoAppends
 pub mod UndoSteps
+pub mod RedoLawsStated
+pub mod TurnsStated

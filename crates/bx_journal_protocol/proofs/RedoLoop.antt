@@ -22,7 +22,8 @@ use Rattle.bx_journal_model.specs.OnTop.{OnTop}
 use Rattle.bx_journal_model.specs.Stack.{HaveLengths, Recovers, StandsFor, stack_of}
 use Rattle.bx_journal_model.specs.Taken.{taken_by}
 use Rattle.bx_journal_model.specs.Step.{WritesEntry}
-use Rattle.bx_journal_protocol.specs.protocol.Turns.{AreAtRest, AreStanding, RedoesOne, side_of}
+use Rattle.bx_journal_protocol.specs.protocol.Turns.{AreAtRest, AreStanding, side_of}
+use Rattle.bx_journal_protocol.proofs.TurnsStated.{RedoesOne}
 use Rattle.bx_journal_protocol.proofs.ImageLemmas.{redo_of_more}
 use Rattle.bx_journal_protocol.proofs.EntryLoop.{EntriesLeft, EntryTurn, entries_same, finished_now, marks_at}
 use Rattle.bx_journal_protocol.proofs.LoopLemmas.{standing}

@@ -11,7 +11,8 @@ use Rattle.bx_journal_protocol.proofs.Performed.{performed, top_of_stands}
 use Rattle.bx_journal_model.proofs.Phases.{may_begin_of, length-stack_of}
 use Rattle.bx_journal_protocol.proofs.LawProofs.{written_is_read}
 use Rattle.bx_journal_format.specs.Finished.{AllTell}
-use Rattle.bx_journal_model.specs.RedoLaws.{EmptyIsRedo, RedoIsOne, PushedIsRedo, PoppedIsRedo}
+use Rattle.bx_journal_model.specs.RedoLaws.{EmptyIsRedo, RedoIsOne}
+use Rattle.bx_journal_protocol.proofs.RedoLawsStated.{PushedIsRedo, PoppedIsRedo}
 
 pub one_reading : {p q : Reading} → Some p ≡ Some q → p ≡ q
 one_reading e = cc

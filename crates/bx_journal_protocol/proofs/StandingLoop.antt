@@ -20,7 +20,8 @@ use Rattle.bx_journal_model.specs.Stack.{StandsFor, HaveLengths, Recovers, stack
 use Rattle.bx_journal_model.specs.Taken.{AreKept}
 use Rattle.bx_journal_model.specs.Step.{TakesBack}
 use Rattle.bx_journal_protocol.specs.protocol.Takens.{entries_len}
-use Rattle.bx_journal_protocol.specs.protocol.Turns.{kept_text, AreAtRest, AreStanding, UndoesOne, side_of}
+use Rattle.bx_journal_protocol.specs.protocol.Turns.{kept_text, AreAtRest, AreStanding, side_of}
+use Rattle.bx_journal_protocol.proofs.TurnsStated.{UndoesOne}
 use Rattle.bx_journal_protocol.proofs.ImageLemmas.{undo_of_more}
 use Rattle.bx_journal_protocol.proofs.LeftOut.{kept_back}
 use Rattle.bx_journal_protocol.proofs.LoopLemmas.{AreLeft, IsTurn, entries_same, finished_below, marks_at}

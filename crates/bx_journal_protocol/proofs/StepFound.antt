@@ -3,7 +3,7 @@ use Rattle.std.proofs.Common.{ℕ, List, sym, subst, inl, inr}
 use Rattle.bx_journal_model.specs.Machine.{changes_of}
 use Rattle.bx_journal_model.specs.Images.{Images}
 use Rattle.bx_journal_model.specs.Redo.{IsRedoOf, Finds, RecoversOpen, Side, LeavesSide, Before, Behind, WithinOld, WithinNew}
-use Rattle.bx_journal_model.specs.RedoLaws.{StepIsFound}
+use Rattle.bx_journal_protocol.proofs.RedoLawsStated.{StepIsFound}
 
 -- an unfinished journal says nothing of the redo text
 pub finds_open : (text x redo : List ℕ) (s : Images) → RecoversOpen text x s.stack → Finds text x redo s

@@ -15,8 +15,9 @@ use Rattle.bx_journal_format.proofs.KeptLemmas.{same_restore}
 use Rattle.bx_journal_model.proofs.Phases.{rest_recovers}
 use Rattle.bx_journal_model.specs.Images.{Images, with_undone, undo_of, redo_of}
 use Rattle.bx_journal_model.specs.Redo.{IsRedoOf, Finds}
-use Rattle.bx_journal_model.specs.RedoLaws.{RestoresKept}
-use Rattle.bx_journal_protocol.specs.protocol.Turns.{kept_text, IsTakenByUndo, UndoesOne, RedoesOne, UndoFinds, RedoStops, ChangeStops, RestIsFound}
+use Rattle.bx_journal_protocol.proofs.RedoLawsStated.{RestoresKept}
+use Rattle.bx_journal_protocol.specs.protocol.Turns.{kept_text}
+use Rattle.bx_journal_protocol.proofs.TurnsStated.{IsTakenByUndo, UndoesOne, RedoesOne, UndoFinds, RedoStops, ChangeStops, RestIsFound}
 use Rattle.bx_journal_protocol.proofs.RedoText.{empty_is_redo, popped_is_redo, pushed_is_redo}
 use Rattle.bx_journal_protocol.proofs.StepFound.{step_is_found}
 

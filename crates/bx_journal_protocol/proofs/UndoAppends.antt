@@ -5,7 +5,7 @@ use Rattle.bx_image.proofs.Records.{restore-saved, KeepsUntouched-effect, effect
 use Rattle.bx_journal_format.specs.Kept.{Kept, kept_of}
 use Rattle.bx_journal_format.specs.Entry.{entry_text}
 use Rattle.bx_journal_format.proofs.KeptLemmas.{is_of_in, same_restore}
-use Rattle.bx_journal_model.specs.RedoLaws.{PushedByUndo}
+use Rattle.bx_journal_protocol.proofs.RedoLawsStated.{PushedByUndo}
 use Rattle.bx_journal_protocol.proofs.RedoText.{pushed_is_redo}
 
 pub pushed_by_undo : {A : Type 0} → PushedByUndo A

@@ -22,3 +22,4 @@ pub mod AddedLemmas
 pub mod BesideLemmas
 pub mod StopLemmas
 pub mod CutLemmas
+pub mod WindowsStated

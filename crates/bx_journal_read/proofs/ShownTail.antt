@@ -9,7 +9,7 @@ use Rattle.bx_journal_format.specs.Finished.{IsFinished}
 use Rattle.bx_journal_format.specs.Shown.{before_zero, from_zero, begins_with, ends_line, has_end, is_begun, is_left, is_lost, shown}
 use Rattle.bx_journal_format.specs.Text.{Entry}
 use Rattle.bx_journal_format.proofs.CleanLemmas.{clean_shown}
-use Rattle.bx_journal_read.specs.scan.Windows.{is_no_zero}
+use Rattle.bx_journal_read.proofs.WindowsStated.{is_no_zero}
 
 plain_before : (t : List ℕ) → list_all is_no_zero t ≡ true → before_zero t ≡ t
 unfolding before_zero

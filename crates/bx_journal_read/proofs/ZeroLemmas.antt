@@ -21,7 +21,8 @@ use Rattle.bx_journal_read.specs.declared.scan.torn.Torn.{Torn}
 use Rattle.bx_journal_read.specs.declared.scan.count.Walk.{Walk}
 use Rattle.bx_journal_read.specs.scan.Recovery.{HasMark, HasTorn, IsTorn, IsTornFront, IsTornIn, IsUnfinishedIn}
 use Rattle.bx_journal_model.specs.Restoring.{StandsAt}
-use Rattle.bx_journal_read.specs.scan.Windows.{HasNoZero, IsFrontCounted, IsWalkedTo, is_no_zero}
+use Rattle.bx_journal_read.specs.scan.Windows.{IsFrontCounted, IsWalkedTo}
+use Rattle.bx_journal_read.proofs.WindowsStated.{HasNoZero, is_no_zero}
 use Rattle.bx_journal_read.proofs.ShownTail.{shown_tail}
 use Rattle.bx_journal_read.proofs.WalkLemmas.{finished_end}
 

@@ -1,13 +1,11 @@
 -- A store's text that is read in windows.
-use Rattle.std.specs.Prelude.{◌≡◌, ◌⊎◌, ◌++◌, ◌<◌, ◌≤◌, ℕ, ◌+◌, ◌-◌, Bool, IsTrue, ◌==◌, not, List, length, take, drop, Option, None, Result, IfOk, IfSome}
-use Rattle.std.specs.List.{list_all}
+use Rattle.std.specs.Prelude.{◌≡◌, ◌⊎◌, ◌++◌, ◌<◌, ◌≤◌, ℕ, ◌+◌, ◌-◌, Bool, List, length, take, drop, Option, None, Result, IfOk, IfSome}
 use Rattle.bx_journal_format.specs.declared.read.types.Front.{Front}
 use Rattle.bx_journal_read.specs.declared.scan.count.CountedText.{CountedText}
 use Rattle.bx_journal_read.specs.declared.scan.count.CountScan.{CountScan}
 use Rattle.bx_journal_read.specs.declared.scan.count.Walk.{Walk}
 use Rattle.bx_journal_read.specs.declared.scan.windows.Reached.{Reached}
 use Rattle.bx_journal_read.specs.declared.scan.windows.Taken.{Taken}
-use Rattle.bx_journal_format.specs.Text.{split}
 use Rattle.bx_journal_format.specs.count.Tally.{IsTallied, IsCountedAll}
 
 -- the text up to a place leads to a state: the store's, where that is faithful
@@ -78,11 +76,3 @@ pub record IsAllCounted (faithful : Type 0) (stored : List ℕ) (only_second : B
 -- what follows a place in the first n bytes of a text
 abbrev pub rest_to : ℕ → ℕ → List ℕ → List ℕ
 rest_to n at text = take (n - at) (drop at text)
-
--- the byte is no zero
-abbrev pub is_no_zero : ℕ → Bool
-is_no_zero b = not (b == 0)
-
--- no byte of a text is one
-abbrev pub HasNoZero : List ℕ → Type 0
-HasNoZero text = IsTrue (list_all is_no_zero text)

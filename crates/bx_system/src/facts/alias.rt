@@ -12,7 +12,7 @@ pub struct Identity {
 }
 
 impl Identity {
-    /// Of the file of which the system has this.
+    /// By what the system tells of a file.
     pub fn of(found: &Metadata) -> Identity {
         Identity {
             device: found.dev(),

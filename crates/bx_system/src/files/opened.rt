@@ -83,7 +83,7 @@ pub struct OpenFile<'p, 'r, R> {
 }
 
 impl<'p, 'r, R: Eprint + Clock> OpenFile<'p, 'r, R> {
-    /// A file of which the system wasn't asked anything.
+    /// A file about which the system was asked nothing yet.
     pub(crate) fn new(file: CountedFile<'p, 'r, R>, known: Known) -> Self
         ensures file { result.file ≡ file }
         ensures known { result.known ≡ known }

@@ -3,7 +3,7 @@ use Rattle.bx_cli_commands.specs.Command.{IsNear}
 use Rattle.bx_cli_commands.specs.Obeys.{Obeys}
 use Rattle.bx_cli_commands.specs.SessionRun.{SessionStep}
 use Rattle.bx_cli_commands.specs.Tells.{Tells}
-use Rattle.bx_cli_commands.specs.Run.{CountsOn}
+use Rattle.bx_cli_commands.proofs.RunStated.{CountsOn}
 use Rattle.bx_cli_commands.proofs.Runs.{AllAhead}
 use Rattle.bx_cli_commands.proofs.SessionRuns.{LeadsTo}
 use Rattle.bx_cli_commands.proofs.run.run_all.Given as goal
