@@ -231,7 +231,8 @@ fn put_pieces(text: &mut [u8], kind: Kind, endian: Endian, bytes: &[u8]) -> usiz
     requires few { length bytes.now ≤ 4096 }
     ensures few { result ≤ 4096 }
     ensures inside { width_of kind * result ≤ length bytes.now }
-    ensures text { take ((field_width kind + 1) * result) text.new ≡ in_lines (value_text_in endian kind) (width_of kind) 0 (take (width_of kind * result) bytes.now) }
+    ensures text { take ((field_width kind + 1) * result) text.new ≡
+        in_lines (value_text_in endian kind) (width_of kind) 0 (take (width_of kind * result) bytes.now) }
 {
     let count = (bytes.len() / 16).min(text.len() / 80);
     let mut used = 0;
