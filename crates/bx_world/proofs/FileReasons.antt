@@ -1,7 +1,8 @@
 -- Why files are not opened.
 use Rattle.std.proofs.Common.{Result, Ok, Err, ◌≡◌, ◌⊎◌, ◌∙◌, ◌<◌, ◌≤◌, ℕ, Bool, true, false, cond, Option, Some, None, List, refl, sym, ap, subst, inl, inr, arith}
-use Rattle.std.specs.Option.{option_map_or}
-use Rattle.bx_world.specs.World.{CountsRefusal, SystemState}
+use Rattle.std.specs.Option.{option_map_or, unwrap_or}
+use Rattle.bx_world.specs.Rule.{image_unfit}
+use Rattle.bx_world.specs.World.{CountsRefusal, IsAlwaysFit, Makes, SystemState}
 use Rattle.bx_world.specs.declared.rule.Unfit.{Unfit}
 use Rattle.bx_world.specs.declared.stat.Stat.{Stat}
 use Rattle.bx_world.specs.declared.world.Refusal.{Refusal}
@@ -15,7 +16,7 @@ use Rattle.bx_world.specs.declared.files.unopened.FileRole.{FileRole}
 use Rattle.bx_world.specs.declared.files.unopened.FileRole.TheVariants.{Image, Journal, Redo}
 use Rattle.bx_world.specs.declared.files.unopened.OpenFailure.{OpenFailure}
 use Rattle.bx_world.specs.declared.files.unopened.OpenFailure.TheVariants.{System, Unfit as NotFit, Alias, Another}
-use Rattle.bx_world.proofs.Making.{made_still, made_then, none_some, some_one}
+use Rattle.bx_world.proofs.Making.{made_still, made_then, none_some, opened_made, some_one}
 
 pub refused_weaker : (P Q C D : Type 0) (e : Refusal) → (P → Q) → (C → D) → IsRefusedFor P C e → IsRefusedFor Q D e
 refused_weaker P Q C D Missing step more is = step is
@@ -202,6 +203,53 @@ module _ (names : Names) (mounted makes : Bool) (C : Type 0) (w : SystemState) w
       ]
     ]
 
+    image_before : (unfit : Unfit) → IsUnfitImage mounted mid names.image unfit → ⊥
+    image_before unfit is =
+        let found : Some (mid.stat image) ≡ Some is.0 =
+        subst (λ (led : Option ℕ). option_map_or (λ k. Some (mid.stat k)) led None ≡ Some is.0) opened.file.under.named is.1 in
+        let same : mid.stat image ≡ is.0 = ap (λ o. unwrap_or o (mid.stat image)) found in
+        let wrong : None ≡ Some unfit = sym opened.fit ∙ subst (λ (stat : Stat). image_unfit mounted stat ≡ Some unfit) (sym same) is.2 in
+        cc
+
+    unfit_before : (name : List ℕ) (unfit : Unfit) → made ≡ true → IsUnfitText makes names.image mid name unfit → IsUnfitText makes names.image w name unfit
+    unfit_before name unfit is_made is = elim is [
+      | inl there ↦
+          let found : Some (mid.stat image) ≡ Some there.0 =
+          subst (λ (led : Option ℕ). option_map_or (λ k. Some (mid.stat k)) led None ≡ Some there.0) opened.file.under.named there.1 in
+          let same : mid.stat image ≡ there.0 = ap (λ o. unwrap_or o (mid.stat image)) found in
+          beside_before name unfit is_made (subst (λ (stat : Stat). IsUnfitBeside (Some stat) mid name unfit) (sym same) there.2)
+      | inr none ↦ absurd (none_some image (sym none.1 ∙ opened.file.under.named))
+    ]
+
+    one_before : (a b : List ℕ) → MayLeadToOne makes mid a b → MayLeadToOne makes w a b
+    one_before a b is = elim is [
+      | inl one ↦ one_place (IsMadeFile made image) mid a b one.0 opened.file.files (λ k p. opened.file.asked p.0) one.1 one.2
+      | inr none ↦ inr (none.0, (unmade_led a none.1), (unmade_led b none.2))
+    ]
+      where
+        unmade_led : (name : List ℕ) → mid.named name ≡ None → w.named name ≡ None
+        unmade_led name none = led_none (w.named name) refl
+          where
+            led_none : (led : Option ℕ) → w.named name ≡ led → w.named name ≡ None
+            led_none None named = named
+            led_none (Some k) named = absurd (none_some k (sym none ∙ made_still _ w mid name k opened.file.files named))
+
+    -- whatever the opening may be refused for behind the making of the image, it might have been refused for before
+    pub opening_before : (u : OpenError) → made ≡ true → MayRefuseOpening names mounted makes C mid u → MayRefuseOpening names mounted makes C w u
+    opening_before u is_made = by u.which u.why
+      where
+        by : (which : FileRole) (why : OpenFailure) → MayRefuseWhich names mounted makes C mid which why → MayRefuseWhich names mounted makes C w which why
+        by Image why is = reason_weaker _ _ _ _ _ _ _ _ why (unmade_before names.image) (λ unfit wrong. absurd (image_before unfit wrong)) (λ wrong. wrong)
+            (λ more. more) is
+        by Journal why is = reason_weaker _ _ _ _ _ _ _ _ why (unmade_before names.journal) (λ unfit. unfit_before names.journal unfit is_made)
+            (one_before names.journal names.image) (λ more. more) is
+        by Redo why is = reason_weaker _ _ _ _ _ _ _ _ why (λ wrong. wrong) (λ unfit. unfit_before names.redo unfit is_made)
+            (λ one. elim one [
+              | inl image ↦ inl (one_before names.redo names.image image)
+              | inr journal ↦ inr (one_before names.redo names.journal journal)
+            ])
+            (λ more. more) is
+
     module _ (journal : ℕ) (journal_made : Bool) (new : SystemState) (text : IsTextOpened names.journal image journal makes journal_made mid new) where
       both : HasMade (λ n. IsMadeFile made image n ⊎ IsMadeFile journal_made journal n) w new
       both = made_then _ _ w mid new opened.file.files text.file.files
@@ -225,3 +273,22 @@ module _ (names : Names) (mounted makes : Bool) (C : Type 0) (w : SystemState) w
             | inl led ↦ inl (one_place _ new names.redo names.image image both asked led image_named)
             | inr led ↦ inr (one_place _ new names.redo names.journal journal both asked led text.file.under.named)
           ]) more is
+
+-- the same of an image that was made alone
+pub made_before : (names : Names) (mounted : Bool) (C D : Type 0) (old new : SystemState) (n : ℕ) → AreAllThere old → Makes old new names.image n
+    → IsAlwaysFit new n → (u : OpenError) → (D → C) → MayRefuseOpening names mounted true D new u → MayRefuseOpening names mounted true C old u
+made_before names mounted C D old new n within made fit u more is =
+    opening_more names mounted true C old D u more
+    (opening_before names mounted true D old true n new within
+    (record { file = opened_made old new names.image n made; fit = fit mounted; always = λ _. fit }) u refl is)
+
+-- and where none was made
+pub opened_before : (names : Names) (mounted : Bool) (before least most : ℕ) (w : SystemState) (u : OpenError) → before ≤ least
+    → MayRefuseOpening names mounted true (least < most) w u → MayRefuseOpening names mounted true (before < most) w u
+opened_before names mounted before least most w u below is =
+    opening_more names mounted true (before < most) w (least < most) u (λ less. omega (arith, less, below)) is
+
+-- an image that is made where it is missing is refused as the system refuses a call
+pub image_refused : (names : Names) (mounted : Bool) (C : Type 0) (w : SystemState) (e : Refusal) → IsRefusedFor ⊥ C e
+    → MayRefuseOpening names mounted true C w (record { which = Image; why = System e })
+image_refused names mounted C w e is = refused_missing (IsUnmade true w names.image) C e is

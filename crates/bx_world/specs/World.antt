@@ -99,12 +99,14 @@ pub record TakesAway (old new : SystemState) (n : ℕ) : Type 0 where
   pub stuck : new.stuck ≡ old.stuck
   pub streams : KeepsStreams old new
 
--- All bytes are as they were, and no name leads elsewhere but that those of one empty file may be gone
+-- All bytes are as they were, and no name leads elsewhere but that those of one empty file may be gone; a file that the system refused to take away
+-- may be counted
 pub record TakesAtMost (old new : SystemState) (n : ℕ) : Type 0 where
   pub named : (m : List ℕ) → (new.named m ≡ old.named m) ⊎ ((old.named m ≡ Some n) × (old.bytes n ≡ []) × (new.named m ≡ None))
   pub bytes : (i : ℕ) → new.bytes i ≡ old.bytes i
   pub stat : (i : ℕ) → (i ≡ n → ⊥) → new.stat i ≡ old.stat i
   pub there : new.there ≡ old.there
+  pub stuck : old.stuck ≤ new.stuck
   pub streams : KeepsStreams old new
 
 -- the file is empty, and the name leads to it

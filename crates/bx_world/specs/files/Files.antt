@@ -1,6 +1,6 @@
 -- What a run makes of files and their names.
 use Rattle.std.specs.Prelude.{◌≡◌, ◌⊎◌, ◌<◌, ◌≤◌, ℕ, Bool, true, cond, List, [], Option, None, Some}
-use Rattle.bx_world.specs.World.{AreThreeFiles, IsAlwaysFit, KeepsStreams, SystemState, Trio}
+use Rattle.bx_world.specs.World.{AreThreeFiles, IsAlwaysFit, KeepsStreams, Makes, SystemState, TakesAtMost, Trio}
 use Rattle.bx_world.specs.Rule.{image_unfit, text_unfit}
 use Rattle.bx_world.specs.files.Fit.{AreFit}
 use Rattle.bx_world.specs.declared.files.made.Made.{Made}
@@ -63,6 +63,16 @@ pub record TakesOnly (files : ℕ → Type 0) (old new : SystemState) : Type 0 w
   pub stat : (i : ℕ) → (files i → ⊥) → new.stat i ≡ old.stat i
   pub there : new.there ≡ old.there
   pub streams : KeepsStreams old new
+
+-- An image that was missing was made, which is empty and may be changed; where none was made all is as it was
+abbrev pub MakesImage : List ℕ → Option ℕ → SystemState → SystemState → Type 0
+MakesImage name None old new = new ≡ old
+MakesImage name (Some n) old new = Makes old new name n × IsAlwaysFit new n
+
+-- A file was taken away if it was empty, unless the system refused that, which is counted; nothing else happened to files and names
+pub record Unmakes (n : ℕ) (old new : SystemState) : Type 0 where
+  pub most : TakesAtMost old new n
+  pub gone : new.stuck ≡ old.stuck → old.bytes n ≡ [] → (m : List ℕ) → old.named m ≡ Some n → new.named m ≡ None
 
 -- A name leads to a file, and did so before; or it was missing and the file was made, which is still empty
 pub record IsOpenUnder (name : List ℕ) (made : Bool) (n : ℕ) (old new : SystemState) : Type 0 where

@@ -1,5 +1,5 @@
 -- Why the files of a session are not opened.
-use Rattle.std.specs.Prelude.{◌≡◌, ◌⊎◌, ℕ, Bool, true, false, List, Option, None, Some}
+use Rattle.std.specs.Prelude.{◌≡◌, ◌⊎◌, ◌<◌, ◌≤◌, ℕ, Bool, true, false, List, Option, None, Some}
 use Rattle.bx_world.specs.Rule.{image_unfit, text_unfit}
 use Rattle.bx_world.specs.World.{SystemState, Trio, stat_named}
 use Rattle.bx_world.specs.declared.rule.Unfit.{Unfit}
@@ -119,3 +119,9 @@ IsReasonBeside names image counted w Redo why = IsReason ⊥ (IsUnfitBeside (Som
 -- what stands under the name of a text can't be one of this image, or the system counted a call that it refused
 abbrev pub IsUnfitOrRefused : Names → Stat → Type 0 → SystemState → OpenError → Type 0
 IsUnfitOrRefused names image counted w u = IsReasonBeside names image counted w u.which u.why
+
+-- whatever the opening of files that are made where they are missing is refused for now, it might have been refused for before, when no more calls
+-- had been refused
+abbrev pub RefusesAsBefore : Names → SystemState → SystemState → Type 0
+RefusesAsBefore names old new = (mounted : Bool) (before least most : ℕ) (u : OpenError) → before ≤ least
+    → MayRefuseOpening names mounted true (least < most) new u → MayRefuseOpening names mounted true (before < most) old u
