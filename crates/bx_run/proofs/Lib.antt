@@ -3,6 +3,7 @@ pub mod Answered
 pub mod Apart
 pub mod Begun
 pub mod ByNames
+pub mod Cleared
 pub mod Counted
 pub mod Emptied
 pub mod EndLemmas
@@ -24,6 +25,7 @@ pub mod Proposing
 pub mod RanLemmas
 pub mod Refused
 pub mod Renewing
+pub mod RenewalLess
 pub mod ReportNotes
 pub mod ReportRefused
 pub mod StepLemmas
@@ -31,4 +33,5 @@ pub mod StepsCut
 pub mod StepsRead
 pub mod Stopping
 pub mod ThreeSteps
+pub mod Unmade
 pub mod Wholes

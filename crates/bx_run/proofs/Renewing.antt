@@ -308,6 +308,7 @@ keeps_named names old first second new there first_there a b c = record {
       let between = b.stuck in
       let behind = c.stuck in
       made_on m (c.made (omega (arith, before, between, behind, stuck)) m) (a.made (omega (arith, before, between, behind, stuck)) m);
+  stuck = let before = a.stuck in let between = b.stuck in let behind = c.stuck in omega (arith, before, between, behind);
 }
   where
     on : (m : List ℕ) (n : ℕ) → first.named m ≡ Some n → new.named m ≡ Some n
@@ -350,6 +351,7 @@ keeps_one names old new there others = record {
   stat = λ m n is. others.stat n (there m n is);
   named = others.named;
   made = others.made;
+  stuck = others.stuck;
 }
 
 -- texts were dropped, and nothing is written of it
@@ -359,6 +361,7 @@ says_dropped spared how old first new says spares = record {
   output = spares.output ∙ says.output;
   errors = (says.errors.0, spares.errors ∙ says.errors.1);
   lent = spares.lent ∙ says.lent;
+  before = spares.before ∙ says.before;
 }
 
 take_none : (n : ℕ) → ◌≡◌ {A = List ℕ} (take n []) []
@@ -380,4 +383,5 @@ says_changed how last old second new says is changes = record {
   output = changes.output ∙ says.output;
   errors = (says.errors.0, silent last second.errors new.errors is changes.errors ∙ says.errors.1);
   lent = changes.lent ∙ says.lent;
+  before = changes.before ∙ says.before;
 }

@@ -1,7 +1,14 @@
-//! A change with which a history begins anew: the files are opened, their history is dropped, and the change is made on the image alone.
-ghost use Rattle.std.specs.Prelude.{◌≡◌, ◌↔◌, ◌<◌, List, ℕ, Option, None, IfSome, true};
+//! A change with which a history begins anew: an image that is missing is made, the files are opened, their history is dropped, and the
+//! change is made on the image alone.
+ghost use Rattle.std.specs.Prelude.{◌≡◌, ◌↔◌, ◌<◌, ◌≤◌, List, ℕ, Option, None, Some, IfSome, true};
 ghost use Rattle.bx_journal.specs.Images.{Images};
 ghost use Rattle.bx_cli_commands.specs.Refusal.{IsWholeRefusal};
+ghost use Rattle.bx_cli_commands.specs.declared.command.Reply.TheVariants.{Refused};
+ghost use Rattle.bx_cli_commands.specs.declared.fault.Fault.TheVariants.{OpenFailed};
+ghost use Rattle.bx_world.specs.World.{NothingNewFound, SystemState, number_if};
+ghost use Rattle.bx_world.specs.declared.files.unopened.FileRole.TheVariants.{Image};
+ghost use Rattle.bx_world.specs.declared.files.unopened.OpenFailure.TheVariants.{System};
+ghost use Rattle.bx_world.specs.files.Files.{AreAllThere, LeavesFiles, MakesImage};
 ghost use Rattle.bx_world.specs.files.Fit.{AreFit};
 ghost use Rattle.bx_world.specs.files.Reasons.{MayRefuseOpening};
 ghost use Rattle.bx_run.specs.session.Changes.{SaysRecovered};
@@ -11,15 +18,18 @@ ghost use Rattle.bx_run.specs.session.Named.{KeepsOthers, NothingDone, SurvivesT
 ghost use Rattle.bx_run.specs.session.Task.{IsNearTask};
 ghost use Rattle.bx_run.specs.preview.Changing.{DoesChange};
 ghost use Rattle.bx_run.specs.run.Outcome.{first_unopened};
-ghost use Rattle.bx_run.specs.renew.Renewal.{DoesRenew, IsDroppable, IsOfAnother, JudgesOpening, KeepsNamed, MayDrop, MayNotOpen, NothingRenewed, OpensToDrop, SurvivesRenewal, TellsOpening, no_change, only_told};
+ghost use Rattle.bx_run.specs.renew.Renewal.{ClearsImage, DoesRenew, IsDroppable, IsOfAnother, IsRefusedRenewal, JudgesOpening, KeepsNamed, MayDrop, MayNotOpen, NothingRenewed, OpensToDrop, RenewsFiles, SurvivesRenewal, SurvivesRenewing, TellsOpening, no_change, only_told};
 ghost use Rattle.bx_run.specs.RunState.{run_state_beside};
 
 use crate::forget::forget_files;
 use crate::report::ReportError;
-use crate::session::{Answer, Task, change_files};
+use crate::session::{Answer, Task, change_files, is_whole_refusal};
 use bx_cli_commands::{Command, Fault, Reply};
 use bx_journal::SessionFault;
-use bx_world::{FileRole, Guard, Names, OpenError, OpenFailure, World};
+use bx_world::{
+    FileRole, Guard, Names, OpenError, OpenFailure, Refusal, World, make_missing_image,
+    unmake_missing_image,
+};
 use std::alloc::Global;
 use std::io::Read;
 
@@ -139,7 +149,7 @@ fn open_to_drop<W: World, R: Read + Drop>(
 /// are missing, drops the history, a redo text alone too, and does the task on the image alone. Onto an image that the note doesn't tell
 /// to be the one nothing is recovered: what is unfinished is dropped with the history, as `forget_files` judges, and the change is made on
 /// what stands there. The history is kept where a file may not be changed.
-pub fn renew_files<W: World, R: Read + Drop>(
+fn take_steps<W: World, R: Read + Drop>(
     world: &mut W,
     alloc: Global,
     names: &Names,
@@ -159,6 +169,7 @@ pub fn renew_files<W: World, R: Read + Drop>(
         (W.survives world.old) (W.survives world.new) }
 
     // Files that are not opened are as they were, and why they are not; others may be changed.
+    ensures refused { W.faithful world.old → IfSome (first_unopened result) (λ _. IsRefusedRenewal result) }
     ensures unopened { W.faithful world.old → IfSome (first_unopened result) (NothingRenewed result (W.state world.old) (W.state world.new)) }
     ensures why_unopened { W.faithful world.old → IfSome (first_unopened result)
         (MayRefuseOpening names.now guard.mounted true (W.refusals world.old < W.refusals world.new) (W.state world.old)) }
@@ -178,4 +189,95 @@ pub fn renew_files<W: World, R: Read + Drop>(
         Ok(()) => Renewed::Changed(change_files(world, alloc, names, guard, task)),
         Err(unseen) => Renewed::Undropped(unseen),
     }
+}
+
+/// Whether a change with which a history begins anew was refused, and no step of it stopped in the middle.
+fn is_refused(renewed: &Renewed) -> bool
+    ensures { (result ≡ true) ↔ IsRefusedRenewal renewed.now }
+{
+    match renewed {
+        Renewed::Kept(answer) | Renewed::Changed(answer) => is_whole_refusal(&answer.reply),
+        Renewed::Undropped(ReportError::Stopped(Fault::Session(SessionFault::Interrupted))) =>
+            false,
+        Renewed::Undropped(_) => true,
+    }
+}
+
+/// The files aren't opened, as the system refused to make an image that is missing.
+fn unmade(refusal: Refusal) -> Answer
+    ensures { result ≡ record { reply = Refused OpenFailed; unopened = Some (record { which = Image; why = System refusal }); how = None } }
+{
+    Answer {
+        reply: Reply::Refused(Fault::OpenFailed),
+        unopened: Some(OpenError {
+            which: FileRole::Image,
+            why: OpenFailure::System(refusal),
+        }),
+        how: None,
+    }
+}
+
+/// Takes the image away again that was made for a change, where that is refused.
+fn clear_image<W: World>(world: &mut W, names: &Names, made: Option<W::File>, renewed: &Renewed)
+    requires made { W.faithful world.old → IfSome (number_if W.number made) (λ n. (W.state world.old).before ≤ n) }
+    requires named { W.faithful world.old
+        → IfSome (number_if W.number made) (λ n. (W.state world.old).named names.now.image ≡ Some n) }
+    ensures clears { W.faithful world.old → ClearsImage renewed.now (number_if W.number made) (W.state world.old) (W.state world.new) }
+    ensures left { W.faithful world.old → IsRefusedRenewal renewed.now → (first begun : SystemState) → AreAllThere first
+        → MakesImage names.now.image (number_if W.number made) first begun → LeavesFiles begun (W.state world.old)
+        → LeavesFiles first (W.state world.new) }
+    ensures counted { W.faithful world.old → W.refusals world.new ≡ W.refusals world.old }
+    ensures survives { W.faithful world.old → NothingNewFound (W.survives world.old) (W.survives world.new) }
+    ensures note { W.faithful world.old → W.note world.new ≡ W.note world.old }
+    ensures faith { W.faithful world.new ↔ W.faithful world.old }
+{
+    if let Some(image) = made {
+        if is_refused(renewed) {
+            unmake_missing_image(world, names, &image);
+        }
+    }
+}
+
+/// Changes an image with whose change the history begins anew. One that is missing is made first, so that its texts are judged beside it,
+/// and taken away again where the change is refused. Then the files are opened, the history is dropped, and the change is made on the
+/// image alone; what is unfinished is recovered only onto an image that the note tells to be the one.
+pub fn renew_files<W: World, R: Read + Drop>(
+    world: &mut W,
+    alloc: Global,
+    names: &Names,
+    guard: Guard,
+    task: Task<R>,
+) -> Renewed
+    requires near { IsNearTask task }
+    requires free { W.faithful world.old → (W.state world.old).lent ≡ None }
+
+    // The change is done on the image alone, so that the history is this change; or the step that was refused leaves all as it was, and an
+    // image that was missing is missing again.
+    ensures does { W.faithful world.old → (written : Option (List ℕ)) → RenewsFiles R.remaining names.now guard task result
+        (run_state_beside W.state W.refusals W.note written world.old) (run_state_beside W.state W.refusals W.note written world.new) }
+
+    // So it is behind a loss of power.
+    ensures survives { W.faithful world.old
+        → SurvivesRenewing R.remaining names.now task result (W.state world.old) (W.state world.new)
+        (W.survives world.old) (W.survives world.new) }
+
+    // Files that are not opened are as they were, and why they are not; others may be changed.
+    ensures unopened { W.faithful world.old → IfSome (first_unopened result) (NothingRenewed result (W.state world.old) (W.state world.new)) }
+    ensures why_unopened { W.faithful world.old → IfSome (first_unopened result)
+        (MayRefuseOpening names.now guard.mounted true (W.refusals world.old < W.refusals world.new) (W.state world.old)) }
+    ensures fit { W.faithful world.old → first_unopened result ≡ None → AreFit names.now guard.mounted (W.state world.old) }
+
+    // No other file is changed, and nothing is written but what was recovered.
+    ensures others { W.faithful world.old → KeepsNamed names.now (W.state world.old) (W.state world.new) }
+    ensures streams { W.faithful world.old → TellsOpening result (W.state world.old) (W.state world.new) }
+    ensures free { W.faithful world.old → (W.state world.new).lent ≡ None }
+    ensures faith { W.faithful world.new ↔ W.faithful world.old }
+{
+    let made = match make_missing_image(world, names) {
+        Ok(made) => made,
+        Err(refusal) => return Renewed::Kept(unmade(refusal)),
+    };
+    let renewed = take_steps(world, alloc, names, guard, task);
+    clear_image(world, names, made, &renewed);
+    renewed
 }

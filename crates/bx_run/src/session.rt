@@ -12,5 +12,5 @@ mod terms;
 
 pub use changes::change_files;
 pub use moves::{Moved, move_changes};
-pub use named::Answer;
+pub use named::{Answer, is_whole_refusal};
 pub use task::Task;

@@ -2,7 +2,6 @@
 use crate::devices::left::{is_unfinished, recovered, stopped};
 use crate::files::look::{is_missing, refuse_without_journal};
 use crate::files::names::{guard_of, names_of, world_of};
-use crate::files::unopened::not_opened;
 use crate::history::forget::forget_line;
 use crate::history::take_empty;
 use crate::history::told::told;
@@ -10,8 +9,8 @@ use bx_cli::{Fault, Target};
 use bx_hints::{Remarks, Stopped};
 use bx_journal::{Direction, RecoveryOutcome, SessionFault};
 use bx_run::{Done, Edit, Failure, Request, Step, run_request};
-use bx_system::{OpenFile, Progress, SystemWorld};
-use bx_world::{FileRole, Names, World};
+use bx_system::{Progress, SystemWorld};
+use bx_world::{Names, World};
 use std::fs::{self, File};
 use std::io::{self, Empty, ErrorKind, Read};
 use std::rt::Files;
@@ -102,7 +101,8 @@ where
     }
 }
 
-/// Drops the history of an image, where it has one, and then changes it. Nothing is dropped where a file may not be changed.
+/// Drops the history of an image, where it has one, and then changes it, which is made where it is missing. Nothing is dropped where a
+/// file may not be changed.
 pub fn change_anew<'a, R>(
     rt: &R,
     target: &'a Target,
@@ -117,20 +117,11 @@ where
     if is_missing(rt, target.texts.journal.as_str()) && is_missing(rt, target.texts.redo.as_str()) {
         return change_image(rt, target, edit, progress, remarks);
     }
-    let made = made_image(rt, target, progress)?;
-    let outcome = renew_image(rt, target, edit, progress, remarks);
-    if let (Some(file), Err(stopped)) = (made, &outcome) {
-        if !is_interrupted(stopped.fault) {
-            if let Ok(mut world) = world_of(rt, target, progress) {
-                world.take_away(target.image.as_str(), &file);
-            }
-        }
-    }
-    outcome
+    renew_image(rt, target, edit, progress, remarks)
 }
 
-/// Drops the history of an image that is there, and then does a task on it: the files stay locked from one to the other. A text that
-/// was missing stays so where the change is refused.
+/// Drops the history of an image, which is made where it is missing, and then does a task on it: the files stay locked from one to the
+/// other. A text that was missing stays so where the change is refused.
 fn renew<R>(
     rt: &R,
     world: &mut SystemWorld<'_, '_, R>,
@@ -170,7 +161,7 @@ fn take_made<R: Files<File = File>>(rt: &R, name: &str, was_missing: bool) {
     }
 }
 
-/// Drops the history of an image that is there, and then changes it.
+/// Drops the history of an image, and then changes it.
 fn renew_image<'a, R>(
     rt: &R,
     target: &'a Target,
@@ -214,27 +205,4 @@ fn is_done(answer: &Result<Done, Failure>) -> bool {
 /// Whether a fault says that writing was stopped in the middle.
 fn is_interrupted(fault: Fault) -> bool {
     matches!(fault, Fault::Session(SessionFault::Interrupted))
-}
-
-/// The image, where it is missing and is made, so that its texts can be judged beside it.
-fn made_image<'a, 'p, 'r, R>(
-    rt: &'r R,
-    target: &'a Target,
-    progress: &'p Progress<'r, R>,
-) -> Result<Option<OpenFile<'p, 'r, R>>, Stopped<'a>>
-where
-    R: Files<File = File> + Print + Eprint + Clock + AllocGlobal,
-{
-    let image = target.image.as_str();
-    if !is_missing(rt, image) {
-        return Ok(None);
-    }
-    let mut world = world_of(rt, target, progress)?;
-    match world.make_image(image) {
-        Ok(file) => Ok(Some(file)),
-        Err(refusal) => {
-            let unopened = FileRole::Image.refused(refusal);
-            Err(not_opened(rt, target, unopened, &world).with(Fault::OpenFailed))
-        }
-    }
 }

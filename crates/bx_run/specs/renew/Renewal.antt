@@ -1,5 +1,5 @@
 -- A change with which a history begins anew: all changes before it are accepted, and it stands alone.
-use Rattle.std.specs.Prelude.{◌≡◌, ◌⊎◌, ◌<◌, ℕ, true, false, List, Option, None, Some, Result, Ok, Err, IfOk, IfSome, OnOk}
+use Rattle.std.specs.Prelude.{◌≡◌, ◌≢◌, ◌⊎◌, ◌<◌, ◌≤◌, ℕ, true, false, List, [], Option, None, Some, Result, Ok, Err, IfOk, IfSome, OnOk}
 use Rattle.bx_journal.specs.Forgotten.{only}
 use Rattle.bx_journal.specs.Images.{Images}
 use Rattle.bx_journal.specs.Machine.{top}
@@ -13,7 +13,7 @@ use Rattle.bx_cli_commands.specs.declared.command.Reply.{Reply}
 use Rattle.bx_cli_commands.specs.declared.command.Reply.TheVariants.{Refused}
 use Rattle.bx_cli_commands.specs.declared.fault.Fault.TheVariants.{Session}
 use Rattle.bx_world.specs.World.{SystemState, Spares, Trio, held}
-use Rattle.bx_world.specs.files.Files.{LeadsToMade, LeavesFiles}
+use Rattle.bx_world.specs.files.Files.{LeadsToMade, LeavesFiles, MakesImage, Unmakes}
 use Rattle.bx_world.specs.declared.files.guard.Guard.{Guard}
 use Rattle.bx_world.specs.declared.files.names.Names.{Names}
 use Rattle.bx_world.specs.declared.files.unopened.OpenError.{OpenError}
@@ -182,6 +182,7 @@ pub record KeepsNamed (names : Names) (old new : SystemState) : Type 0 where
   pub stat : (m : List ℕ) (n : ℕ) → old.named m ≡ Some n → new.stat n ≡ old.stat n
   pub named : (m : List ℕ) (n : ℕ) → old.named m ≡ Some n → new.named m ≡ Some n
   pub made : new.stuck ≡ old.stuck → (m : List ℕ) → LeadsToMade (IsNamedBy names new) (old.named m) (new.named m)
+  pub stuck : old.stuck ≤ new.stuck
 
 -- a file wasn't opened: the fault says so, and all files are as they were
 abbrev pub NothingRenewed : Renewed → SystemState → SystemState → OpenError → Type 0
@@ -191,3 +192,55 @@ NothingRenewed renewed old new file = (renewed_end renewed ≡ Err (unopened_fau
 abbrev pub TellsOpening : Renewed → SystemState → SystemState → Type 0
 TellsOpening (Kept answer) old new = SaysRecovered answer.how old new
 TellsOpening renewed old new = (how : Option RecoveryOutcome) × SaysRecovered how old new
+
+-- the change isn't made, and no step was stopped in the middle
+abbrev pub IsRefusedRenewal : Renewed → Type 0
+IsRefusedRenewal (Kept answer) = IsWholeRefusal answer.reply
+IsRefusedRenewal (Undropped unseen) = unseen ≢ Stopped (Session Interrupted)
+IsRefusedRenewal (Changed answer) = IsWholeRefusal answer.reply
+
+-- behind the steps an image that was made for them is taken away again where they are refused, if it is empty; else all is as it was
+abbrev pub ClearsImage : Renewed → Option ℕ → SystemState → SystemState → Type 0
+ClearsImage renewed None ended new = new ≡ ended
+ClearsImage renewed (Some n) ended new = (IsRefusedRenewal renewed × Unmakes n ended new) ⊎ ((IsRefusedRenewal renewed → ⊥) × (new ≡ ended))
+
+-- an image that was missing isn't there, empty, unless the system refused to take a file away
+abbrev pub LeavesNoImage : Names → SystemState → SystemState → Type 0
+LeavesNoImage names old new = old.named names.image ≡ None → new.stuck ≡ old.stuck → held new names.image ≡ [] → new.named names.image ≡ None
+
+-- where the files were not to be changed, and nothing was recovered, all files are as they were, byte for byte
+abbrev pub LeavesKept : Renewed → SystemState → SystemState → Type 0
+LeavesKept (Kept answer) old new = IsWholeRefusal answer.reply → IsUnrecovered answer.how → LeavesFiles old new
+LeavesKept renewed old new = Unit {0}
+
+-- What a change with which the history begins anew leaves: an image that is missing is made before its steps, which changes no contents, and is taken
+-- away again behind them where they are refused
+pub record RenewsFiles {R : Type 0} (remaining : R → Option (List ℕ)) (names : Names) (guard : Guard) (task : Task R) (renewed : Renewed)
+    (old new : RunState) : Type 0 where
+  pub made : Option ℕ
+  pub begun : RunState
+  pub ended : RunState
+  pub makes : MakesImage names.image made old.state begun.state
+  pub same : contents_of names begun.state ≡ contents_of names old.state
+  pub noted : begun.note ≡ old.note
+  pub does : DoesRenew remaining names guard task renewed begun ended
+  pub clears : ClearsImage renewed made ended.state new.state
+  pub left : contents_of names new.state ≡ contents_of names ended.state
+  pub note_left : new.note ≡ ended.note
+  pub image : IsRefusedRenewal renewed → LeavesNoImage names old.state new.state
+  pub kept : LeavesKept renewed old.state new.state
+
+-- what is found of a file that was there; of a later one it may be anything
+abbrev pub found_there : ℕ → (ℕ → List ℕ → Type 0) → ℕ → List ℕ → Type 0
+found_there there found n x = n < there → found n x
+
+-- What is found after a loss of power, where an image that was missing was made before the steps: behind them what they leave, and no more where that
+-- image was taken away
+pub record SurvivesRenewing {R : Type 0} (remaining : R → Option (List ℕ)) (names : Names) (task : Task R) (renewed : Renewed) (old new : SystemState)
+    (found left : ℕ → List ℕ → Type 0) : Type 0 where
+  pub made : Option ℕ
+  pub begun : SystemState
+  pub ended : SystemState
+  pub makes : MakesImage names.image made old begun
+  pub clears : ClearsImage renewed made ended new
+  pub survives : SurvivesRenewal remaining names task renewed begun ended (found_there old.there found) left

@@ -30,7 +30,7 @@ use Rattle.bx_run.specs.preview.Diffs.{StopsDiff, WritesDiff}
 use Rattle.bx_run.specs.run.Answer.{answer_by}
 use Rattle.bx_run.specs.run.Outcome.{ended_by, unopened_by, unopened_fault}
 use Rattle.bx_run.specs.preview.Previews.{StopsPreview, WritesPreview}
-use Rattle.bx_run.specs.renew.Renewal.{DoesRenew, KeepsNamed, SurvivesRenewal, TellsOpening, no_change}
+use Rattle.bx_run.specs.renew.Renewal.{KeepsNamed, RenewsFiles, SurvivesRenewing, TellsOpening, no_change}
 use Rattle.bx_run.specs.report.Reports.{Reports}
 use Rattle.bx_run.specs.Edit.{asked}
 use Rattle.bx_run.specs.RunState.{RunState}
@@ -107,7 +107,7 @@ Fulfills remaining (Diff old_name new_name extent) (of.Compared outcome) old new
 Fulfills remaining (Preview name edit) (of.Previewed outcome) old new = DoesPreview remaining name.now edit outcome old new
 Fulfills remaining (Look names report) (of.Looked outcome) old new = Reports names.now report outcome old new
 Fulfills remaining (Forget names guard) (of.Forgotten outcome) old new = DoesForget guard names.now outcome old new
-Fulfills remaining (Renew names guard edit) (of.Renewed renewed) old new = DoesRenew remaining names.now guard (asked edit) renewed old new
+Fulfills remaining (Renew names guard edit) (of.Renewed renewed) old new = RenewsFiles remaining names.now guard (asked edit) renewed old new
 Fulfills remaining request outcome old new = ⊥
 
 -- whatever is found of the files after a loss of power: behind an undo, a redo and a change opening finds the images behind some of its steps, or
@@ -123,7 +123,7 @@ SurvivesLoss remaining (Recover names guard) (of.Changed answer) old new found l
     SurvivesTask remaining names.now no_change answer old new found left
 SurvivesLoss remaining (Forget names guard) (of.Forgotten outcome) old new found left = SurvivesForgetting names.now outcome old found left
 SurvivesLoss remaining (Renew names guard edit) (of.Renewed renewed) old new found left =
-    SurvivesRenewal remaining names.now (asked edit) renewed old new found left
+    SurvivesRenewing remaining names.now (asked edit) renewed old new found left
 SurvivesLoss remaining request outcome old new found left = NothingNewFound found left
 
 -- no file is changed but the three of an undo, a redo or a change, and the texts of a history that is dropped; each name leads where it led

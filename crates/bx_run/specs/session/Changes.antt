@@ -38,3 +38,4 @@ pub record SaysRecovered (how : Option RecoveryOutcome) (old new : SystemState) 
   pub output : new.output ≡ old.output
   pub errors : TellsRecovered how old.errors new.errors
   pub lent : new.lent ≡ old.lent
+  pub before : new.before ≡ old.before

@@ -33,7 +33,7 @@ pub struct Answer {
 }
 
 /// Whether a task was refused, and no device stopped it in the middle of writing.
-fn is_whole_refusal(reply: &Reply) -> bool
+pub fn is_whole_refusal(reply: &Reply) -> bool
     ensures { (result ≡ true) ↔ IsWholeRefusal reply.now }
 {
     match reply {

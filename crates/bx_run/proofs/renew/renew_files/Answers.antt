@@ -1,146 +1,153 @@
-use Rattle.std.proofs.Common.{◌∙◌, sym}
-use Rattle.std.proofs.lemmas.Bool.{false≢true}
-use Rattle.bx_journal.specs.Forgotten.{only}
-use Rattle.bx_world.specs.World.{held}
+use Rattle.std.proofs.Common.{◌≡◌, ◌∙◌, Some, None, refl}
+use Rattle.bx_world.specs.World.{number_if}
 use Rattle.bx_world.specs.files.Files.{AreAllThere}
-use Rattle.bx_run.specs.forget.Forgetting.{IsNoTextNamed}
-use Rattle.bx_run.specs.session.Named.{contents_of}
-use Rattle.bx_run.specs.RunState.{run_state_beside}
-use Rattle.bx_run.proofs.Ending.{nothing_kept}
-use Rattle.bx_run.proofs.Renewing.{found_undropped, holds_alone, keeps_itself, keeps_named, keeps_one, newest, recovered_undropped, says_changed, says_dropped}
-use Rattle.bx_run.proofs.ThreeSteps.{renews, stays}
+use Rattle.bx_world.specs.declared.files.unopened.OpenError.{OpenError}
+use Rattle.bx_world.specs.declared.files.unopened.FileRole.TheVariants.{Image}
+use Rattle.bx_world.specs.declared.files.unopened.OpenFailure.TheVariants.{System}
+use Rattle.bx_run.specs.run.Outcome.{first_unopened}
+use Rattle.bx_run.specs.RunState.{RunState, run_state_beside}
+use Rattle.bx_run.proofs.Cleared.{cleared_image, cleared_kept, cleared_streams, fit_before, kept_leaves, left_contents, made_named, made_number, made_streams, may_before, nothing_cleared, same_contents, tells_before, tells_between}
+use Rattle.bx_run.proofs.RenewalLess.{renewal_less}
+use Rattle.bx_run.proofs.Unmade.{keeps_unmade_files, nothing_unmade, renews_unmade, survives_unmade, tells_unmade}
 use Rattle.bx_run.proofs.renew.renew_files.Goals as goal
 
-pub returns-then-not-may_drop-clause-does : goal.returns-then-not-may_drop-clause-does
-returns-then-not-may_drop-clause-does g c old written =
-    ((λ may. absurd (false≢true (sym c.if-not-may_drop.true ∙ c.may_drop.ensures.1 may))), c.open_to_drop-opened.ensures.does old, c.open_to_drop-opened.ensures.judged old)
+pub take_steps-renewed-requires-clause-free : goal.take_steps-renewed-requires-clause-free
+take_steps-renewed-requires-clause-free g c begun =
+    let old = c.make_missing_image.ensures.faith.0 begun in
+    (made_streams c.args.names.now.image _ _ _ (c.in-Ok.ensures.made old)).lent ∙ c.requires.free old
 
-pub returns-then-not-may_drop-clause-others : goal.returns-then-not-may_drop-clause-others
-returns-then-not-may_drop-clause-others g c old =
-    keeps_one c.args.names.now (g.W.World.state c.args.world.now) (g.W.World.state c.open_to_drop-opened.new.world) (λ name n e. g.met.W.World.within c.args.world.now name n old e) (c.open_to_drop-opened.ensures.others old)
+pub clear_image-requires-clause-made : goal.clear_image-requires-clause-made
+clear_image-requires-clause-made g c ended =
+    let begun = c.take_steps-renewed.ensures.faith.0 ended in
+    let old = c.make_missing_image.ensures.faith.0 begun in
+    made_number c.args.names.now.image _ (g.W.World.state c.args.world.now) (g.W.World.state c.make_missing_image.new.world)
+    (g.W.World.state c.take_steps-renewed.new.world) (c.in-Ok.ensures.made old) (g.met.W.World.begun c.args.world.now old)
+    (tells_before c.take_steps-renewed.result (g.W.World.state c.make_missing_image.new.world) (g.W.World.state c.take_steps-renewed.new.world)
+    (c.take_steps-renewed.ensures.streams begun))
 
-pub returns-in-Ok-clause-does : goal.returns-in-Ok-clause-does
-returns-in-Ok-clause-does g c old written =
-    let may = c.may_drop.ensures.0 c.if-not-may_drop.false in
-    let mid = c.open_to_drop-opened.ensures.faith.1 old in
-    let behind = c.forget_files.ensures.faith.1 mid in
-    let did = c.change_files.ensures in
-    renews g.R.Read.remaining c.args.names.now c.args.guard c.args.task c.change_files.result _ _ (record {
-      opened = c.open_to_drop-opened.result;
-      first = run_state_beside g.W.World.state g.W.World.refusals g.W.World.note written c.open_to_drop-opened.new.world;
-      second = run_state_beside g.W.World.state g.W.World.refusals g.W.World.note written c.forget_files.new.world;
-      opens = c.open_to_drop-opened.ensures.opens old may;
-      judged = c.open_to_drop-opened.ensures.judged old;
-      drops = record {
-        does = record { may = c.in-Ok.ensures.may mid; done = c.in-Ok.ensures.done mid; stopped = tt };
-        others = c.forget_files.ensures.others mid;
-      };
-      changes = record {
-        done = did.done behind;
-        refused = did.refused behind;
-        interrupted = did.interrupted behind;
-        stands = did.stands behind;
-        how = did.how behind;
-        recovered = did.recovered behind;
-      };
-      others = did.others behind;
-      unopened = did.why_unopened behind;
-    })
-
-pub returns-in-Ok-clause-survives : goal.returns-in-Ok-clause-survives
-returns-in-Ok-clause-survives g c old =
-    let may = c.may_drop.ensures.0 c.if-not-may_drop.false in
-    let mid = c.open_to_drop-opened.ensures.faith.1 old in
-    let behind = c.forget_files.ensures.faith.1 mid in
-    let opens = c.open_to_drop-opened.ensures.opens old may in
-    let names = c.args.names.now in
-    let first = g.W.World.state c.open_to_drop-opened.new.world in
-    let second = g.W.World.state c.forget_files.new.world in
-    let image = held first names.image in
-    record {
-      opened = c.open_to_drop-opened.result;
-      first = first;
-      opens = opens;
-      newest = λ s holds. newest (contents_of names first) s (opens.same s holds);
-      found = (c.change_files.ensures.survives behind).holds (only image) (holds_alone names first second (c.in-Ok.ensures.done mid));
-    }
-
-pub returns-in-Ok-clause-others : goal.returns-in-Ok-clause-others
-returns-in-Ok-clause-others g c old =
-    let mid = c.open_to_drop-opened.ensures.faith.1 old in
-    let behind = c.forget_files.ensures.faith.1 mid in
-    let within : AreAllThere (g.W.World.state c.args.world.now) = λ name n e. g.met.W.World.within c.args.world.now name n old e in
-    let first_within : AreAllThere (g.W.World.state c.open_to_drop-opened.new.world) =
-    λ name n e. g.met.W.World.within c.open_to_drop-opened.new.world name n mid e in
-    keeps_named c.args.names.now (g.W.World.state c.args.world.now) (g.W.World.state c.open_to_drop-opened.new.world)
-    (g.W.World.state c.forget_files.new.world) (g.W.World.state c.change_files.new.world) within first_within (c.open_to_drop-opened.ensures.others old) (c.forget_files.ensures.others mid)
-    (c.change_files.ensures.others behind)
-
-pub returns-in-Ok-clause-streams : goal.returns-in-Ok-clause-streams
-returns-in-Ok-clause-streams g c old =
-    let mid = c.open_to_drop-opened.ensures.faith.1 old in
-    let behind = c.forget_files.ensures.faith.1 mid in
-    let names = c.args.names.now in
-    let first = g.W.World.state c.open_to_drop-opened.new.world in
-    let second = g.W.World.state c.forget_files.new.world in
-    let how = c.open_to_drop-opened.result.how in
-    let alone = holds_alone names first second (c.in-Ok.ensures.done mid) in (
-      how,
-      says_changed how c.change_files.result.how (g.W.World.state c.args.world.now) second (g.W.World.state c.change_files.new.world)
-          (says_dropped (IsNoTextNamed names first) how (g.W.World.state c.args.world.now) first second (c.open_to_drop-opened.ensures.streams old) (c.forget_files.ensures.others mid))
-          ((c.change_files.ensures.how behind).none (only (held first names.image)) alone) (c.change_files.ensures.streams behind),
-    )
+pub clear_image-requires-clause-named : goal.clear_image-requires-clause-named
+clear_image-requires-clause-named g c ended =
+    let begun = c.take_steps-renewed.ensures.faith.0 ended in
+    let old = c.make_missing_image.ensures.faith.0 begun in
+    made_named c.args.names.now _ _ _ _ (c.in-Ok.ensures.made old) (c.take_steps-renewed.ensures.others begun)
 
 pub returns-in-Err-clause-does : goal.returns-in-Err-clause-does
 returns-in-Err-clause-does g c old written =
-    let may = c.may_drop.ensures.0 c.if-not-may_drop.false in
-    let mid = c.open_to_drop-opened.ensures.faith.1 old in
-    stays g.R.Read.remaining c.args.names.now c.args.guard c.in-Err.unseen c.open_to_drop-opened.result _
-    (run_state_beside g.W.World.state g.W.World.refusals g.W.World.note written c.open_to_drop-opened.new.world) _ (c.open_to_drop-opened.ensures.opens old may)
-    (c.open_to_drop-opened.ensures.judged old) (record {
-      does = record { may = tt; done = tt; stopped = c.in-Err.ensures.stopped mid };
-      others = c.forget_files.ensures.others mid;
-    })
+    let u : OpenError = record { which = Image; why = System c.in-Err.refusal } in
+    let first : RunState = run_state_beside g.W.World.state g.W.World.refusals g.W.World.note written c.args.world.now in
+    let last : RunState = run_state_beside g.W.World.state g.W.World.refusals g.W.World.note written c.make_missing_image.new.world in
+    rw c.unmade.ensures (renews_unmade g.R.Read.remaining c.args.names.now c.args.guard c.args.task u first last (c.in-Err.ensures.err old)
+    (c.make_missing_image.ensures.note old) (c.in-Err.ensures.why old c.args.guard.mounted))
 
 pub returns-in-Err-clause-survives : goal.returns-in-Err-clause-survives
 returns-in-Err-clause-survives g c old =
-    let may = c.may_drop.ensures.0 c.if-not-may_drop.false in
-    let mid = c.open_to_drop-opened.ensures.faith.1 old in
-    let opened = c.open_to_drop-opened.ensures in
-    let opens = opened.opens old may in
-    let names = c.args.names.now in
-    let first = g.W.World.state c.open_to_drop-opened.new.world in
-    record {
-      opened = c.open_to_drop-opened.result;
-      first = first;
-      opens = opens;
-      found = λ s holds t leads. found_undropped g.R.Read.remaining names c.in-Err.unseen c.open_to_drop-opened.result.reply (IsNoTextNamed names first)
-          first _ (g.W.World.survives c.open_to_drop-opened.new.world) _ s t (c.forget_files.ensures.others mid) leads (c.in-Err.ensures.survives mid)
-          (λ before. (opened.survives old).holds s holds (opened.made old may s holds) t before);
-      finds = λ s found stopped t leads. recovered_undropped g.R.Read.remaining names c.in-Err.unseen c.open_to_drop-opened.result
-          (IsNoTextNamed names first) first _ (g.W.World.survives c.open_to_drop-opened.new.world) _ s t (c.forget_files.ensures.others mid) leads
-          (c.in-Err.ensures.survives mid) (λ before. (opened.survives old).finds s found stopped t before);
-    }
+    let u : OpenError = record { which = Image; why = System c.in-Err.refusal } in
+    rw c.unmade.ensures (survives_unmade g.R.Read.remaining c.args.names.now c.args.guard c.args.task u (g.W.World.state c.args.world.now)
+    (g.W.World.state c.make_missing_image.new.world) (g.W.World.survives c.args.world.now) (g.W.World.survives c.make_missing_image.new.world)
+    (c.make_missing_image.ensures.survives old))
+
+pub returns-in-Err-clause-unopened : goal.returns-in-Err-clause-unopened
+returns-in-Err-clause-unopened g c old =
+    let u : OpenError = record { which = Image; why = System c.in-Err.refusal } in
+    rw c.unmade.ensures (nothing_unmade u (System c.in-Err.refusal) (g.W.World.state c.args.world.now)
+    (g.W.World.state c.make_missing_image.new.world) refl (c.in-Err.ensures.err old))
+
+pub returns-in-Err-clause-why_unopened : goal.returns-in-Err-clause-why_unopened
+returns-in-Err-clause-why_unopened g c old = rw c.unmade.ensures (c.in-Err.ensures.why old c.args.guard.mounted)
 
 pub returns-in-Err-clause-others : goal.returns-in-Err-clause-others
 returns-in-Err-clause-others g c old =
-    let mid = c.open_to_drop-opened.ensures.faith.1 old in
-    let within : AreAllThere (g.W.World.state c.args.world.now) = λ name n e. g.met.W.World.within c.args.world.now name n old e in
-    let first_within : AreAllThere (g.W.World.state c.open_to_drop-opened.new.world) =
-    λ name n e. g.met.W.World.within c.open_to_drop-opened.new.world name n mid e in
-    keeps_named c.args.names.now (g.W.World.state c.args.world.now) (g.W.World.state c.open_to_drop-opened.new.world)
-    (g.W.World.state c.forget_files.new.world) (g.W.World.state c.forget_files.new.world) within first_within (c.open_to_drop-opened.ensures.others old) (c.forget_files.ensures.others mid)
-    (keeps_itself c.args.names.now (g.W.World.state c.forget_files.new.world))
+    keeps_unmade_files c.args.names.now (g.W.World.state c.args.world.now) (g.W.World.state c.make_missing_image.new.world)
+    (λ name n e. g.met.W.World.within c.args.world.now name n old e) (c.in-Err.ensures.err old)
 
 pub returns-in-Err-clause-streams : goal.returns-in-Err-clause-streams
 returns-in-Err-clause-streams g c old =
-    let mid = c.open_to_drop-opened.ensures.faith.1 old in
-    let how = c.open_to_drop-opened.result.how in
-    let first = g.W.World.state c.open_to_drop-opened.new.world in (
-      how,
-      says_dropped (IsNoTextNamed c.args.names.now first) how (g.W.World.state c.args.world.now) first (g.W.World.state c.forget_files.new.world)
-          (c.open_to_drop-opened.ensures.streams old) (c.forget_files.ensures.others mid),
-    )
+    let u : OpenError = record { which = Image; why = System c.in-Err.refusal } in
+    rw c.unmade.ensures (tells_unmade u (g.W.World.state c.args.world.now) (g.W.World.state c.make_missing_image.new.world) (c.in-Err.ensures.err old))
 
-pub returns-then-not-may_drop-clause-unopened : goal.returns-then-not-may_drop-clause-unopened
-returns-then-not-may_drop-clause-unopened g c old = nothing_kept _ _ _ (c.open_to_drop-opened.ensures.unopened old)
+pub returns-clause-does : goal.returns-clause-does
+returns-clause-does g c old written =
+    let begun = c.make_missing_image.ensures.faith.1 old in
+    let ended = c.take_steps-renewed.ensures.faith.1 begun in
+    let steps = c.take_steps-renewed.ensures in
+    let names = c.args.names.now in
+    let renewed = c.take_steps-renewed.result in
+    let made = number_if g.W.World.number c.in-Ok.made in
+    let makes = c.in-Ok.ensures.made old in
+    let clears = c.clear_image.ensures.clears ended in
+    let within : AreAllThere (g.W.World.state c.args.world.now) = λ name n e. g.met.W.World.within c.args.world.now name n old e in
+    let first : RunState = run_state_beside g.W.World.state g.W.World.refusals g.W.World.note written c.make_missing_image.new.world in
+    let last : RunState = run_state_beside g.W.World.state g.W.World.refusals g.W.World.note written c.take_steps-renewed.new.world in
+    record {
+      made = made;
+      begun = first;
+      ended = last;
+      makes = makes;
+      same = same_contents made renewed names _ _ _ _ within makes clears;
+      noted = c.make_missing_image.ensures.note old;
+      does = steps.does begun written;
+      clears = clears;
+      left = left_contents made renewed names _ _ _ _ within makes clears;
+      note_left = c.clear_image.ensures.note ended;
+      image = λ refused. cleared_image made renewed names _ _ _ _ within makes clears (steps.others begun) refused (c.in-Ok.ensures.there old);
+      kept = kept_leaves g.R.Read.remaining names c.args.guard c.args.task renewed first last _ _ (steps.does begun written)
+          (λ refused files. c.clear_image.ensures.left ended refused _ _ within makes files);
+    }
+
+pub returns-clause-survives : goal.returns-clause-survives
+returns-clause-survives g c old =
+    let begun = c.make_missing_image.ensures.faith.1 old in
+    let ended = c.take_steps-renewed.ensures.faith.1 begun in
+    record {
+      made = number_if g.W.World.number c.in-Ok.made;
+      begun = g.W.World.state c.make_missing_image.new.world;
+      ended = g.W.World.state c.take_steps-renewed.new.world;
+      makes = c.in-Ok.ensures.made old;
+      clears = c.clear_image.ensures.clears ended;
+      survives = renewal_less g.R.Read.remaining c.args.names.now c.args.task c.take_steps-renewed.result (g.W.World.state c.args.world.now).there _ _ _ _ _ _
+          (c.make_missing_image.ensures.survives old) (c.clear_image.ensures.survives ended) (c.take_steps-renewed.ensures.survives begun);
+    }
+
+pub returns-clause-unopened : goal.returns-clause-unopened
+returns-clause-unopened g c old =
+    let begun = c.make_missing_image.ensures.faith.1 old in
+    let ended = c.take_steps-renewed.ensures.faith.1 begun in
+    let within : AreAllThere (g.W.World.state c.args.world.now) = λ name n e. g.met.W.World.within c.args.world.now name n old e in
+    nothing_cleared _ c.take_steps-renewed.result _ _ _ _ (c.take_steps-renewed.ensures.unopened begun) (c.take_steps-renewed.ensures.refused begun)
+    (λ refused files. c.clear_image.ensures.left ended refused _ _ within (c.in-Ok.ensures.made old) files)
+
+pub returns-clause-why_unopened : goal.returns-clause-why_unopened
+returns-clause-why_unopened g c old =
+    let begun = c.make_missing_image.ensures.faith.1 old in
+    let ended = c.take_steps-renewed.ensures.faith.1 begun in
+    rw (c.clear_image.ensures.counted ended) (may_before (first_unopened c.take_steps-renewed.result) c.args.names.now c.args.guard.mounted
+    (g.W.World.refusals c.args.world.now) (g.W.World.refusals c.make_missing_image.new.world) (g.W.World.refusals c.take_steps-renewed.new.world)
+    (g.W.World.state c.args.world.now) (g.W.World.state c.make_missing_image.new.world) (c.in-Ok.ensures.reasons old)
+    (c.make_missing_image.ensures.counted old) (c.take_steps-renewed.ensures.why_unopened begun))
+
+pub returns-clause-fit : goal.returns-clause-fit
+returns-clause-fit g c old none =
+    let begun = c.make_missing_image.ensures.faith.1 old in
+    let ended = c.take_steps-renewed.ensures.faith.1 begun in
+    fit_before _ c.take_steps-renewed.result c.args.names.now _ _ _ _ (λ name n e. g.met.W.World.within c.args.world.now name n old e)
+    (c.in-Ok.ensures.made old) (c.clear_image.ensures.clears ended) c.args.guard.mounted (c.take_steps-renewed.ensures.fit begun none)
+
+pub returns-clause-others : goal.returns-clause-others
+returns-clause-others g c old =
+    let begun = c.make_missing_image.ensures.faith.1 old in
+    let ended = c.take_steps-renewed.ensures.faith.1 begun in
+    cleared_kept _ c.take_steps-renewed.result c.args.names.now _ _ _ _ (λ name n e. g.met.W.World.within c.args.world.now name n old e)
+    (c.in-Ok.ensures.made old) (c.clear_image.ensures.clears ended) (c.take_steps-renewed.ensures.others begun)
+
+pub returns-clause-streams : goal.returns-clause-streams
+returns-clause-streams g c old =
+    let begun = c.make_missing_image.ensures.faith.1 old in
+    let ended = c.take_steps-renewed.ensures.faith.1 begun in
+    tells_between _ c.take_steps-renewed.result c.args.names.now _ _ _ _ (λ name n e. g.met.W.World.within c.args.world.now name n old e)
+    (c.in-Ok.ensures.made old) (c.clear_image.ensures.clears ended) (c.take_steps-renewed.ensures.streams begun)
+
+pub returns-clause-free : goal.returns-clause-free
+returns-clause-free g c old =
+    let begun = c.make_missing_image.ensures.faith.1 old in
+    let ended = c.take_steps-renewed.ensures.faith.1 begun in
+    (cleared_streams c.take_steps-renewed.result _ _ _ (c.clear_image.ensures.clears ended)).lent ∙ c.take_steps-renewed.ensures.free begun

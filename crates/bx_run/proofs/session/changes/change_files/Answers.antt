@@ -86,4 +86,5 @@ returns-clause-streams g c old =
       output = c.tell_recovered.ensures.output behind ∙ silent.output;
       errors = tells_alone _ _ _ _ _ silent.errors tells refl;
       lent = (c.tell_recovered.ensures.files behind).lent ∙ silent.lent;
+      before = (c.tell_recovered.ensures.files behind).before ∙ silent.before;
     }
