@@ -24,6 +24,8 @@
 //! A forgetting is played over the cases of looks, and leaves the image as it is: beside empty texts, or where it is refused beside
 //! texts as they were, or where it is interrupted beside fronts of them, and so once the power is lost.
 //!
+//! A change with which the history begins anew is played last, where some files are missing: one that can be read, and one that can't.
+//!
 //! A line of the output has a case, and how often it was played with each that fails; before them stand the files of `oddities.rt` that
 //! may not be opened: in the first case, in the first change, in the first one whose files are made, in the first of looks and of
 //! forgettings, and in the first of comparisons.
@@ -36,6 +38,7 @@ mod moves;
 mod odd;
 mod oddities;
 mod plays;
+mod renewals;
 mod report;
 mod seen;
 mod setting;
@@ -44,6 +47,7 @@ mod sweeps;
 use crate::odd::play_refused;
 use crate::oddities::{ODDS, ODDS_OF_MADE, Odd, Oddity, names_of_odd};
 use crate::plays::{Play, Setting};
+use crate::renewals::play_renewals;
 use crate::report::Wrong;
 use crate::seen::diffs::play_diffs;
 use crate::seen::dumps::play_dumps;
@@ -193,6 +197,7 @@ fn play_all(rt: &HostRuntime) -> Result<bool, Wrong> {
     right = play_dumps(rt, dumps.cases.as_slice())? && right;
     right = play_diffs(rt, diffs.cases.as_slice())? && right;
     right = play_previews(rt, diffs.cases.as_slice())? && right;
+    right = play_renewals(rt)? && right;
     Ok(right)
 }
 
