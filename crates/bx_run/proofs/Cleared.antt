@@ -1,5 +1,5 @@
 -- An image that is made before a change with which a history begins anew, and taken away again where that is refused.
-use Rattle.std.proofs.Common.{◌≡◌, ◌⊎◌, ◌∙◌, ◌<◌, ◌≤◌, ◌++◌, ℕ, Bool, true, List, [], Option, Some, None, take, refl, sym, ap, subst, inl, inr, arith}
+use Rattle.std.proofs.Common.{◌≡◌, ◌⊎◌, ◌∙◌, ◌<◌, ◌≤◌, ◌++◌, ℕ, Bool, true, false, List, [], Option, Some, None, take, refl, sym, ap, subst, inl, inr, arith}
 use Rattle.std.specs.Prelude.{IfSome}
 use Rattle.std.specs.Option.{option_map_or, unwrap_or}
 use Rattle.bx_journal.specs.RecoveryOutcome.{RecoveryOutcome}
@@ -19,7 +19,8 @@ use Rattle.bx_run.specs.session.Moves.{recovered_line}
 use Rattle.bx_run.specs.session.Named.{IsNamedBy, NothingDone, contents_of}
 use Rattle.bx_run.specs.declared.session.named.Answer.{Answer}
 use Rattle.bx_run.specs.declared.session.task.Task.{Task}
-use Rattle.bx_run.specs.renew.Renewal.{ClearsImage, DoesRenew, IsRefusedRenewal, KeepsNamed, LeavesKept, LeavesNoImage, NothingRenewed, TellsOpening}
+use Rattle.bx_run.specs.forget.Forgetting.{DropsNote}
+use Rattle.bx_run.specs.renew.Renewal.{ClearsImage, DoesRenew, EndsNote, IsRefusedBehind, IsRefusedRenewal, KeepsNamed, LeavesKept, LeavesNoImage, NothingRenewed, TellsOpening}
 use Rattle.bx_run.specs.RunState.{RunState}
 use Rattle.bx_run.specs.declared.renew.Renewed.{Renewed}
 use Rattle.bx_run.specs.declared.renew.Renewed.TheVariants.{Kept, Undropped, Changed}
@@ -226,11 +227,12 @@ nothing_cleared None renewed old begun ended new nothing refused left = tt
 nothing_cleared (Some u) renewed old begun ended new nothing refused left = (nothing.0, left refused nothing.1)
 
 -- why one wasn't
-pub may_before : (u : Option OpenError) (names : Names) (mounted : Bool) (before least most : ℕ) (old begun : SystemState) → RefusesAsBefore names old begun
-    → before ≤ least → IfSome u (MayRefuseOpening names mounted true (least < most) begun)
-    → IfSome u (MayRefuseOpening names mounted true (before < most) old)
-may_before None names mounted before least most old begun as_before below why = tt
-may_before (Some u) names mounted before least most old begun as_before below why = as_before mounted before least most u below why
+pub may_before : (u : Option OpenError) (names : Names) (mounted : Bool) (before least most last : ℕ) (old begun : SystemState) → RefusesAsBefore names old begun
+    → before ≤ least → most ≤ last → IfSome u (MayRefuseOpening names mounted true (least < most) begun)
+    → IfSome u (MayRefuseOpening names mounted true (before < last) old)
+may_before None names mounted before least most last old begun as_before below above why = tt
+may_before (Some u) names mounted before least most last old begun as_before below above why =
+    as_before mounted before least most last u below above why
 
 module _ (made : Option ℕ) (renewed : Renewed) (names : Names) (old begun ended new : SystemState) (within : AreAllThere old)
     (makes : MakesImage names.image made old begun) (clears : ClearsImage renewed made ended new) where
@@ -318,3 +320,17 @@ pub tells_before : (renewed : Renewed) (begun ended : SystemState) → TellsOpen
 tells_before (Kept answer) begun ended tells = tells.before
 tells_before (Undropped unseen) begun ended tells = tells.1.before
 tells_before (Changed answer) begun ended tells = tells.1.before
+
+-- what the note has behind the end of a change, by whether it was dropped
+pub ended_note : (renewed : Renewed) (behind : Bool) (before after last : ℕ) (old mid new : List ℕ) → (behind ≡ true → IsRefusedBehind renewed)
+    → (IsRefusedBehind renewed → behind ≡ true) → after ≡ last → new ≡ mid → (behind ≡ true → DropsNote (before < after) old mid)
+    → (behind ≡ false → mid ≡ old) → EndsNote renewed (before < last) old new
+ended_note renewed true before after last old mid new to back same is drops stays = inl (
+  to refl,
+  elim (drops refl) [
+    | inl gone ↦ inl (is ∙ gone)
+    | inr left ↦ inr (let less = left.0 in omega (arith, less, same), is ∙ left.1)
+  ],
+)
+ended_note renewed false before after last old mid new to back same is drops stays =
+    inr ((λ refused. absurd (let wrong : false ≡ true = back refused in cc)), is ∙ stays refl)

@@ -1,6 +1,6 @@
 -- What emptying texts that are lent leaves of their files.
 use Rattle.std.proofs.Common.{◌≡◌, ◌∙◌, ℕ, zero, suc, Bool, true, false, List, [], Option, Some, None, length, take, refl, sym, ap, subst, inl, inr, arith}
-use Rattle.std.specs.Prelude.{Result, Ok, Err, IfErr, OnOk, ◌==◌}
+use Rattle.std.specs.Prelude.{Result, Ok, Err, IfErr, OnErr, OnOk, ◌<◌, ◌==◌}
 use Rattle.std.proofs.lemmas.Bool.Decides.{Decides-eqb}
 use Rattle.std.proofs.lemmas.Result.{IfErr-weaker}
 use Rattle.bx_image.specs.Power.{AllFade, IsFaded, NoMore, Only}
@@ -16,7 +16,7 @@ use Rattle.bx_journal.specs.SessionFault.{SessionFault}
 use Rattle.bx_journal.specs.SessionFault.TheVariants.{NoMemory, TooLarge, DeviceFailed, Damaged, TooFew, JournalFull, Interrupted, Broken, LengthDiffers, NothingToRedo, RedoDamaged}
 use Rattle.bx_journal.proofs.ForgottenLemmas.{found_in_part}
 use Rattle.bx_world.specs.World.{NothingNewSpared, SystemState, Spares, bytes_if}
-use Rattle.bx_run.specs.forget.Forgetting.{Empties, FindsDropped, ForgetsPart, HasForgotten, Held, LosesAll, LosesPart, SurvivesEmptying, TextFiles, found_if, held_by_numbers}
+use Rattle.bx_run.specs.forget.Forgetting.{DropsNote, Empties, FindsDropped, ForgetsPart, HasForgotten, Held, LeavesNote, LosesAll, LosesPart, SurvivesEmptying, TextFiles, found_if, held_by_numbers}
 
 -- what three devices hold
 abbrev held_on : {D T : Type 0} → DeviceViews D → StoreViews T → Devices D T → Held
@@ -242,3 +242,18 @@ after_first e A B none = none
 pub finds_first : (r : Result (Unit {0}) SessionFault) (A B : Type 0) → IfErr r (λ e. AfterFault e (A × B) (Unit {0}))
     → IfErr r (λ e. AfterFault e A (Unit {0}))
 finds_first r A B both = IfErr-weaker r _ _ (λ e p. after_first e A B p) both
+
+-- what the note has behind an emptying, by whether it goes
+pub left_note : (goes dropped : Bool) (r : Result (Unit {0}) SessionFault) (refused : Type 0) (old new : List ℕ) → OnOk r (dropped ≡ goes)
+    → OnErr r (dropped ≡ false) → (dropped ≡ true → DropsNote refused old new) → (dropped ≡ false → new ≡ old) → LeavesNote r goes refused old new
+left_note true dropped (Ok done) refused old new ok err goes stays = goes ok
+left_note false dropped (Ok done) refused old new ok err goes stays = stays ok
+left_note goes dropped (Err e) refused old new ok err away stays = stays err
+
+-- a note that was dropped before files were closed
+pub dropped_before : (before after last : ℕ) (old mid new : List ℕ) → after ≡ last → new ≡ mid → DropsNote (before < after) old mid
+    → DropsNote (0 < last) old new
+dropped_before before after last old mid new same is drops = elim drops [
+  | inl gone ↦ inl (is ∙ gone)
+  | inr stays ↦ inr (let less = stays.0 in omega (arith, less, same), is ∙ stays.1)
+]

@@ -70,7 +70,7 @@ module _ {R : Type 0} (remaining : R → Option (List ℕ)) (names : Names) (gua
         );
         clears = refl;
         left = refl;
-        note_left = refl;
+        note_left = inr ((λ wrong. wrong), refl);
         image = λ refused missing stuck empty. rw same missing;
         kept = λ whole is. leaves_same old.state new.state same;
       }

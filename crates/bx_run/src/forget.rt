@@ -2,4 +2,4 @@
 mod forgotten;
 mod judging;
 
-pub use forgotten::forget_files;
+pub use forgotten::{forget_files, take_note};

@@ -18,10 +18,10 @@ ghost use Rattle.bx_run.specs.session.Named.{KeepsOthers, NothingDone, SurvivesT
 ghost use Rattle.bx_run.specs.session.Task.{IsNearTask};
 ghost use Rattle.bx_run.specs.preview.Changing.{DoesChange};
 ghost use Rattle.bx_run.specs.run.Outcome.{first_unopened};
-ghost use Rattle.bx_run.specs.renew.Renewal.{ClearsImage, DoesRenew, IsDroppable, IsOfAnother, IsRefusedRenewal, JudgesOpening, KeepsNamed, MayDrop, MayNotOpen, NothingRenewed, OpensToDrop, RenewsFiles, SurvivesRenewal, SurvivesRenewing, TellsOpening, no_change, only_told};
+ghost use Rattle.bx_run.specs.renew.Renewal.{ClearsImage, DoesRenew, EndsNote, IsDroppable, IsOfAnother, IsRefusedBehind, IsRefusedRenewal, JudgesOpening, KeepsNamed, MayDrop, MayNotOpen, NothingRenewed, OpensToDrop, RenewsFiles, SurvivesRenewal, SurvivesRenewing, TellsOpening, no_change, only_told};
 ghost use Rattle.bx_run.specs.RunState.{run_state_beside};
 
-use crate::forget::forget_files;
+use crate::forget::{forget_files, take_note};
 use crate::report::ReportError;
 use crate::session::{Answer, Task, change_files, is_whole_refusal};
 use bx_cli_commands::{Command, Fault, Reply};
@@ -185,7 +185,8 @@ fn take_steps<W: World, R: Read + Drop>(
     if !may_drop(&opened) {
         return Renewed::Kept(opened);
     }
-    match forget_files(world, alloc, names, guard) {
+    // The line on the image stays for the change, which writes it anew.
+    match forget_files(world, alloc, names, guard, false) {
         Ok(()) => Renewed::Changed(change_files(world, alloc, names, guard, task)),
         Err(unseen) => Renewed::Undropped(unseen),
     }
@@ -238,6 +239,37 @@ fn clear_image<W: World>(world: &mut W, names: &Names, made: Option<W::File>, re
     }
 }
 
+/// Whether the change was refused behind the drop of the history.
+fn is_refused_behind(renewed: &Renewed) -> bool
+    ensures { (result ≡ true) ↔ IsRefusedBehind renewed.now }
+{
+    match renewed {
+        Renewed::Changed(answer) => is_whole_refusal(&answer.reply),
+        Renewed::Kept(_) | Renewed::Undropped(_) => false,
+    }
+}
+
+/// Ends a change: where it is refused behind the drop of the history the note is dropped too, and where it is refused the image is taken
+/// away again that was made for it.
+fn finish<W: World>(world: &mut W, names: &Names, made: Option<W::File>, renewed: &Renewed)
+    requires made { W.faithful world.old → IfSome (number_if W.number made) (λ n. (W.state world.old).before ≤ n) }
+    requires named { W.faithful world.old
+        → IfSome (number_if W.number made) (λ n. (W.state world.old).named names.now.image ≡ Some n) }
+    ensures clears { W.faithful world.old → ClearsImage renewed.now (number_if W.number made) (W.state world.old) (W.state world.new) }
+    ensures left { W.faithful world.old → IsRefusedRenewal renewed.now → (first begun : SystemState) → AreAllThere first
+        → MakesImage names.now.image (number_if W.number made) first begun → LeavesFiles begun (W.state world.old)
+        → LeavesFiles first (W.state world.new) }
+    ensures note { W.faithful world.old
+        → EndsNote renewed.now (W.refusals world.old < W.refusals world.new) (W.note world.old) (W.note world.new) }
+    ensures counted { W.faithful world.old → W.refusals world.old ≤ W.refusals world.new }
+    ensures survives { W.faithful world.old → NothingNewFound (W.survives world.old) (W.survives world.new) }
+    ensures faith { W.faithful world.new ↔ W.faithful world.old }
+{
+    let is_behind = is_refused_behind(renewed);
+    take_note(world, is_behind);
+    clear_image(world, names, made, renewed);
+}
+
 /// Changes an image with whose change the history begins anew. One that is missing is made first, so that its texts are judged beside it,
 /// and taken away again where the change is refused. Then the files are opened, the history is dropped, and the change is made on the
 /// image alone; what is unfinished is recovered only onto an image that the note tells to be the one.
@@ -278,6 +310,6 @@ pub fn renew_files<W: World, R: Read + Drop>(
         Err(refusal) => return Renewed::Kept(unmade(refusal)),
     };
     let renewed = take_steps(world, alloc, names, guard, task);
-    clear_image(world, names, made, &renewed);
+    finish(world, names, made, &renewed);
     renewed
 }

@@ -80,7 +80,7 @@ fn run_command<W: World, R: Read + Drop, O: Write>(
             Outcome::Looked(write_report(world, alloc, names, report, out))
         }
         Request::Forget { names, guard } => {
-            Outcome::Forgotten(forget_files(world, alloc, names, guard))
+            Outcome::Forgotten(forget_files(world, alloc, names, guard, true))
         }
         Request::Renew { names, guard, edit } => {
             let anew = task_of(edit);

@@ -627,4 +627,11 @@ where
             Put::Stands => bx_world::Noted::Stands,
         }
     }
+
+    fn drop_note(&mut self) -> Result<(), Refusal> {
+        match self.put_note(&[], true) {
+            bx_world::Noted::Put | bx_world::Noted::Without => Ok(()),
+            bx_world::Noted::Stands => Err(Refusal::Other(None)),
+        }
+    }
 }

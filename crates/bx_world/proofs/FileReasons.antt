@@ -283,10 +283,10 @@ made_before names mounted C D old new n within made fit u more is =
     (record { file = opened_made old new names.image n made; fit = fit mounted; always = λ _. fit }) u refl is)
 
 -- and where none was made
-pub opened_before : (names : Names) (mounted : Bool) (before least most : ℕ) (w : SystemState) (u : OpenError) → before ≤ least
-    → MayRefuseOpening names mounted true (least < most) w u → MayRefuseOpening names mounted true (before < most) w u
-opened_before names mounted before least most w u below is =
-    opening_more names mounted true (before < most) w (least < most) u (λ less. omega (arith, less, below)) is
+pub opened_before : (names : Names) (mounted : Bool) (before least most last : ℕ) (w : SystemState) (u : OpenError) → before ≤ least → most ≤ last
+    → MayRefuseOpening names mounted true (least < most) w u → MayRefuseOpening names mounted true (before < last) w u
+opened_before names mounted before least most last w u below above is =
+    opening_more names mounted true (before < last) w (least < most) u (λ less. omega (arith, less, below, above)) is
 
 -- an image that is made where it is missing is refused as the system refuses a call
 pub image_refused : (names : Names) (mounted : Bool) (C : Type 0) (w : SystemState) (e : Refusal) → IsRefusedFor ⊥ C e

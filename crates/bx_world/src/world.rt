@@ -501,6 +501,18 @@ pub trait World {
         ensures survives { faithful self.old → NothingNewFound (survives self.old) (survives self.new) }
         ensures faith { faithful self.new ↔ faithful self.old };
 
+    /// Takes the note away, and puts that on the disk where names are put there. One that can't be taken away is emptied, and where that is
+    /// refused too it stands.
+    fn drop_note(&mut self) -> Result<(), Refusal>
+        ensures dropped { faithful self.old → OnOk result (note self.new ≡ []) }
+        ensures stands { faithful self.old → OnErr result (note self.new ≡ note self.old) }
+        ensures missing { faithful self.old → result ≡ Err Missing → ⊥ }
+        ensures counted { faithful self.old → CountsRefusal result (refusals self.old) (refusals self.new) }
+        ensures same { faithful self.old → state self.new ≡ state self.old }
+        ensures beside { faithful self.old → beside self.new ≡ beside self.old }
+        ensures survives { faithful self.old → NothingNewFound (survives self.old) (survives self.new) }
+        ensures faith { faithful self.new ↔ faithful self.old };
+
     /// No fewer files are there than were when the run began.
     ghost begun: { (w : Self) → faithful w → (state w).before ≤ (state w).there };
 

@@ -782,4 +782,12 @@ impl World for MemoryWorld {
     fn put_note(&mut self, bytes: &[u8], synced: bool) -> Noted {
         self.write_note(bytes, synced)
     }
+
+    fn drop_note(&mut self) -> Result<(), Refusal> {
+        if self.refuses() {
+            return Err(Refusal::Other(None));
+        }
+        self.run.note = nothing(self.alloc);
+        Ok(())
+    }
 }

@@ -25,6 +25,8 @@ pub enum Cause {
     Output,
     /// Calls of a text that is emptied.
     Emptying,
+    /// Calls of the world where a history is dropped: one that drops the note may be refused, and the history is gone all the same.
+    Dropping,
 }
 
 /// How many of the changes may be found moved or made.

@@ -23,6 +23,9 @@ const OLD: &[u8] = b"ABxyEFGH";
 const TEXT: &[u8] =
     b"change2 00000001 0000000000000008\n00000002: 4344                                     CD\nsave 00000001\ndone2 00000001 0000000000000008\n";
 
+/// What the note has, which is no line on an image.
+const NOTE: &[u8] = b"a note";
+
 /// The fault of a change that can't be read.
 const UNREAD: ReadFault = ReadFault::NoData { line: 1 };
 
@@ -109,8 +112,8 @@ impl Renewal<'_> {
         !there_in(world).image || (world.stuck() > 0 && held.image.is_empty())
     }
 
-    /// The texts hold what they held, or where the history was dropped nothing; and of an opening that was refused no file is there that
-    /// wasn't.
+    /// The texts hold what they held, or where the history was dropped nothing, beside no note; and of an opening that was refused no file
+    /// is there that wasn't.
     fn has_texts(&self, world: &MemoryWorld, step: Step) -> bool {
         let held = held_by(world);
         let first = self.first();
@@ -121,7 +124,7 @@ impl Renewal<'_> {
                 is_kept && news.is_some_and(|news| news <= world.stuck())
             }
             Step::Dropping => is_kept,
-            Step::Work => held.journal.is_empty() && held.redo.is_empty(),
+            Step::Work => held.journal.is_empty() && held.redo.is_empty() && has_no_note(world),
         }
     }
 
@@ -163,6 +166,7 @@ impl Renewal<'_> {
     /// Plays it with a plan. Tells whether it ended as it does where nothing fails.
     fn play_planned(&self, failing: Failing, plan: Plan) -> Result<bool, Wrong> {
         let mut world = world_with(self.alloc, self.first(), self.there, true)?;
+        world.plant_note(NOTE)?;
         let answer = self.run(&mut world, plan)?;
         self.judge(&world, failing, answer)?;
         Ok(self.is_as_told(&world, answer))
@@ -196,6 +200,11 @@ impl Renewal<'_> {
         }
         Ok(plays)
     }
+}
+
+/// Whether the note is gone, unless a call was refused.
+fn has_no_note(world: &MemoryWorld) -> bool {
+    world.note().is_empty() || world.was_refused()
 }
 
 /// Whether writing was stopped in the middle.

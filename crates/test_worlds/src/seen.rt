@@ -21,6 +21,9 @@ use bx_world::Names;
 use std::alloc::Global;
 use test_world::{Fails, MemoryWorld, Plan};
 
+/// What the note has, which is no line on an image.
+const NOTE: &[u8] = b"a note";
+
 /// What is asked, the files, and what has to come of it.
 #[derive(Clone, Copy)]
 pub struct Asking<'a> {
@@ -78,6 +81,7 @@ impl<'a> Asking<'a> {
     /// Asks where a call fails. Tells whether none did. What is left is what may be, and also once the power is lost.
     fn play_once(&self, failing: Failing, way: u32, call: u64) -> Result<bool, Wrong> {
         let mut world = self.world()?;
+        world.plant_note(NOTE)?;
         let kept = Kept::of(self.alloc, held_by(&world))?;
         let before = there_in(&world);
         let mut out = Output::new(self.alloc, failing.writes(way, call));

@@ -2,7 +2,6 @@
 use crate::devices::left::{is_unfinished, recovered, stopped};
 use crate::files::look::{is_missing, refuse_without_journal};
 use crate::files::names::{guard_of, names_of, world_of};
-use crate::history::forget::forget_line;
 use crate::history::take_empty;
 use crate::history::told::told;
 use bx_cli::{Fault, Target};
@@ -144,9 +143,6 @@ where
     world.keep_locks();
     let answer = run_request(world, rt.alloc(), request, &mut io::sink());
     world.pass_locks();
-    if is_refused_behind(&answer) {
-        forget_line(world, names);
-    }
     if !is_done(&answer) {
         take_made(rt, redo, no_redo);
         take_made(rt, journal, no_journal);
@@ -183,14 +179,6 @@ where
             stopped(rt, target, &world, failure),
         )),
         answer => answered(rt, target, &mut world, answer, remarks),
-    }
-}
-
-/// Whether the history was dropped, and the change then refused.
-fn is_refused_behind(answer: &Result<Done, Failure>) -> bool {
-    match answer {
-        Ok(_) => false,
-        Err(failure) => failure.step == Step::Work,
     }
 }
 

@@ -8,10 +8,7 @@ use bx_cli::Target;
 use bx_hints::Stopped;
 use bx_journal::Direction;
 use bx_run::{Request, run_request};
-use bx_system::{Progress, SystemWorld};
-use bx_world::{
-    FileRole, Names, OpenError, OpenFailure, Refusal, World, open_redo_to_forget, open_to_look,
-};
+use bx_system::Progress;
 use std::fs::File;
 use std::io::{self, Empty};
 use std::rt::Files;
@@ -80,10 +77,7 @@ where
         guard: guard_of(target),
     };
     match run_request(&mut world, rt.alloc(), request, &mut io::sink()) {
-        Ok(_) => {
-            forget_line(&mut world, &names);
-            Ok(Dropped::Whole)
-        }
+        Ok(_) => Ok(Dropped::Whole),
         Err(failure) if may_recover && is_unfinished(failure) => Ok(Dropped::Unfinished),
         Err(failure) => Err(told(
             rt,
@@ -91,42 +85,5 @@ where
             Direction::Undo,
             stopped(rt, target, &world, failure),
         )),
-    }
-}
-
-/// Takes the third text away, where the journal is empty, or missing beside a redo text. The files are locked meanwhile, so that no
-/// line of a later command is taken.
-pub fn forget_line<R>(world: &mut SystemWorld<'_, '_, R>, names: &Names)
-where
-    R: Files<File = File> + Print + Eprint + Clock + AllocGlobal,
-{
-    match open_to_look(world, names) {
-        Ok(looked) => {
-            if looked
-                .journal
-                .metadata()
-                .is_ok_and(|found| found.len() == 0)
-            {
-                // The history is gone by now, and a line that stays counts changes that are gone too: it says nothing.
-                let _ = world.put_note(&[], true);
-            }
-        }
-        Err(
-            OpenError {
-                which: FileRole::Journal,
-                why: OpenFailure::System(Refusal::Missing),
-            },
-        ) => forget_line_alone(world, names),
-        Err(_) => {}
-    }
-}
-
-/// The same beside a redo text whose journal is missing.
-fn forget_line_alone<R>(world: &mut SystemWorld<'_, '_, R>, names: &Names)
-where
-    R: Files<File = File> + Print + Eprint + Clock + AllocGlobal,
-{
-    if let Ok(_locked) = open_redo_to_forget(world, names) {
-        let _ = world.put_note(&[], true);
     }
 }

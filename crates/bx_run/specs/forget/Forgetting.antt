@@ -218,3 +218,12 @@ SurvivesEmptying f (Err Interrupted) old image found left =
     LosesPart (held_by_numbers f old) (left f.image) (found_if left f.journal) (found_if left f.redo)
 SurvivesEmptying f (Err fault) old image found left =
     NoMore image (left f.image) × ((n : ℕ) → (n ≡ f.image → ⊥) → NoMore (found n) (left n))
+
+-- the note is dropped: it has nothing then, unless the system refused that, and then what it had
+abbrev pub DropsNote : Type 0 → List ℕ → List ℕ → Type 0
+DropsNote refused old new = (new ≡ []) ⊎ (refused × (new ≡ old))
+
+-- behind a history that is dropped the note is dropped too, where it goes with it; else it has what it had
+abbrev pub LeavesNote : {E : Type 0} → Result (Unit {0}) E → Bool → Type 0 → List ℕ → List ℕ → Type 0
+LeavesNote (Ok done) true refused old new = DropsNote refused old new
+LeavesNote outcome goes refused old new = new ≡ old

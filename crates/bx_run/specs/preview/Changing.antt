@@ -1,5 +1,5 @@
 -- What a change of an image leaves, and what the dropping of its history.
-use Rattle.std.specs.Prelude.{◌≡◌, ◌<◌, ℕ, List, Option, None, Result, IfErr, IfOk, IfSome, OnOk}
+use Rattle.std.specs.Prelude.{◌≡◌, ◌<◌, ℕ, true, List, Option, None, Result, IfErr, IfOk, IfSome, OnOk}
 use Rattle.bx_journal.specs.Images.{Images}
 use Rattle.bx_journal.specs.SessionFault.TheVariants.{Interrupted}
 use Rattle.bx_cli_commands.specs.Refusal.{IsWholeRefusal}
@@ -15,7 +15,7 @@ use Rattle.bx_run.specs.session.Contents.{DoesFound, FoundIn, Holds, StepsRead, 
 use Rattle.bx_run.specs.session.Named.{contents_of}
 use Rattle.bx_run.specs.declared.session.named.Answer.{Answer}
 use Rattle.bx_run.specs.declared.session.task.Task.{Task}
-use Rattle.bx_run.specs.forget.Forgetting.{HasForgotten, MayForgetNamed, StopsForgetting, held_by_names}
+use Rattle.bx_run.specs.forget.Forgetting.{HasForgotten, LeavesNote, MayForgetNamed, StopsForgetting, held_by_names}
 use Rattle.bx_run.specs.declared.report.error.ReportError.{ReportError}
 use Rattle.bx_run.specs.RunState.{RunState}
 
@@ -40,3 +40,8 @@ pub record DoesForget (guard : Guard) (names : Names) (outcome : Result (Unit {0
   pub may : OnOk outcome (MayForgetNamed guard old.note names old.state)
   pub done : OnOk outcome (HasForgotten (held_by_names names old.state) (held_by_names names new.state))
   pub stopped : IfErr outcome (StopsForgetting guard old.note names (old.refusals < new.refusals) old.state new.state)
+
+-- A history is dropped, and the note with it, or why not; a note stays only where the system has refused a call
+pub record ForgetsFiles (guard : Guard) (names : Names) (outcome : Result (Unit {0}) ReportError) (old new : RunState) : Type 0 where
+  pub does : DoesForget guard names outcome old new
+  pub note : LeavesNote outcome true (0 < new.refusals) old.note new.note

@@ -24,7 +24,7 @@ use Rattle.bx_run.specs.session.Named.{IsNamedBy, IsUnrecovered, KeepsOthers, Le
 use Rattle.bx_run.specs.declared.session.named.Answer.{Answer}
 use Rattle.bx_run.specs.declared.session.task.Task.{Task}
 use Rattle.bx_run.specs.declared.session.task.Task.TheVariants.{Run}
-use Rattle.bx_run.specs.forget.Forgetting.{Held, IsNoTextNamed, IsOfTexts, LosesPart, held_by_names}
+use Rattle.bx_run.specs.forget.Forgetting.{DropsNote, Held, IsNoTextNamed, IsOfTexts, LosesPart, held_by_names}
 use Rattle.bx_run.specs.declared.report.error.ReportError.{ReportError}
 use Rattle.bx_run.specs.declared.report.error.ReportError.TheVariants.{Stopped}
 use Rattle.bx_run.specs.preview.Changing.{DoesChange, DoesForget}
@@ -204,6 +204,15 @@ abbrev pub ClearsImage : Renewed → Option ℕ → SystemState → SystemState 
 ClearsImage renewed None ended new = new ≡ ended
 ClearsImage renewed (Some n) ended new = (IsRefusedRenewal renewed × Unmakes n ended new) ⊎ ((IsRefusedRenewal renewed → ⊥) × (new ≡ ended))
 
+-- the change was refused on an image whose history was dropped
+abbrev pub IsRefusedBehind : Renewed → Type 0
+IsRefusedBehind (Changed answer) = IsWholeRefusal answer.reply
+IsRefusedBehind renewed = ⊥
+
+-- the note is dropped where the change was refused behind the drop of the history, and else has what the steps left
+abbrev pub EndsNote : Renewed → Type 0 → List ℕ → List ℕ → Type 0
+EndsNote renewed refused old new = (IsRefusedBehind renewed × DropsNote refused old new) ⊎ ((IsRefusedBehind renewed → ⊥) × (new ≡ old))
+
 -- an image that was missing isn't there, empty, unless the system refused to take a file away
 abbrev pub LeavesNoImage : Names → SystemState → SystemState → Type 0
 LeavesNoImage names old new = old.named names.image ≡ None → new.stuck ≡ old.stuck → held new names.image ≡ [] → new.named names.image ≡ None
@@ -226,7 +235,7 @@ pub record RenewsFiles {R : Type 0} (remaining : R → Option (List ℕ)) (names
   pub does : DoesRenew remaining names guard task renewed begun ended
   pub clears : ClearsImage renewed made ended.state new.state
   pub left : contents_of names new.state ≡ contents_of names ended.state
-  pub note_left : new.note ≡ ended.note
+  pub note_left : EndsNote renewed (ended.refusals < new.refusals) ended.note new.note
   pub image : IsRefusedRenewal renewed → LeavesNoImage names old.state new.state
   pub kept : LeavesKept renewed old.state new.state
 

@@ -25,7 +25,7 @@ use Rattle.bx_run.specs.declared.session.moves.Moved.{Moved}
 use Rattle.bx_run.specs.dump.Dumps.{CountsUndumped, DumpsInput, DumpsNamed, IsStopped, StopsInput, StopsNamed}
 use Rattle.bx_run.specs.declared.dump.error.DumpError.{DumpError}
 use Rattle.bx_run.specs.forget.Forgetting.{IsNoTextNamed, SurvivesForgetting}
-use Rattle.bx_run.specs.preview.Changing.{DoesChange, DoesForget}
+use Rattle.bx_run.specs.preview.Changing.{DoesChange, ForgetsFiles}
 use Rattle.bx_run.specs.preview.Diffs.{StopsDiff, WritesDiff}
 use Rattle.bx_run.specs.run.Answer.{answer_by}
 use Rattle.bx_run.specs.run.Outcome.{ended_by, unopened_by, unopened_fault}
@@ -106,7 +106,7 @@ Fulfills remaining (DumpInput job input) (of.Dumped outcome) old new = DoesDumpI
 Fulfills remaining (Diff old_name new_name extent) (of.Compared outcome) old new = DoesDiff extent old_name.now new_name.now outcome old new
 Fulfills remaining (Preview name edit) (of.Previewed outcome) old new = DoesPreview remaining name.now edit outcome old new
 Fulfills remaining (Look names report) (of.Looked outcome) old new = Reports names.now report outcome old new
-Fulfills remaining (Forget names guard) (of.Forgotten outcome) old new = DoesForget guard names.now outcome old new
+Fulfills remaining (Forget names guard) (of.Forgotten outcome) old new = ForgetsFiles guard names.now outcome old new
 Fulfills remaining (Renew names guard edit) (of.Renewed renewed) old new = RenewsFiles remaining names.now guard (asked edit) renewed old new
 Fulfills remaining request outcome old new = ⊥
 

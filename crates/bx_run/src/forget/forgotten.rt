@@ -1,12 +1,12 @@
 //! An image whose history is dropped, by the names of its files: all changes are accepted, and nothing can be undone then.
-ghost use Rattle.std.specs.Prelude.{◌≡◌, ◌↔◌, ◌<◌, ℕ, None, Some, IfErr, IfOk, OnOk, false, true};
+ghost use Rattle.std.specs.Prelude.{◌≡◌, ◌↔◌, ◌<◌, ◌≤◌, ◌^◌, ℕ, None, Some, IfErr, IfOk, OnErr, OnOk, false, true};
 ghost use Rattle.bx_image.specs.Power.{NoMore};
 ghost use Rattle.bx_journal.specs.ThreeDevices.{AreBelow};
-ghost use Rattle.bx_world.specs.World.{AreOwnFiles, IsNoText, ReadFiles, Spares, bytes_if, number_if};
+ghost use Rattle.bx_world.specs.World.{AreOwnFiles, ClosesTexts, IsNoText, IsNoneRead, NothingNewFound, NothingNewSpared, ReadFiles, Spares, TextsLeft, bytes_if, number_if};
 ghost use Rattle.bx_world.specs.files.Reading.{AreReadable, LeadToRead, MayRefuseForgetting, MayRefuseReading, StaysSeen, numbers_read};
 ghost use Rattle.bx_world.specs.files.Reasons.{IsReason, IsRefusedFor, NoneUnfit};
 ghost use Rattle.bx_run.specs.report.Devices.{HoldFiles, HoldNumbered};
-ghost use Rattle.bx_run.specs.forget.Forgetting.{AreLent, AreLentTexts, Empties, HasForgotten, IsAlone, IsFoundOf, IsNoTextNamed, MayForgetNamed, StopsForgetting, SurvivesEmptying, SurvivesForgetting, held_by_names, texts_of};
+ghost use Rattle.bx_run.specs.forget.Forgetting.{AreLent, AreLentTexts, DropsNote, Empties, HasForgotten, LeavesNote, IsAlone, IsFoundOf, IsNoTextNamed, MayForgetNamed, StopsForgetting, SurvivesEmptying, SurvivesForgetting, held_by_names, texts_of};
 ghost use Rattle.bx_run.specs.report.Looks.{unopened_in};
 
 use crate::forget::judging::judge;
@@ -216,10 +216,66 @@ fn lend_texts<W: World>(world: &mut W, names: &Names) -> Result<Lent<W::Image, W
     }
 }
 
-/// Lends the texts to be changed, empties them, and closes the files.
+/// Drops the note, where it goes too.
+pub fn take_note<W: World>(world: &mut W, goes: bool)
+    ensures dropped { W.faithful world.old → goes ≡ true
+        → DropsNote (W.refusals world.old < W.refusals world.new) (W.note world.old) (W.note world.new) }
+    ensures stays { goes ≡ false → world.new ≡ world.old }
+    ensures counted { W.faithful world.old → W.refusals world.old ≤ W.refusals world.new }
+    ensures same { W.faithful world.old → W.state world.new ≡ W.state world.old }
+    ensures beside { W.faithful world.old → W.beside world.new ≡ W.beside world.old }
+    ensures survives { W.faithful world.old → NothingNewFound (W.survives world.old) (W.survives world.new) }
+    ensures faith { W.faithful world.new ↔ W.faithful world.old }
+{
+    if goes {
+        // The history is gone by now, and a line that stays counts changes that are gone too: it says nothing.
+        let _ = world.drop_note();
+    }
+}
+
+/// Closes an image and its texts, which may have been changed. Where the note goes it is dropped before: the files are locked up to then,
+/// so that no line of a later command is taken.
+fn close_texts<W: World>(
+    world: &mut W,
+    image: W::Image,
+    journal: W::Text,
+    redo: W::Text,
+    goes: bool,
+)
+    requires order { (W.Text.failures journal < 2 ^ 32) × (2 ^ 32 ≤ W.Text.failures redo) }
+    requires devices { W.faithful world.old → W.Image.faithful image × W.Text.faithful journal × W.Text.faithful redo }
+    ensures closed { W.faithful world.old → (f : ReadFiles) → W.beside world.old ≡ Some f
+        → ClosesTexts f (W.Text.text journal) (W.Text.text redo) (W.state world.old) (W.state world.new) }
+    ensures texts_survive { W.faithful world.old → (f : ReadFiles) → W.beside world.old ≡ Some f
+        → TextsLeft f (W.Text.survives journal) (W.Text.survives redo) (W.survives world.new) }
+    ensures image_survives { W.faithful world.old → (f : ReadFiles) → W.beside world.old ≡ Some f
+        → W.Image.image image ≡ (W.state world.old).bytes f.image → NoMore (W.Image.survives image) (W.survives world.new f.image) }
+    ensures others { W.faithful world.old → (f : ReadFiles) → W.beside world.old ≡ Some f
+        → NothingNewSpared (IsNoneRead f) (W.survives world.old) (W.survives world.new) }
+    ensures dropped { W.faithful world.old → goes ≡ true → DropsNote (0 < W.refusals world.new) (W.note world.old) (W.note world.new) }
+    ensures stays { W.faithful world.old → goes ≡ false → W.note world.new ≡ W.note world.old }
+    ensures faith { W.faithful world.new ↔ W.faithful world.old }
+{
+    take_note(world, goes);
+    world.close_beside(image, journal, redo);
+}
+
+/// Whether the note goes behind an emptying that ended so.
+fn goes_behind(outcome: &Result<(), SessionFault>, goes: bool) -> bool
+    ensures done { OnOk outcome.now (result ≡ goes) }
+    ensures stopped { OnErr outcome.now (result ≡ false) }
+{
+    match outcome {
+        Ok(()) => goes,
+        Err(_) => false,
+    }
+}
+
+/// Lends the texts to be changed, empties them, and closes the files; the note is dropped with them where it `goes`.
 fn empty_lent<W: World>(
     world: &mut W,
     devices: Devices<W::Image, W::Text>,
+    goes: bool,
 ) -> Result<(), SessionFault>
     requires unfailed { W.Image.failures devices.image ≡ 0 }
     requires image { W.faithful world.old → W.Image.faithful devices.image }
@@ -230,7 +286,7 @@ fn empty_lent<W: World>(
     ensures survives { W.faithful world.old → (f : ReadFiles) → W.beside world.old ≡ Some f → IsAlone f
         → W.Image.image devices.image ≡ (W.state world.old).bytes f.image
         → SurvivesEmptying (texts_of false f) result (W.state world.old) (W.Image.survives devices.image) (W.survives world.old) (W.survives world.new) }
-    ensures note { W.faithful world.old → W.note world.new ≡ W.note world.old }
+    ensures note { W.faithful world.old → LeavesNote result goes (0 < W.refusals world.new) (W.note world.old) (W.note world.new) }
     ensures faith { W.faithful world.new ↔ W.faithful world.old }
 {
     let Devices {
@@ -251,7 +307,8 @@ fn empty_lent<W: World>(
         journal,
         redo,
     } = devices;
-    world.close_beside(image, journal, redo);
+    let with_note = goes_behind(&outcome, goes);
+    close_texts(world, image, journal, redo, with_note);
     outcome
 }
 
@@ -259,6 +316,7 @@ fn empty_lent<W: World>(
 fn empty_alone<W: World>(
     world: &mut W,
     devices: Devices<W::Image, W::Text>,
+    goes: bool,
 ) -> Result<(), SessionFault>
     requires unfailed { W.Image.failures devices.image ≡ 0 }
     requires image { W.faithful world.old → W.Image.faithful devices.image }
@@ -269,7 +327,7 @@ fn empty_alone<W: World>(
     ensures survives { W.faithful world.old → (f : ReadFiles) → W.beside world.old ≡ Some f → IsAlone f
         → W.Image.image devices.image ≡ (W.state world.old).bytes f.image
         → SurvivesEmptying (texts_of true f) result (W.state world.old) (W.Image.survives devices.image) (W.survives world.old) (W.survives world.new) }
-    ensures note { W.faithful world.old → W.note world.new ≡ W.note world.old }
+    ensures note { W.faithful world.old → LeavesNote result goes (0 < W.refusals world.new) (W.note world.old) (W.note world.new) }
     ensures faith { W.faithful world.new ↔ W.faithful world.old }
 {
     let Devices {
@@ -290,7 +348,8 @@ fn empty_alone<W: World>(
         journal,
         redo,
     } = devices;
-    world.close_beside(image, redo, journal);
+    let with_note = goes_behind(&outcome, goes);
+    close_texts(world, image, redo, journal, with_note);
     outcome
 }
 
@@ -299,6 +358,7 @@ fn empty_texts<W: World>(
     world: &mut W,
     devices: Devices<W::Image, W::Text>,
     exchanged: bool,
+    goes: bool,
 ) -> Result<(), SessionFault>
     requires unfailed { W.Image.failures devices.image ≡ 0 }
     requires image { W.faithful world.old → W.Image.faithful devices.image }
@@ -309,13 +369,13 @@ fn empty_texts<W: World>(
     ensures survives { W.faithful world.old → (f : ReadFiles) → W.beside world.old ≡ Some f → IsAlone f
         → W.Image.image devices.image ≡ (W.state world.old).bytes f.image
         → SurvivesEmptying (texts_of exchanged f) result (W.state world.old) (W.Image.survives devices.image) (W.survives world.old) (W.survives world.new) }
-    ensures note { W.faithful world.old → W.note world.new ≡ W.note world.old }
+    ensures note { W.faithful world.old → LeavesNote result goes (0 < W.refusals world.new) (W.note world.old) (W.note world.new) }
     ensures faith { W.faithful world.new ↔ W.faithful world.old }
 {
     if exchanged {
-        empty_alone(world, devices)
+        empty_alone(world, devices, goes)
     } else {
-        empty_lent(world, devices)
+        empty_lent(world, devices, goes)
     }
 }
 
@@ -323,7 +383,7 @@ fn empty_texts<W: World>(
 /// it is. None of the three is made, and a text that is missing stays so: also a journal beside a redo text, and the history is empty then.
 ///
 /// A change that is unfinished and that recovery would take back is dropped with it where the image isn't the one that it was made on, by
-/// the note beside the journal: the image stays as it stands, and nothing is recovered.
+/// the note beside the journal: the image stays as it stands, and nothing is recovered. The note is dropped behind the texts where it `goes`.
 ///
 /// # Errors
 /// Where a file is not opened, or both texts are missing, and where memory or a device fails, or the note can't be read; where a text is
@@ -338,6 +398,7 @@ pub fn forget_files<W: World>(
     alloc: Global,
     names: &Names,
     guard: Guard,
+    goes: bool,
 ) -> Result<(), ReportError>
     // Where it is done, nothing was unfinished, or the texts don't fit the image, or what was is dropped with them; both are empty then, and
     // the image stands alone.
@@ -352,11 +413,11 @@ pub fn forget_files<W: World>(
     // After a loss of power, too, the image is as it was, and opening finds it with all changes, or with some or all of them dropped.
     ensures survives { W.faithful world.old → SurvivesForgetting names.now result (W.state world.old) (W.survives world.old) (W.survives world.new) }
 
-    // No file is opened that the rule refuses, and none is changed but the texts. The note is only read.
+    // No file is opened that the rule refuses, and none is changed but the texts; and the note, where it goes with them.
     ensures fit { W.faithful world.old → unopened_in result ≡ None → AreReadable names.now (W.state world.old) }
     ensures others { W.faithful world.old
         → Spares (IsNoTextNamed names.now (W.state world.old)) (W.state world.old) (W.state world.new) }
-    ensures note { W.faithful world.old → W.note world.new ≡ W.note world.old }
+    ensures note { W.faithful world.old → LeavesNote result goes (0 < W.refusals world.new) (W.note world.old) (W.note world.new) }
     ensures faith { W.faithful world.new ↔ W.faithful world.old }
 {
     let Lent { devices, exchanged } = match lend_texts(world, names) {
@@ -366,7 +427,7 @@ pub fn forget_files<W: World>(
     let known = read_note_line(world);
     let Seen { devices, outcome } = judge(alloc, devices, known, guard);
     match outcome {
-        Ok(()) => match empty_texts(world, devices, exchanged) {
+        Ok(()) => match empty_texts(world, devices, exchanged, goes) {
             Ok(()) => Ok(()),
             Err(fault) => Err(ReportError::Stopped(Fault::Session(fault))),
         },

@@ -121,7 +121,7 @@ abbrev pub IsUnfitOrRefused : Names → Stat → Type 0 → SystemState → Open
 IsUnfitOrRefused names image counted w u = IsReasonBeside names image counted w u.which u.why
 
 -- whatever the opening of files that are made where they are missing is refused for now, it might have been refused for before, when no more calls
--- had been refused
+-- had been refused, and behind more that are
 abbrev pub RefusesAsBefore : Names → SystemState → SystemState → Type 0
-RefusesAsBefore names old new = (mounted : Bool) (before least most : ℕ) (u : OpenError) → before ≤ least
-    → MayRefuseOpening names mounted true (least < most) new u → MayRefuseOpening names mounted true (before < most) old u
+RefusesAsBefore names old new = (mounted : Bool) (before least most last : ℕ) (u : OpenError) → before ≤ least → most ≤ last
+    → MayRefuseOpening names mounted true (least < most) new u → MayRefuseOpening names mounted true (before < last) old u

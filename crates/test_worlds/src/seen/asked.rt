@@ -77,6 +77,7 @@ impl Asked<'_> {
         match (self, failing, failing.cause()) {
             (Asked::Diff(_), _, Cause::Device) => Cause::Input,
             (Asked::Forget, Failing::Journal | Failing::Redo, _) => Cause::Emptying,
+            (Asked::Forget, Failing::World, _) => Cause::Dropping,
             (_, _, cause) => cause,
         }
     }

@@ -54,10 +54,15 @@ impl Leaves {
             return Err(Wrong::Streams);
         }
         let is_same = has_other(world) && there_in(world) == before && world.stuck() == 0;
-        if !is_same || !self.has(kept.held(), held_by(world)) {
+        if !is_same || !self.has(kept.held(), held_by(world)) || !self.has_note(world) {
             return Err(Wrong::Files);
         }
         Ok(())
+    }
+
+    /// Whether the note is gone behind a history that is dropped, unless a call was refused.
+    fn has_note(self, world: &MemoryWorld) -> bool {
+        self != Leaves::Image || world.note().is_empty() || world.was_refused()
     }
 
     /// The power is lost: the three are as they are to be on the disk, and where one text has what is on its disk and the other one

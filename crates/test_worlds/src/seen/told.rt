@@ -50,7 +50,7 @@ fn is_told(alloc: Global, told: Told<'_>, outcome: Outcome) -> Result<bool, Wron
 /// The fault of a call that fails, behind as many bytes that were written.
 fn fault_of(alloc: Global, cause: Cause, written: usize) -> Result<String, Wrong> {
     match cause {
-        Cause::World => Ok(String::new(alloc)),
+        Cause::World | Cause::Dropping => Ok(String::new(alloc)),
         Cause::Device | Cause::Emptying => Ok(String::from_str(alloc, "device failed")?),
         Cause::Input => Ok(String::from_str(alloc, "read failed")?),
         Cause::Output => Ok(format!(in alloc; "write failed after {written} bytes")?),
@@ -76,7 +76,7 @@ fn is_due(
         }
         // of forgetting: a note that can't be read is a device that failed
         Err(ReportError::Stopped(Fault::Session(SessionFault::DeviceFailed)))
-            if cause == Cause::World => { Ok(output.is_empty()) }
+            if cause == Cause::Dropping => { Ok(output.is_empty()) }
         Err(ReportError::Stopped(fault)) => {
             let text = format!(in alloc; "{fault}")?;
             Ok(text == fault_of(alloc, cause, output.len())?)
@@ -95,7 +95,7 @@ pub fn judge(
 ) -> Result<bool, Wrong> {
     let is_told = is_told(alloc, told, outcome)?;
     let is_right = if is_told {
-        !world.was_refused()
+        !world.was_refused() || (cause == Cause::Dropping && outcome.is_ok())
     } else {
         is_due(alloc, world, cause, outcome, output)?
     };
@@ -110,5 +110,5 @@ pub fn judge(
     if !is_written {
         return Err(Wrong::Streams);
     }
-    Ok(is_told)
+    Ok(is_told && !world.was_refused())
 }

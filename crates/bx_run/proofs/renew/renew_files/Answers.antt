@@ -16,8 +16,8 @@ take_steps-renewed-requires-clause-free g c begun =
     let old = c.make_missing_image.ensures.faith.0 begun in
     (made_streams c.args.names.now.image _ _ _ (c.in-Ok.ensures.made old)).lent ∙ c.requires.free old
 
-pub clear_image-requires-clause-made : goal.clear_image-requires-clause-made
-clear_image-requires-clause-made g c ended =
+pub finish-requires-clause-made : goal.finish-requires-clause-made
+finish-requires-clause-made g c ended =
     let begun = c.take_steps-renewed.ensures.faith.0 ended in
     let old = c.make_missing_image.ensures.faith.0 begun in
     made_number c.args.names.now.image _ (g.W.World.state c.args.world.now) (g.W.World.state c.make_missing_image.new.world)
@@ -25,8 +25,8 @@ clear_image-requires-clause-made g c ended =
     (tells_before c.take_steps-renewed.result (g.W.World.state c.make_missing_image.new.world) (g.W.World.state c.take_steps-renewed.new.world)
     (c.take_steps-renewed.ensures.streams begun))
 
-pub clear_image-requires-clause-named : goal.clear_image-requires-clause-named
-clear_image-requires-clause-named g c ended =
+pub finish-requires-clause-named : goal.finish-requires-clause-named
+finish-requires-clause-named g c ended =
     let begun = c.take_steps-renewed.ensures.faith.0 ended in
     let old = c.make_missing_image.ensures.faith.0 begun in
     made_named c.args.names.now _ _ _ _ (c.in-Ok.ensures.made old) (c.take_steps-renewed.ensures.others begun)
@@ -74,7 +74,7 @@ returns-clause-does g c old written =
     let renewed = c.take_steps-renewed.result in
     let made = number_if g.W.World.number c.in-Ok.made in
     let makes = c.in-Ok.ensures.made old in
-    let clears = c.clear_image.ensures.clears ended in
+    let clears = c.finish.ensures.clears ended in
     let within : AreAllThere (g.W.World.state c.args.world.now) = λ name n e. g.met.W.World.within c.args.world.now name n old e in
     let first : RunState = run_state_beside g.W.World.state g.W.World.refusals g.W.World.note written c.make_missing_image.new.world in
     let last : RunState = run_state_beside g.W.World.state g.W.World.refusals g.W.World.note written c.take_steps-renewed.new.world in
@@ -88,10 +88,10 @@ returns-clause-does g c old written =
       does = steps.does begun written;
       clears = clears;
       left = left_contents made renewed names _ _ _ _ within makes clears;
-      note_left = c.clear_image.ensures.note ended;
+      note_left = c.finish.ensures.note ended;
       image = λ refused. cleared_image made renewed names _ _ _ _ within makes clears (steps.others begun) refused (c.in-Ok.ensures.there old);
       kept = kept_leaves g.R.Read.remaining names c.args.guard c.args.task renewed first last _ _ (steps.does begun written)
-          (λ refused files. c.clear_image.ensures.left ended refused _ _ within makes files);
+          (λ refused files. c.finish.ensures.left ended refused _ _ within makes files);
     }
 
 pub returns-clause-survives : goal.returns-clause-survives
@@ -103,9 +103,9 @@ returns-clause-survives g c old =
       begun = g.W.World.state c.make_missing_image.new.world;
       ended = g.W.World.state c.take_steps-renewed.new.world;
       makes = c.in-Ok.ensures.made old;
-      clears = c.clear_image.ensures.clears ended;
+      clears = c.finish.ensures.clears ended;
       survives = renewal_less g.R.Read.remaining c.args.names.now c.args.task c.take_steps-renewed.result (g.W.World.state c.args.world.now).there _ _ _ _ _ _
-          (c.make_missing_image.ensures.survives old) (c.clear_image.ensures.survives ended) (c.take_steps-renewed.ensures.survives begun);
+          (c.make_missing_image.ensures.survives old) (c.finish.ensures.survives ended) (c.take_steps-renewed.ensures.survives begun);
     }
 
 pub returns-clause-unopened : goal.returns-clause-unopened
@@ -114,40 +114,41 @@ returns-clause-unopened g c old =
     let ended = c.take_steps-renewed.ensures.faith.1 begun in
     let within : AreAllThere (g.W.World.state c.args.world.now) = λ name n e. g.met.W.World.within c.args.world.now name n old e in
     nothing_cleared _ c.take_steps-renewed.result _ _ _ _ (c.take_steps-renewed.ensures.unopened begun) (c.take_steps-renewed.ensures.refused begun)
-    (λ refused files. c.clear_image.ensures.left ended refused _ _ within (c.in-Ok.ensures.made old) files)
+    (λ refused files. c.finish.ensures.left ended refused _ _ within (c.in-Ok.ensures.made old) files)
 
 pub returns-clause-why_unopened : goal.returns-clause-why_unopened
 returns-clause-why_unopened g c old =
     let begun = c.make_missing_image.ensures.faith.1 old in
     let ended = c.take_steps-renewed.ensures.faith.1 begun in
-    rw (c.clear_image.ensures.counted ended) (may_before (first_unopened c.take_steps-renewed.result) c.args.names.now c.args.guard.mounted
+    may_before (first_unopened c.take_steps-renewed.result) c.args.names.now c.args.guard.mounted
     (g.W.World.refusals c.args.world.now) (g.W.World.refusals c.make_missing_image.new.world) (g.W.World.refusals c.take_steps-renewed.new.world)
-    (g.W.World.state c.args.world.now) (g.W.World.state c.make_missing_image.new.world) (c.in-Ok.ensures.reasons old)
-    (c.make_missing_image.ensures.counted old) (c.take_steps-renewed.ensures.why_unopened begun))
+    (g.W.World.refusals c.finish.new.world) (g.W.World.state c.args.world.now) (g.W.World.state c.make_missing_image.new.world)
+    (c.in-Ok.ensures.reasons old) (c.make_missing_image.ensures.counted old) (c.finish.ensures.counted ended)
+    (c.take_steps-renewed.ensures.why_unopened begun)
 
 pub returns-clause-fit : goal.returns-clause-fit
 returns-clause-fit g c old none =
     let begun = c.make_missing_image.ensures.faith.1 old in
     let ended = c.take_steps-renewed.ensures.faith.1 begun in
     fit_before _ c.take_steps-renewed.result c.args.names.now _ _ _ _ (λ name n e. g.met.W.World.within c.args.world.now name n old e)
-    (c.in-Ok.ensures.made old) (c.clear_image.ensures.clears ended) c.args.guard.mounted (c.take_steps-renewed.ensures.fit begun none)
+    (c.in-Ok.ensures.made old) (c.finish.ensures.clears ended) c.args.guard.mounted (c.take_steps-renewed.ensures.fit begun none)
 
 pub returns-clause-others : goal.returns-clause-others
 returns-clause-others g c old =
     let begun = c.make_missing_image.ensures.faith.1 old in
     let ended = c.take_steps-renewed.ensures.faith.1 begun in
     cleared_kept _ c.take_steps-renewed.result c.args.names.now _ _ _ _ (λ name n e. g.met.W.World.within c.args.world.now name n old e)
-    (c.in-Ok.ensures.made old) (c.clear_image.ensures.clears ended) (c.take_steps-renewed.ensures.others begun)
+    (c.in-Ok.ensures.made old) (c.finish.ensures.clears ended) (c.take_steps-renewed.ensures.others begun)
 
 pub returns-clause-streams : goal.returns-clause-streams
 returns-clause-streams g c old =
     let begun = c.make_missing_image.ensures.faith.1 old in
     let ended = c.take_steps-renewed.ensures.faith.1 begun in
     tells_between _ c.take_steps-renewed.result c.args.names.now _ _ _ _ (λ name n e. g.met.W.World.within c.args.world.now name n old e)
-    (c.in-Ok.ensures.made old) (c.clear_image.ensures.clears ended) (c.take_steps-renewed.ensures.streams begun)
+    (c.in-Ok.ensures.made old) (c.finish.ensures.clears ended) (c.take_steps-renewed.ensures.streams begun)
 
 pub returns-clause-free : goal.returns-clause-free
 returns-clause-free g c old =
     let begun = c.make_missing_image.ensures.faith.1 old in
     let ended = c.take_steps-renewed.ensures.faith.1 begun in
-    (cleared_streams c.take_steps-renewed.result _ _ _ (c.clear_image.ensures.clears ended)).lent ∙ c.take_steps-renewed.ensures.free begun
+    (cleared_streams c.take_steps-renewed.result _ _ _ (c.finish.ensures.clears ended)).lent ∙ c.take_steps-renewed.ensures.free begun

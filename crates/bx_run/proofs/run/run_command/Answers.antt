@@ -79,3 +79,11 @@ returns-in-Recover-clause-judged g c old = rw c.in-Recover.is (c.change_files-re
 pub returns-in-Recover-clause-unopened : goal.returns-in-Recover-clause-unopened
 returns-in-Recover-clause-unopened g c old =
     rw c.in-Recover.is (stops_task _ _ _ _ (c.change_files-recovered.ensures.unopened old) (c.change_files-recovered.ensures.why_unopened old))
+
+pub returns-in-Forget-clause-does : goal.returns-in-Forget-clause-does
+returns-in-Forget-clause-does g c old =
+    let did = c.forget_files.ensures in
+    rw c.in-Forget.is (record {
+      does = record { may = did.may old; done = did.done old; stopped = did.stopped old };
+      note = did.note old;
+    })

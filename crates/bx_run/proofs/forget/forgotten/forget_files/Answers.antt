@@ -133,3 +133,21 @@ returns-in-Err-outcome-clause-survives g c old =
     rw c.close.ensures.outcome (hidden_survives c.args.names.now (g.W.World.state c.args.world.now) (g.W.World.survives c.args.world.now)
     (g.W.World.survives c.close.new.world) c.in-Err-outcome.unseen c.args.guard _ _ _ _ hides
     (λ n x is. (c.lend_texts.ensures.seen old).nothing_new n x ((c.read_note_line-known.ensures.seen lent_then).nothing_new n x (c.close.ensures.survives mid n x is))))
+
+pub returns-in-Ok-empty_texts-clause-note : goal.returns-in-Ok-empty_texts-clause-note
+returns-in-Ok-empty_texts-clause-note g c old =
+    let lent_then = c.lend_texts.ensures.faith.1 old in
+    let mid = c.read_note_line-known.ensures.faith.1 lent_then in
+    rw (c.read_note_line-known.ensures.note lent_then, c.lend_texts.ensures.note old) at (c.in-Ok-empty_texts.ensures.note mid)
+
+pub returns-in-Err-empty_texts-clause-note : goal.returns-in-Err-empty_texts-clause-note
+returns-in-Err-empty_texts-clause-note g c old =
+    let lent_then = c.lend_texts.ensures.faith.1 old in
+    let mid = c.read_note_line-known.ensures.faith.1 lent_then in
+    c.in-Err-empty_texts.ensures.note mid ∙ c.read_note_line-known.ensures.note lent_then ∙ c.lend_texts.ensures.note old
+
+pub returns-in-Err-outcome-clause-note : goal.returns-in-Err-outcome-clause-note
+returns-in-Err-outcome-clause-note g c old =
+    let lent_then = c.lend_texts.ensures.faith.1 old in
+    let mid = c.read_note_line-known.ensures.faith.1 lent_then in
+    rw c.close.ensures.outcome (c.close.ensures.note mid ∙ c.read_note_line-known.ensures.note lent_then ∙ c.lend_texts.ensures.note old)
