@@ -166,16 +166,6 @@ where
         }
     }
 
-    /// Keeps each file that is locked to be changed locked from then on, whatever is closed and opened again, until `pass_locks`.
-    pub fn keep_locks(&mut self) {
-        self.locks = Locks::lasting(self.rt.alloc());
-    }
-
-    /// Lets locks go with their files, and those go that were kept.
-    pub fn pass_locks(&mut self) {
-        self.locks = Locks::PASSING;
-    }
-
     /// How many bytes are read of an input behind `passed` of them, where somebody looks and as far as that is known.
     fn most_of(&self, file: &File, passed: u64) -> Option<u64> {
         if !self.progress.shows {
@@ -633,5 +623,13 @@ where
             bx_world::Noted::Put | bx_world::Noted::Without => Ok(()),
             bx_world::Noted::Stands => Err(Refusal::Other(None)),
         }
+    }
+
+    fn keep_locks(&mut self) {
+        self.locks = Locks::lasting(self.rt.alloc());
+    }
+
+    fn pass_locks(&mut self) {
+        self.locks = Locks::PASSING;
     }
 }

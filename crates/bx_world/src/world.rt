@@ -513,6 +513,22 @@ pub trait World {
         ensures survives { faithful self.old → NothingNewFound (survives self.old) (survives self.new) }
         ensures faith { faithful self.new ↔ faithful self.old };
 
+    /// Keeps each file that is locked to be changed locked from then on, whatever is closed and opened again, until `pass_locks`.
+    fn keep_locks(&mut self)
+        ensures same { faithful self.old → state self.new ≡ state self.old }
+        ensures counted { faithful self.old → refusals self.new ≡ refusals self.old }
+        ensures survives { faithful self.old → NothingNewFound (survives self.old) (survives self.new) }
+        ensures note { faithful self.old → note self.new ≡ note self.old }
+        ensures faith { faithful self.new ↔ faithful self.old };
+
+    /// Lets locks go with their files, and those go that were kept.
+    fn pass_locks(&mut self)
+        ensures same { faithful self.old → state self.new ≡ state self.old }
+        ensures counted { faithful self.old → refusals self.new ≡ refusals self.old }
+        ensures survives { faithful self.old → NothingNewFound (survives self.old) (survives self.new) }
+        ensures note { faithful self.old → note self.new ≡ note self.old }
+        ensures faith { faithful self.new ↔ faithful self.old };
+
     /// No fewer files are there than were when the run began.
     ghost begun: { (w : Self) → faithful w → (state w).before ≤ (state w).there };
 

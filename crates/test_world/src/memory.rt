@@ -783,6 +783,10 @@ impl World for MemoryWorld {
         self.write_note(bytes, synced)
     }
 
+    fn keep_locks(&mut self) {}
+
+    fn pass_locks(&mut self) {}
+
     fn drop_note(&mut self) -> Result<(), Refusal> {
         if self.refuses() {
             return Err(Refusal::Other(None));

@@ -139,10 +139,7 @@ where
         guard: guard_of(target),
         edit,
     };
-    // So that nobody comes between the drop of the history and the change.
-    world.keep_locks();
     let answer = run_request(world, rt.alloc(), request, &mut io::sink());
-    world.pass_locks();
     if !is_done(&answer) {
         take_made(rt, redo, no_redo);
         take_made(rt, journal, no_journal);
