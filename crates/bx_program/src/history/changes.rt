@@ -100,8 +100,8 @@ where
     }
 }
 
-/// Drops the history of an image, where it has one, and then changes it, which is made where it is missing. Nothing is dropped where a
-/// file may not be changed.
+/// Drops the history of an image, where it has one, and then changes it; one that is missing is made. Nothing is dropped where a file may
+/// not be changed.
 pub fn change_anew<'a, R>(
     rt: &R,
     target: &'a Target,
@@ -119,8 +119,7 @@ where
     renew_image(rt, target, edit, progress, remarks)
 }
 
-/// Drops the history of an image, which is made where it is missing, and then does a task on it: the files stay locked from one to the
-/// other. A text that was missing stays so where the change is refused.
+/// Drops the history of an image, and then does a task on it. A text that was missing stays so where the change is refused.
 fn renew<R>(
     rt: &R,
     world: &mut SystemWorld<'_, '_, R>,
