@@ -285,6 +285,12 @@ where
 
     ghost number = { λ _. 0 };
 
+    ghost is_locked = { λ _. ⊥ };
+
+    ghost is_shared = { λ _. ⊥ };
+
+    ghost is_kept = { λ _ _. ⊥ };
+
     ghost refusals = { λ _. 0 };
 
     ghost beside = { λ _. None };
@@ -407,7 +413,7 @@ where
         file.stat(self.rt)
     }
 
-    fn lock(&mut self, name: &str, file: &OpenFile<'p, 'r, R>) -> Result<(), Refusal> {
+    fn lock(&mut self, name: &str, file: &mut OpenFile<'p, 'r, R>) -> Result<(), Refusal> {
         match self.locks.lock(file.system()?) {
             Ok(()) => is_in_place(self.rt, name, file),
             Err(TryLockError::WouldBlock) => Err(Refusal::Locked),
@@ -524,7 +530,7 @@ where
         ))
     }
 
-    fn lock_shared(&mut self, name: &str, file: &OpenFile<'p, 'r, R>) -> Result<(), Refusal> {
+    fn lock_shared(&mut self, name: &str, file: &mut OpenFile<'p, 'r, R>) -> Result<(), Refusal> {
         match self.locks.lock_shared(file.system()?) {
             Ok(()) => is_in_place(self.rt, name, file),
             Err(TryLockError::WouldBlock) => Err(Refusal::Locked),

@@ -83,6 +83,15 @@ pub trait World {
     /// The number of an open file.
     ghost number: { Self.File → ℕ };
 
+    /// This run has the open file locked, and nobody else.
+    ghost is_locked: { Self.File → Type 0 };
+
+    /// This run has the open file locked beside others that read it.
+    ghost is_shared: { Self.File → Type 0 };
+
+    /// A name of the file of this number is on the disk.
+    ghost is_kept: { Self → ℕ → Type 0 };
+
     /// How many calls the system refused. That a file is missing is no refusal, nor is it one where a file stays that was to be
     /// taken away, or where a stream isn't written: of these the view tells.
     ghost refusals: { Self → ℕ };
@@ -217,8 +226,10 @@ pub trait World {
 
     /// Locks a file up to its closing, which has to have its name still. One that another program has locked is refused; nobody
     /// has a file locked that this run made.
-    fn lock(&mut self, name: &str, file: &Self::File) -> Result<(), Refusal>
-        ensures locked { faithful self.old → result ≡ Err Locked → number file.now < (state self.old).before }
+    fn lock(&mut self, name: &str, file: &mut Self::File) -> Result<(), Refusal>
+        ensures holds { faithful self.old → OnOk result (is_locked file.new) }
+        ensures number { faithful self.old → number file.new ≡ number file.old }
+        ensures locked { faithful self.old → result ≡ Err Locked → number file.old < (state self.old).before }
         ensures missing { faithful self.old → result ≡ Err Missing → ⊥ }
         ensures same { faithful self.old → state self.new ≡ state self.old }
         ensures counted { faithful self.old → CountsRefusal result (refusals self.old) (refusals self.new) }
@@ -249,6 +260,9 @@ pub trait World {
 
     /// Puts the name of a file on the disk.
     fn keep_name(&mut self, name: &str) -> Result<(), Refusal>
+        ensures kept { faithful self.old
+            → OnOk result ((n : ℕ) → (state self.old).named name.now ≡ Some n → is_kept self.new n) }
+        ensures keeps { faithful self.old → (n : ℕ) → is_kept self.old n → is_kept self.new n }
         ensures missing { faithful self.old → result ≡ Err Missing → ⊥ }
         ensures counted { faithful self.old → CountsRefusal result (refusals self.old) (refusals self.new) }
         ensures same { faithful self.old → state self.new ≡ state self.old }
@@ -256,7 +270,8 @@ pub trait World {
         ensures note { faithful self.old → note self.new ≡ note self.old }
         ensures faith { faithful self.new ↔ faithful self.old };
 
-    /// Lends the three files of a session.
+    /// Lends the three files of a session, which are locked. The names of the image and of its journal are on the disk; the redo text
+    /// stands beside the journal.
     fn into_devices(
         &mut self,
         image: Self::File,
@@ -265,6 +280,8 @@ pub trait World {
     ) -> (Self::Image, Self::Text, Self::Text)
         requires free { faithful self.old → (state self.old).lent ≡ None }
         requires apart { faithful self.old → AreThreeFiles (state self.old).there (record { image = number image; journal = number journal; redo = number redo }) }
+        requires locked { faithful self.old → is_locked image × is_locked journal × is_locked redo }
+        requires kept { faithful self.old → is_kept self.old (number image) × is_kept self.old (number journal) }
         ensures failures { (Self.Image.failures result.0 ≡ 0) × (Self.Text.failures result.1 ≡ 0) × (Self.Text.failures result.2 ≡ 2 ^ 32) }
         ensures image { faithful self.old → Self.Image.faithful result.0 × (Self.Image.image result.0 ≡ (state self.old).bytes (number image)) }
         ensures journal { faithful self.old → Self.Text.faithful result.1 × (Self.Text.text result.1 ≡ (state self.old).bytes (number journal)) }
@@ -346,8 +363,10 @@ pub trait World {
 
     /// Locks a file that is only read up to its closing, beside others that lock it so. It has to have its name still. One that
     /// another program has locked to change it is refused.
-    fn lock_shared(&mut self, name: &str, file: &Self::File) -> Result<(), Refusal>
-        ensures locked { faithful self.old → result ≡ Err Locked → number file.now < (state self.old).before }
+    fn lock_shared(&mut self, name: &str, file: &mut Self::File) -> Result<(), Refusal>
+        ensures holds { faithful self.old → OnOk result (is_shared file.new) }
+        ensures number { faithful self.old → number file.new ≡ number file.old }
+        ensures locked { faithful self.old → result ≡ Err Locked → number file.old < (state self.old).before }
         ensures missing { faithful self.old → result ≡ Err Missing → ⊥ }
         ensures same { faithful self.old → state self.new ≡ state self.old }
         ensures counted { faithful self.old → CountsRefusal result (refusals self.old) (refusals self.new) }
@@ -357,6 +376,7 @@ pub trait World {
 
     /// Lends an open image to be read. The device refuses each write, cut and sync, so the file stays whatever is done with it.
     fn lend_image_to_read(&mut self, image: Self::File) -> Result<Self::Image, Refusal>
+        requires shared { faithful self.old → is_shared image }
         ensures failures { IfOk result (λ d. Self.Image.failures d ≡ 0) }
         ensures faithful { faithful self.old → IfOk result (λ d. Self.Image.faithful d) }
         ensures image { faithful self.old → IfOk result (λ d. Self.Image.image d ≡ (state self.old).bytes (number image)) }
@@ -369,6 +389,7 @@ pub trait World {
 
     /// Lends an open journal or redo text to be read. The device refuses each write, cut and sync.
     fn lend_text_to_read(&mut self, text: Self::File) -> Result<Self::Text, Refusal>
+        requires shared { faithful self.old → is_shared text }
         ensures failures { IfOk result (λ t. Self.Text.failures t ≡ 0) }
         ensures faithful { faithful self.old → IfOk result (λ t. Self.Text.faithful t) }
         ensures text { faithful self.old → IfOk result (λ t. Self.Text.text t ≡ (state self.old).bytes (number text)) }
@@ -407,6 +428,7 @@ pub trait World {
         journal: Self::File,
     ) -> Result<(Self::Image, Self::Text), Refusal>
         requires apart { faithful self.old → AreOwnFiles (state self.old).there (record { image = number image; journal = number journal; redo = None }) }
+        requires locked { faithful self.old → is_shared image × is_locked journal }
         ensures failures { IfOk result (λ d. (Self.Image.failures d.0 ≡ 0) × (Self.Text.failures d.1 ≡ 0)) }
         ensures image { faithful self.old
             → IfOk result (λ d. Self.Image.faithful d.0 × (Self.Image.image d.0 ≡ (state self.old).bytes (number image))) }
@@ -426,6 +448,7 @@ pub trait World {
     fn lend_redo_beside(&mut self, redo: Self::File) -> Result<Self::Text, Refusal>
         requires apart { faithful self.old → (f : ReadFiles) → beside self.old ≡ Some f
             → AreOwnFiles (state self.old).there (record { image = f.image; journal = f.journal; redo = Some (number redo) }) }
+        requires locked { faithful self.old → is_locked redo }
         ensures failures { IfOk result (λ t. Self.Text.failures t ≡ 0) }
         ensures redo { faithful self.old
             → IfOk result (λ t. Self.Text.faithful t × (Self.Text.text t ≡ (state self.old).bytes (number redo))) }

@@ -122,6 +122,32 @@ pub struct MemoryWorld {
 #[derive(Drop)]
 pub struct OpenFile {
     number: usize,
+    is_locked: bool,
+    is_shared: bool,
+}
+
+impl OpenFile {
+    /// The file of this number, which isn't locked.
+    fn unlocked(number: usize) -> Self
+        ensures { result ≡ record { number = number; is_locked = false; is_shared = false } }
+    {
+        OpenFile {
+            number,
+            is_locked: false,
+            is_shared: false,
+        }
+    }
+
+    /// The file of this number, which is locked.
+    fn locked(number: usize) -> Self
+        ensures { result ≡ record { number = number; is_locked = true; is_shared = false } }
+    {
+        OpenFile {
+            number,
+            is_locked: true,
+            is_shared: false,
+        }
+    }
 }
 
 /// The same files, with this redo text.
@@ -221,7 +247,7 @@ impl MemoryWorld {
             return Err(Refusal::Other(None));
         }
         match file_named(self.files.as_slice(), self.entries.as_slice(), name) {
-            Some(number) => Ok(OpenFile { number }),
+            Some(number) => Ok(OpenFile::unlocked(number)),
             None => Err(Refusal::Missing),
         }
     }
@@ -249,7 +275,7 @@ impl MemoryWorld {
             is_gone: false,
         };
         self.files.push(stored).unwrap();
-        Ok(OpenFile { number })
+        Ok(OpenFile::unlocked(number))
     }
 
     /// Makes an empty text beside an image, whose classes it has, and which the caller owns.
@@ -468,6 +494,13 @@ impl World for MemoryWorld {
 
     ghost number = { λ f. f.number };
 
+    ghost is_locked = { λ f. f.is_locked ≡ true };
+
+    ghost is_shared = { λ f. f.is_shared ≡ true };
+
+    // A name in memory is never lost.
+    ghost is_kept = { λ _ _. Unit {0} };
+
     ghost refusals = { refusals_of };
 
     ghost beside = { λ w. lent_beside w.run.beside };
@@ -566,10 +599,11 @@ impl World for MemoryWorld {
         }
     }
 
-    fn lock(&mut self, _: &str, _: &OpenFile) -> Result<(), Refusal> {
+    fn lock(&mut self, _: &str, file: &mut OpenFile) -> Result<(), Refusal> {
         if self.refuses() {
             return Err(Refusal::Other(None));
         }
+        file.is_locked = true;
         Ok(())
     }
 
@@ -637,11 +671,9 @@ impl World for MemoryWorld {
         );
         self.take_contents(lent.redo, redo.into_inner().into_inner().into_contents());
         (
-            OpenFile { number: lent.image },
-            OpenFile {
-                number: lent.journal,
-            },
-            OpenFile { number: lent.redo },
+            OpenFile::locked(lent.image),
+            OpenFile::locked(lent.journal),
+            OpenFile::locked(lent.redo),
         )
     }
 
@@ -667,10 +699,11 @@ impl World for MemoryWorld {
         self.open(name)
     }
 
-    fn lock_shared(&mut self, _: &str, _: &OpenFile) -> Result<(), Refusal> {
+    fn lock_shared(&mut self, _: &str, file: &mut OpenFile) -> Result<(), Refusal> {
         if self.refuses() {
             return Err(Refusal::Other(None));
         }
+        file.is_shared = true;
         Ok(())
     }
 

@@ -1,9 +1,9 @@
 //! An image whose history is dropped, by the names of its files: all changes are accepted, and nothing can be undone then.
-ghost use Rattle.std.specs.Prelude.{◌≡◌, ◌↔◌, ◌<◌, ◌≤◌, ◌^◌, ℕ, None, Some, IfErr, IfOk, OnErr, OnOk, false, true};
+ghost use Rattle.std.specs.Prelude.{◌≡◌, ◌↔◌, ◌<◌, ◌≤◌, ◌^◌, ℕ, None, Some, IfErr, IfOk, OnErr, OnOk, false, true, IfSome};
 ghost use Rattle.bx_image.specs.Power.{NoMore};
 ghost use Rattle.bx_journal.specs.ThreeDevices.{AreBelow};
 ghost use Rattle.bx_world.specs.World.{AreOwnFiles, ClosesTexts, IsNoText, IsNoneRead, NothingNewFound, NothingNewSpared, ReadFiles, Spares, TextsLeft, bytes_if, number_if};
-ghost use Rattle.bx_world.specs.files.Reading.{AreReadable, LeadToRead, MayRefuseForgetting, MayRefuseReading, StaysSeen, numbers_read};
+ghost use Rattle.bx_world.specs.files.Reading.{AreReadable, LeadToRead, MayRefuseForgetting, MayRefuseReading, StaysSeen, numbers_read, AreLockedAs};
 ghost use Rattle.bx_world.specs.files.Reasons.{IsReason, IsRefusedFor, NoneUnfit};
 ghost use Rattle.bx_run.specs.report.Devices.{HoldFiles, HoldNumbered};
 ghost use Rattle.bx_run.specs.forget.Forgetting.{AreLent, AreLentTexts, DropsNote, Empties, HasForgotten, LeavesNote, IsAlone, IsFoundOf, IsNoTextNamed, MayForgetNamed, StopsForgetting, SurvivesEmptying, SurvivesForgetting, held_by_names, texts_of};
@@ -35,6 +35,7 @@ pub struct Lent<D: Device, T: TextStore> {
 fn lend_redo<W: World>(world: &mut W, redo: Option<W::File>) -> Result<W::Text, OpenError>
     requires apart { W.faithful world.old → (f : ReadFiles) → W.beside world.old ≡ Some f → (n : ℕ) → number_if W.number redo ≡ Some n
         → AreOwnFiles (W.state world.old).there (record { image = f.image; journal = f.journal; redo = Some n }) }
+    requires locked { W.faithful world.old → IfSome redo W.is_locked }
     ensures failures { IfOk result (λ t. W.Text.failures t ≡ 0) }
     ensures text { W.faithful world.old
         → IfOk result (λ t. W.Text.faithful t × (W.Text.text t ≡ bytes_if (W.state world.old) (number_if W.number redo))) }
@@ -60,6 +61,7 @@ fn lend_files<W: World>(
     looked: Looked<W::File>,
 ) -> Result<Devices<W::Image, W::Text>, OpenError>
     requires apart { W.faithful world.old → AreOwnFiles (W.state world.old).there (numbers_read W.number looked) }
+    requires locked { W.faithful world.old → AreLockedAs true W.is_locked W.is_shared looked }
     ensures below { IfOk result (AreBelow W.Image.Device W.Text.TextStore u64.MAX) }
     ensures unfailed { IfOk result (λ d. W.Image.failures d.image ≡ 0) }
     ensures held { W.faithful world.old

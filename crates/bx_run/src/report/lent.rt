@@ -1,8 +1,8 @@
 //! Files that are lent as devices to be read.
-ghost use Rattle.std.specs.Prelude.{◌≡◌, ◌↔◌, ◌<◌, IfErr, IfOk, OnOk};
+ghost use Rattle.std.specs.Prelude.{◌≡◌, ◌↔◌, ◌<◌, false, IfErr, IfOk, IfSome, OnOk};
 ghost use Rattle.bx_journal.specs.ThreeDevices.{AreBelow};
 ghost use Rattle.bx_world.specs.World.{NothingNewFound, bytes_if, number_if};
-ghost use Rattle.bx_world.specs.files.Reading.{AreReadable, MayRefuseReading, StaysSeen, numbers_read};
+ghost use Rattle.bx_world.specs.files.Reading.{AreLockedAs, AreReadable, MayRefuseReading, StaysSeen, numbers_read};
 ghost use Rattle.bx_world.specs.files.Reasons.{IsReason, NoneUnfit};
 ghost use Rattle.bx_run.specs.report.Devices.{HoldFiles, HoldNumbered};
 
@@ -13,6 +13,7 @@ use bx_world::{FileRole, Looked, Names, OpenError, World, open_to_look};
 
 /// Lends a redo text that is open, or nothing where it is missing.
 fn lend_redo<W: World>(world: &mut W, redo: Option<W::File>) -> Result<W::Text, OpenError>
+    requires shared { W.faithful world.old → IfSome redo W.is_shared }
     ensures failures { IfOk result (λ t. W.Text.failures t ≡ 0) }
     ensures faithful { W.faithful world.old → IfOk result (λ t. W.Text.faithful t) }
     ensures text { W.faithful world.old → IfOk result (λ t. W.Text.text t ≡ bytes_if (W.state world.old) (number_if W.number redo)) }
@@ -35,6 +36,7 @@ fn lend_files<W: World>(
     world: &mut W,
     looked: Looked<W::File>,
 ) -> Result<Devices<W::Image, W::Text>, OpenError>
+    requires shared { W.faithful world.old → AreLockedAs false W.is_locked W.is_shared looked }
     ensures below { IfOk result (AreBelow W.Image.Device W.Text.TextStore u64.MAX) }
     ensures held { W.faithful world.old
         → IfOk result (HoldNumbered W.Image.Device W.Text.TextStore (numbers_read W.number looked) (W.state world.old)) }

@@ -6,7 +6,7 @@ ghost use Rattle.bx_cli_commands.specs.Replies.{stands_by};
 ghost use Rattle.bx_cli_commands.specs.Run.{Unfailed};
 ghost use Rattle.bx_cli_commands.specs.declared.command.Reply.TheVariants.{Refused};
 ghost use Rattle.bx_cli_commands.specs.declared.fault.Fault.TheVariants.{OpenFailed};
-ghost use Rattle.bx_world.specs.files.Numbers.{numbers_of};
+ghost use Rattle.bx_world.specs.files.Numbers.{AreLocked, numbers_of};
 ghost use Rattle.bx_world.specs.World.{AreThreeFiles, ChangesOnly, NothingNewFound};
 ghost use Rattle.bx_run.specs.session.Contents.{StayOnDisk, Does, DoesFound, FoundIn, Holds, Spared, Survives, StepsRead, SurvivesFound, TellsUnfinished};
 ghost use Rattle.bx_run.specs.session.Guarded.{WasJudged, another};
@@ -46,6 +46,8 @@ pub fn with_devices<W: World, R: Read + Drop>(
     requires near { IsNearTask task }
     requires free { W.faithful world.old → (W.state world.old).lent ≡ None }
     requires apart { W.faithful world.old → AreThreeFiles (W.state world.old).there (numbers_of W.number files) }
+    requires locked { W.faithful world.old → AreLocked W.is_locked files }
+    requires kept { W.faithful world.old → W.is_kept world.old (W.number files.image) × W.is_kept world.old (W.number files.journal) }
     ensures only { W.faithful world.old → ChangesOnly (numbers_of W.number files) (W.state world.old) (W.state world.new) }
     ensures free { W.faithful world.old → (W.state world.new).lent ≡ None }
     ensures files { W.faithful world.old → numbers_of W.number result.files ≡ numbers_of W.number files }

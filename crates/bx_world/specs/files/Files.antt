@@ -107,6 +107,10 @@ pub record IsTextOpened (name : List ℕ) (image n : ℕ) (makes made : Bool) (o
   pub file : IsFileOpened name makes made n old new
   pub own : IsOwn name image n new
 
+-- a name of each file to which one of these two names leads is on the disk: the image's, and its journal's
+abbrev pub AreNamesKept : Names → SystemState → (ℕ → Type 0) → Type 0
+AreNamesKept names w kept = ((n : ℕ) → w.named names.image ≡ Some n → kept n) × ((n : ℕ) → w.named names.journal ≡ Some n → kept n)
+
 -- each name leads to a file that is there
 abbrev pub AreAllThere : SystemState → Type 0
 AreAllThere w = (name : List ℕ) (n : ℕ) → w.named name ≡ Some n → n < w.there

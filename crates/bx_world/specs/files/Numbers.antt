@@ -22,3 +22,7 @@ made_beside image texts = record { image = image.made; journal = texts.journal.m
 abbrev pub files_beside : {F : Type 0} → Opened F → Texts F → Files F
 files_beside image texts =
     record { image = image.file; journal = texts.journal.file; redo = texts.redo.file; made = made_beside image texts }
+
+-- each of the three is locked
+abbrev pub AreLocked : {F : Type 0} → (F → Type 0) → Files F → Type 0
+AreLocked locked files = locked files.image × locked files.journal × locked files.redo

@@ -1,5 +1,5 @@
 -- The files of an image that are only read.
-use Rattle.std.specs.Prelude.{◌≡◌, ◌⊎◌, ℕ, false, List, None, Some, IfSome}
+use Rattle.std.specs.Prelude.{◌≡◌, ◌⊎◌, ℕ, Bool, true, false, List, None, Some, IfSome}
 use Rattle.bx_world.specs.Rule.{read_unfit, text_unfit}
 use Rattle.bx_world.specs.World.{MayBeRead, MayBeText, NothingNewFound, ReadFiles, SystemState, number_if, stat_named}
 use Rattle.bx_world.specs.declared.rule.Unfit.{Unfit}
@@ -17,6 +17,17 @@ use Rattle.bx_world.specs.declared.files.unopened.OpenFailure.TheVariants.{Syste
 -- the numbers of files that are open to be read
 abbrev pub numbers_read : {F : Type 0} → (F → ℕ) → Looked F → ReadFiles
 numbers_read number l = record { image = number l.image; journal = number l.journal; redo = number_if number l.redo }
+
+-- a text that is open to be changed is locked, one that is open to be read is locked beside others that read it
+abbrev pub IsLockedAs : Bool → Type 0 → Type 0 → Type 0
+IsLockedAs true locked shared = locked
+IsLockedAs false locked shared = shared
+
+-- an image that is open to be read is locked beside others that read it, and so are its texts, or locked where they are open to be changed
+pub record AreLockedAs {F : Type 0} (changes : Bool) (locked shared : F → Type 0) (l : Looked F) : Type 0 where
+  pub image : shared l.image
+  pub journal : IsLockedAs changes (locked l.journal) (shared l.journal)
+  pub redo : IfSome l.redo (λ f. IsLockedAs changes (locked f) (shared f))
 
 -- whoever looked at a world left it as it was, and nothing is found behind a loss of power that wasn't found before
 pub record StaysSeen {W : Type 0} (state : W → SystemState) (survives : W → ℕ → List ℕ → Type 0) (old new : W) : Type 0 where

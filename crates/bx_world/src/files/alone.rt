@@ -34,6 +34,7 @@ pub fn look_alone<W: World>(world: &mut W, name: &str) -> Result<Stat, OpenFailu
 pub fn open_alone<W: World>(world: &mut W, name: &str) -> Result<W::File, OpenFailure>
     requires may { W.faithful world.old → MayBeRead (W.state world.old) name.now }
     ensures named { W.faithful world.old → IfOk result (λ f. (W.state world.old).named name.now ≡ Some (W.number f)) }
+    ensures shared { W.faithful world.old → IfOk result (λ f. W.is_shared f) }
     ensures why { W.faithful world.old → IfErr result (IsReason ((W.state world.old).named name.now ≡ None) NoneUnfit ⊥
         (W.refusals world.old < W.refusals world.new)) }
     ensures calm { W.faithful world.old → OnOk result (W.refusals world.new ≡ W.refusals world.old) }
@@ -41,11 +42,11 @@ pub fn open_alone<W: World>(world: &mut W, name: &str) -> Result<W::File, OpenFa
     ensures note { W.faithful world.old → W.note world.new ≡ W.note world.old }
     ensures faith { W.faithful world.new ↔ W.faithful world.old }
 {
-    let file = match world.open_image_to_read(name) {
+    let mut file = match world.open_image_to_read(name) {
         Ok(file) => file,
         Err(refusal) => return Err(OpenFailure::System(refusal)),
     };
-    match world.lock_shared(name, &file) {
+    match world.lock_shared(name, &mut file) {
         Ok(()) => Ok(file),
         Err(refusal) => Err(OpenFailure::System(refusal)),
     }

@@ -2,9 +2,9 @@
 ghost use Rattle.std.specs.Prelude.{◌≡◌, ◌↔◌, ◌<◌, ◌≤◌, ℕ, None, Some, true, false, OnOk, IfErr, IfOk, OnErr};
 ghost use Rattle.bx_world.specs.Rule.{image_unfit, text_unfit};
 ghost use Rattle.bx_world.specs.World.{AreThreeFiles, MayBeText, NothingNewBelow, NothingNewFound, SystemState};
-ghost use Rattle.bx_world.specs.files.Files.{AreAllThere, AreOpened, AreTextsOpened, IsImageOpened, IsMadeFile, IsTextOpened, LeavesFiles, LeavesMade};
+ghost use Rattle.bx_world.specs.files.Files.{AreAllThere, AreNamesKept, AreOpened, AreTextsOpened, IsImageOpened, IsMadeFile, IsTextOpened, LeavesFiles, LeavesMade};
 ghost use Rattle.bx_world.specs.files.Fit.{AreFitBeside};
-ghost use Rattle.bx_world.specs.files.Numbers.{files_beside, made_beside, numbers_beside, numbers_of};
+ghost use Rattle.bx_world.specs.files.Numbers.{AreLocked, files_beside, made_beside, numbers_beside, numbers_of};
 ghost use Rattle.bx_world.specs.files.Reasons.{IsReason, IsUnfitOrRefused, LeadsToOther, MayRefuseOpening, NoneUnfit};
 
 use crate::World;
@@ -41,6 +41,8 @@ fn open_redo<W: World>(
     requires may { W.faithful world.old → MayBeText (W.number image.now) (W.state world.old) names.now.redo }
     ensures ok { W.faithful world.old → IfOk result
         (λ o. IsTextOpened names.now.redo (W.number image.now) (W.number o.file) true o.made (W.state world.old) (W.state world.new)) }
+    ensures locked { W.faithful world.old → IfOk result (λ o. W.is_locked o.file) }
+    ensures kept { W.faithful world.old → OnOk result (AreNamesKept names.now (W.state world.new) (W.is_kept world.new)) }
     ensures apart { W.faithful world.old → IfOk result (λ o. AreThreeFiles (W.state world.new).there
         (record { image = W.number image.now; journal = W.number journal.now; redo = W.number o.file })) }
     ensures err { W.faithful world.old → OnErr result (LeavesFiles (W.state world.old) (W.state world.new)) }
@@ -119,6 +121,8 @@ fn open_texts<W: World>(
         → AreFitBeside names.now ((W.state world.old).stat (W.number image.now.file)) (W.state world.old) }
     ensures ok { W.faithful world.old → IfOk result (λ texts. AreTextsOpened names.now makes (numbers_beside W.number image.now texts)
         (made_beside image.now texts) (W.state world.old) (W.state world.new)) }
+    ensures locked { W.faithful world.old → IfOk result (λ texts. W.is_locked texts.journal.file × W.is_locked texts.redo.file) }
+    ensures kept { W.faithful world.old → OnOk result (AreNamesKept names.now (W.state world.new) (W.is_kept world.new)) }
     ensures err { W.faithful world.old → OnErr result (LeavesFiles (W.state world.old) (W.state world.new)) }
     ensures why { W.faithful world.old → (least : ℕ) → least ≤ W.refusals world.old
         → (first : SystemState) → AreAllThere first
@@ -192,6 +196,8 @@ pub fn open_image_files<W: World>(
 ) -> Result<Files<W::File>, OpenError>
     ensures ok { W.faithful world.old → IfOk result
         (λ f. AreOpened names.now mounted makes (numbers_of W.number f) f.made (W.state world.old) (W.state world.new)) }
+    ensures locked { W.faithful world.old → IfOk result (AreLocked W.is_locked) }
+    ensures kept { W.faithful world.old → OnOk result (AreNamesKept names.now (W.state world.new) (W.is_kept world.new)) }
     ensures err { W.faithful world.old → OnErr result (LeavesFiles (W.state world.old) (W.state world.new)) }
     ensures why { W.faithful world.old → IfErr result (MayRefuseOpening names.now mounted makes (W.refusals world.old < W.refusals world.new)
         (W.state world.old)) }

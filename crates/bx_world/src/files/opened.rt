@@ -23,6 +23,7 @@ pub struct Opened<F> {
 fn open_image_there<W: World>(world: &mut W, name: &str, mounted: bool) -> Result<W::File, Refusal>
     requires may { W.faithful world.old → MayBeImage mounted (W.state world.old) name.now }
     ensures there { W.faithful world.old → IfOk result (λ f. IsThere name.now (W.number f) (W.state world.old)) }
+    ensures locked { W.faithful world.old → IfOk result (λ f. W.is_locked f) }
     ensures why { W.faithful world.old → (least : ℕ) → least ≤ W.refusals world.old
         → IfErr result (IsRefusedFor ((W.state world.old).named name.now ≡ None) (least < W.refusals world.new)) }
     ensures same { W.faithful world.old → W.state world.new ≡ W.state world.old }
@@ -31,8 +32,8 @@ fn open_image_there<W: World>(world: &mut W, name: &str, mounted: bool) -> Resul
     ensures note { W.faithful world.old → W.note world.new ≡ W.note world.old }
     ensures faith { W.faithful world.new ↔ W.faithful world.old }
 {
-    let file = world.open_image(name, mounted)?;
-    world.lock(name, &file)?;
+    let mut file = world.open_image(name, mounted)?;
+    world.lock(name, &mut file)?;
     Ok(file)
 }
 
@@ -40,6 +41,7 @@ fn open_image_there<W: World>(world: &mut W, name: &str, mounted: bool) -> Resul
 fn open_text_there<W: World>(world: &mut W, name: &str, image: &W::File) -> Result<W::File, Refusal>
     requires may { W.faithful world.old → MayBeText (W.number image.now) (W.state world.old) name.now }
     ensures there { W.faithful world.old → IfOk result (λ f. IsThere name.now (W.number f) (W.state world.old)) }
+    ensures locked { W.faithful world.old → IfOk result (λ f. W.is_locked f) }
     ensures why { W.faithful world.old → (least : ℕ) → least ≤ W.refusals world.old
         → IfErr result (IsRefusedFor ((W.state world.old).named name.now ≡ None) (least < W.refusals world.new)) }
     ensures same { W.faithful world.old → W.state world.new ≡ W.state world.old }
@@ -48,18 +50,20 @@ fn open_text_there<W: World>(world: &mut W, name: &str, image: &W::File) -> Resu
     ensures note { W.faithful world.old → W.note world.new ≡ W.note world.old }
     ensures faith { W.faithful world.new ↔ W.faithful world.old }
 {
-    let file = world.open_text(name, image)?;
-    world.lock(name, &file)?;
+    let mut file = world.open_text(name, image)?;
+    world.lock(name, &mut file)?;
     Ok(file)
 }
 
 /// Locks a file that this run made. One that can't be locked is taken away again, but for one that another program has locked by
 /// now, which goes on with it.
-fn lock_made<W: World>(world: &mut W, name: &str, file: &W::File) -> Result<(), Refusal>
-    requires made { W.faithful world.old → (W.state world.old).before ≤ W.number file.now }
-    requires named { W.faithful world.old → (W.state world.old).named name.now ≡ Some (W.number file.now) }
+fn lock_made<W: World>(world: &mut W, name: &str, file: &mut W::File) -> Result<(), Refusal>
+    requires made { W.faithful world.old → (W.state world.old).before ≤ W.number file.old }
+    requires named { W.faithful world.old → (W.state world.old).named name.now ≡ Some (W.number file.old) }
+    ensures locked { W.faithful world.old → OnOk result (W.is_locked file.new) }
+    ensures number { W.faithful world.old → W.number file.new ≡ W.number file.old }
     ensures same { W.faithful world.old → OnOk result (W.state world.new ≡ W.state world.old) }
-    ensures left { W.faithful world.old → (first : SystemState) → AreAllThere first → HasMade (IsMadeFile true (W.number file.now)) first (W.state world.old)
+    ensures left { W.faithful world.old → (first : SystemState) → AreAllThere first → HasMade (IsMadeFile true (W.number file.old)) first (W.state world.old)
         → OnErr result (LeavesFiles first (W.state world.new)) }
     ensures why { W.faithful world.old → (least : ℕ) → least ≤ W.refusals world.old
         → IfErr result (IsRefusedFor ⊥ (least < W.refusals world.new)) }
@@ -82,6 +86,7 @@ fn lock_made<W: World>(world: &mut W, name: &str, file: &W::File) -> Result<(), 
 fn make_image<W: World>(world: &mut W, name: &str) -> Result<W::File, Refusal>
     ensures ok { W.faithful world.old
         → IfOk result (λ f. IsFileOpened name.now true true (W.number f) (W.state world.old) (W.state world.new)) }
+    ensures locked { W.faithful world.old → IfOk result (λ f. W.is_locked f) }
     ensures fit { W.faithful world.old → IfOk result (λ f. IsAlwaysFit (W.state world.new) (W.number f)) }
     ensures err { W.faithful world.old → OnErr result (LeavesFiles (W.state world.old) (W.state world.new)) }
     ensures why { W.faithful world.old → (least : ℕ) → least ≤ W.refusals world.old
@@ -91,8 +96,8 @@ fn make_image<W: World>(world: &mut W, name: &str) -> Result<W::File, Refusal>
     ensures note { W.faithful world.old → W.note world.new ≡ W.note world.old }
     ensures faith { W.faithful world.new ↔ W.faithful world.old }
 {
-    let file = world.make_image(name)?;
-    lock_made(world, name, &file)?;
+    let mut file = world.make_image(name)?;
+    lock_made(world, name, &mut file)?;
     Ok(file)
 }
 
@@ -101,6 +106,7 @@ fn make_text<W: World>(world: &mut W, name: &str, image: &W::File) -> Result<W::
     requires there { W.faithful world.old → W.number image.now < (W.state world.old).there }
     ensures ok { W.faithful world.old
         → IfOk result (λ f. IsFileOpened name.now true true (W.number f) (W.state world.old) (W.state world.new)) }
+    ensures locked { W.faithful world.old → IfOk result (λ f. W.is_locked f) }
     ensures own { W.faithful world.old → IfOk result (λ f. IsOwn name.now (W.number image.now) (W.number f) (W.state world.new)) }
     ensures err { W.faithful world.old → OnErr result (LeavesFiles (W.state world.old) (W.state world.new)) }
     ensures why { W.faithful world.old → (least : ℕ) → least ≤ W.refusals world.old
@@ -110,8 +116,8 @@ fn make_text<W: World>(world: &mut W, name: &str, image: &W::File) -> Result<W::
     ensures note { W.faithful world.old → W.note world.new ≡ W.note world.old }
     ensures faith { W.faithful world.new ↔ W.faithful world.old }
 {
-    let file = world.make_text(name, image)?;
-    lock_made(world, name, &file)?;
+    let mut file = world.make_text(name, image)?;
+    lock_made(world, name, &mut file)?;
     Ok(file)
 }
 
@@ -133,6 +139,7 @@ fn open_or_make_image<W: World>(
     requires may { W.faithful world.old → MayBeImage mounted (W.state world.old) name.now }
     ensures ok { W.faithful world.old → IfOk result
         (λ o. IsImageOpened name.now mounted makes o.made (W.number o.file) (W.state world.old) (W.state world.new)) }
+    ensures locked { W.faithful world.old → IfOk result (λ o. W.is_locked o.file) }
     ensures stays { W.faithful world.old → IfOk result (λ o. o.made ≡ false → W.state world.new ≡ W.state world.old) }
     ensures err { W.faithful world.old → OnErr result (LeavesFiles (W.state world.old) (W.state world.new)) }
     ensures why { W.faithful world.old → (least : ℕ) → least ≤ W.refusals world.old
@@ -164,6 +171,7 @@ fn open_or_make_text<W: World>(
     requires there { W.faithful world.old → W.number image.now < (W.state world.old).there }
     ensures ok { W.faithful world.old → IfOk result
         (λ o. IsTextOpened name.now (W.number image.now) (W.number o.file) makes o.made (W.state world.old) (W.state world.new)) }
+    ensures locked { W.faithful world.old → IfOk result (λ o. W.is_locked o.file) }
     ensures err { W.faithful world.old → OnErr result (LeavesFiles (W.state world.old) (W.state world.new)) }
     ensures why { W.faithful world.old → (least : ℕ) → least ≤ W.refusals world.old
         → IfErr result (IsRefusedFor (IsUnmade makes (W.state world.old) name.now) (least < W.refusals world.new)) }
@@ -193,6 +201,7 @@ pub fn open_image<W: World>(
     requires may { W.faithful world.old → MayBeImage mounted (W.state world.old) name.now }
     ensures ok { W.faithful world.old → IfOk result
         (λ o. IsImageOpened name.now mounted makes o.made (W.number o.file) (W.state world.old) (W.state world.new)) }
+    ensures locked { W.faithful world.old → IfOk result (λ o. W.is_locked o.file) }
     ensures stays { W.faithful world.old → IfOk result (λ o. o.made ≡ false → W.state world.new ≡ W.state world.old) }
     ensures err { W.faithful world.old → OnErr result (LeavesFiles (W.state world.old) (W.state world.new)) }
     ensures why { W.faithful world.old → (least : ℕ) → least ≤ W.refusals world.old
@@ -221,6 +230,7 @@ pub fn open_text<W: World>(
     requires there { W.faithful world.old → W.number image.now < (W.state world.old).there }
     ensures ok { W.faithful world.old → IfOk result
         (λ o. IsTextOpened name.now (W.number image.now) (W.number o.file) makes o.made (W.state world.old) (W.state world.new)) }
+    ensures locked { W.faithful world.old → IfOk result (λ o. W.is_locked o.file) }
     ensures err { W.faithful world.old → OnErr result (LeavesFiles (W.state world.old) (W.state world.new)) }
     ensures why { W.faithful world.old → (least : ℕ) → least ≤ W.refusals world.old
         → IfErr result (IsRefusedFile which (IsUnmade makes (W.state world.old) name.now) NoneUnfit ⊥

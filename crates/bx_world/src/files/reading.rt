@@ -1,9 +1,9 @@
 //! An image that is only read, and its texts: looked at, opened and locked, and each a file of its own. None is made.
-ghost use Rattle.std.specs.Prelude.{◌≡◌, ◌↔◌, ◌<◌, ℕ, Err, None, Some, false, IfErr, IfOk, OnOk};
+ghost use Rattle.std.specs.Prelude.{◌≡◌, ◌↔◌, ◌<◌, ℕ, Err, None, Some, false, true, IfErr, IfOk, IfSome, OnOk};
 ghost use Rattle.bx_world.specs.Rule.{read_unfit, text_unfit};
 ghost use Rattle.bx_world.specs.World.{CountsRefusal, MayBeRead, MayBeText, NothingNewFound, number_if};
 ghost use Rattle.bx_world.specs.files.Fit.{look_unfit};
-ghost use Rattle.bx_world.specs.files.Reading.{AreFitToRead, AreOpenToRead, AreReadable, IsAnother, IsReadable, IsRedoFit, IsThird, IsUnfitToRead, LeadToRead, MayRefuseReading, StaysSeen, numbers_read};
+ghost use Rattle.bx_world.specs.files.Reading.{AreFitToRead, AreLockedAs, AreOpenToRead, AreReadable, IsAnother, IsLockedAs, IsReadable, IsRedoFit, IsThird, IsUnfitToRead, LeadToRead, MayRefuseReading, StaysSeen, numbers_read};
 ghost use Rattle.bx_world.specs.files.Reasons.{IsReason, IsRefusedFile, IsRefusedFor, IsUnfitBeside, NoneUnfit};
 ghost use Rattle.bx_world.specs.declared.files.unopened.FileRole.TheVariants.{Image, Journal, Redo};
 
@@ -126,6 +126,7 @@ fn look_at_names<W: World>(world: &mut W, names: &Names) -> Result<(), OpenError
 fn open_image<W: World>(world: &mut W, name: &str) -> Result<W::File, OpenError>
     requires may { W.faithful world.old → MayBeRead (W.state world.old) name.now }
     ensures named { W.faithful world.old → IfOk result (λ f. (W.state world.old).named name.now ≡ Some (W.number f)) }
+    ensures locked { W.faithful world.old → IfOk result (λ f. W.is_shared f) }
     ensures why { W.faithful world.old → IfErr result (IsRefusedFile Image ((W.state world.old).named name.now ≡ None) NoneUnfit ⊥
         (W.refusals world.old < W.refusals world.new)) }
     ensures calm { W.faithful world.old → OnOk result (W.refusals world.new ≡ W.refusals world.old) }
@@ -165,9 +166,11 @@ fn open_as<W: World>(
 fn lock_as<W: World>(
     world: &mut W,
     name: &str,
-    text: &W::File,
+    text: &mut W::File,
     changes: bool,
 ) -> Result<(), Refusal>
+    ensures locked { W.faithful world.old → OnOk result (IsLockedAs changes (W.is_locked text.new) (W.is_shared text.new)) }
+    ensures number { W.faithful world.old → W.number text.new ≡ W.number text.old }
     ensures missing { W.faithful world.old → result ≡ Err Refusal.Missing → ⊥ }
     ensures counted { W.faithful world.old → CountsRefusal result (W.refusals world.old) (W.refusals world.new) }
     ensures seen { W.faithful world.old → StaysSeen W.state W.survives world.old world.new }
@@ -190,6 +193,7 @@ fn open_text<W: World>(
 ) -> Result<W::File, Refusal>
     requires may { W.faithful world.old → MayBeText (W.number image.now) (W.state world.old) name.now }
     ensures named { W.faithful world.old → IfOk result (λ f. (W.state world.old).named name.now ≡ Some (W.number f)) }
+    ensures locked { W.faithful world.old → IfOk result (λ f. IsLockedAs changes (W.is_locked f) (W.is_shared f)) }
     ensures why { W.faithful world.old → IfErr result (IsRefusedFor ((W.state world.old).named name.now ≡ None)
         (W.refusals world.old < W.refusals world.new)) }
     ensures missing { W.faithful world.old → IfErr result (λ e. e ≡ Refusal.Missing → W.refusals world.new ≡ W.refusals world.old) }
@@ -198,11 +202,11 @@ fn open_text<W: World>(
     ensures note { W.faithful world.old → W.note world.new ≡ W.note world.old }
     ensures faith { W.faithful world.new ↔ W.faithful world.old }
 {
-    let file = match open_as(world, name, image, changes) {
+    let mut file = match open_as(world, name, image, changes) {
         Ok(file) => file,
         Err(refusal) => return Err(refusal),
     };
-    match lock_as(world, name, &file, changes) {
+    match lock_as(world, name, &mut file, changes) {
         Ok(()) => Ok(file),
         Err(refusal) => Err(refusal),
     }
@@ -217,6 +221,7 @@ fn open_journal<W: World>(
 ) -> Result<W::File, OpenError>
     requires may { W.faithful world.old → MayBeText (W.number image.now) (W.state world.old) name.now }
     ensures named { W.faithful world.old → IfOk result (λ f. (W.state world.old).named name.now ≡ Some (W.number f)) }
+    ensures locked { W.faithful world.old → IfOk result (λ f. IsLockedAs changes (W.is_locked f) (W.is_shared f)) }
     ensures why { W.faithful world.old → IfErr result (IsRefusedFile Journal ((W.state world.old).named name.now ≡ None) NoneUnfit ⊥
         (W.refusals world.old < W.refusals world.new)) }
     ensures calm { W.faithful world.old → OnOk result (W.refusals world.new ≡ W.refusals world.old) }
@@ -239,6 +244,7 @@ fn open_redo<W: World>(
 ) -> Result<Option<W::File>, OpenError>
     requires may { W.faithful world.old → MayBeText (W.number image.now) (W.state world.old) name.now }
     ensures named { W.faithful world.old → IfOk result (λ f. (W.state world.old).named name.now ≡ number_if W.number f) }
+    ensures locked { W.faithful world.old → IfOk result (λ f. IfSome f (λ f. IsLockedAs changes (W.is_locked f) (W.is_shared f))) }
     ensures why { W.faithful world.old → IfErr result (IsRefusedFile Redo ⊥ NoneUnfit ⊥ (W.refusals world.old < W.refusals world.new)) }
     ensures calm { W.faithful world.old → OnOk result (W.refusals world.new ≡ W.refusals world.old) }
     ensures seen { W.faithful world.old → StaysSeen W.state W.survives world.old world.new }
@@ -260,6 +266,7 @@ fn open_names<W: World>(
 ) -> Result<Looked<W::File>, OpenError>
     requires may { W.faithful world.old → AreReadable names.now (W.state world.old) }
     ensures named { W.faithful world.old → IfOk result (λ l. LeadToRead names.now (numbers_read W.number l) (W.state world.old)) }
+    ensures locked { W.faithful world.old → IfOk result (AreLockedAs changes W.is_locked W.is_shared) }
     ensures why { W.faithful world.old
         → IfErr result (MayRefuseReading names.now (W.refusals world.old < W.refusals world.new) (W.state world.old)) }
     ensures calm { W.faithful world.old → OnOk result (W.refusals world.new ≡ W.refusals world.old) }
@@ -433,6 +440,7 @@ fn open_looked<W: World>(
     changes: bool,
 ) -> Result<Looked<W::File>, OpenError>
     ensures ok { W.faithful world.old → IfOk result (λ l. AreOpenToRead names.now (numbers_read W.number l) (W.state world.old)) }
+    ensures locked { W.faithful world.old → IfOk result (AreLockedAs changes W.is_locked W.is_shared) }
     ensures why { W.faithful world.old
         → IfErr result (MayRefuseReading names.now (W.refusals world.old < W.refusals world.new) (W.state world.old)) }
     ensures calm { W.faithful world.old → OnOk result (W.refusals world.new ≡ W.refusals world.old) }
@@ -462,6 +470,7 @@ fn open_looked<W: World>(
 /// Where one can't be opened or locked, is none that may be read, or is another one by a second name.
 pub fn open_to_look<W: World>(world: &mut W, names: &Names) -> Result<Looked<W::File>, OpenError>
     ensures ok { W.faithful world.old → IfOk result (λ l. AreOpenToRead names.now (numbers_read W.number l) (W.state world.old)) }
+    ensures locked { W.faithful world.old → IfOk result (AreLockedAs false W.is_locked W.is_shared) }
     ensures why { W.faithful world.old
         → IfErr result (MayRefuseReading names.now (W.refusals world.old < W.refusals world.new) (W.state world.old)) }
     ensures calm { W.faithful world.old → OnOk result (W.refusals world.new ≡ W.refusals world.old) }
@@ -479,6 +488,7 @@ pub fn open_to_look<W: World>(world: &mut W, names: &Names) -> Result<Looked<W::
 /// As of `open_to_look`.
 pub fn open_to_forget<W: World>(world: &mut W, names: &Names) -> Result<Looked<W::File>, OpenError>
     ensures ok { W.faithful world.old → IfOk result (λ l. AreOpenToRead names.now (numbers_read W.number l) (W.state world.old)) }
+    ensures locked { W.faithful world.old → IfOk result (AreLockedAs true W.is_locked W.is_shared) }
     ensures why { W.faithful world.old
         → IfErr result (MayRefuseReading names.now (W.refusals world.old < W.refusals world.new) (W.state world.old)) }
     ensures calm { W.faithful world.old → OnOk result (W.refusals world.new ≡ W.refusals world.old) }

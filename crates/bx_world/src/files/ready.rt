@@ -2,6 +2,7 @@
 ghost use Rattle.std.specs.Prelude.{◌≡◌, ◌↔◌, ◌<◌, ◌≤◌, ℕ, Some, false, OnOk, IfErr, IfOk};
 ghost use Rattle.bx_world.specs.World.{NothingNewFound};
 ghost use Rattle.bx_world.specs.Rule.{image_unfit, text_unfit};
+ghost use Rattle.bx_world.specs.files.Files.{AreNamesKept};
 ghost use Rattle.bx_world.specs.files.Reasons.{AreFitFiles, IsOneOf, IsReason, IsRefusedFile, NoneUnfit};
 ghost use Rattle.bx_world.specs.declared.files.unopened.FileRole.TheVariants.{Image};
 
@@ -173,6 +174,7 @@ fn are_three<W: World>(
 /// Puts the names of an image and its texts on the disk, whoever made them: a run that was killed may have, and their names be
 /// lost with the power.
 fn keep_names<W: World>(world: &mut W, names: &Names) -> Result<(), OpenError>
+    ensures kept { W.faithful world.old → OnOk result (AreNamesKept names.now (W.state world.new) (W.is_kept world.new)) }
     ensures why { W.faithful world.old → (least : ℕ) → least ≤ W.refusals world.old
         → IfErr result (λ u. IsReason ⊥ NoneUnfit ⊥ (least < W.refusals world.new) u.why) }
     ensures same { W.faithful world.old → W.state world.new ≡ W.state world.old }
@@ -202,6 +204,7 @@ pub fn are_ready<W: World>(
     ensures journal { W.faithful world.old → OnOk result (W.number journal.now ≡ W.number image.now → ⊥) }
     ensures redo_of_image { W.faithful world.old → OnOk result (W.number redo.now ≡ W.number image.now → ⊥) }
     ensures redo_of_journal { W.faithful world.old → OnOk result (W.number redo.now ≡ W.number journal.now → ⊥) }
+    ensures kept { W.faithful world.old → OnOk result (AreNamesKept names.now (W.state world.new) (W.is_kept world.new)) }
     ensures why { W.faithful world.old → (least : ℕ) → least ≤ W.refusals world.old
         → AreFitFiles mounted (record { image = W.number image.now; journal = W.number journal.now; redo = W.number redo.now }) (W.state world.old)
         → IfErr result (λ u. IsReason ⊥ NoneUnfit

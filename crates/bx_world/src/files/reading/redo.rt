@@ -1,7 +1,7 @@
 //! An image whose journal is missing and whose redo text is there, so that the history may be dropped all the same.
-ghost use Rattle.std.specs.Prelude.{◌≡◌, ◌↔◌, ◌<◌, None, IfErr, IfOk, OnOk};
+ghost use Rattle.std.specs.Prelude.{◌≡◌, ◌↔◌, ◌<◌, None, true, IfErr, IfOk, OnOk};
 ghost use Rattle.bx_world.specs.World.{NothingNewFound};
-ghost use Rattle.bx_world.specs.files.Reading.{AreOpenAlone, AreReadable, IsPair, MayRefuseForgetting, StaysSeen, as_redo, numbers_read};
+ghost use Rattle.bx_world.specs.files.Reading.{AreLockedAs, AreOpenAlone, AreReadable, IsPair, MayRefuseForgetting, StaysSeen, as_redo, numbers_read};
 
 use crate::files::names::Names;
 use crate::files::reading::{
@@ -37,6 +37,7 @@ fn open_pair<W: World>(world: &mut W, names: &Names) -> Result<Looked<W::File>, 
     requires may { W.faithful world.old → AreReadable names.now (W.state world.old) }
     requires missing { W.faithful world.old → (W.state world.old).named names.now.journal ≡ None }
     ensures named { W.faithful world.old → IfOk result (λ l. IsPair names.now (numbers_read W.number l) (W.state world.old)) }
+    ensures locked { W.faithful world.old → IfOk result (AreLockedAs true W.is_locked W.is_shared) }
     ensures why { W.faithful world.old
         → IfErr result (MayRefuseForgetting names.now (W.refusals world.old < W.refusals world.new) (W.state world.old)) }
     ensures calm { W.faithful world.old → OnOk result (W.refusals world.new ≡ W.refusals world.old) }
@@ -80,6 +81,7 @@ pub fn open_redo_to_forget<W: World>(
 ) -> Result<Looked<W::File>, OpenError>
     requires missing { W.faithful world.old → (W.state world.old).named names.now.journal ≡ None }
     ensures ok { W.faithful world.old → IfOk result (λ l. AreOpenAlone names.now (numbers_read W.number l) (W.state world.old)) }
+    ensures locked { W.faithful world.old → IfOk result (AreLockedAs true W.is_locked W.is_shared) }
     ensures why { W.faithful world.old
         → IfErr result (MayRefuseForgetting names.now (W.refusals world.old < W.refusals world.new) (W.state world.old)) }
     ensures calm { W.faithful world.old → OnOk result (W.refusals world.new ≡ W.refusals world.old) }

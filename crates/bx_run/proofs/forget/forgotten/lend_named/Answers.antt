@@ -7,6 +7,7 @@ lend_files-requires g c = record {
   apart = λ behind.
       let old = c.open_to_forget.ensures.faith.0 behind in
       rw (c.open_to_forget.ensures.same old) (apart _ _ _ (c.in-Ok.ensures.ok old) (λ name n e. g.met.W.World.within c.args.world.now name n old e));
+  locked = λ behind. c.in-Ok.ensures.locked (c.open_to_forget.ensures.faith.0 behind);
 }
 
 pub returns-clause-beside : goal.returns-clause-beside

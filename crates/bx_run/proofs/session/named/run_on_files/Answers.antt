@@ -10,6 +10,13 @@ use Rattle.bx_run.proofs.Files.{before_all, contents_before, contents_cleared, c
 use Rattle.bx_run.proofs.Refused.{is_cleared, left_refused, read_between, unrefused, why_refused}
 use Rattle.bx_run.proofs.session.named.run_on_files.Goals as goal
 
+pub with_devices-done-requires-clause-kept : goal.with_devices-done-requires-clause-kept
+with_devices-done-requires-clause-kept g c opening =
+    let old = c.open_image_files.ensures.faith.0 opening in
+    let opened = c.in-Ok.ensures.ok old in
+    let kept = c.in-Ok.ensures.kept old in
+    (kept.0 _ opened.image.named, kept.1 _ opened.journal.named)
+
 pub clear-requires-clause-made : goal.clear-requires-clause-made
 clear-requires-clause-made g c behind =
     let opening = c.with_devices-done.ensures.faith.0 behind in

@@ -5,7 +5,7 @@ use Rattle.bx_world.proofs.files.opened.lock_made.Goals as goal
 pub returns-in-Err-clause-left : goal.returns-in-Err-clause-left
 returns-in-Err-clause-left g c old first within has =
     let locked = c.lock.ensures.faith.1 old in
-    c.unmake.ensures.left locked first within (rw (c.lock.ensures.same old) (made_left _ _ _ has))
+    c.unmake.ensures.left locked first within (rw (c.lock.ensures.same old, c.lock.ensures.number old) (made_left _ _ _ has))
 
 pub returns-in-Err-clause-why : goal.returns-in-Err-clause-why
 returns-in-Err-clause-why g c old least below =
