@@ -1,6 +1,6 @@
 -- A line that is written in parts, behind what a command made of files.
 use Rattle.std.proofs.Common.{◌≡◌, ◌∙◌, ◌++◌, ◌≤◌, ◌+◌, ℕ, zero, suc, List, [], Option, Some, None, take, length, refl, sym, ap, subst, inl, inr, append_assoc, append-nil, length-append, arith}
-use Rattle.std.specs.Prelude.{Result, Ok, Err, OnOk, IfOk, IfErr, IfSome}
+use Rattle.std.specs.Prelude.{Result, Ok, Err, OnOk, OnErr, IfOk, IfErr, IfSome}
 use Rattle.std.specs.Option.{option_map_or}
 use Rattle.std.specs.Result.{MatchResult}
 use Rattle.bx_image.specs.Power.{NoMore}
@@ -17,7 +17,7 @@ use Rattle.bx_cli_commands.specs.declared.command.Reply.{Reply}
 use Rattle.bx_cli_commands.specs.declared.fault.Fault.{Fault}
 use Rattle.bx_cli_commands.specs.declared.fault.Fault.TheVariants.{OpenFailed, Session}
 use Rattle.bx_run.specs.session.Contents.{StayOnDisk, Contents, FindsIn, FoundIn, Holds, Spared, StandsIn, TellsUnfinished, recovered_as}
-use Rattle.bx_run.specs.session.Moves.{Course, HasMoved, IsMidway, IsMoved, LosesLine, MovedFound, MovedRead, Moves, MovesFound, MovesRead, RefusesRecovered, RefusesMove, SparesMove, StopsRecovered, StopsLine, StopsMove, StopsPart, SurvivesMoved, TellsRecovered, number_line, recovered_line, stepped}
+use Rattle.bx_run.specs.session.Moves.{Course, HasMoved, IsMidway, IsMoved, IsUnwritten, LosesLine, MovedFound, MovedRead, Moves, MovesFound, MovesRead, RefusesRecovered, RefusesMove, SparesMove, StopsRecovered, StopsLine, StopsMove, StopsPart, SurvivesMoved, TellsRecovered, number_line, recovered_line, stepped}
 use Rattle.bx_run.specs.session.Named.{IsNamedBy, IsUnrecovered, KeepsOthers, LeadTo, LeavesRefused, NothingDone, contents_of}
 
 -- the first part couldn't be written
@@ -94,6 +94,20 @@ module _ (names : Names) (k : ℕ) (course : Course) (left : ℕ) (old mid new :
       → IfErr r (StopsLine (number_line left) mid.output new.output) → IfErr r (StopsMove names k course u old new)
   unwritten u (Ok v) moved keeps silent line = tt
   unwritten u (Err e) moved keeps silent line = inr (lost_line e moved keeps silent line)
+
+-- a moving of changes that was refused tells of no write
+refused_written : (names : Names) (k : ℕ) (course : Course) (u : Option OpenError) (old new : SystemState) (e : Fault)
+    → RefusesMove names k course u old new e → IsUnwritten e → ⊥
+refused_written names k course u old new e refuses is = (subst (RefusesMove names k course u old new) is.1 refuses).0
+
+-- one that tells of a write was done, and the write failed
+pub failed_behind : (names : Names) (k : ℕ) (course : Course) (u : Option OpenError) (old mid told new : SystemState) (Failed : Type 0)
+    (standing : Result ℕ Fault) (r : Result Unit Fault) → IfErr standing (RefusesMove names k course u old mid) → IfOk standing (λ left. OnErr r Failed)
+    → IfErr standing (λ e. (r ≡ Err e) × (new ≡ told)) → IfErr r (λ e. IsUnwritten e → Failed)
+failed_behind names k course u old mid told new Failed (Ok left) (Ok v) refuses failed refused = tt
+failed_behind names k course u old mid told new Failed (Ok left) (Err e) refuses failed refused = λ is. failed
+failed_behind names k course u old mid told new Failed (Err e) r refuses failed refused =
+    rw refused.0 (λ is. absurd (refused_written names k course u old mid e refuses is))
 
 -- of files that hold images nothing is said
 take_none : (n : ℕ) → ◌≡◌ {A = List ℕ} (take n []) []

@@ -297,6 +297,10 @@ where
 
     ghost note = { λ _. [] };
 
+    ghost has_unwritten = { λ _. ⊥ };
+
+    ghost was_handed = { λ _ _. ⊥ };
+
     ghost note_survives = { λ _ _. ⊥ };
 
     ghost begun = { λ _ faithful. absurd faithful };

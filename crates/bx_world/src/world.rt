@@ -102,6 +102,12 @@ pub trait World {
     /// What the note has that stands beside the journal: its third text. One that is missing has nothing.
     ghost note: { Self → List ℕ };
 
+    /// A write to standard output failed in this run.
+    ghost has_unwritten: { Self → Type 0 };
+
+    /// These bytes were handed to standard error in this run, at once.
+    ghost was_handed: { Self → List ℕ → Type 0 };
+
     /// What may be found of the note after a loss of power.
     ghost note_survives: { Self → List ℕ → Type 0 };
 
@@ -322,6 +328,8 @@ pub trait World {
         ensures ok { faithful self.old → OnOk result ((state self.new).output ≡ (state self.old).output ++ bytes.now) }
         ensures err { faithful self.old
             → IfErr result (λ e. AddsFront e.written (state self.old).output (state self.new).output bytes.now) }
+        ensures failed { faithful self.old → OnErr result (has_unwritten self.new) }
+        ensures handed { faithful self.old → (line : List ℕ) → was_handed self.old line → was_handed self.new line }
         ensures errors { faithful self.old → (state self.new).errors ≡ (state self.old).errors }
         ensures files { faithful self.old → KeepsFiles (state self.old) (state self.new) }
         ensures counted { faithful self.old → refusals self.new ≡ refusals self.old }
@@ -332,6 +340,7 @@ pub trait World {
     /// Writes to standard error; how much of it arrives isn't known.
     fn complain(&mut self, bytes: &[u8])
         ensures errors { faithful self.old → (n : ℕ) × (state self.new).errors ≡ (state self.old).errors ++ take n bytes.now }
+        ensures handed { faithful self.old → was_handed self.new bytes.now }
         ensures output { faithful self.old → (state self.new).output ≡ (state self.old).output }
         ensures files { faithful self.old → KeepsFiles (state self.old) (state self.new) }
         ensures counted { faithful self.old → refusals self.new ≡ refusals self.old }

@@ -102,6 +102,7 @@ pub struct Run {
     output: Vec<u8>,
     errors: Vec<u8>,
     stuck: u64,
+    is_unwritten: bool,
     refusals: Refusals,
     note: Contents,
 }
@@ -176,6 +177,7 @@ impl MemoryWorld {
     pub fn new(alloc: Global, caller: u32) -> Self
         ensures faithful { ⟦<MemoryWorld as World>⟧.faithful result }
         ensures names { (m : List ℕ) → (⟦<MemoryWorld as World>⟧.state result).named m ≡ None }
+        ensures written { ⟦<MemoryWorld as World>⟧.has_unwritten result → ⊥ }
     {
         MemoryWorld {
             alloc,
@@ -189,6 +191,7 @@ impl MemoryWorld {
                 output: Vec::new(alloc),
                 errors: Vec::new(alloc),
                 stuck: 0,
+                is_unwritten: false,
                 refusals: Refusals::none(),
                 note: nothing(alloc),
             },
@@ -507,6 +510,11 @@ impl World for MemoryWorld {
 
     ghost note = { note_of };
 
+    ghost has_unwritten = { λ w. w.run.is_unwritten ≡ true };
+
+    // It takes all that it is handed, as far as there is memory.
+    ghost was_handed = { λ _ _. Unit {0} };
+
     ghost note_survives = { note_found_of };
 
     ghost begun = { λ w _. w.kept.before_there };
@@ -679,11 +687,15 @@ impl World for MemoryWorld {
 
     fn print(&mut self, bytes: &[u8]) -> Result<(), Unwritten> {
         if self.plan.calls.blows() {
+            self.run.is_unwritten = true;
             return Err(Unwritten { written: 0 });
         }
         match self.run.output.extend_from_slice(bytes) {
             Ok(()) => Ok(()),
-            Err(_) => Err(Unwritten { written: 0 }),
+            Err(_) => {
+                self.run.is_unwritten = true;
+                Err(Unwritten { written: 0 })
+            }
         }
     }
 

@@ -144,6 +144,10 @@ SurvivesMove k course image journal redo = (x text redo_text : List ℕ) → ima
 abbrev pub StopsPart : ℕ → List ℕ → List ℕ → List ℕ → Fault → Type 0
 StopsPart before part old new e = (told : ℕ) × (e ≡ Io (WriteFailed (before + told))) × AddsFront told old new part
 
+-- the fault says that standard output couldn't be written
+abbrev pub IsUnwritten : Fault → Type 0
+IsUnwritten e = (told : ℕ) × (e ≡ Io (WriteFailed told))
+
 -- A line couldn't be written: a front of it is behind what was written, and the fault tells no more bytes than that has
 pub record StopsLine (line old new : List ℕ) (e : Fault) : Type 0 where
   pub front : List ℕ

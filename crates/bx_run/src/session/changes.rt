@@ -11,6 +11,7 @@ ghost use Rattle.bx_world.specs.files.Fit.{AreFit};
 ghost use Rattle.bx_run.specs.session.Changes.{Changes, InterruptsChange, RefusesChange, SaysRecovered};
 ghost use Rattle.bx_run.specs.session.Contents.{DoesFound, FoundIn, Holds, StepsRead, TellsUnfinished};
 ghost use Rattle.bx_run.specs.session.Guarded.{WasJudged, WereOpened};
+ghost use Rattle.bx_run.specs.session.Moves.{recovered_line};
 ghost use Rattle.bx_run.specs.session.Named.{KeepsOthers, MayRefuseTask, NothingDone, SurvivesTask, contents_of, is_missing};
 ghost use Rattle.bx_run.specs.session.Task.{IsNearTask};
 
@@ -76,6 +77,7 @@ pub fn change_files<W: World, R: Read + Drop>(
     // No other file is changed, whatever the files hold and whatever becomes of the task, and nothing is written but what was recovered.
     ensures others { W.faithful world.old → KeepsOthers names.now (W.state world.old) (W.state world.new) }
     ensures streams { W.faithful world.old → SaysRecovered result.how (W.state world.old) (W.state world.new) }
+    ensures handed { W.faithful world.old → W.was_handed world.new (recovered_line result.how) }
     ensures faith { W.faithful world.new ↔ W.faithful world.old }
 {
     let answer = run_on_files(world, alloc, names, guard, true, task);

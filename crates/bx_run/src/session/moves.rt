@@ -1,12 +1,12 @@
 //! An undo and a redo on files, with the number that they write.
-ghost use Rattle.std.specs.Prelude.{◌≡◌, ◌↔◌, ◌++◌, ◌+◌, ◌<◌, ◌^◌, decimal, false, length, Err, None, IfOk, IfErr, IfSome, OnErr, OnOk};
+ghost use Rattle.std.specs.Prelude.{◌≡◌, ◌↔◌, ◌++◌, ◌+◌, ◌<◌, ◌^◌, decimal, false, length, Err, None, IfOk, IfErr, IfSome, List, OnErr, OnOk, ℕ};
 ghost use Rattle.bx_journal.specs.Images.{Images};
 ghost use Rattle.bx_world.specs.World.{KeepsFiles, KeepsStreams, NothingNewFound};
 ghost use Rattle.bx_world.specs.files.Fit.{AreFit};
 ghost use Rattle.bx_run.specs.session.Contents.{FoundIn, Holds, TellsUnfinished};
 ghost use Rattle.bx_run.specs.session.Guarded.{WasJudged, WereOpened};
 ghost use Rattle.bx_run.specs.session.Named.{KeepsOthers, MayRefuseTask, contents_of, is_missing};
-ghost use Rattle.bx_run.specs.session.Moves.{IsMoved, MovedFound, MovedRead, Moves, MovesFound, MovesRead, NothingMoved, RefusesMove, SparesMove, StopsLine, StopsMove, StopsPart, SurvivesMoving, TellsRecovered, number_line, recovered_line, stepped, task_of};
+ghost use Rattle.bx_run.specs.session.Moves.{IsMoved, IsUnwritten, MovedFound, MovedRead, Moves, MovesFound, MovesRead, NothingMoved, RefusesMove, SparesMove, StopsLine, StopsMove, StopsPart, SurvivesMoving, TellsRecovered, number_line, recovered_line, stepped, task_of};
 ghost use Rattle.bx_run.specs.session.Task.{IsNearTask};
 
 use crate::session::named::run_on_files;
@@ -35,6 +35,8 @@ fn put<W: World>(world: &mut W, before: u64, bytes: &[u8]) -> Result<(), Fault>
     ensures ok { W.faithful world.old → OnOk result ((W.state world.new).output ≡ (W.state world.old).output ++ bytes.now) }
     ensures err { W.faithful world.old
         → IfErr result (StopsPart before bytes.now (W.state world.old).output (W.state world.new).output) }
+    ensures failed { W.faithful world.old → OnErr result (W.has_unwritten world.new) }
+    ensures handed { W.faithful world.old → (line : List ℕ) → W.was_handed world.old line → W.was_handed world.new line }
     ensures survives { W.faithful world.old → NothingNewFound (W.survives world.old) (W.survives world.new) }
     ensures errors { W.faithful world.old → (W.state world.new).errors ≡ (W.state world.old).errors }
     ensures files { W.faithful world.old → KeepsFiles (W.state world.old) (W.state world.new) }
@@ -60,6 +62,8 @@ fn put_number<W: World>(world: &mut W, number: u32) -> Result<(), Fault>
     ensures ok { W.faithful world.old → OnOk result ((W.state world.new).output ≡ (W.state world.old).output ++ number_line number) }
     ensures err { W.faithful world.old
         → IfErr result (StopsLine (number_line number) (W.state world.old).output (W.state world.new).output) }
+    ensures failed { W.faithful world.old → OnErr result (W.has_unwritten world.new) }
+    ensures handed { W.faithful world.old → (line : List ℕ) → W.was_handed world.old line → W.was_handed world.new line }
     ensures survives { W.faithful world.old → NothingNewFound (W.survives world.old) (W.survives world.new) }
     ensures errors { W.faithful world.old → (W.state world.new).errors ≡ (W.state world.old).errors }
     ensures files { W.faithful world.old → KeepsFiles (W.state world.old) (W.state world.new) }
@@ -84,6 +88,8 @@ fn tell_number<W: World>(world: &mut W, standing: Result<u32, Fault>) -> Result<
     ensures lost { W.faithful world.old
         → IfOk standing (λ left. IfErr result (StopsLine (number_line left) (W.state world.old).output (W.state world.new).output)) }
     ensures refused { W.faithful world.old → IfErr standing (λ e. (result ≡ Err e) × (W.state world.new ≡ W.state world.old)) }
+    ensures failed { W.faithful world.old → IfOk standing (λ _. OnErr result (W.has_unwritten world.new)) }
+    ensures handed { W.faithful world.old → (line : List ℕ) → W.was_handed world.old line → W.was_handed world.new line }
     ensures noted { W.faithful world.old → OnErr standing (W.refusals world.new ≡ W.refusals world.old) }
     ensures survives { W.faithful world.old → NothingNewFound (W.survives world.old) (W.survives world.new) }
     ensures errors { W.faithful world.old → (W.state world.new).errors ≡ (W.state world.old).errors }
@@ -119,6 +125,7 @@ fn line_of(how: Option<RecoveryOutcome>) -> ShortText<64>
 /// Says on standard error what opening found unfinished.
 pub fn tell_recovered<W: World>(world: &mut W, how: Option<RecoveryOutcome>)
     ensures errors { W.faithful world.old → TellsRecovered how (W.state world.old).errors (W.state world.new).errors }
+    ensures handed { W.faithful world.old → W.was_handed world.new (recovered_line how) }
     ensures noted { W.faithful world.old → W.refusals world.new ≡ W.refusals world.old }
     ensures survives { W.faithful world.old → NothingNewFound (W.survives world.old) (W.survives world.new) }
     ensures output { W.faithful world.old → (W.state world.new).output ≡ (W.state world.old).output }
@@ -221,6 +228,9 @@ pub fn move_changes<W: World>(
         (MovesRead names.now count way how (W.state world.old) (W.state world.new))) }
     ensures others { W.faithful world.old → KeepsOthers names.now (W.state world.old) (W.state world.new) }
     ensures errors { W.faithful world.old → TellsRecovered result.how (W.state world.old).errors (W.state world.new).errors }
+    ensures told { W.faithful world.old → W.was_handed world.new (recovered_line result.how)
+        × ((s : Images) → Holds (contents_of names.now (W.state world.old)) s
+        → IfErr result.outcome (λ e. IsUnwritten e → W.has_unwritten world.new)) }
     ensures free { W.faithful world.old → (W.state world.new).lent ≡ None }
     ensures faith { W.faithful world.new ↔ W.faithful world.old }
 {

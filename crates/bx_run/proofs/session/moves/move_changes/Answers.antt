@@ -1,9 +1,9 @@
 use Rattle.std.proofs.Common.{◌∙◌}
 use Rattle.std.specs.Prelude.{◌<◌, false}
-use Rattle.bx_run.specs.session.Moves.{task_of}
+use Rattle.bx_run.specs.session.Moves.{stepped, task_of}
 use Rattle.bx_run.specs.session.Named.{MayRefuseTask}
 use Rattle.bx_run.proofs.Answered.{why_kept}
-use Rattle.bx_run.proofs.Lines.{done_behind, found_behind, keeps_then, leads_back, moved_before, moved_behind, moved_less, others_kept, read_behind, settled_kept, spares_behind, stopped_behind, tells_alone, tells_behind, unopened_kept}
+use Rattle.bx_run.proofs.Lines.{done_behind, failed_behind, found_behind, keeps_then, leads_back, moved_before, moved_behind, moved_less, others_kept, read_behind, settled_kept, spares_behind, stopped_behind, tells_alone, tells_behind, unopened_kept}
 use Rattle.bx_run.proofs.session.moves.move_changes.Goals as goal
 
 pub returns-clause-done : goal.returns-clause-done
@@ -122,3 +122,14 @@ returns-clause-stands g c old =
     let line = c.tell_number-outcome.ensures in
     read_behind _ _ _ _ _ _ _ _ _ _ (moved.stands old) (c.tell_recovered.ensures.files behind) (line.files told) (moved.silent old).output
     (c.tell_recovered.ensures.output behind) (line.done told) (line.refused told)
+
+pub returns-clause-told : goal.returns-clause-told
+returns-clause-told g c old =
+    let moved = c.moved_by-moved.ensures in
+    let behind = moved.faith.1 old in
+    let told = c.tell_recovered.ensures.faith.1 behind in
+    let line = c.tell_number-outcome.ensures in (
+      line.handed told _ (c.tell_recovered.ensures.handed behind),
+      λ s holds.
+          failed_behind c.args.names.now c.args.count (stepped c.args.way s) _ _ _ _ _ _ _ _ (moved.refused old s holds) (line.failed told) (line.refused told),
+    )
