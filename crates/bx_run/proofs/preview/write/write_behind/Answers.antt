@@ -13,11 +13,11 @@ returns-in-Err g c = record {
 pub returns : goal.returns
 returns g c = record {
   compared = λ change alone faithful twin same.
-      let faithful = c.in-Ok.ensures.faithful twin in
+      let new_is = c.in-Ok.ensures.faithful twin in
       let said = c.write_patch-outcome.ensures in
       let lent = c.untouched-untouched.ensures in
       let known = inl (still_behind _ _ _ _ (g.D.Device.image c.args.again) (g.D.Device.image c.args.image.now) _ lent.changes lent.before same (c.in-Ok.ensures.behind twin)) in
       compared change (g.D.Device.image c.args.image.now) _ _ (g.D.Device.image c.args.image.now) (g.D.Device.image c.args.again) _
       c.args.changes.now refl same alone (c.in-Ok.ensures.image twin) c.write_patch-outcome.result
-      (said.text faithful faithful known) (said.part faithful faithful known) (said.fault faithful faithful);
+      (said.text faithful new_is known) (said.part faithful new_is known) (said.fault faithful new_is);
 }
