@@ -1,4 +1,6 @@
 //! What the system tells of a file, as the rule on files takes it; and whom this process acts for.
+ghost use Rattle.std.specs.Prelude.{◌≡◌, ◌≤◌, IfOk, length};
+
 use crate::facts::mounts::{is_mounted, is_read_only};
 use crate::folders::folder_of;
 use bx_world::{Classes, Kind, Stat};
@@ -106,7 +108,10 @@ where
 }
 
 /// Reads the front of a file, as much as one read gives.
-fn read_front<R: Files<File = File>>(rt: &R, name: &str, front: &mut [u8]) -> io::Result<usize> {
+fn read_front<R: Files<File = File>>(rt: &R, name: &str, front: &mut [u8]) -> io::Result<usize>
+    ensures within { IfOk result (λ count. count ≤ length front.old) }
+    ensures length { length front.new ≡ length front.old }
+{
     let mut file = File::open(rt, name)?;
     file.read(front)
 }

@@ -1,6 +1,4 @@
 //! A file that is open, with what the run knows of it.
-ghost use Rattle.std.specs.Prelude.{◌≡◌};
-
 use crate::facts::alias::Identity;
 use crate::facts::stat::whole_stat_of;
 use crate::files::counted_file::CountedFile;
@@ -84,10 +82,7 @@ pub struct OpenFile<'p, 'r, R> {
 
 impl<'p, 'r, R: Eprint + Clock> OpenFile<'p, 'r, R> {
     /// A file about which the system was asked nothing yet.
-    pub(crate) fn new(file: CountedFile<'p, 'r, R>, known: Known) -> Self
-        ensures file { result.file ≡ file }
-        ensures known { result.known ≡ known }
-    {
+    pub(crate) fn new(file: CountedFile<'p, 'r, R>, known: Known) -> Self {
         OpenFile {
             file,
             known,
