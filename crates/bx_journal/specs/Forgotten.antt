@@ -1,46 +1,21 @@
 -- Forgetting: all changes are accepted, and the history is dropped.
-use Rattle.std.specs.Prelude.{◌≡◌, ◌⊎◌, ℕ, List, [], ◌∷◌, Result, Ok, Err, IfOk, IfErr, MatchResult}
+use Rattle.std.specs.Prelude.{◌≡◌, ◌⊎◌, ℕ, List, [], ◌∷◌, Result, IfErr}
 use Rattle.bx_image.specs.Power.{AllFade, Only}
 use Rattle.bx_image.specs.declared.device.Device.{Ghosts as DeviceViews}
 use Rattle.bx_journal_store.specs.Store.{IsCutInPart}
 use Rattle.bx_journal_store.specs.declared.store.TextStore.{Ghosts as StoreViews}
 use Rattle.bx_journal_model.specs.declared.devices.Devices.{Devices}
-use Rattle.bx_journal_model.specs.Performing.{FindsBehind}
-use Rattle.bx_journal_model.specs.Power.{Found, Survive}
-use Rattle.bx_journal_model.specs.Session.{HasUndone, IsReady, SessionFinds}
-use Rattle.bx_journal_model.specs.SessionView.{SessionView}
-use Rattle.bx_journal_model.specs.Standing.{IsStanding}
+use Rattle.bx_journal_model.specs.Power.{Found}
 use Rattle.bx_journal_protocol.specs.protocol.Written.{AreSettled}
 use Rattle.bx_journal_model.specs.declared.fault.SessionFault.{SessionFault}
-use Rattle.bx_journal_model.specs.declared.fault.SessionFault.TheVariants.{Broken, DeviceFailed, Interrupted}
+use Rattle.bx_journal_model.specs.declared.fault.SessionFault.TheVariants.{DeviceFailed, Interrupted}
 use Rattle.bx_journal_model.specs.Calls.{AfterFault}
 use Rattle.bx_journal_model.specs.Images.{Images}
-use Rattle.bx_journal_model.specs.Machine.{changes_of, top}
 use Rattle.bx_journal_model.specs.Phase.{IsAtRest}
 use Rattle.bx_journal_model.specs.Redo.{IsRedoOf}
 use Rattle.bx_journal.specs.Losses.{emptied}
 
--- the newest image alone
-abbrev pub alone : List (List ℕ) → List (List ℕ)
-alone stack = top stack ∷ []
-
--- the images behind forgetting: the newest alone, and nothing undone
-abbrev pub forgotten : Images → Images
-forgotten s = record { stack = alone s.stack; undone = [] }
-
--- forgetting: the answer is how many changes stood
-abbrev pub ForgetStep : List (List ℕ) → Result ℕ SessionFault → List (List ℕ) → Type 0
-ForgetStep old (Ok n) new = (n ≡ changes_of old) × (new ≡ alone old)
-ForgetStep old (Err e) new = ⊥
-
 -- which fault forgetting may answer
-abbrev pub ForgetFault : SessionFault → Type 0
-ForgetFault Broken = Unit {0}
-ForgetFault DeviceFailed = Unit {0}
-ForgetFault Interrupted = Unit {0}
-ForgetFault e = ⊥
-
--- which fault forgetting may answer without a session
 abbrev pub ForgetDevicesFault : SessionFault → Type 0
 ForgetDevicesFault DeviceFailed = Unit {0}
 ForgetDevicesFault Interrupted = Unit {0}
@@ -78,39 +53,10 @@ pub record FadesInOrder (journal redo : List ℕ) (survives redo_survives : List
   pub redo_part : AllFade 0 redo redo_survives
   pub redo_first : Only journal survives ⊎ Only [] redo_survives
 
--- Of sessions whose device has an image, given by `image`, and whose stores have a text, given by `text`.
-module _ {D T : Type 0} (image : D → List ℕ) (text : T → List ℕ) where
-  -- where it is accepted, the machine makes its step from the stack for which the session stands
-  abbrev pub ForgetsStack : SessionView D T → SessionView D T → Result ℕ SessionFault → Type 0
-  ForgetsStack old new result = (stack : List (List ℕ)) → IsStanding image text old stack →
-      IfOk result (λ n. ForgetStep stack (Ok n) (alone stack) × IsStanding image text new (alone stack))
-
-  -- behind an interruption, where no text was cut in part, opening finds the old images, the same with nothing undone, or the newest alone
-  abbrev pub FindsForgotten : {V : Type 0} → SessionView D T → SessionView D T → Result V SessionFault → Type 0
-  FindsForgotten old new = FindsBehind image text old (λ s.
-      IsWhole (text old.journal) (text new.journal) → IsWhole (text old.redo) (text new.redo) → OfSome s (forgotten s) (SessionFinds image text new))
-
 -- Of both texts, where a cut to nothing is one step: each is found whole or empty, and so it is there
 pub record AreFoundWhole {T : Type 0} (t : StoreViews T) (journal redo journal_new redo_new : T) : Type 0 where
   pub journal_whole : t.empties_at_once → IsFoundWhole (t.text journal) (t.survives journal_new)
   pub redo_whole : t.empties_at_once → IsFoundWhole (t.text redo) (t.survives redo_new)
-
--- Of sessions whose devices lose what wasn't put on the disk.
-module _ {D T : Type 0} (d : DeviceViews D) (t : StoreViews T) where
-  -- behind a loss of power: the image as it was, and of the texts what is left where the redo text is emptied first
-  pub record KeepsImage (old new : SessionView D T) : Type 0 where
-    pub image : Only (d.image old.image) (d.survives new.image)
-    pub texts : FadesInOrder (t.text old.journal) (t.text old.redo) (t.survives new.journal) (t.survives new.redo)
-    pub whole : AreFoundWhole t old.journal old.redo new.journal new.redo
-
-  -- the newest image alone where it was accepted, and behind an interruption, where no text is found cut in part, the old images, the same with
-  -- nothing undone, or the newest alone
-  abbrev pub ForgettingSurvives : SessionView D T → SessionView D T → Result ℕ SessionFault → Type 0
-  ForgettingSurvives old new result = (s : Images) → IsReady d.image t.text old s.stack → HasUndone d.image t.text old s.undone →
-      MatchResult result
-      (λ n. Survive d.image d.survives t.text t.survives new (λ text x redo. Found text x redo (forgotten s)))
-      (λ e. AfterFault e (Survive d.image d.survives t.text t.survives new (λ text x redo.
-      IsWhole (t.text old.journal) text → IsWhole (t.text old.redo) redo → OfSome s (forgotten s) (Found text x redo))) (Unit {0}))
 
 -- behind an interruption both texts are fronts of what they were
 abbrev pub HaveLost : {D T : Type 0} → StoreViews T → Devices D T → Devices D T → Type 0

@@ -3,7 +3,6 @@ ghost use Rattle.std.specs.Prelude.{◌≡◌, ◌+◌, ◌<◌, ◌≤◌, [], 
 ghost use Rattle.bx_journal_model.specs.Machine.{PerformStep, changed};
 
 mod compare;
-mod forget;
 mod log;
 mod open;
 mod redo;

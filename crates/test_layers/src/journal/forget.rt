@@ -1,4 +1,4 @@
-//! History that is dropped: what is left where a call that writes to the journal fails, and what is dropped without a session.
+//! History that is dropped: what is left where a call that writes to the journal fails, and where no opening takes the texts.
 use crate::journal::reads::{HALF, MADE_TWO, UNDONE_TWO};
 use crate::journal::rows::{Calls, Left, Row, assert_held, play};
 use crate::journal::sessions::{ALL, Ask, Finds, Held, held};
@@ -39,7 +39,7 @@ const FORGETS: &[Row] = &[
         (3, 4),
         ALL,
         HALF,
-        (Ask::Forget, Ok(2)),
+        (Ask::Forget, Ok(0)),
         Left::Found(Finds::Clean(0, 0)),
     ),
 ];

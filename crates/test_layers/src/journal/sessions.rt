@@ -1,7 +1,7 @@
 //! Sessions in memory on devices that fail, and what is asked of them.
 use crate::image::guarded::change;
 use bx_image::{Change, Device, FuseImage, MemImage, Part};
-use bx_journal::{Recovered, RecoveryOutcome, Session, SessionFault};
+use bx_journal::{Devices, Recovered, RecoveryOutcome, Session, SessionFault, forget_devices};
 use bx_journal_store::{FuseText, MemText, TextStore};
 use std::alloc::{AllocError, Allocator, Global};
 use std::process::Abort;
@@ -65,7 +65,7 @@ pub enum Ask {
     Whole,
     Undo(u32),
     Redo(u32),
-    /// Drops the history.
+    /// Drops the history, behind the session.
     Forget,
     /// The rows of the log: how many there are.
     Log,
@@ -99,7 +99,7 @@ fn change_of(alloc: Global, ask: Ask) -> Result<Change, AllocError> {
     }
 }
 
-/// Makes the call.
+/// Makes the call of a session; a history is dropped behind it.
 fn asked<D: Device, T: TextStore>(
     alloc: Global,
     session: &mut Session<D, T>,
@@ -109,10 +109,9 @@ fn asked<D: Device, T: TextStore>(
         return Err(SessionFault::Broken);
     }
     match ask {
-        Ask::Nothing => Ok(0),
+        Ask::Nothing | Ask::Forget => Ok(0),
         Ask::Undo(k) => session.undo(k),
         Ask::Redo(j) => session.redo(j),
-        Ask::Forget => session.forget(),
         Ask::Log => match session.log() {
             Ok(rows) => Ok(rows.len().min(u32::MAX as usize) as u32),
             Err(fault) => Err(fault),
@@ -122,6 +121,27 @@ fn asked<D: Device, T: TextStore>(
             Err(_) => Err(SessionFault::NoMemory),
         },
     }
+}
+
+/// Drops the history of three, which answers so, and hands them back.
+fn forget<D: Device, T: TextStore>(
+    rt: &impl Abort,
+    trio: Trio<D, T>,
+    wanted: Result<u32, SessionFault>,
+) -> Trio<D, T> {
+    let (image, journal, redo) = trio;
+    assert!(rt; image.faults() <= MANY && journal.faults() <= MANY && redo.faults() <= MANY);
+    let mut devices = Devices {
+        image,
+        journal,
+        redo,
+    };
+    let answer = match forget_devices(&mut devices) {
+        Ok(()) => Ok(0),
+        Err(fault) => Err(fault),
+    };
+    assert!(rt; answer == wanted);
+    (devices.image, devices.journal, devices.redo)
 }
 
 /// Opens a session and makes the call: both answer so. Answers what is left.
@@ -135,8 +155,13 @@ fn sit<D: Device, T: TextStore>(
     match open(alloc, trio) {
         Ok((mut session, recovered)) => {
             assert!(rt; Ok(recovered) == opened_of(finds));
-            assert!(rt; asked(alloc, &mut session, step.0) == step.1);
-            session.close()
+            match step {
+                (Ask::Forget, wanted) => forget(rt, session.close(), wanted),
+                (ask, wanted) => {
+                    assert!(rt; asked(alloc, &mut session, ask) == wanted);
+                    session.close()
+                }
+            }
         }
         Err((device, store, redo_text, fault)) => {
             assert!(rt; Err(fault) == opened_of(finds));
