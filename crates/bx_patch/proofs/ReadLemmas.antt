@@ -1,18 +1,20 @@
 -- A text that is read line by line.
 use Rattle.std.proofs.Common.{◌≡◌, ◌≢◌, ℕ, ◌+◌, ◌<◌, ◌≤◌, ◌^◌, Bool, true, false, Result, OnOk, Ok, Err, Some, None, Option, List, [], ◌∷◌, ◌++◌, length, drop, inl, inr, refl, sym, ap, subst, ◌∙◌, append_assoc, arith}
 use Rattle.std.specs.List.{All}
-use Rattle.std.specs.Prelude.{IfOk, codes}
+use Rattle.std.specs.Prelude.{IfOk, IfSome, codes}
 use Rattle.std.proofs.lemmas.Bool.{cases_lt}
 use Rattle.std.proofs.lemmas.List.{length-append, map-append}
 use Rattle.std.proofs.lemmas.List.Elements.{All-nil, All-push}
 use Rattle.bx_text.specs.declared.owned.pieces.Piece.{Piece}
 use Rattle.bx_read.specs.Digits.{pairs_of}
 use Rattle.bx_read.specs.Grammar.{IsLine}
-use Rattle.bx_read.specs.Line.{read_line}
+use Rattle.bx_read.specs.Line.{line_piece, read_line}
 use Rattle.bx_read.specs.Text.{lines_of, contents}
 use Rattle.bx_read.specs.Window.{AreWholeLines}
+use Rattle.bx_read.specs.declared.fault.ReadFault.{ReadFault}
 use Rattle.bx_read.proofs.FullLines.{first_line}
 use Rattle.bx_read.proofs.GrammarLemmas.{read_line-found}
+use Rattle.bx_read.proofs.PieceLemmas.{piece_err, piece_of as line_gives}
 use Rattle.bx_read.proofs.WindowLemmas.{lines_behind}
 use Rattle.bx_patch.specs.declared.read.fault.PatchFault.{PatchFault}
 use Rattle.bx_patch.specs.declared.read.fault.PatchFault.TheVariants.{NoEnd, OfNoKind}
@@ -31,6 +33,24 @@ pub gives : (n : ℕ) (line : List ℕ) (at : ℕ) (hex bytes : List ℕ) → re
 gives n line at hex bytes read pairs =
     let is = read_line-found n line at hex read in
     (hex, subst (λ (b : List ℕ). IsLine line at hex b) (some_same is.0 bytes (sym is.1.pairs ∙ pairs)) is.1)
+
+pub gives_same : {line bytes other : List ℕ} {at place : ℕ} → Gives line at bytes → place ≡ at → other ≡ bytes → Gives line place other
+gives_same {line} {bytes} {other} {at} {place} is there same =
+    subst (λ (b : List ℕ). Gives line place b) (sym same) (subst (λ (a : ℕ). Gives line a bytes) (sym there) is)
+
+no_piece : {A : Type 0} (x : A) (o : Option A) → o ≡ None → o ≡ Some x → ⊥
+no_piece x o none some = let e : None ≡ Some x = sym none ∙ some in cc
+
+-- the same of what is known as its piece
+pub gives_piece : (line : List ℕ) (at : ℕ) (bytes : List ℕ) → line_piece line ≡ Some (at, bytes) → Gives line at bytes
+gives_piece line at bytes is = by (read_line 1 line) refl
+  where
+    by : (r : Result (ℕ × List ℕ) ReadFault) → read_line 1 line ≡ r → Gives line at bytes
+    by (Err fault) e = absurd (no_piece (at, bytes) (line_piece line) (piece_err 1 line fault e) is)
+    by (Ok v) e =
+        let found = read_line-found 1 line v.0 v.1 e in
+        let same = some_same (v.0, found.0) (at, bytes) (sym (line_gives line v.0 v.1 found.0 found.1) ∙ is) in
+        gives_same (v.1, found.1) (ap (λ (p : ℕ × List ℕ). p.0) (sym same)) (ap (λ (p : ℕ × List ℕ). p.1) (sym same))
 
 pub signed : (new : Bool) (line text : List ℕ) (at : ℕ) (bytes : List ℕ) → HasSign new line → text ≡ drop 1 line → Gives text at bytes → IsSigned new line (at, bytes)
 signed new line text at bytes sign rest is =
@@ -154,6 +174,10 @@ OnOk-map (Err e) f p = tt
 pub IfOk-map : {T E : Type 0} {P Q : T → Type 0} (r : Result T E) → ((t : T) → P t → Q t) → IfOk r P → IfOk r Q
 IfOk-map (Ok t) f p = f t p
 IfOk-map (Err e) f p = tt
+
+pub IfSome-map : {T : Type 0} {P Q : T → Type 0} (o : Option T) → ((t : T) → P t → Q t) → IfSome o P → IfSome o Q
+IfSome-map (Some t) f p = f t p
+IfSome-map None f p = tt
 
 -- a text before its first line is read
 pub read_none : (text : List ℕ) (p : Asked) → p ≡ nothing_asked → HasReadLines text text 0 p
