@@ -59,6 +59,31 @@ Another one, of a neighbour, takes that of a link to an image that is missing:
   $ ls system
   empty
 
+# A second command at each opening (wants cc)
+
+A whole `revert` of another shell runs before each opening of a first command in turn. Until the first has the image locked, the second comes
+before it: an undo then takes back that change, which is the newest, and --fresh drops its history. Behind that lock it is refused. No change that
+was answered is lost. A line has how many openings, how both end, the image, the log, and what the way back makes.
+
+  $ shim; echo '0: 61' > dump; echo '6: 7a7a' > second
+  $ beside() { # WAY_BACK WORDS ..: the first command
+  >   local back=$1 number
+  >   shift; changes '2: 7879'; failing b 0 bx "$@" > out 2>&1
+  >   for number in $(seq $(cat ../count)); do
+  >     changes '2: 7879'; SHIM_RUN='bx revert -f second img > said 2>&1; echo $? >> said' failing b $number bx "$@" > out 2>&1
+  >     echo "$? $(cat out), $(tail -n 1 said) $(grep bx: said), $(cat img), $(bx log img | paste -sd+), $(bx $back img) $(cat img)"
+  >   done | uniq -c
+  > }
+  $ beside redo undo img
+        3 0 1, 0 , ABxyEFGH, 1 8 2, 2 ABxyEFzz
+        4 0 0, 1 bx: cannot open file, ABCDEFGH, , 1 ABxyEFGH
+  $ beside undo revert -f dump img
+        4 0 , 0 , aBxyEFzz, 1 8 2+2 8 2+3 8 1, 2 ABxyEFzz
+        4 0 , 1 bx: cannot open file, aBxyEFGH, 1 8 2+2 8 1, 1 ABxyEFGH
+  $ beside undo revert --fresh -f dump img
+        4 0 , 0 , aBxyEFzz, 1 8 1, 0 ABxyEFzz
+       12 0 , 1 bx: cannot open file, aBxyEFGH, 1 8 1, 0 ABxyEFGH
+
 # Somebody who waits for a lock (wants cc)
 
 From the drop of a history to the change the files stay locked: who waits for the image gets it behind both.

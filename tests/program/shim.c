@@ -1,10 +1,12 @@
 // A library that makes the Nth memory request fail, the Nth read, write, sync or other call on a file fail, the Nth
 // sync fail on a full disk, each sync of a folder fail with error N, the Nth read or write move one byte, answers each
-// lock as a file system that has none, or runs SHIM_RUN before the Nth sync or the Nth link that is read: by SHIM_MODE
-// and SHIM_AT. How many there were goes into SHIM_COUNT's file.
+// lock as a file system that has none, or runs SHIM_RUN before the Nth opening, the Nth sync or the Nth link that is
+// read: by SHIM_MODE and SHIM_AT. How many there were goes into SHIM_COUNT's file.
 #define _GNU_SOURCE
 #include <dlfcn.h>
 #include <errno.h>
+#include <fcntl.h>
+#include <stdarg.h>
 #include <stdio.h>
 #include <stdlib.h>
 #include <string.h>
@@ -55,6 +57,15 @@ int statx(int d, const char *p, int g, unsigned m, struct statx *s) {
     return real(d, p, g, m, s);
 }
 off_t lseek(int d, off_t o, int w) { REAL(lseek); FAIL('f', EIO, -1); return real(d, o, w); }
+int open(const char *p, int how, ...) {
+    REAL(open);
+    va_list rest;
+    va_start(rest, how);
+    mode_t bits = how & O_CREAT ? va_arg(rest, mode_t) : 0;
+    va_end(rest);
+    RUN('b');
+    return real(p, how, bits);
+}
 static int is_folder(int d) { struct stat s; return fstat(d, &s) == 0 && S_ISDIR(s.st_mode); }
 int fsync(int d) {
     REAL(fsync);
