@@ -84,6 +84,22 @@ was answered is lost. A line has how many openings, how both end, the image, the
         4 0 , 0 , aBxyEFzz, 1 8 1, 0 ABxyEFzz
        12 0 , 1 bx: cannot open file, aBxyEFGH, 1 8 1, 0 ABxyEFGH
 
+# A pipe that takes a file's place before each opening (wants cc)
+
+No command waits for somebody who writes it, where the file that stood there may be written.
+
+  $ shim; echo '0: 61' > dump; printf ABCDEFGX > other
+  $ for words in 'log -v img' 'show img' 'undo img' 'revert -n -f dump img' 'revert --fresh -f dump img' 'forget img' 'diff img other'; do
+  >   changes '2: 7879'; failing b 0 bx $words > out 2>&1
+  >   for number in $(seq $(cat ../count)); do
+  >     for file in img img.bxj img.bxj.redo img.bxj.image other; do
+  >       changes '2: 7879'; rm -f other; printf ABCDEFGX > other
+  >       SHIM_RUN="mv $file away; mkfifo $file" failing b $number timeout 9 bx $words > out 2>&1
+  >       [ $? != 124 ] || echo "$words: waits for $file, at opening $number"
+  >     done
+  >   done
+  > done
+
 # Somebody who waits for a lock (wants cc)
 
 From the drop of a history to the change the files stay locked: who waits for the image gets it behind both.
