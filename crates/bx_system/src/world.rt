@@ -11,7 +11,7 @@ use crate::files::links::{Misplaced, Unmade, make_image, refuse_among_devices};
 use crate::files::locks::Locks;
 use crate::files::look::{is_in_place, look, look_at_text};
 use crate::files::mode::Permits;
-use crate::files::open::{fixed_length, length_of, open_there, open_to_read, take_away};
+use crate::files::open::{fixed_length_of, length_of, open_there, open_to_read, take_away};
 use crate::files::opened::{Known, OpenFile};
 use crate::folders::{folder_of, sync_folder};
 use crate::note::{self, NoteNames, Place, Put};
@@ -178,12 +178,12 @@ where
         }
     }
 
-    /// An image that is open, and may be one of a length that stays.
-    fn image(&self, file: File, length: Option<u64>, made: bool) -> OpenFile<'p, 'r, R> {
-        OpenFile::new(
-            CountedFile::image(held(file, self.waits), self.progress),
-            Known::of_image(length, made),
-        )
+    /// An image that was there and is open, and may be one of a length that stays. `waits` says whether its syncs wait.
+    fn image(&self, file: File, waits: bool) -> Result<OpenFile<'p, 'r, R>, Refusal> {
+        let found = file.metadata().map_err(refused)?;
+        let length = fixed_length_of(&file, &found).map_err(refused)?;
+        let file = CountedFile::image(held(file, waits), self.progress);
+        Ok(OpenFile::new(file, Known::of_image(length, false)).asked(&found))
     }
 
     /// The refusal of an image that wasn't made.
@@ -325,9 +325,10 @@ where
     }
 
     fn open_image(&mut self, name: &str, _: bool) -> Result<OpenFile<'p, 'r, R>, Refusal> {
-        let file = open_there(self.rt, name, true).map_err(unopened)?;
-        let length = fixed_length(&file).map_err(refused)?;
-        Ok(self.image(file, length, false))
+        self.image(
+            open_there(self.rt, name, true).map_err(unopened)?,
+            self.waits,
+        )
     }
 
     fn open_text(
@@ -369,14 +370,11 @@ where
             Err(why) => Err(why),
         };
         match outcome {
-            Ok((file, made)) => {
-                let length = if made {
-                    None
-                } else {
-                    fixed_length(&file).map_err(refused)?
-                };
-                Ok(self.image(file, length, made))
-            }
+            Ok((file, true)) => Ok(OpenFile::new(
+                CountedFile::image(held(file, self.waits), self.progress),
+                Known::of_image(None, true),
+            )),
+            Ok((file, false)) => self.image(file, self.waits),
             Err(why) => Err(self.unmade_image(why)),
         }
     }
@@ -512,12 +510,7 @@ where
     }
 
     fn open_image_to_read(&mut self, name: &str) -> Result<OpenFile<'p, 'r, R>, Refusal> {
-        let file = open_to_read(self.rt, name).map_err(unopened)?;
-        let length = fixed_length(&file).map_err(refused)?;
-        Ok(OpenFile::new(
-            CountedFile::image(held(file, false), self.progress),
-            Known::of_image(length, false),
-        ))
+        self.image(open_to_read(self.rt, name).map_err(unopened)?, false)
     }
 
     fn open_text_to_read(

@@ -45,7 +45,11 @@ impl Locks {
 
     /// Whether the lock of a file is kept.
     fn has(&self, file: &File) -> bool {
-        let (Some(kept), Ok(found)) = (&self.kept, file.metadata()) else {
+        // Most runs keep none, and the system is asked nothing then.
+        let Some(kept) = &self.kept else {
+            return false;
+        };
+        let Ok(found) = file.metadata() else {
             return false;
         };
         for other in kept.as_slice() {

@@ -1,6 +1,6 @@
 //! Opening one file, its lock, and taking away what was made.
 use crate::facts::alias::is_untouched;
-use std::fs::{self, File, TryLockError};
+use std::fs::{self, File, Metadata, TryLockError};
 use std::io::{self, ErrorKind, Seek, SeekFrom};
 use std::os::unix::fs::FileTypeExt;
 use std::rt::Files;
@@ -41,8 +41,13 @@ pub fn open_to_read<R: Files<File = File>>(rt: &R, name: &str) -> io::Result<Fil
 }
 
 /// The length of a file that can't have another one: of a block device.
-pub fn fixed_length(mut file: &File) -> io::Result<Option<u64>> {
-    if file.metadata()?.file_type().is_block_device() {
+pub fn fixed_length(file: &File) -> io::Result<Option<u64>> {
+    fixed_length_of(file, &file.metadata()?)
+}
+
+/// The same, by what the system has of the file.
+pub fn fixed_length_of(mut file: &File, found: &Metadata) -> io::Result<Option<u64>> {
+    if found.file_type().is_block_device() {
         // The system tells the length of a device by no other call of the kit.
         return Ok(Some(file.seek(SeekFrom::End(0))?));
     }

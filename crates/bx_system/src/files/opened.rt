@@ -90,6 +90,12 @@ impl<'p, 'r, R: Eprint + Clock> OpenFile<'p, 'r, R> {
         }
     }
 
+    /// The same file, known for the one that the system has this of.
+    pub(crate) fn asked(self, found: &Metadata) -> Self {
+        self.identity.set(Some(Identity::of(found)));
+        self
+    }
+
     /// The system's file.
     pub fn system(&self) -> Result<&File, Refusal> {
         match self.file.file() {
