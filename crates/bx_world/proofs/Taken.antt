@@ -1,8 +1,8 @@
 -- Files that a run made, and takes away again.
-use Rattle.std.proofs.Common.{◌≡◌, ◌⊎◌, ◌∙◌, ◌<◌, ◌≤◌, ℕ, Bool, true, false, List, [], Option, Some, refl, sym, ap, subst, inl, inr, arith}
+use Rattle.std.proofs.Common.{◌≡◌, ◌⊎◌, ◌∙◌, ◌<◌, ◌≤◌, ℕ, Bool, true, false, List, [], Option, Some, None, refl, sym, ap, subst, inl, inr, arith}
 use Rattle.std.proofs.lemmas.Bool.{cases_eq}
 use Rattle.bx_world.specs.World.{IsStuck, SystemState, TakesAtMost, TakesAway, Trio}
-use Rattle.bx_world.specs.files.Files.{AreAllThere, HasMade, IsMadeFile, IsOneOfMade, LeadsToMade, LeadsToNoneOf, LeavesFiles, LeavesMade, TakesOnly}
+use Rattle.bx_world.specs.files.Files.{AreAllThere, HasMade, IsMadeFile, IsOneOfMade, IsOneOfMadeTexts, LeadsToMade, LeadsToNoneOf, LeavesFiles, LeavesMade, TakesMade, TakesOnly}
 use Rattle.bx_world.specs.declared.files.made.Made.{Made}
 use Rattle.bx_world.proofs.Making.{false_true, made_still, none_some, some_one, streams_same, streams_then}
 
@@ -205,6 +205,54 @@ takes_turned P Q old new to takes = record {
   streams = takes.streams;
 }
 
+-- a call that takes a file away that was made, where it is empty, takes each such away
+pub mades_one : (made : Bool) (n : ℕ) (old new : SystemState) → TakesAtMost old new n
+    → (made ≡ true → old.bytes n ≡ [] → TakesAway old new n ⊎ IsStuck old new) → (made ≡ false → new ≡ old) → TakesMade (IsMadeFile made n) old new
+mades_one made n old new most taken stays = record {
+  takes = takes_one made n old new most stays;
+  gone = λ same k is empty m led.
+      let Empty : ℕ → Type 0 = λ i. old.bytes i ≡ [] in
+      elim (taken is.0 (subst Empty is.1 empty)) [
+        | inl away ↦ away.gone m (led ∙ ap Some is.1)
+        | inr stuck ↦ let more = stuck.stuck in absurd (omega (arith, more, same))
+      ];
+  stuck = most.stuck;
+}
+
+-- two such calls take away what either takes
+pub mades_then : (P Q : ℕ → Type 0) (a b c : SystemState) → TakesMade P a b → TakesMade Q b c → TakesMade (λ n. P n ⊎ Q n) a c
+mades_then P Q a b c one two =
+    let least = one.stuck in
+    let more = two.stuck in
+    record {
+      takes = takes_then P Q a b c one.takes two.takes;
+      gone = λ same n is empty m led.
+          let first : b.stuck ≡ a.stuck = omega (arith, least, more, same) in
+          let second : c.stuck ≡ b.stuck = omega (arith, least, more, same) in
+          elim is [
+            | inl P_n ↦ still_gone m (one.gone first n P_n empty m led)
+            | inr Q_n ↦ elim (one.takes.named m) [
+              | inl kept ↦ two.gone second n Q_n (one.takes.bytes n ∙ empty) m (kept ∙ led)
+              | inr away ↦ still_gone m away.4
+            ]
+          ];
+      stuck = omega (arith, least, more);
+    }
+  where
+    still_gone : (m : List ℕ) → b.named m ≡ None → c.named m ≡ None
+    still_gone m none = elim (two.takes.named m) [
+      | inl kept ↦ kept ∙ none
+      | inr away ↦ away.4
+    ]
+
+-- what was taken may be named otherwise
+pub mades_turned : (P Q : ℕ → Type 0) (old new : SystemState) → ((n : ℕ) → P n → Q n) → ((n : ℕ) → Q n → P n) → TakesMade P old new → TakesMade Q old new
+mades_turned P Q old new to back takes = record {
+  takes = takes_turned P Q old new to takes.takes;
+  gone = λ same n is. takes.gone same n (back n is);
+  stuck = takes.stuck;
+}
+
 -- a name that leads to another file leads to it still
 pub named_kept : (m : List ℕ) (n k : ℕ) (old new : SystemState) → TakesAtMost old new n → (k ≡ n → ⊥) → old.named m ≡ Some k → new.named m ≡ Some k
 named_kept m n k old new most apart named = elim (most.named m) [
@@ -249,3 +297,11 @@ module _ (made : Made) (t : Trio) where
       (takes_then _ _ a c d
       (takes_then _ _ a b c (takes_one made.redo t.redo a b one one_stays) (takes_one made.journal t.journal b c two two_stays))
       (takes_one made.image t.image c d three three_stays))
+
+  -- the texts that were made were taken away, the latest first
+  pub texts_taken : (a b c : SystemState) → TakesMade (IsMadeFile made.redo t.redo) a b → TakesMade (IsMadeFile made.journal t.journal) b c
+      → TakesMade (IsOneOfMadeTexts made t) a c
+  texts_taken a b c one two = mades_turned _ (IsOneOfMadeTexts made t) a c
+      (λ k is. elim is [ inl redo ↦ inr redo | inr journal ↦ inl journal ])
+      (λ k is. elim is [ inl journal ↦ inr journal | inr redo ↦ inl redo ])
+      (mades_then _ _ a b c one two)

@@ -12,7 +12,7 @@ mod unopened;
 
 pub use alone::{close_alone, lend_alone, look_alone};
 pub use guard::Guard;
-pub use made::{Files, Made, make_missing_image, unmake_all, unmake_missing_image};
+pub use made::{Files, Made, make_missing_image, unmake_all, unmake_missing_image, unmake_texts};
 pub use names::Names;
 pub use open::open_image_files;
 pub use reading::{Looked, open_redo_to_forget, open_to_forget, open_to_look};

@@ -13,7 +13,7 @@ mod world;
 pub use files::{
     FileRole, Files, Guard, Looked, Made, Names, OpenError, OpenFailure, close_alone, lend_alone,
     look_alone, make_missing_image, open_image_files, open_redo_to_forget, open_to_forget,
-    open_to_look, unmake_all, unmake_missing_image,
+    open_to_look, unmake_all, unmake_missing_image, unmake_texts,
 };
 pub use laws::readers_and_writers;
 pub use rule::{Unfit, image_unfit, read_unfit, text_unfit};

@@ -64,6 +64,12 @@ pub record TakesOnly (files : ℕ → Type 0) (old new : SystemState) : Type 0 w
   pub there : new.there ≡ old.there
   pub streams : KeepsStreams old new
 
+-- Of these files those were taken away that were empty, unless the system refused that, which is counted; nothing else happened to files and names
+pub record TakesMade (files : ℕ → Type 0) (old new : SystemState) : Type 0 where
+  pub takes : TakesOnly files old new
+  pub gone : new.stuck ≡ old.stuck → (n : ℕ) → files n → old.bytes n ≡ [] → (m : List ℕ) → old.named m ≡ Some n → new.named m ≡ None
+  pub stuck : old.stuck ≤ new.stuck
+
 -- An image that was missing was made, which is empty and may be changed; where none was made all is as it was
 abbrev pub MakesImage : List ℕ → Option ℕ → SystemState → SystemState → Type 0
 MakesImage name None old new = new ≡ old

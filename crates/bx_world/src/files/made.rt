@@ -1,7 +1,7 @@
 //! The three files of a session, and taking away again those of them that this run made.
 ghost use Rattle.std.specs.Prelude.{◌≡◌, ◌↔◌, ◌⊎◌, ◌<◌, ◌≤◌, ℕ, Bool, None, Some, true, false, [], IfErr, IfOk, OnErr, OnOk};
 ghost use Rattle.bx_world.specs.World.{AreThreeFiles, IsStuck, NothingNewBelow, NothingNewFound, SystemState, TakesAtMost, TakesAway, number_if};
-ghost use Rattle.bx_world.specs.files.Files.{AreAllThere, HasMade, IsMadeFile, IsOneOfMade, LeavesFiles, LeavesMade, MakesImage, TakesOnly, Unmakes};
+ghost use Rattle.bx_world.specs.files.Files.{AreAllThere, HasMade, IsMadeFile, IsOneOfMade, IsOneOfMadeTexts, LeavesFiles, LeavesMade, MakesImage, TakesMade, TakesOnly, Unmakes};
 ghost use Rattle.bx_world.specs.files.Numbers.{numbers_of};
 ghost use Rattle.bx_world.specs.files.Reasons.{MayRefuseOpening, RefusesAsBefore};
 ghost use Rattle.bx_world.specs.declared.files.unopened.FileRole.TheVariants.{Image};
@@ -94,6 +94,29 @@ pub fn unmake_all<W: World>(world: &mut W, names: &Names, files: &Files<W::File>
         files.made.journal,
     );
     take_made(world, names.image.as_str(), &files.image, files.made.image);
+}
+
+/// Takes those of the texts away again that this run made and that are empty, the latest first; an image that it made stays.
+pub fn unmake_texts<W: World>(world: &mut W, names: &Names, files: &Files<W::File>)
+    requires made { W.faithful world.old
+        → (n : ℕ) → IsOneOfMadeTexts files.now.made (numbers_of W.number files.now) n → (W.state world.old).before ≤ n }
+    requires apart { W.faithful world.old → AreThreeFiles (W.state world.old).there (numbers_of W.number files.now) }
+    requires journal { W.faithful world.old → (W.state world.old).named names.now.journal ≡ Some (W.number files.now.journal) }
+    requires redo { W.faithful world.old → (W.state world.old).named names.now.redo ≡ Some (W.number files.now.redo) }
+    ensures takes { W.faithful world.old
+        → TakesMade (IsOneOfMadeTexts files.now.made (numbers_of W.number files.now)) (W.state world.old) (W.state world.new) }
+    ensures counted { W.faithful world.old → W.refusals world.new ≡ W.refusals world.old }
+    ensures survives { W.faithful world.old → NothingNewFound (W.survives world.old) (W.survives world.new) }
+    ensures note { W.faithful world.old → W.note world.new ≡ W.note world.old }
+    ensures faith { W.faithful world.new ↔ W.faithful world.old }
+{
+    take_made(world, names.redo.as_str(), &files.redo, files.made.redo);
+    take_made(
+        world,
+        names.journal.as_str(),
+        &files.journal,
+        files.made.journal,
+    );
 }
 
 /// Makes an image that is missing, and opens it; none is made where one is there. It isn't locked, so that it can be opened by its name.
