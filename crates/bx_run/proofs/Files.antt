@@ -1,13 +1,13 @@
 -- What becomes of the files of these names, from the names to their bytes and back.
-use Rattle.std.proofs.Common.{◌≡◌, ◌∙◌, ◌<◌, ◌≤◌, ℕ, Bool, true, false, Some, None, List, [], refl, sym, ap, subst, inl, inr, arith, ◌⊎◌}
+use Rattle.std.proofs.Common.{◌≡◌, ◌∙◌, ◌<◌, ◌≤◌, ℕ, Bool, true, false, cond, Option, Some, None, List, [], refl, sym, ap, subst, inl, inr, arith, ◌⊎◌}
 use Rattle.std.specs.Option.{unwrap_or}
 use Rattle.std.proofs.lemmas.Bool.{cases_eq}
 use Rattle.bx_image.specs.Power.{NoMore}
 use Rattle.bx_world.specs.World.{ChangesOnly, NothingNewBelow, NothingNewFound, NothingNewOf, SystemState, Trio, held}
-use Rattle.bx_world.specs.files.Files.{AreAllThere, AreOpened, HasMade, IsOneOfMade, IsOpenUnder, LeadsToMade, LeavesFiles, TakesOnly}
+use Rattle.bx_world.specs.files.Files.{AreAllThere, AreOpened, HasMade, IsOneOfMade, IsOpenUnder, IsOneOfMadeTexts, LeadsToMade, LeadsToNoneOf, LeavesFiles, TakesMade, TakesOnly}
 use Rattle.bx_world.specs.declared.files.made.Made.{Made}
 use Rattle.bx_world.specs.declared.files.names.Names.{Names}
-use Rattle.bx_run.specs.session.Named.{IsNamedBy, LeadTo, KeepsOthers, bytes_of_files, contents_of}
+use Rattle.bx_run.specs.session.Named.{AreNotLeft, IsNamedBy, LeadTo, KeepsOthers, bytes_of_files, contents_of}
 
 pub some_injective : {m n : ℕ} → Some m ≡ Some n → m ≡ n
 some_injective {m} {n} is = ap (λ o. unwrap_or o m) is
@@ -59,6 +59,38 @@ same_trio names a b v w one other same = (
   one_file names.journal _ _ v w one.journal other.journal same,
   one_file names.redo _ _ v w one.redo other.redo same,
 )
+
+one_kept : (files : ℕ → Type 0) (name : List ℕ) (m n : ℕ) (last new : SystemState) → last.named name ≡ Some n
+    → LeadsToNoneOf files last.bytes (last.named name) (new.named name) → new.named name ≡ Some m → m ≡ n
+one_kept files name m n last new led leads is = elim leads [
+  | inl same ↦ some_injective (sym is ∙ same ∙ led)
+  | inr gone ↦ absurd (none_is_not_some m (sym gone.4 ∙ is))
+]
+
+-- names lead to one trio, where empty files were taken away
+pub trio_cleared : (files : ℕ → Type 0) (names : Names) (a b : Trio) (last new : SystemState) → LeadTo names b last → TakesOnly files last new
+    → LeadTo names a new → (a.image ≡ b.image) × (a.journal ≡ b.journal) × (a.redo ≡ b.redo)
+trio_cleared files names a b last new led takes is = (
+  one_kept files names.image _ _ last new led.image (takes.named names.image) is.image,
+  one_kept files names.journal _ _ last new led.journal (takes.named names.journal) is.journal,
+  one_kept files names.redo _ _ last new led.redo (takes.named names.redo) is.redo,
+)
+
+-- texts aren't left of files that are as they were
+pub none_left : (names : Names) (old new : SystemState) → LeavesFiles old new → AreNotLeft names old new new
+none_left names old new left = record {
+  journal = λ missing stuck empty. left.named stuck names.journal ∙ missing;
+  redo = λ missing stuck empty. left.named stuck names.redo ∙ missing;
+}
+
+-- what is known where a flag is set, and where not
+pub by_flag : {P Q : Type 0} (flag : Bool) → (flag ≡ false → P) → (flag ≡ true → Q) → P ⊎ Q
+by_flag true unset set = inr (set refl)
+by_flag false unset set = inl (unset refl)
+
+made_where : (o : Option ℕ) (made : Bool) (n : ℕ) → o ≡ cond made None (Some n) → o ≡ None → made ≡ true
+made_where o true n was missing = refl
+made_where o false n was missing = absurd (none_is_not_some n (sym missing ∙ was))
 
 -- what is held under the names is what the files have
 pub contents_named : (names : Names) (t : Trio) (w : SystemState) → LeadTo names t w → contents_of names w ≡ bytes_of_files t w
@@ -191,7 +223,53 @@ module _ (names : Names) (mounted makes : Bool) (t : Trio) (made : Made) (old mi
         ]
       ]
 
-  pub others_of : (new : SystemState) → TakesOnly (IsOneOfMade made t) last new → LeavesFiles old new ⊎ (new ≡ last) → KeepsOthers names old new
+  -- texts that were made are not left where they were taken away
+  pub texts_gone : (new : SystemState) → TakesMade (IsOneOfMadeTexts made t) last new → AreNotLeft names old new new
+  texts_gone new takes = record {
+    journal = λ missing stuck empty. gone names.journal made.journal t.journal opened.journal (λ is. inl (is, refl)) missing stuck empty;
+    redo = λ missing stuck empty. gone names.redo made.redo t.redo opened.redo (λ is. inr (is, refl)) missing stuck empty;
+  }
+    where
+      gone : (name : List ℕ) (is_made : Bool) (n : ℕ) → IsOpenUnder name is_made n old mid → (is_made ≡ true → IsOneOfMadeTexts made t n)
+          → old.named name ≡ None → new.stuck ≡ old.stuck → held new name ≡ [] → new.named name ≡ None
+      gone name is_made n under is missing stuck empty =
+          let led_to : last.named name ≡ Some n = only.named name ∙ under.named in
+          takes.gone (stuck ∙ sym opened.files.stuck ∙ sym only.stuck) n (is (made_where (old.named name) is_made n under.was missing))
+          (sym (held_cleared _ last new name n led_to takes.takes) ∙ empty) name led_to
+
+  -- a name that leads to one that was made leads to one of the three, where those were taken away that are empty
+  taken_led : (new : SystemState) → TakesMade (IsOneOfMadeTexts made t) last new → new.stuck ≡ last.stuck → (m : List ℕ)
+      → LeadsToMade (IsNamedBy names new) (old.named m) (new.named m)
+  taken_led new takes stuck m = elim (takes.takes.named m) [
+    | inl same ↦ elim (led m) [
+      | inl is ↦ inl (same ∙ is)
+      | inr is_new ↦ inr (is_new.0, is_new.1, still_named is_new.0 (same ∙ is_new.3) is_new.3 is_new.2, same ∙ is_new.3)
+    ]
+    | inr away ↦ elim (led m) [
+      | inl is ↦ absurd (made_apart IsMade away.0 old mid opened.files (within m away.0 (sym is ∙ away.2)) (inr away.1))
+      | inr is_new ↦ inl (away.4 ∙ sym is_new.1)
+    ]
+  ]
+    where
+      still_at : (k : ℕ) (x : List ℕ) → new.named m ≡ Some k → last.named m ≡ Some k → last.named x ≡ Some k → new.named x ≡ Some k
+      still_at k x is was leads = elim (takes.takes.named x) [
+        | inl same ↦ same ∙ leads
+        | inr away ↦
+            let same : k ≡ away.0 = some_injective (sym leads ∙ away.2) in
+            absurd (none_is_not_some k (sym (takes.gone stuck away.0 away.1 away.3 m (was ∙ ap Some same)) ∙ is))
+      ]
+
+      still_named : (k : ℕ) → new.named m ≡ Some k → last.named m ≡ Some k → IsNamedBy names last k → IsNamedBy names new k
+      still_named k is was by = elim by [
+        | inl image ↦ inl (still_at k names.image is was image)
+        | inr text ↦ elim text [
+          | inl journal ↦ inr (inl (still_at k names.journal is was journal))
+          | inr redo ↦ inr (inr (still_at k names.redo is was redo))
+        ]
+      ]
+
+  pub others_of : (new : SystemState) → TakesOnly (IsOneOfMade made t) last new
+      → LeavesFiles old new ⊎ (new ≡ last) ⊎ TakesMade (IsOneOfMadeTexts made t) last new → KeepsOthers names old new
   others_of new most left = record {
     bytes = λ n below no_image no_journal no_redo. most.bytes n ∙ only.bytes n (
       no_other IsMade names.image made.image t.image n old mid opened.files opened.image (λ is. inl (is, refl)) below no_image,
@@ -202,15 +280,23 @@ module _ (names : Names) (mounted makes : Bool) (t : Trio) (made : Made) (old mi
     named = λ m n named. still_behind new most m n named;
     made = λ stuck m. elim left [
       | inl leaves ↦ inl (leaves.named stuck m)
-      | inr is ↦ subst (λ (w : SystemState). LeadsToMade (IsNamedBy names w) (old.named m) (w.named m)) (sym is) (led m)
+      | inr rest ↦ elim rest [
+        | inl is ↦ subst (λ (w : SystemState). LeadsToMade (IsNamedBy names w) (old.named m) (w.named m)) (sym is) (led m)
+        | inr takes ↦ taken_led new takes (stuck ∙ sym before_last) m
+      ]
     ];
     stuck = elim left [
       | inl leaves ↦ leaves.stuck
-      | inr is ↦ let same : last.stuck ≡ old.stuck = only.stuck ∙ opened.files.stuck in
-          subst (λ (w : SystemState). old.stuck ≤ w.stuck) (sym is) (omega (arith, same))
+      | inr rest ↦ elim rest [
+        | inl is ↦ let same = before_last in subst (λ (w : SystemState). old.stuck ≤ w.stuck) (sym is) (omega (arith, same))
+        | inr takes ↦ let same = before_last in let more = takes.stuck in omega (arith, same, more)
+      ]
     ];
   }
     where
+      before_last : last.stuck ≡ old.stuck
+      before_last = only.stuck ∙ opened.files.stuck
+
       still_behind : (new : SystemState) → TakesOnly (IsOneOfMade made t) last new → (m : List ℕ) (n : ℕ) → old.named m ≡ Some n → new.named m ≡ Some n
       still_behind new most m n named =
           let stands : last.named m ≡ Some n = only.named m ∙ still IsMade old mid m n opened.files named in

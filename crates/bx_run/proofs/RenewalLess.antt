@@ -9,11 +9,12 @@ use Rattle.bx_cli_commands.specs.declared.fault.Fault.TheVariants.{Session}
 use Rattle.bx_world.specs.World.{NothingNewBelow, NothingNewFound, SystemState}
 use Rattle.bx_world.specs.declared.files.names.Names.{Names}
 use Rattle.bx_run.specs.session.Contents.{recovered_as}
+use Rattle.bx_run.specs.session.Named.{no_change}
 use Rattle.bx_run.specs.declared.session.task.Task.{Task}
 use Rattle.bx_run.specs.forget.Forgetting.{Held}
 use Rattle.bx_run.specs.declared.report.error.ReportError.{ReportError}
 use Rattle.bx_run.specs.declared.report.error.ReportError.TheVariants.{Stopped}
-use Rattle.bx_run.specs.renew.Renewal.{LosesUndropped, SurvivesRenewal, SurvivesRenewing, found_there, no_change}
+use Rattle.bx_run.specs.renew.Renewal.{LosesUndropped, SurvivesRenewal, SurvivesRenewing, found_there}
 use Rattle.bx_run.specs.declared.renew.Renewed.{Renewed}
 use Rattle.bx_run.specs.declared.renew.Renewed.TheVariants.{Kept, Undropped, Changed}
 use Rattle.bx_run.proofs.Refused.{endures_less}

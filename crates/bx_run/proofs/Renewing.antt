@@ -22,7 +22,7 @@ use Rattle.bx_cli_commands.specs.declared.command.Reply.TheVariants.{Changed, Co
 use Rattle.bx_cli_commands.specs.declared.fault.Fault.{Fault}
 use Rattle.bx_cli_commands.specs.declared.fault.Fault.TheVariants.{OpenFailed, Session}
 use Rattle.bx_world.specs.World.{SystemState, Spares, Trio, held}
-use Rattle.bx_world.specs.files.Files.{AreAllThere, LeadsToMade}
+use Rattle.bx_world.specs.files.Files.{AreAllThere, LeadsToMade, LeavesFiles}
 use Rattle.bx_world.specs.declared.files.guard.Guard.{Guard}
 use Rattle.bx_world.specs.declared.files.names.Names.{Names}
 use Rattle.bx_world.specs.declared.files.unopened.OpenError.{OpenError}
@@ -30,7 +30,7 @@ use Rattle.bx_run.specs.session.Changes.{Changes, SaysRecovered}
 use Rattle.bx_run.specs.session.Contents.{Contents, DoesFound, EndsAt, FoundIn, Holds, Survives, SurvivesFound, recovered_as}
 use Rattle.bx_run.specs.session.Moves.{TellsRecovered, recovered_line}
 use Rattle.bx_run.specs.session.Guarded.{WereOpened, another}
-use Rattle.bx_run.specs.session.Named.{IsNamedBy, IsUnrecovered, KeepsOthers, LeadTo, MayRefuse, MayRefuseTask, NothingDone, contents_of}
+use Rattle.bx_run.specs.session.Named.{AreNotLeft, IsNamedBy, IsUnrecovered, KeepsOthers, LeadTo, MayRefuse, MayRefuseTask, NothingDone, contents_of, no_change}
 use Rattle.bx_run.specs.session.Task.{TaskStep}
 use Rattle.bx_run.specs.declared.session.named.Answer.{Answer}
 use Rattle.bx_run.specs.declared.session.task.Task.{Task}
@@ -40,7 +40,7 @@ use Rattle.bx_run.specs.forget.Forgetting.{HasForgotten, IsNoTextNamed, IsOfText
 use Rattle.bx_run.specs.declared.report.error.ReportError.{ReportError}
 use Rattle.bx_run.specs.declared.report.error.ReportError.TheVariants.{Another as OtherImage, Unopened as UnopenedFile, Unfinished, Stopped}
 use Rattle.bx_run.specs.preview.Changing.{DoesChange}
-use Rattle.bx_run.specs.renew.Renewal.{ChangesAlone, IsDroppable, IsOfAnother, JudgesOpening, KeepsNamed, LosesUndropped, MayDrop, MayNotOpen, no_change, only_told}
+use Rattle.bx_run.specs.renew.Renewal.{ChangesAlone, IsDroppable, IsOfAnother, JudgesOpening, KeepsNamed, LosesUndropped, MayDrop, MayNotOpen, only_told}
 
 -- an undo of no change leaves the images
 undone_none : (s : Images) (i : ℕ) → i ≤ 0 → undo_of i s ≡ s
@@ -332,6 +332,26 @@ keeps_named names old first second new there first_there a b c = record {
 
     below : (m : List ℕ) (n : ℕ) → old.named m ≡ Some n → n < second.there
     below m n is = let led = first_there m n (a.named m n is) in let same = b.there in omega (arith, led, same)
+
+-- texts that the opening didn't leave are not there behind the drop
+pub texts_dropped : (names : Names) (spared : ℕ → Type 0) (old first second : SystemState) → AreNotLeft names old first first → Spares spared first second
+    → AreNotLeft names old first second
+texts_dropped names spared old first second texts drops = record {
+  journal = λ missing stuck empty. drops.named names.journal ∙ texts.journal missing (sym drops.stuck ∙ stuck) empty;
+  redo = λ missing stuck empty. drops.named names.redo ∙ texts.redo missing (sym drops.stuck ∙ stuck) empty;
+}
+
+-- nor behind a change that was refused then
+pub texts_refused : (names : Names) (old first second new : SystemState) → AreNotLeft names old first second → old.stuck ≤ second.stuck → LeavesFiles second new
+    → AreNotLeft names old first new
+texts_refused names old first second new texts least left =
+    let more = left.stuck in
+    record {
+      journal = λ missing stuck empty.
+          left.named (omega (arith, least, more, stuck)) names.journal ∙ texts.journal missing (omega (arith, least, more, stuck)) empty;
+      redo = λ missing stuck empty.
+          left.named (omega (arith, least, more, stuck)) names.redo ∙ texts.redo missing (omega (arith, least, more, stuck)) empty;
+    }
 
 -- files that are as they were
 pub keeps_itself : (names : Names) (w : SystemState) → KeepsOthers names w w

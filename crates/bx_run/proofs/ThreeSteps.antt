@@ -1,6 +1,7 @@
 -- The steps of a change with which a history begins anew, and what they say of the files before the first.
-use Rattle.std.proofs.Common.{◌<◌, ℕ, List, Err}
+use Rattle.std.proofs.Common.{◌<◌, ℕ, List, Err, arith}
 use Rattle.std.specs.Prelude.{Option}
+use Rattle.bx_journal.specs.Forgotten.{only}
 use Rattle.bx_world.specs.World.{held}
 use Rattle.bx_world.specs.declared.files.guard.Guard.{Guard}
 use Rattle.bx_world.specs.declared.files.names.Names.{Names}
@@ -8,9 +9,10 @@ use Rattle.bx_run.specs.session.Named.{contents_of}
 use Rattle.bx_run.specs.declared.session.named.Answer.{Answer}
 use Rattle.bx_run.specs.declared.session.task.Task.{Task}
 use Rattle.bx_run.specs.declared.report.error.ReportError.{ReportError}
+use Rattle.bx_run.specs.forget.Forgetting.{IsNoTextNamed}
 use Rattle.bx_run.specs.renew.Renewal.{DropsTexts, JudgesOpening, OpensToDrop, Renews, StaysUndropped, TakesSteps}
 use Rattle.bx_run.specs.RunState.{RunState}
-use Rattle.bx_run.proofs.Renewing.{changes_alone, holds_alone, holds_undropped, newest}
+use Rattle.bx_run.proofs.Renewing.{changes_alone, holds_alone, holds_undropped, newest, texts_dropped, texts_refused}
 
 module _ {R : Type 0} (remaining : R → Option (List ℕ)) (names : Names) where
   -- the change is asked for on the newest image alone
@@ -20,13 +22,19 @@ module _ {R : Type 0} (remaining : R → Option (List ℕ)) (names : Names) wher
       let first = steps.first.state in
       let second = steps.second.state in
       let image = held first names.image in
+      let alone = holds_alone names first second steps.drops.does.done in
+      let least = steps.opens.others.stuck in
+      let same = steps.drops.others.stuck in
       record {
         steps = steps;
         image = image;
         newest = λ s holds. newest (contents_of names first) s (steps.opens.same s holds);
         found = steps.opens.found;
         spared = steps.opens.image;
-        alone = changes_alone remaining names image task answer second new.state (holds_alone names first second steps.drops.does.done) steps.changes;
+        alone = changes_alone remaining names image task answer second new.state alone steps.changes;
+        texts = λ whole. texts_refused names old.state first second new.state
+            (texts_dropped names (IsNoTextNamed names first) old.state first second steps.opens.texts steps.drops.others) (omega (arith, least, same))
+            ((steps.changes.refused whole).left.files (steps.changes.how.none (only image) alone));
       }
 
   -- the history was not dropped
@@ -41,4 +49,5 @@ module _ {R : Type 0} (remaining : R → Option (List ℕ)) (names : Names) wher
     stops = stops;
     same = λ s holds other. holds_undropped guard first.note names (first.refusals < new.refusals) first.state new.state unseen s stops.does.stopped other
         (opens.same s holds);
+    texts = texts_dropped names (IsNoTextNamed names first.state) old.state first.state new.state opens.texts stops.others;
   }

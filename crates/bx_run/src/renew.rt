@@ -14,11 +14,11 @@ ghost use Rattle.bx_world.specs.files.Reasons.{MayRefuseOpening};
 ghost use Rattle.bx_run.specs.session.Changes.{SaysRecovered};
 ghost use Rattle.bx_run.specs.session.Contents.{Holds};
 ghost use Rattle.bx_run.specs.session.Guarded.{WereOpened};
-ghost use Rattle.bx_run.specs.session.Named.{KeepsOthers, NothingDone, SurvivesTask, contents_of};
+ghost use Rattle.bx_run.specs.session.Named.{AreNotLeft, KeepsOthers, NothingDone, SurvivesTask, contents_of, no_change};
 ghost use Rattle.bx_run.specs.session.Task.{IsNearTask};
 ghost use Rattle.bx_run.specs.preview.Changing.{DoesChange};
 ghost use Rattle.bx_run.specs.run.Outcome.{first_unopened};
-ghost use Rattle.bx_run.specs.renew.Renewal.{ClearsImage, DoesRenew, EndsNote, IsDroppable, IsOfAnother, IsRefusedBehind, IsRefusedRenewal, JudgesOpening, KeepsNamed, MayDrop, MayNotOpen, NothingRenewed, OpensToDrop, RenewsFiles, SurvivesRenewal, SurvivesRenewing, TellsOpening, no_change, only_told};
+ghost use Rattle.bx_run.specs.renew.Renewal.{ClearsImage, DoesRenew, EndsNote, IsDroppable, IsOfAnother, IsRefusedBehind, IsRefusedRenewal, JudgesOpening, KeepsNamed, MayDrop, MayNotOpen, NothingRenewed, OpensToDrop, RenewsFiles, SurvivesRenewal, SurvivesRenewing, TellsOpening, only_told};
 ghost use Rattle.bx_run.specs.RunState.{run_state_beside};
 
 use crate::forget::{forget_files, take_note};
@@ -133,6 +133,7 @@ fn open_to_drop<W: World, R: Read + Drop>(
     ensures opened { W.faithful world.old → MayDrop result → WereOpened result.unopened }
     ensures judged { W.faithful world.old → JudgesOpening R.remaining guard (W.note world.old) names.now (W.state world.old) result }
     ensures others { W.faithful world.old → KeepsOthers names.now (W.state world.old) (W.state world.new) }
+    ensures texts { W.faithful world.old → AreNotLeft names.now (W.state world.old) (W.state world.new) (W.state world.new) }
     ensures streams { W.faithful world.old → SaysRecovered result.how (W.state world.old) (W.state world.new) }
     ensures faith { W.faithful world.new ↔ W.faithful world.old }
 {

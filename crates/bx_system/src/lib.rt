@@ -13,7 +13,7 @@ mod refusal;
 mod tally;
 mod world;
 
-pub use facts::alias::{is_same, is_untouched};
+pub use facts::alias::is_same;
 pub use facts::dev::is_among_devices;
 pub use facts::mounts::is_mounted;
 pub use facts::stat::{caller_of, is_group_given, stat_of};
@@ -23,7 +23,7 @@ pub use files::devices::{held, image_of, size_of_texts};
 pub use files::left::{Ended, Left};
 pub use files::links::Misplaced;
 pub use files::mode::Permits;
-pub use files::open::{fixed_length, lock, lock_shared, open_there, open_to_read, take_away};
+pub use files::open::{fixed_length, open_there, open_to_read};
 pub use files::opened::OpenFile;
 pub use folders::folder_of;
 pub use noted::Noted;

@@ -1,5 +1,5 @@
 //! Plays a change with which the history begins anew, where some of an image and its texts are missing: each call fails in turn. Where it
-//! is refused an image that was missing isn't there, and one that was there holds what it held.
+//! is refused no file is there that wasn't, and an image that was there holds what it held.
 use crate::report::{Failure, Wrong};
 use crate::seen::asked::whole_change;
 use crate::setting::{CAREFUL, Held, There, has_other, held_by, names, there_in, world_with};
@@ -112,25 +112,28 @@ impl Renewal<'_> {
         !there_in(world).image || (world.stuck() > 0 && held.image.is_empty())
     }
 
-    /// The texts hold what they held, or where the history was dropped nothing, beside no note; and of an opening that was refused no file
-    /// is there that wasn't.
+    /// The texts hold what they held, or where the history was dropped nothing, beside no note.
     fn has_texts(&self, world: &MemoryWorld, step: Step) -> bool {
         let held = held_by(world);
         let first = self.first();
-        let is_kept = held.journal == first.journal && held.redo == first.redo;
         match step {
-            Step::Opening => {
-                let news = there_in(world).news(self.there);
-                is_kept && news.is_some_and(|news| news <= world.stuck())
+            Step::Opening | Step::Dropping => {
+                held.journal == first.journal && held.redo == first.redo
             }
-            Step::Dropping => is_kept,
             Step::Work => held.journal.is_empty() && held.redo.is_empty() && has_no_note(world),
         }
+    }
+
+    /// No file is there that wasn't, but for those that the world refused to take away.
+    fn has_no_news(&self, world: &MemoryWorld) -> bool {
+        let news = there_in(world).news(self.there);
+        news.is_some_and(|news| news <= world.stuck())
     }
 
     /// It was refused for this.
     fn is_refused(&self, world: &MemoryWorld, refused: Refused) -> Result<(), Wrong> {
         same(self.has_image(world), Wrong::Files)?;
+        same(self.has_no_news(world), Wrong::Files)?;
         same(self.has_texts(world, refused.step), Wrong::Files)
     }
 

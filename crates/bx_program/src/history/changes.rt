@@ -1,15 +1,14 @@
 //! Changes of an image by the names of its files.
-use crate::devices::left::{is_unfinished, recovered, stopped};
+use crate::devices::left::{recovered, stopped};
 use crate::files::look::{is_missing, refuse_without_journal};
 use crate::files::names::{guard_of, names_of, world_of};
-use crate::history::take_empty;
 use crate::history::told::told;
 use bx_cli::{Fault, Target};
 use bx_hints::{Remarks, Stopped};
 use bx_journal::{Direction, RecoveryOutcome, SessionFault};
 use bx_run::{Done, Edit, Failure, Request, Step, run_request};
 use bx_system::{Progress, SystemWorld};
-use bx_world::{Names, World};
+use bx_world::World;
 use std::fs::{self, File};
 use std::io::{self, Empty, ErrorKind, Read};
 use std::rt::Files;
@@ -119,40 +118,6 @@ where
     renew_image(rt, target, edit, progress, remarks)
 }
 
-/// Drops the history of an image, and then does a task on it. A text that was missing stays so where the change is refused.
-fn renew<R>(
-    rt: &R,
-    world: &mut SystemWorld<'_, '_, R>,
-    target: &Target,
-    names: &Names,
-    edit: Edit<Empty>,
-) -> Result<Done, Failure>
-where
-    R: Files<File = File> + Print + Eprint + Clock + AllocGlobal,
-{
-    let redo = target.texts.redo.as_str();
-    let journal = target.texts.journal.as_str();
-    let (no_redo, no_journal) = (is_missing(rt, redo), is_missing(rt, journal));
-    let request = Request::Renew {
-        names,
-        guard: guard_of(target),
-        edit,
-    };
-    let answer = run_request(world, rt.alloc(), request, &mut io::sink());
-    if !is_done(&answer) {
-        take_made(rt, redo, no_redo);
-        take_made(rt, journal, no_journal);
-    }
-    answer
-}
-
-/// Takes a text away that was missing, if it is empty.
-fn take_made<R: Files<File = File>>(rt: &R, name: &str, was_missing: bool) {
-    if was_missing {
-        take_empty(rt, name);
-    }
-}
-
 /// Drops the history of an image, and then changes it.
 fn renew_image<'a, R>(
     rt: &R,
@@ -167,7 +132,12 @@ where
     refuse_without_journal(rt, target)?;
     let mut world = world_of(rt, target, progress)?;
     let names = names_of(rt.alloc(), target)?;
-    match renew(rt, &mut world, target, &names, edit) {
+    let request = Request::Renew {
+        names: &names,
+        guard: guard_of(target),
+        edit,
+    };
+    match run_request(&mut world, rt.alloc(), request, &mut io::sink()) {
         Err(failure) if failure.step == Step::Dropping => Err(told(
             rt,
             target,
@@ -175,14 +145,6 @@ where
             stopped(rt, target, &world, failure),
         )),
         answer => answered(rt, target, &mut world, answer, remarks),
-    }
-}
-
-/// Whether the change was made, or stopped in the middle; else it was refused.
-fn is_done(answer: &Result<Done, Failure>) -> bool {
-    match answer {
-        Ok(_) => true,
-        Err(failure) => is_interrupted(failure.fault) && !is_unfinished(*failure),
     }
 }
 

@@ -12,7 +12,7 @@ use Rattle.bx_world.specs.declared.files.guard.Guard.{Guard}
 use Rattle.bx_world.specs.declared.files.names.Names.{Names}
 use Rattle.bx_run.specs.session.Changes.{Changes, InterruptsChange, RefusesChange}
 use Rattle.bx_run.specs.session.Contents.{DoesFound, FoundIn, Holds, StepsRead, TellsUnfinished}
-use Rattle.bx_run.specs.session.Named.{contents_of}
+use Rattle.bx_run.specs.session.Named.{AreNotLeft, contents_of, no_change}
 use Rattle.bx_run.specs.declared.session.named.Answer.{Answer}
 use Rattle.bx_run.specs.declared.session.task.Task.{Task}
 use Rattle.bx_run.specs.forget.Forgetting.{HasForgotten, LeavesNote, MayForgetNamed, StopsForgetting, held_by_names}
@@ -33,6 +33,11 @@ pub record DoesChange {R : Type 0} (remaining : R → Option (List ℕ)) (names 
   pub how : TellsUnfinished (contents_of names old) answer.how (stands_by answer.reply)
   pub recovered : (s : Images) → FoundIn (contents_of names old) s → answer.unopened ≡ None
       → DoesFound remaining s task answer.how answer.reply (contents_of names new)
+
+-- An opening does no change but what it recovers, and leaves no text that was missing
+pub record DoesRecover {R : Type 0} (remaining : R → Option (List ℕ)) (names : Names) (answer : Answer) (old new : SystemState) : Type 0 where
+  pub does : DoesChange remaining names no_change answer old new
+  pub texts : AreNotLeft names old new new
 
 -- Dropping a history leaves empty texts and the image as it was, where nothing was unfinished, or the texts don't fit the image, or what is unfinished
 -- is another image's, by the note; else all is as it was, and there is a reason, or it was stopped in the middle: of files in which opening finds images it then finds these, or fewer

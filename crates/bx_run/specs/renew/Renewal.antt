@@ -8,7 +8,6 @@ use Rattle.bx_journal.specs.Power.{Found}
 use Rattle.bx_journal.specs.SessionFault.TheVariants.{Interrupted}
 use Rattle.bx_cli_commands.specs.Refusal.{IsWholeRefusal}
 use Rattle.bx_cli_commands.specs.Replies.{stands_by}
-use Rattle.bx_cli_commands.specs.declared.command.Command.TheVariants.{Undo}
 use Rattle.bx_cli_commands.specs.declared.command.Reply.{Reply}
 use Rattle.bx_cli_commands.specs.declared.command.Reply.TheVariants.{Refused}
 use Rattle.bx_cli_commands.specs.declared.fault.Fault.TheVariants.{Session}
@@ -20,10 +19,9 @@ use Rattle.bx_world.specs.declared.files.unopened.OpenError.{OpenError}
 use Rattle.bx_run.specs.session.Changes.{Changes, InterruptsChange, RefusesChange, SaysRecovered}
 use Rattle.bx_run.specs.session.Contents.{FoundIn, Holds, Survives, recovered_as}
 use Rattle.bx_run.specs.session.Guarded.{WasJudged, another}
-use Rattle.bx_run.specs.session.Named.{IsNamedBy, IsUnrecovered, KeepsOthers, LeadTo, MayRefuseTask, SurvivesTask, contents_of, is_missing}
+use Rattle.bx_run.specs.session.Named.{AreNotLeft, IsNamedBy, IsUnrecovered, KeepsOthers, LeadTo, MayRefuseTask, SurvivesTask, contents_of, is_missing, no_change}
 use Rattle.bx_run.specs.declared.session.named.Answer.{Answer}
 use Rattle.bx_run.specs.declared.session.task.Task.{Task}
-use Rattle.bx_run.specs.declared.session.task.Task.TheVariants.{Run}
 use Rattle.bx_run.specs.forget.Forgetting.{DropsNote, Held, IsNoTextNamed, IsOfTexts, LosesPart, held_by_names}
 use Rattle.bx_run.specs.declared.report.error.ReportError.{ReportError}
 use Rattle.bx_run.specs.declared.report.error.ReportError.TheVariants.{Stopped}
@@ -32,10 +30,6 @@ use Rattle.bx_run.specs.run.Outcome.{renewed_end, unopened_fault}
 use Rattle.bx_run.specs.RunState.{RunState}
 use Rattle.bx_run.specs.declared.renew.Renewed.{Renewed}
 use Rattle.bx_run.specs.declared.renew.Renewed.TheVariants.{Kept, Undropped, Changed}
-
--- the task of an opening that changes nothing but what it recovers: an undo of no change
-abbrev pub no_change : {R : Type 0} → Task R
-no_change = Run (Undo 0)
 
 -- the opening was done, or refused for texts that are an image's
 abbrev pub IsDroppable : Reply → Type 0
@@ -74,6 +68,7 @@ pub record OpensToDrop {R : Type 0} (remaining : R → Option (List ℕ)) (names
   pub same : (s : Images) → Holds (contents_of names old) s → Holds (contents_of names new) s
   pub found : (s : Images) → FoundIn (contents_of names old) s → OnOk (stands_by answer.reply) (held new names.image ≡ top s.stack)
   pub image : IsWholeRefusal answer.reply → IsUnrecovered answer.how → held new names.image ≡ held old names.image
+  pub texts : AreNotLeft names old new new
 
 -- a history is dropped, or why not, and no file is changed but its texts
 pub record DropsTexts (guard : Guard) (names : Names) (outcome : Result (Unit {0}) ReportError) (old new : RunState) : Type 0 where
@@ -119,6 +114,7 @@ pub record Renews {R : Type 0} (remaining : R → Option (List ℕ)) (names : Na
   pub found : (s : Images) → FoundIn (contents_of names old.state) s → OnOk (stands_by steps.opened.reply) (image ≡ top s.stack)
   pub spared : IsWholeRefusal steps.opened.reply → IsUnrecovered steps.opened.how → image ≡ held old.state names.image
   pub alone : ChangesAlone remaining names image task answer new.state
+  pub texts : IsWholeRefusal answer.reply → AreNotLeft names old.state steps.first.state new.state
 
 -- The files were opened, but their history was not dropped, and why: they hold the images that they held, unless the dropping was stopped in the
 -- middle
@@ -130,12 +126,13 @@ pub record StaysUndropped {R : Type 0} (remaining : R → Option (List ℕ)) (na
   pub stops : DropsTexts guard names (Err unseen) first new
   pub same : (s : Images) → Holds (contents_of names old.state) s → (unseen ≡ Stopped (Session Interrupted) → ⊥)
       → Holds (contents_of names new.state) s
+  pub texts : AreNotLeft names old.state first.state new.state
 
 -- what a change with which the history begins anew leaves; where the files can't be opened to be changed all is as an opening that was refused leaves it
 abbrev pub DoesRenew : {R : Type 0} → (R → Option (List ℕ)) → Names → Guard → Task R → Renewed → RunState → RunState → Type 0
 DoesRenew remaining names guard task (Kept answer) old new =
     (MayDrop answer → ⊥) × DoesChange remaining names no_change answer old.state new.state
-    × JudgesOpening remaining guard old.note names old.state answer
+    × JudgesOpening remaining guard old.note names old.state answer × AreNotLeft names old.state new.state new.state
 DoesRenew remaining names guard task (Undropped unseen) old new = StaysUndropped remaining names guard unseen old new
 DoesRenew remaining names guard task (Changed answer) old new = Renews remaining names guard task answer old new
 

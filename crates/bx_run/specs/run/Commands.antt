@@ -19,18 +19,18 @@ use Rattle.bx_run.specs.session.Changes.{SaysRecovered}
 use Rattle.bx_run.specs.session.Contents.{FoundIn, Holds, TellsUnfinished}
 use Rattle.bx_run.specs.session.Moves.{Moves, MovesFound, MovesRead, SparesMove, StopsMove, SurvivesMoving, TellsRecovered, stepped, task_of}
 use Rattle.bx_run.specs.session.Guarded.{WasJudged}
-use Rattle.bx_run.specs.session.Named.{KeepsOthers, MayRefuseTask, SurvivesTask, contents_of, is_missing}
+use Rattle.bx_run.specs.session.Named.{KeepsOthers, MayRefuseTask, SurvivesTask, contents_of, is_missing, no_change}
 use Rattle.bx_run.specs.session.Task.{IsNearTask}
 use Rattle.bx_run.specs.declared.session.moves.Moved.{Moved}
 use Rattle.bx_run.specs.dump.Dumps.{CountsUndumped, DumpsInput, DumpsNamed, IsStopped, StopsInput, StopsNamed}
 use Rattle.bx_run.specs.declared.dump.error.DumpError.{DumpError}
 use Rattle.bx_run.specs.forget.Forgetting.{IsNoTextNamed, SurvivesForgetting}
-use Rattle.bx_run.specs.preview.Changing.{DoesChange, ForgetsFiles}
+use Rattle.bx_run.specs.preview.Changing.{DoesChange, DoesRecover, ForgetsFiles}
 use Rattle.bx_run.specs.preview.Diffs.{StopsDiff, WritesDiff}
 use Rattle.bx_run.specs.run.Answer.{answer_by}
 use Rattle.bx_run.specs.run.Outcome.{ended_by, unopened_by, unopened_fault}
 use Rattle.bx_run.specs.preview.Previews.{StopsPreview, WritesPreview}
-use Rattle.bx_run.specs.renew.Renewal.{KeepsNamed, RenewsFiles, SurvivesRenewing, TellsOpening, no_change}
+use Rattle.bx_run.specs.renew.Renewal.{KeepsNamed, RenewsFiles, SurvivesRenewing, TellsOpening}
 use Rattle.bx_run.specs.report.Reports.{Reports}
 use Rattle.bx_run.specs.Edit.{asked}
 use Rattle.bx_run.specs.RunState.{RunState}
@@ -100,7 +100,7 @@ Answers request outcome = ⊥
 abbrev pub Fulfills : {R : Type 0} → (R → Option (List ℕ)) → Request R → Outcome → RunState → RunState → Type 0
 Fulfills remaining (Move names guard way count) (of.Moved moved) old new = DoesMove names.now way count moved old.state new.state
 Fulfills remaining (Change names guard edit) (of.Changed answer) old new = DoesChange remaining names.now (asked edit) answer old.state new.state
-Fulfills remaining (Recover names guard) (of.Changed answer) old new = DoesChange remaining names.now no_change answer old.state new.state
+Fulfills remaining (Recover names guard) (of.Changed answer) old new = DoesRecover remaining names.now answer old.state new.state
 Fulfills remaining (Dump job name) (of.Dumped outcome) old new = DoesDump job.now name.now outcome old new
 Fulfills remaining (DumpInput job input) (of.Dumped outcome) old new = DoesDumpInput job.now (remaining input) outcome old new
 Fulfills remaining (Diff old_name new_name extent) (of.Compared outcome) old new = DoesDiff extent old_name.now new_name.now outcome old new

@@ -1,5 +1,5 @@
 -- What one task makes of the files of an image, and of all others.
-use Rattle.std.specs.Prelude.{◌≡◌, ◌⊎◌, ◌<◌, ◌≤◌, ℕ, Bool, true, false, Option, None, Some, IfSome, List}
+use Rattle.std.specs.Prelude.{◌≡◌, ◌⊎◌, ◌<◌, ◌≤◌, ℕ, Bool, true, false, Option, None, Some, IfSome, List, []}
 use Rattle.std.specs.Option.{option_map_or}
 use Rattle.bx_world.specs.World.{NothingNewBelow, SystemState, Trio, held}
 use Rattle.bx_world.specs.files.Files.{LeadsToMade, LeavesFiles}
@@ -12,10 +12,12 @@ use Rattle.bx_journal.specs.RecoveryOutcome.{RecoveryOutcome}
 use Rattle.bx_journal.specs.RecoveryOutcome.TheVariants.{Clean}
 use Rattle.bx_cli_commands.specs.Refusal.{IsWholeRefusal}
 use Rattle.bx_cli_commands.specs.Standing.{Standing}
+use Rattle.bx_cli_commands.specs.declared.command.Command.TheVariants.{Undo}
 use Rattle.bx_cli_commands.specs.declared.command.Reply.{Reply}
 use Rattle.bx_cli_commands.specs.declared.command.Reply.TheVariants.{Refused}
 use Rattle.bx_cli_commands.specs.declared.fault.Fault.TheVariants.{OpenFailed}
 use Rattle.bx_run.specs.declared.session.task.Task.{Task}
+use Rattle.bx_run.specs.declared.session.task.Task.TheVariants.{Run}
 use Rattle.bx_run.specs.declared.session.named.Answer.{Answer}
 use Rattle.bx_run.specs.session.Contents.{StayOnDisk, Contents, FoundIn, Holds, IsUnopened, Spared, Survives, SurvivesFound}
 use Rattle.bx_run.specs.session.Guarded.{MayBeAnother, WereOpened, another}
@@ -60,6 +62,15 @@ abbrev pub MayRefuseTask : {R : Type 0} → Guard → Bool → List ℕ → Task
 MayRefuseTask guard makes note task names counted w u =
     MayRefuseOpening names guard.mounted makes counted w u
     ⊎ ((u ≡ another) × MayBeAnother guard (is_missing names.image w) note (contents_of names w) task)
+
+-- the task of an opening that changes nothing but what it recovers: an undo of no change
+abbrev pub no_change : {R : Type 0} → Task R
+no_change = Run (Undo 0)
+
+-- texts that were missing, and were left empty, aren't there, unless the system refused to take a file away
+pub record AreNotLeft (names : Names) (old behind new : SystemState) : Type 0 where
+  pub journal : old.named names.journal ≡ None → new.stuck ≡ old.stuck → held behind names.journal ≡ [] → new.named names.journal ≡ None
+  pub redo : old.named names.redo ≡ None → new.stuck ≡ old.stuck → held behind names.redo ≡ [] → new.named names.redo ≡ None
 
 -- opening found finished entries alone, or was refused
 abbrev pub IsUnrecovered : Option RecoveryOutcome → Type 0

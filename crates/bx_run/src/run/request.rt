@@ -29,7 +29,7 @@ pub enum Request<'a, R = Empty> {
         /// What is asked of the image.
         edit: Edit<R>,
     },
-    /// Recovers what is unfinished of an image, which is an undo of no change that writes no number.
+    /// Recovers what is unfinished of an image, which is an undo of no change that writes no number. Texts that were missing stay so.
     Recover {
         /// The files of the image.
         names: &'a Names,
@@ -81,7 +81,8 @@ pub enum Request<'a, R = Empty> {
         guard: Guard,
     },
     /// Changes an image with whose change the history begins anew: what is unfinished is recovered onto an image that the note tells to be
-    /// the one, the history is dropped, and the change is made on the image alone: `--fresh`.
+    /// the one, the history is dropped, and the change is made on the image alone: `--fresh`. Where both texts are missing, there is none
+    /// to drop, and it is refused.
     Renew {
         /// The files of the image.
         names: &'a Names,

@@ -12,7 +12,7 @@ ghost use Rattle.bx_run.specs.session.Changes.{Changes, InterruptsChange, Refuse
 ghost use Rattle.bx_run.specs.session.Contents.{DoesFound, FoundIn, Holds, StepsRead, TellsUnfinished};
 ghost use Rattle.bx_run.specs.session.Guarded.{WasJudged, WereOpened};
 ghost use Rattle.bx_run.specs.session.Moves.{recovered_line};
-ghost use Rattle.bx_run.specs.session.Named.{KeepsOthers, MayRefuseTask, NothingDone, SurvivesTask, contents_of, is_missing};
+ghost use Rattle.bx_run.specs.session.Named.{AreNotLeft, KeepsOthers, MayRefuseTask, NothingDone, SurvivesTask, contents_of, is_missing, no_change};
 ghost use Rattle.bx_run.specs.session.Task.{IsNearTask};
 
 use crate::session::moves::tell_recovered;
@@ -23,8 +23,8 @@ use std::alloc::Global;
 use std::io::Read;
 
 /// Opens the files of these names, does one task on them, closes them, and says on standard error what was recovered. An image, a
-/// journal and a redo text that are missing are made, and taken away again where the task is refused. `guard` says what it may do: on an
-/// image that is another one than the journal was written beside the task isn't begun.
+/// journal and a redo text that are missing are made, and taken away again where the task is refused; texts also behind an undo of no change.
+/// `guard` says what it may do: on an image that is another one than the journal was written beside the task isn't begun.
 pub fn change_files<W: World, R: Read + Drop>(
     world: &mut W,
     alloc: Global,
@@ -73,6 +73,10 @@ pub fn change_files<W: World, R: Read + Drop>(
     // Whatever the files hold that opening takes, it makes the machine's step on the images for which they stand, unless a device failed.
     ensures stands { W.faithful world.old → Unfailed result.reply → IfSome result.how (λ how. StepsRead R.remaining task how result.reply
         (contents_of names.now (W.state world.old)) (contents_of names.now (W.state world.new))) }
+
+    // An undo of no change leaves no text that was missing.
+    ensures texts { W.faithful world.old → task ≡ no_change
+        → AreNotLeft names.now (W.state world.old) (W.state world.new) (W.state world.new) }
 
     // No other file is changed, whatever the files hold and whatever becomes of the task, and nothing is written but what was recovered.
     ensures others { W.faithful world.old → KeepsOthers names.now (W.state world.old) (W.state world.new) }

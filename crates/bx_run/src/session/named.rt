@@ -5,19 +5,19 @@ ghost use Rattle.bx_cli_commands.specs.Refusal.{IsWholeRefusal};
 ghost use Rattle.bx_cli_commands.specs.Replies.{stands_by};
 ghost use Rattle.bx_cli_commands.specs.Run.{Unfailed};
 ghost use Rattle.bx_world.specs.World.{AreThreeFiles, KeepsStreams, NothingNewFound, SystemState};
-ghost use Rattle.bx_world.specs.files.Files.{AreAllThere, HasMade, IsOneOfMade, LeavesFiles, TakesOnly};
+ghost use Rattle.bx_world.specs.files.Files.{AreAllThere, HasMade, IsOneOfMade, IsOneOfMadeTexts, LeavesFiles, TakesMade, TakesOnly};
 ghost use Rattle.bx_world.specs.files.Fit.{AreFit};
 ghost use Rattle.bx_world.specs.files.Numbers.{numbers_of};
 ghost use Rattle.bx_run.specs.session.Contents.{DoesFound, FoundIn, Holds, StepsRead, StepsTo, TellsUnfinished};
 ghost use Rattle.bx_run.specs.session.Guarded.{WasJudged, WereOpened};
-ghost use Rattle.bx_run.specs.session.Named.{LeadTo, IsUnrecovered, KeepsOthers, LeavesRefused, MayRefuse, MayRefuseTask, NothingDone, SurvivesTask, contents_of, is_missing};
+ghost use Rattle.bx_run.specs.session.Named.{AreNotLeft, LeadTo, IsUnrecovered, KeepsOthers, LeavesRefused, MayRefuse, MayRefuseTask, NothingDone, SurvivesTask, contents_of, is_missing, no_change};
 ghost use Rattle.bx_run.specs.session.Task.{IsNearTask};
 
 use crate::session::lent::{Done, with_devices};
 use crate::session::task::Task;
-use bx_cli_commands::{Fault, Reply};
+use bx_cli_commands::{Command, Fault, Reply};
 use bx_journal::{RecoveryOutcome, SessionFault};
-use bx_world::{Guard, Names, OpenError, World, open_image_files, unmake_all};
+use bx_world::{Guard, Names, OpenError, World, open_image_files, unmake_all, unmake_texts};
 use std::alloc::Global;
 use std::io::Read;
 
@@ -56,8 +56,20 @@ fn is_unrecovered(how: Option<RecoveryOutcome>) -> bool
     }
 }
 
-/// Takes the files away again that this run made, where the task was refused and nothing was recovered.
-fn clear<W: World>(world: &mut W, names: &Names, done: &Done<W::File>)
+/// Whether a task is an undo of no change, which opens the files to recover what is unfinished.
+fn is_opening<R: Read + Drop>(task: &Task<R>) -> bool
+    ensures { task.now ≡ no_change → result ≡ true }
+{
+    if let Task::Run(Command::Undo { k }) = task {
+        *k == 0
+    } else {
+        false
+    }
+}
+
+/// Takes the files away again that this run made, where the task was refused and nothing was recovered. Behind an opening, which writes
+/// nothing to a text that was missing, the texts go whatever became of it.
+fn clear<W: World>(world: &mut W, names: &Names, done: &Done<W::File>, opening: bool)
     requires made { W.faithful world.old
         → (n : ℕ) → IsOneOfMade done.now.files.made (numbers_of W.number done.now.files) n → (W.state world.old).before ≤ n }
     requires apart { W.faithful world.old → AreThreeFiles (W.state world.old).there (numbers_of W.number done.now.files) }
@@ -65,7 +77,9 @@ fn clear<W: World>(world: &mut W, names: &Names, done: &Done<W::File>)
     ensures left { W.faithful world.old → IsWholeRefusal done.now.reply → IsUnrecovered done.now.how → (first : SystemState) → AreAllThere first
         → HasMade (IsOneOfMade done.now.files.made (numbers_of W.number done.now.files)) first (W.state world.old)
         → LeavesFiles first (W.state world.new) }
-    ensures stays { W.faithful world.old → (IsWholeRefusal done.now.reply → IsUnrecovered done.now.how → ⊥) → world.new ≡ world.old }
+    ensures stays { W.faithful world.old → (IsWholeRefusal done.now.reply → IsUnrecovered done.now.how → ⊥) → opening ≡ false → world.new ≡ world.old }
+    ensures texts { W.faithful world.old → (IsWholeRefusal done.now.reply → IsUnrecovered done.now.how → ⊥) → opening ≡ true
+        → TakesMade (IsOneOfMadeTexts done.now.files.made (numbers_of W.number done.now.files)) (W.state world.old) (W.state world.new) }
     ensures most { W.faithful world.old
         → TakesOnly (IsOneOfMade done.now.files.made (numbers_of W.number done.now.files)) (W.state world.old) (W.state world.new) }
     ensures survives { W.faithful world.old → NothingNewFound (W.survives world.old) (W.survives world.new) }
@@ -73,12 +87,14 @@ fn clear<W: World>(world: &mut W, names: &Names, done: &Done<W::File>)
 {
     if is_whole_refusal(&done.reply) && is_unrecovered(done.how) {
         unmake_all(world, names, &done.files);
+    } else if opening {
+        unmake_texts(world, names, &done.files);
     }
 }
 
 /// Opens the files of these names, does one task on them, and closes them. A redo text that is missing is made, and where `makes`
-/// says so an image and a journal too; they are taken away again where the task is refused. `guard` says what it may do: a task for which
-/// the image is another one than the journal was written beside isn't begun.
+/// says so an image and a journal too; they are taken away again where the task is refused, and the texts behind an undo of no change too.
+/// `guard` says what it may do: a task for which the image is another one than the journal was written beside isn't begun.
 pub fn run_on_files<W: World, R: Read + Drop>(
     world: &mut W,
     alloc: Global,
@@ -130,6 +146,10 @@ pub fn run_on_files<W: World, R: Read + Drop>(
     ensures judged { W.faithful world.old → WasJudged guard (is_missing names.now.image (W.state world.old)) (W.note world.old)
         (contents_of names.now (W.state world.old)) task result.unopened result.how }
 
+    // An undo of no change leaves no text that was missing.
+    ensures texts { W.faithful world.old → task ≡ no_change
+        → AreNotLeft names.now (W.state world.old) (W.state world.new) (W.state world.new) }
+
     // No other file is changed, whatever the files hold and whatever becomes of the task, and nothing is written.
     ensures others { W.faithful world.old → KeepsOthers names.now (W.state world.old) (W.state world.new) }
     ensures silent { W.faithful world.old → KeepsStreams (W.state world.old) (W.state world.new) }
@@ -145,8 +165,9 @@ pub fn run_on_files<W: World, R: Read + Drop>(
             };
         }
     };
+    let opening = is_opening(&task);
     let done = with_devices(world, alloc, files, guard, task);
-    clear(world, names, &done);
+    clear(world, names, &done, opening);
     Answer {
         reply: done.reply,
         unopened: done.unopened,

@@ -1,9 +1,10 @@
+use Rattle.std.proofs.Common.{refl}
 use Rattle.std.specs.Prelude.{◌<◌}
 use Rattle.bx_journal.specs.Images.{Images}
 use Rattle.bx_run.specs.session.Contents.{Holds}
-use Rattle.bx_run.specs.session.Named.{contents_of}
+use Rattle.bx_run.specs.session.Named.{contents_of, no_change}
 use Rattle.bx_run.specs.preview.Changing.{DoesChange}
-use Rattle.bx_run.specs.renew.Renewal.{IsOfAnother, no_change}
+use Rattle.bx_run.specs.renew.Renewal.{IsOfAnother}
 use Rattle.bx_run.proofs.Renewing.{found, image_spared, made, never_other, same, were_opened, why_told}
 use Rattle.bx_run.proofs.renew.open_to_drop.Goals as goal
 
@@ -30,7 +31,11 @@ returns-clause-opens g c old may =
       same = same g.R.Read.remaining c.args.names.now c.change_files.result _ _ does may unopened alone;
       found = found g.R.Read.remaining c.args.names.now c.change_files.result _ _ does may unopened alone;
       image = image_spared g.R.Read.remaining c.args.names.now c.change_files.result _ _ does may unopened alone;
+      texts = did.texts old refl;
     }
+
+pub returns-clause-texts : goal.returns-clause-texts
+returns-clause-texts g c old = c.change_files.ensures.texts old refl
 
 pub returns-clause-made : goal.returns-clause-made
 returns-clause-made g c old may =

@@ -13,8 +13,12 @@ use Rattle.bx_run.proofs.ThreeSteps.{renews, stays}
 use Rattle.bx_run.proofs.renew.take_steps.Goals as goal
 
 pub returns-then-not-may_drop-clause-does : goal.returns-then-not-may_drop-clause-does
-returns-then-not-may_drop-clause-does g c old written =
-    ((λ may. absurd (false≢true (sym c.if-not-may_drop.true ∙ c.may_drop.ensures.1 may))), c.open_to_drop-opened.ensures.does old, c.open_to_drop-opened.ensures.judged old)
+returns-then-not-may_drop-clause-does g c old written = (
+  (λ may. absurd (false≢true (sym c.if-not-may_drop.true ∙ c.may_drop.ensures.1 may))),
+  c.open_to_drop-opened.ensures.does old,
+  c.open_to_drop-opened.ensures.judged old,
+  c.open_to_drop-opened.ensures.texts old,
+)
 
 pub returns-then-not-may_drop-clause-others : goal.returns-then-not-may_drop-clause-others
 returns-then-not-may_drop-clause-others g c old =

@@ -1,5 +1,6 @@
+use Rattle.std.proofs.Common.{refl}
 use Rattle.bx_run.specs.preview.Changing.{DoesChange}
-use Rattle.bx_run.specs.renew.Renewal.{no_change}
+use Rattle.bx_run.specs.session.Named.{no_change}
 use Rattle.bx_run.proofs.Ending.{leaves_same, stops_forgetting, stops_move, stops_renewal, stops_report, stops_task}
 use Rattle.bx_run.proofs.run.run_command.Goals as goal
 
@@ -68,7 +69,7 @@ returns-in-Recover-clause-does g c old =
       how = did.how old;
       recovered = did.recovered old;
     } in
-    rw c.in-Recover.is does
+    rw c.in-Recover.is (record { does = does; texts = did.texts old refl })
 
 pub returns-in-Recover-clause-survives : goal.returns-in-Recover-clause-survives
 returns-in-Recover-clause-survives g c old = rw c.in-Recover.is (c.change_files-recovered.ensures.survives old)

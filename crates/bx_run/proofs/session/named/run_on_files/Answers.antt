@@ -6,8 +6,8 @@ use Rattle.bx_run.specs.session.Contents.{DoesFound, FoundIn, Holds, TellsUnfini
 use Rattle.bx_run.specs.session.Guarded.{WasJudged}
 use Rattle.bx_run.specs.session.Named.{contents_of, is_missing}
 use Rattle.bx_run.proofs.Begun.{begun, made_missing, never_another, nothing_done, unopened_judged, why_unbegun}
-use Rattle.bx_run.proofs.Files.{before_all, contents_before, contents_cleared, contents_named, made_behind, made_by_run, named_behind, others_of, same_trio}
-use Rattle.bx_run.proofs.Refused.{is_cleared, left_refused, read_between, unrefused, why_refused}
+use Rattle.bx_run.proofs.Files.{before_all, by_flag, contents_before, contents_cleared, made_behind, made_by_run, named_behind, none_left, others_of, texts_gone, trio_cleared}
+use Rattle.bx_run.proofs.Refused.{endures_less, is_cleared, left_refused, read_between, unrefused, why_refused}
 use Rattle.bx_run.proofs.session.named.run_on_files.Goals as goal
 
 pub with_devices-done-requires-clause-kept : goal.with_devices-done-requires-clause-kept
@@ -52,7 +52,7 @@ returns-clause-done g c old s holds stopped =
     let done = c.with_devices-done.result in
     let is_begun = begun done.unopened done.reply done.how c.with_devices-done.ensures.unbegun stopped in
     let does = unrefused g.R.Read.remaining _ _ _ _ (c.with_devices-done.ensures.does opening is_begun s held) stopped in
-    rw (c.clear.ensures.stays (c.with_devices-done.ensures.faith.1 opening) (λ whole is. stopped whole), contents_named _ _ _ named) does
+    rw (contents_cleared _ _ _ _ _ named (c.clear.ensures.most (c.with_devices-done.ensures.faith.1 opening))) does
 
 pub returns-in-Err-clause-survives : goal.returns-in-Err-clause-survives
 returns-in-Err-clause-survives g c old = record {
@@ -70,23 +70,29 @@ returns-clause-survives g c old =
     let named = named_behind _ _ _ _ _ _ _ within opened _ (c.with_devices-done.ensures.only opening) in
     let done = c.with_devices-done.ensures.faith.1 opening in
     let before = sym (contents_before _ _ _ _ _ _ _ within opened) in
+    let most = c.clear.ensures.most done in
+    let nothing = c.clear.ensures.survives done in
     record {
       holds = λ s holds stopped t behind.
-          let stays = c.clear.ensures.stays done (λ whole is. stopped whole) in
-          let trio = same_trio _ t _ _ _ behind named (ap g.W.World.state stays) in
-          rw (stays, trio.0, trio.1, trio.2)
-          (c.with_devices-done.ensures.survives opening s (subst (λ contents. Holds contents s) before holds) stopped);
+          let trio = trio_cleared _ _ t _ _ _ named most behind in
+          rw (trio.0, trio.1, trio.2) (λ x text redo there text_there redo_there.
+          c.with_devices-done.ensures.survives opening s (subst (λ contents. Holds contents s) before holds) stopped x text redo
+          (nothing _ x there) (nothing _ text text_there) (nothing _ redo redo_there));
       finds = λ s found stopped t behind.
-          let stays = c.clear.ensures.stays done (λ whole is. stopped whole) in
-          let trio = same_trio _ t _ _ _ behind named (ap g.W.World.state stays) in
-          rw (stays, trio.0, trio.1, trio.2)
-          (c.with_devices-done.ensures.endures opening s (subst (λ contents. FoundIn contents s) before found) stopped);
+          let trio = trio_cleared _ _ t _ _ _ named most behind in
+          rw (trio.0, trio.1, trio.2) (endures_less g.R.Read.remaining s c.args.task c.with_devices-done.result.how c.with_devices-done.result.reply
+          _ _ _ _ _ _ (nothing _) (nothing _) (nothing _)
+          (c.with_devices-done.ensures.endures opening s (subst (λ contents. FoundIn contents s) before found) stopped));
       refused = λ whole is.
           before_all _ _ _ _ _ (c.open_image_files.ensures.survives old) (c.with_devices-done.ensures.before opening whole is) (c.clear.ensures.survives done);
       settled = λ whole other t behind.
-          let stays = c.clear.ensures.stays done (λ whole is. other is) in
-          let trio = same_trio _ t _ _ _ behind named (ap g.W.World.state stays) in
-          rw (stays, trio.0, trio.1, trio.2, contents_named _ _ _ named) (c.with_devices-done.ensures.settled opening whole other);
+          let trio = trio_cleared _ _ t _ _ _ named most behind in
+          let settled = c.with_devices-done.ensures.settled opening whole other in
+          rw (trio.0, trio.1, trio.2, contents_cleared _ _ _ _ _ named most) (record {
+            image = λ x there. settled.image x (nothing _ x there);
+            journal = λ x there. settled.journal x (nothing _ x there);
+            redo = λ x there. settled.redo x (nothing _ x there);
+          });
     }
 
 pub returns-in-Err-clause-refused : goal.returns-in-Err-clause-refused
@@ -197,8 +203,26 @@ returns-clause-others g c old =
           let has = made_behind _ _ _ _ _ _ _ _ within opened (c.with_devices-done.ensures.only opening) (c.requires.free old)
           (c.with_devices-done.ensures.free opening) same in
           c.clear.ensures.left done cleared.0 unrecovered _ within (rw (c.with_devices-done.ensures.files opening, c.with_devices-done.ensures.made) has))).files cleared.1)
-      | inr stayed ↦ inr (ap g.W.World.state (c.clear.ensures.stays done stayed))
+      | inr stayed ↦ inr (by_flag c.is_opening-opening.result (λ no. ap g.W.World.state (c.clear.ensures.stays done stayed no))
+          (λ yes. rw (c.with_devices-done.ensures.files opening, c.with_devices-done.ensures.made) at (c.clear.ensures.texts done stayed yes)))
     ])
+
+pub returns-in-Err-clause-texts : goal.returns-in-Err-clause-texts
+returns-in-Err-clause-texts g c old is = none_left c.args.names.now _ _ (c.in-Err.ensures.err old)
+
+pub returns-clause-texts : goal.returns-clause-texts
+returns-clause-texts g c old is =
+    let opening = c.open_image_files.ensures.faith.1 old in
+    let within : AreAllThere (g.W.World.state c.args.world.now) = λ name n e. g.met.W.World.within c.args.world.now name n old e in
+    let opened = c.in-Ok.ensures.ok old in
+    let done = c.with_devices-done.ensures.faith.1 opening in
+    let result = c.with_devices-done.result in
+    elim (is_cleared result.reply result.how) [
+      | inl cleared ↦ none_left c.args.names.now _ _ ((returns-clause-refused g c old cleared.0).files cleared.1)
+      | inr stayed ↦ texts_gone _ _ _ _ _ _ _ _ within opened (c.with_devices-done.ensures.only opening) _
+          (rw (c.with_devices-done.ensures.files opening, c.with_devices-done.ensures.made)
+          at (c.clear.ensures.texts done stayed (c.is_opening-opening.ensures is)))
+    ]
 
 pub returns-in-Err-clause-fit : goal.returns-in-Err-clause-fit
 returns-in-Err-clause-fit g c old is = absurd (never_another c.args.names.now c.args.guard.mounted c.args.makes (g.W.World.refusals c.args.world.now < g.W.World.refusals c.open_image_files.new.world)
