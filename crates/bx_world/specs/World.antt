@@ -1,5 +1,5 @@
 -- The world of a program: files under names, and the standard streams.
-use Rattle.std.specs.Prelude.{◌≡◌, ◌⊎◌, ◌<◌, ◌≤◌, ◌+◌, ◌++◌, ℕ, min, take, Bool, false, List, [], length, Option, None, Some, Result, Ok, Err}
+use Rattle.std.specs.Prelude.{◌≡◌, ◌⊎◌, ◌<◌, ◌≤◌, ◌+◌, ◌-◌, ◌^◌, ◌++◌, ℕ, min, take, Bool, false, List, [], length, Option, None, Some, Result, Ok, Err}
 use Rattle.std.specs.Option.{option_map_or}
 use Rattle.bx_image.specs.Power.{NoMore}
 use Rattle.bx_world.specs.Rule.{image_unfit, read_unfit, text_unfit}
@@ -189,6 +189,15 @@ abbrev pub CountsRefusal : {V : Type 0} → Result V Refusal → ℕ → ℕ →
 CountsRefusal (Ok v) old new = new ≡ old
 CountsRefusal (Err Missing) old new = new ≡ old
 CountsRefusal (Err e) old new = new ≡ old + 1
+
+-- a note that stands as it was is a call that the system refused
+abbrev pub CountsNoted : Noted → ℕ → ℕ → Type 0
+CountsNoted Stands old new = new ≡ old + 1
+CountsNoted noted old new = new ≡ old
+
+-- how many calls failed of an image, its journal and its redo text that may be changed: failures count from 0, those of the redo text from 2 ^ 32
+abbrev pub failed_calls : ℕ → ℕ → ℕ → ℕ
+failed_calls image journal redo = image + journal + (redo - 2 ^ 32)
 
 -- what a file holds that may be missing; one that is holds nothing
 abbrev pub bytes_if : SystemState → Option ℕ → List ℕ

@@ -2,7 +2,7 @@
 ghost use Rattle.std.specs.Prelude.{◌≡◌, ◌↔◌, ◌⊎◌, ◌+◌, ◌<◌, ◌≤◌, ◌^◌, ◌++◌, ℕ, List, [], Option, true, false, Err, None, Some, IfOk, IfErr, IfSome, OnOk, OnErr, drop, length, take};
 ghost use Rattle.bx_world.specs.declared.world.Noted.TheVariants.{Put};
 ghost use Rattle.bx_world.specs.declared.world.Refusal.TheVariants.{Locked, Missing};
-ghost use Rattle.bx_world.specs.World.{AreThreeFiles, ChangesOnly, CountsRefusal, GivesBack, IsAlwaysFit, IsEmptyUnder, IsOwnText, IsStuck, KeepsFiles, LeavesTrio, Lends, Makes, MayBeImage, MayBeText, NothingNewFound, NothingNewBelow, NothingNewOf, SystemState, TakesAtMost, TakesAway, Trio, AddsFront, stat_named};
+ghost use Rattle.bx_world.specs.World.{AreThreeFiles, ChangesOnly, CountsNoted, CountsRefusal, GivesBack, IsAlwaysFit, IsEmptyUnder, IsOwnText, IsStuck, KeepsFiles, LeavesTrio, Lends, Makes, MayBeImage, MayBeText, NothingNewFound, NothingNewBelow, NothingNewOf, SystemState, TakesAtMost, TakesAway, Trio, AddsFront, failed_calls, stat_named};
 ghost use Rattle.bx_world.specs.World.{AreOwnFiles, ClosesTexts, IsFrontRead, IsNoText, IsNoneRead, MayBeRead, NothingNewSpared, ReadFiles, Spares, TextsLeft, bytes_if, noted};
 ghost use Rattle.bx_image.specs.Power.{NoMore, Only};
 
@@ -92,8 +92,9 @@ pub trait World {
     /// A name of the file of this number is on the disk.
     ghost is_kept: { Self → ℕ → Type 0 };
 
-    /// How many calls the system refused. That a file is missing is no refusal, nor is it one where a file stays that was to be
-    /// taken away, or where a stream isn't written: of these the view tells.
+    /// How many calls the system refused, with those that failed of devices which were given back. That a file is missing is no
+    /// refusal, nor is it one where a file stays that was to be taken away, or where a stream isn't written: of these the view
+    /// tells. What a read of an input meets isn't counted either.
     ghost refusals: { Self → ℕ };
 
     /// The files of an image that is lent to be read beside its texts; none where none are.
@@ -158,6 +159,7 @@ pub trait World {
     /// and write the image.
     fn make_text(&mut self, name: &str, image: &Self::File) -> Result<Self::File, Refusal>
         requires there { faithful self.old → number image.now < (state self.old).there }
+        requires free { faithful self.old → (state self.old).named name.now ≡ None }
         ensures made { faithful self.old → IfOk result (λ f. Makes (state self.old) (state self.new) name.now (number f)) }
         ensures no_link { faithful self.old → OnOk result ((state self.old).is_link name.now ≡ false) }
         ensures own { faithful self.old → IfOk result (λ f. IsOwnText (state self.new) (number image.now) (number f)) }
@@ -168,8 +170,9 @@ pub trait World {
         ensures note { faithful self.old → note self.new ≡ note self.old }
         ensures faith { faithful self.new ↔ faithful self.old };
 
-    /// Makes an empty image, and opens it: a regular file, which a link may lead to.
+    /// Makes an empty image under a name that leads to none, and opens it: a regular file, which a link may lead to.
     fn make_image(&mut self, name: &str) -> Result<Self::File, Refusal>
+        requires free { faithful self.old → (state self.old).named name.now ≡ None }
         ensures made { faithful self.old → IfOk result (λ f. Makes (state self.old) (state self.new) name.now (number f)) }
         ensures fit { faithful self.old → IfOk result (λ f. IsAlwaysFit (state self.new) (number f)) }
         ensures same { faithful self.old → OnErr result (state self.new ≡ state self.old) }
@@ -233,6 +236,7 @@ pub trait World {
     /// Locks a file up to its closing, which has to have its name still. One that another program has locked is refused; nobody
     /// has a file locked that this run made.
     fn lock(&mut self, name: &str, file: &mut Self::File) -> Result<(), Refusal>
+        requires named { faithful self.old → (state self.old).named name.now ≡ Some (number file.old) }
         ensures holds { faithful self.old → OnOk result (is_locked file.new) }
         ensures number { faithful self.old → number file.new ≡ number file.old }
         ensures locked { faithful self.old → result ≡ Err Locked → number file.old < (state self.old).before }
@@ -302,7 +306,7 @@ pub trait World {
         ensures note { faithful self.old → note self.new ≡ note self.old }
         ensures faith { faithful self.new ↔ faithful self.old };
 
-    /// Takes the three devices back; the files have then what the devices have.
+    /// Takes the three devices back, and counts their failed calls; the files have then what the devices have.
     fn into_files(
         &mut self,
         image: Self::Image,
@@ -318,7 +322,8 @@ pub trait World {
         ensures survives { faithful self.old → (t : Trio) → (state self.old).lent ≡ Some t
             → LeavesTrio t (Self.Image.survives image) (Self.Text.survives journal) (Self.Text.survives redo) (survives self.new) }
         ensures others { faithful self.old → (t : Trio) → (state self.old).lent ≡ Some t → NothingNewOf t (survives self.old) (survives self.new) }
-        ensures counted { faithful self.old → refusals self.new ≡ refusals self.old }
+        ensures counted { faithful self.old → refusals self.new ≡ refusals self.old
+            + failed_calls (Self.Image.failures image) (Self.Text.failures journal) (Self.Text.failures redo) }
         ensures note { faithful self.old → note self.new ≡ note self.old }
         ensures faith { faithful self.new ↔ faithful self.old };
 
@@ -373,6 +378,7 @@ pub trait World {
     /// Locks a file that is only read up to its closing, beside others that lock it so. It has to have its name still. One that
     /// another program has locked to change it is refused.
     fn lock_shared(&mut self, name: &str, file: &mut Self::File) -> Result<(), Refusal>
+        requires named { faithful self.old → (state self.old).named name.now ≡ Some (number file.old) }
         ensures holds { faithful self.old → OnOk result (is_shared file.new) }
         ensures number { faithful self.old → number file.new ≡ number file.old }
         ensures locked { faithful self.old → result ≡ Err Locked → number file.old < (state self.old).before }
@@ -421,10 +427,11 @@ pub trait World {
         ensures note { faithful self.old → note self.new ≡ note self.old }
         ensures faith { faithful self.new ↔ faithful self.old };
 
-    /// Takes devices back that were lent to be read; their files are closed.
+    /// Takes devices back that were lent to be read, and counts their failed calls; their files are closed.
     fn close_read(&mut self, image: Self::Image, journal: Self::Text, redo: Self::Text)
         ensures same { faithful self.old → state self.new ≡ state self.old }
-        ensures counted { faithful self.old → refusals self.new ≡ refusals self.old }
+        ensures counted { faithful self.old → refusals self.new ≡ refusals self.old
+            + (Self.Image.failures image + Self.Text.failures journal + Self.Text.failures redo) }
         ensures survives { faithful self.old → NothingNewFound (survives self.old) (survives self.new) }
         ensures note { faithful self.old → note self.new ≡ note self.old }
         ensures faith { faithful self.new ↔ faithful self.old };
@@ -490,8 +497,8 @@ pub trait World {
         ensures note { faithful self.old → note self.new ≡ note self.old }
         ensures faith { faithful self.new ↔ faithful self.old };
 
-    /// Takes an image and its texts back, which may have been changed; their files are closed. The texts have then what the devices
-    /// have, and the image has what it had.
+    /// Takes an image and its texts back, which may have been changed, and counts their failed calls; their files are closed. The texts
+    /// have then what the devices have, and the image has what it had.
     fn close_beside(&mut self, image: Self::Image, journal: Self::Text, redo: Self::Text)
         requires order { (Self.Text.failures journal < 2 ^ 32) × (2 ^ 32 ≤ Self.Text.failures redo) }
         requires devices { faithful self.old → Self.Image.faithful image × Self.Text.faithful journal × Self.Text.faithful redo }
@@ -504,32 +511,34 @@ pub trait World {
         ensures others { faithful self.old → (f : ReadFiles) → beside self.old ≡ Some f
             → NothingNewSpared (IsNoneRead f) (survives self.old) (survives self.new) }
         ensures beside { faithful self.old → beside self.new ≡ None }
-        ensures counted { faithful self.old → refusals self.new ≡ refusals self.old }
+        ensures counted { faithful self.old → refusals self.new ≡ refusals self.old
+            + failed_calls (Self.Image.failures image) (Self.Text.failures journal) (Self.Text.failures redo) }
         ensures note { faithful self.old → note self.new ≡ note self.old }
         ensures faith { faithful self.new ↔ faithful self.old };
 
-    /// Reads the first bytes of the note into a buffer, and says how many there are up to its length. A note that is missing has none;
-    /// one that can't be read is no refusal that is counted.
+    /// Reads the first bytes of the note into a buffer, and says how many there are up to its length. A note that is missing has none.
     fn read_note(&mut self, buf: &mut [u8]) -> Result<usize, Refusal>
         ensures within { length buf.new ≡ length buf.old }
         ensures few { IfOk result (λ n. n ≤ length buf.old) }
         ensures read { faithful self.old → IfOk result (λ n. IsFrontRead n (length buf.old) buf.new (note self.old)) }
+        ensures missing { faithful self.old → result ≡ Err Missing → ⊥ }
         ensures same { faithful self.old → state self.new ≡ state self.old }
         ensures beside { faithful self.old → beside self.new ≡ beside self.old }
-        ensures counted { faithful self.old → refusals self.new ≡ refusals self.old }
+        ensures counted { faithful self.old → CountsRefusal result (refusals self.old) (refusals self.new) }
         ensures survives { faithful self.old → NothingNewFound (survives self.old) (survives self.new) }
         ensures note { faithful self.old → note self.new ≡ note self.old }
         ensures found { faithful self.old → NoMore (note_survives self.old) (note_survives self.new) }
         ensures faith { faithful self.new ↔ faithful self.old };
 
     /// Puts these bytes in place of the note, and says what stands then; `synced` says whether they are put on the disk too. No file
-    /// that has a name in this world is changed by it, nor one that is lent. No bytes take the note away.
+    /// that has a name in this world is changed by it, nor one that is lent. No bytes take the note away. A note that stands as it was
+    /// counts as a refusal.
     fn put_note(&mut self, bytes: &[u8], synced: bool) -> Noted
         ensures note { faithful self.old → note self.new ≡ noted result bytes.now (note self.old) }
         ensures settled { faithful self.old → result ≡ Put → synced ≡ true → Only bytes.now (note_survives self.new) }
         ensures same { faithful self.old → state self.new ≡ state self.old }
         ensures beside { faithful self.old → beside self.new ≡ beside self.old }
-        ensures counted { faithful self.old → refusals self.new ≡ refusals self.old }
+        ensures counted { faithful self.old → CountsNoted result (refusals self.old) (refusals self.new) }
         ensures survives { faithful self.old → NothingNewFound (survives self.old) (survives self.new) }
         ensures faith { faithful self.new ↔ faithful self.old };
 

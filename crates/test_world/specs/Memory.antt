@@ -1,7 +1,7 @@
 -- What a world in memory has.
 use Rattle.std.specs.Prelude.{◌≡◌, ◌⊎◌, ◌+◌, ◌<◌, ℕ, Bool, true, false, cond, List, [], ◌∷◌, ◌++◌, length}
 use Rattle.std.specs.Option.{unwrap_or}
-use Rattle.bx_world.specs.World.{SystemState, no_stat, noted}
+use Rattle.bx_world.specs.World.{CountsNoted, SystemState, no_stat, noted}
 use Rattle.test_world.specs.MemoryFiles.{bytes_at, file_named, is_gone_at, is_link_of, lent_trio, stat_of, synced_at}
 use Rattle.test_world.specs.declared.memory.MemoryWorld.{MemoryWorld}
 use Rattle.test_world.specs.declared.memory.Run.{Run}
@@ -47,7 +47,7 @@ state_in files entries run = record {
 abbrev pub state_of : MemoryWorld → SystemState
 state_of w = state_in w.files.items w.entries.items w.run
 
--- how many of its calls were refused
+-- how many of its calls were refused, with those that failed of devices
 abbrev pub refusals_of : MemoryWorld → ℕ
 refusals_of w = w.run.refusals.count.number
 
@@ -161,4 +161,4 @@ pub record PutsNote (answer : Noted) (bytes : List ℕ) (old new : MemoryWorld) 
   pub output : new.run.output ≡ old.run.output
   pub errors : new.run.errors ≡ old.run.errors
   pub stuck : new.run.stuck ≡ old.run.stuck
-  pub refusals : refusals_of new ≡ refusals_of old
+  pub refusals : CountsNoted answer (refusals_of old) (refusals_of new)

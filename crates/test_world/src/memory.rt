@@ -19,16 +19,13 @@ use crate::memory::files::{
 use crate::memory::image::LentImage;
 use crate::memory::input::LentInput;
 use crate::memory::reading::{copy_of, nothing, whole_copy_of};
-use crate::memory::refusals::Refusals;
+use crate::memory::refusals::{FIRST_OF_REDO, Refusals};
 use crate::memory::text::LentText;
 use bx_image::{Device, Fuse, FuseImage, Part};
 use bx_journal_store::{CountedText, FuseText, TextStore};
 use bx_text::Name;
 use bx_world::{Classes, Kind, Look, Noted, Outgrown, Refusal, Stat, Unwritten, World};
 use std::alloc::Global;
-
-/// Where the failures of a redo text begin to count.
-const FIRST_OF_REDO: u64 = 1 << 32;
 
 /// Which calls of a device that is lent fail.
 #[derive(Clone, Copy)]
@@ -672,12 +669,14 @@ impl World for MemoryWorld {
             },
         };
         self.run.lent = None;
+        let failed = (image.faults(), journal.faults(), redo.faults());
         self.take_contents(lent.image, image.into_inner().into_contents());
         self.take_contents(
             lent.journal,
             journal.into_inner().into_inner().into_contents(),
         );
         self.take_contents(lent.redo, redo.into_inner().into_inner().into_contents());
+        self.run.refusals.note_failed(failed.0, failed.1, failed.2);
         (
             OpenFile::locked(lent.image),
             OpenFile::locked(lent.journal),
@@ -750,7 +749,11 @@ impl World for MemoryWorld {
         CountedText::new(self.text_of(nothing(self.alloc), fails), 0)
     }
 
-    fn close_read(&mut self, _: Self::Image, _: Self::Text, _: Self::Text) {}
+    fn close_read(&mut self, image: Self::Image, journal: Self::Text, redo: Self::Text) {
+        self.run
+            .refusals
+            .note_reads(image.faults(), journal.faults(), redo.faults());
+    }
 
     fn lend_beside(
         &mut self,
@@ -808,6 +811,7 @@ impl World for MemoryWorld {
 
     fn close_beside(&mut self, image: Self::Image, journal: Self::Text, redo: Self::Text) {
         let lent = self.lent_beside();
+        let failed = (image.faults(), journal.faults(), redo.faults());
         self.take_disk(lent.image, image.into_inner().into_contents());
         self.take_contents(
             lent.journal,
@@ -815,10 +819,12 @@ impl World for MemoryWorld {
         );
         self.take_if(lent.redo, redo.into_inner().into_inner().into_contents());
         self.run.beside = None;
+        self.run.refusals.note_failed(failed.0, failed.1, failed.2);
     }
 
     fn read_note(&mut self, buf: &mut [u8]) -> Result<usize, Refusal> {
         if self.plan.calls.blows() {
+            self.run.refusals.note_failure();
             return Err(Refusal::Other(None));
         }
         Ok(self.note_front(buf))

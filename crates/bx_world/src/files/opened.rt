@@ -84,6 +84,7 @@ fn lock_made<W: World>(world: &mut W, name: &str, file: &mut W::File) -> Result<
 
 /// Makes an image that is missing, and locks it.
 fn make_image<W: World>(world: &mut W, name: &str) -> Result<W::File, Refusal>
+    requires free { W.faithful world.old → (W.state world.old).named name.now ≡ None }
     ensures ok { W.faithful world.old
         → IfOk result (λ f. IsFileOpened name.now true true (W.number f) (W.state world.old) (W.state world.new)) }
     ensures locked { W.faithful world.old → IfOk result (λ f. W.is_locked f) }
@@ -104,6 +105,7 @@ fn make_image<W: World>(world: &mut W, name: &str) -> Result<W::File, Refusal>
 /// Makes a text that is missing, and locks it.
 fn make_text<W: World>(world: &mut W, name: &str, image: &W::File) -> Result<W::File, Refusal>
     requires there { W.faithful world.old → W.number image.now < (W.state world.old).there }
+    requires free { W.faithful world.old → (W.state world.old).named name.now ≡ None }
     ensures ok { W.faithful world.old
         → IfOk result (λ f. IsFileOpened name.now true true (W.number f) (W.state world.old) (W.state world.new)) }
     ensures locked { W.faithful world.old → IfOk result (λ f. W.is_locked f) }

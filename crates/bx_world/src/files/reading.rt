@@ -169,6 +169,7 @@ fn lock_as<W: World>(
     text: &mut W::File,
     changes: bool,
 ) -> Result<(), Refusal>
+    requires named { W.faithful world.old → (W.state world.old).named name.now ≡ Some (W.number text.old) }
     ensures locked { W.faithful world.old → OnOk result (IsLockedAs changes (W.is_locked text.new) (W.is_shared text.new)) }
     ensures number { W.faithful world.old → W.number text.new ≡ W.number text.old }
     ensures missing { W.faithful world.old → result ≡ Err Refusal.Missing → ⊥ }

@@ -55,6 +55,7 @@ impl MemoryWorld {
             return Noted::Without;
         }
         if self.plan.calls.blows() {
+            self.run.refusals.note_failure();
             return Noted::Stands;
         }
         self.run.note.bytes = Vec::new(self.alloc);

@@ -1,7 +1,11 @@
-//! How many calls of a world in memory were refused.
-ghost use Rattle.std.specs.Prelude.{◌≡◌, ◌==◌, ◌+◌, ℕ, not};
+//! How many calls of a world in memory were refused, and of the devices that it lent.
+ghost use Rattle.std.specs.Prelude.{◌≡◌, ◌==◌, ◌+◌, ◌^◌, ◌≤◌, ℕ, not};
+ghost use Rattle.bx_world.specs.World.{failed_calls};
 
 use std::marker::{Model, PhantomData};
+
+/// Where the failures of a redo text begin to count that may be changed.
+pub const FIRST_OF_REDO: u64 = 1 << 32;
 
 /// A count that proofs alone read. It takes no memory, so no number is its largest.
 #[derive(Drop)]
@@ -32,12 +36,13 @@ impl Count {
     {}
 }
 
-/// The calls that were refused: their count, and whether there are any.
+/// The calls that were refused: the count of them all, with those of devices and of the note, and of the others whether there are any.
 #[derive(Drop)]
 pub struct Refusals {
     is_any: bool,
+    calls: Count,
     count: Count,
-    ghost told: { is_any ≡ not (count.number == 0) },
+    ghost told: { is_any ≡ not (calls.number == 0) },
 }
 
 impl Refusals {
@@ -47,6 +52,7 @@ impl Refusals {
     {
         Refusals {
             is_any: false,
+            calls: Count::new(),
             count: Count::new(),
         }
     }
@@ -56,12 +62,50 @@ impl Refusals {
         ensures { self.new.count.number ≡ self.old.count.number + 1 }
     {
         self.count.raise();
+        self.calls.raise();
         self.is_any = true;
     }
 
-    /// Whether any call was refused.
+    /// Takes note of one more, of a device or of the note.
+    pub fn note_failure(&mut self)
+        ensures { self.new.count.number ≡ self.old.count.number + 1 }
+    {
+        self.count.raise();
+    }
+
+    /// Takes note of this many more, of a device.
+    fn note_failures(&mut self, count: u64)
+        ensures { self.new.count.number ≡ self.old.count.number + count }
+    {
+        let mut done = 0;
+        while done < count {
+            self.note_failure();
+            done += 1;
+        }
+    }
+
+    /// Takes note of the calls that failed of three devices which were only read, by their counts.
+    pub fn note_reads(&mut self, image: u64, journal: u64, redo: u64)
+        ensures { self.new.count.number ≡ self.old.count.number + (image + journal + redo) }
+    {
+        self.note_failures(image);
+        self.note_failures(journal);
+        self.note_failures(redo);
+    }
+
+    /// The same of three that could be changed.
+    pub fn note_failed(&mut self, image: u64, journal: u64, redo: u64)
+        requires { 2 ^ 32 ≤ redo }
+        ensures { self.new.count.number ≡ self.old.count.number + failed_calls image journal redo }
+    {
+        self.note_failures(image);
+        self.note_failures(journal);
+        self.note_failures(redo - FIRST_OF_REDO);
+    }
+
+    /// Whether any call was refused, but those of devices and of the note.
     pub fn is_any(&self) -> bool
-        ensures { result ≡ not (self.now.count.number == 0) }
+        ensures { result ≡ not (self.now.calls.number == 0) }
     {
         self.is_any
     }

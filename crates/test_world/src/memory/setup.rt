@@ -162,9 +162,9 @@ impl MemoryWorld {
         self.run.stuck
     }
 
-    /// Whether a call was refused since the run began.
+    /// Whether a call was refused since the run began. What failed of a device, or of the note, is none.
     pub fn was_refused(&self) -> bool
-        ensures { result ≡ not (⟦<MemoryWorld as World>⟧.refusals self.now == 0) }
+        ensures { result ≡ not (self.now.run.refusals.calls.number == 0) }
     {
         self.run.refusals.is_any()
     }
