@@ -1,6 +1,6 @@
 -- What an undo and a redo answer, from what their commands make of the files.
 use Rattle.std.proofs.Common.{◌≡◌, ◌⊎◌, ◌∙◌, ◌≤◌, ℕ, List, Option, Some, None, refl, sym, ap, subst, inl, inr, arith}
-use Rattle.std.specs.Prelude.{Result, Ok, Err, IfOk, IfErr, IfSome, OnErr}
+use Rattle.std.specs.Prelude.{Result, Ok, Err, IfOk, IfErr, IfSome}
 use Rattle.std.specs.Result.{MatchResult}
 use Rattle.bx_journal.specs.Fault.{DeviceFault}
 use Rattle.bx_journal.specs.Images.{Images, redo_of, undo_of}
@@ -452,8 +452,6 @@ module _ {R : Type 0} (remaining : R → Option (List ℕ)) where
       redone_survives (recovered_as h s) k image journal redo reply begun (finds begun)
 
 -- why files weren't opened, behind what was said of the rest
-pub why_kept : {V : Type 0} (u : Option OpenError) (standing : Result V Fault) (how : Option RecoveryOutcome) (left : Type 0) (noted told new : ℕ) (W : ℕ → OpenError → Type 0)
-    → IfSome u (λ _. (standing ≡ Err OpenFailed) × (how ≡ None) × left) → told ≡ noted → OnErr standing (new ≡ told)
-    → IfSome u (W noted) → IfSome u (W new)
-why_kept None standing how left noted told new W un keeps is why = tt
-why_kept (Some u) standing how left noted told new W un keeps is why = let same = rw un.0 at is in subst (λ n. W n u) (sym (same ∙ keeps)) why
+pub why_kept : (u : Option OpenError) (noted told new : ℕ) (W : ℕ → OpenError → Type 0) → told ≡ noted → new ≡ told → IfSome u (W noted) → IfSome u (W new)
+why_kept None noted told new W keeps is why = tt
+why_kept (Some u) noted told new W keeps is why = subst (λ n. W n u) (sym (is ∙ keeps)) why

@@ -1,6 +1,6 @@
 -- What emptying texts that are lent leaves of their files.
 use Rattle.std.proofs.Common.{◌≡◌, ◌∙◌, ℕ, zero, suc, Bool, true, false, List, [], Option, Some, None, length, take, refl, sym, ap, subst, inl, inr, arith}
-use Rattle.std.specs.Prelude.{Result, Ok, Err, IfErr, OnErr, OnOk, ◌<◌, ◌==◌}
+use Rattle.std.specs.Prelude.{Result, Ok, Err, IfErr, OnErr, OnOk, ◌<◌, ◌≤◌, ◌==◌}
 use Rattle.std.proofs.lemmas.Bool.Decides.{Decides-eqb}
 use Rattle.std.proofs.lemmas.Result.{IfErr-weaker}
 use Rattle.bx_image.specs.Power.{AllFade, IsFaded, NoMore, Only}
@@ -251,7 +251,7 @@ left_note false dropped (Ok done) refused old new ok err goes stays = stays ok
 left_note goes dropped (Err e) refused old new ok err away stays = stays err
 
 -- a note that was dropped before files were closed
-pub dropped_before : (before after last : ℕ) (old mid new : List ℕ) → after ≡ last → new ≡ mid → DropsNote (before < after) old mid
+pub dropped_before : (before after last : ℕ) (old mid new : List ℕ) → after ≤ last → new ≡ mid → DropsNote (before < after) old mid
     → DropsNote (0 < last) old new
 dropped_before before after last old mid new same is drops = elim drops [
   | inl gone ↦ inl (is ∙ gone)

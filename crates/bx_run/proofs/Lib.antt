@@ -8,6 +8,7 @@ pub mod Counted
 pub mod Emptied
 pub mod EndLemmas
 pub mod Ending
+pub mod Failing
 pub mod Files
 pub mod FrontRows
 pub mod Held

@@ -19,7 +19,9 @@ use Rattle.bx_cli_commands.specs.Standing.{CountsBy, HoldsAt, Shows, Standing}
 use Rattle.bx_cli_commands.proofs.Steps.{counts_least, counts_rise}
 use Rattle.bx_run.specs.declared.session.task.Task.{Task}
 use Rattle.bx_run.specs.session.Task.{TaskStep}
-use Rattle.bx_run.specs.session.Guarded.{AreFew}
+use Rattle.bx_run.specs.session.Guarded.{AreFew, RiseByOne, failed_by}
+use Rattle.bx_world.specs.World.{failed_calls}
+use Rattle.bx_journal.specs.Devices.{Devices}
 use Rattle.bx_run.specs.session.Contents.{AreFresh, AreHonest, AreInPlace, EndsAt, StandsIn, StepsTo, Survives, held_by}
 
 -- counts that rose by no more than one stand where they began
@@ -32,6 +34,18 @@ few : (b : Bool) (t_new u_new d_new d t u : ℕ) → d ≤ d_new → t ≤ t_new
     → d ≡ 0 → t ≡ 0 → u ≡ 2 ^ 32 → (d_new ≤ 1) × (t_new ≤ 1) × (u_new ≤ 2 ^ 32 + 1)
 few true t_new u_new d_new d t u d_least t_least u_least rise d_is t_is u_is = (omega arith, omega arith, omega arith)
 few false t_new u_new d_new d t u d_least t_least u_least rise d_is t_is u_is = (omega arith, omega arith, omega arith)
+
+-- and where a device failed one did
+risen : (b : Bool) (t_new u_new d_new d t u : ℕ) → d ≤ d_new → t ≤ t_new → u ≤ u_new → d_new + t_new + u_new ≡ d + t + u + cond b 1 0
+    → d ≡ 0 → t ≡ 0 → u ≡ 2 ^ 32 → b ≡ true → 0 < failed_calls d_new t_new u_new
+risen true t_new u_new d_new d t u d_least t_least u_least rise d_is t_is u_is is = omega arith
+risen false t_new u_new d_new d t u d_least t_least u_least rise d_is t_is u_is is = absurd (let wrong : false ≡ true = is in cc)
+
+pub failed_refused : (e : SessionFault) (d t u d_new t_new u_new : ℕ) → ThreeCounts e d t u d_new t_new u_new → d ≡ 0 → t ≡ 0 → u ≡ 2 ^ 32
+    → is_failure (Refused (Session e)) ≡ true → 0 < failed_calls d_new t_new u_new
+failed_refused e d t u d_new t_new u_new counts d_is t_is u_is =
+    let least = counts_least e d t u d_new t_new u_new counts in
+    risen (is_failure (Refused (Session e))) t_new u_new d_new d t u least.0 least.1 least.2 (counts_rise e d t u d_new t_new u_new counts) d_is t_is u_is
 
 pub few_refused : (e : SessionFault) (d t u d_new t_new u_new : ℕ) → ThreeCounts e d t u d_new t_new u_new → d ≡ 0 → t ≡ 0 → u ≡ 2 ^ 32
     → (d_new ≤ 1) × (t_new ≤ 1) × (u_new ≤ 2 ^ 32 + 1)
@@ -71,6 +85,19 @@ module _ {D T : Type 0} (d : DeviceViews D) (t : StoreViews T) where
       → AreFew d t (devices_of new)
   few_behind old new b counts fresh =
       few b _ _ _ _ _ _ counts.image_least counts.journal_least counts.redo_least counts.rise fresh.0 fresh.1 fresh.2
+
+  pub failed_behind : (old new : SessionView D T) (b : Bool) → CountsBy d t old new (cond b 1 0) → AreFresh d t (devices_of old) → b ≡ true
+      → 0 < failed_by d t (devices_of new)
+  failed_behind old new b counts fresh =
+      risen b _ _ _ _ _ _ counts.image_least counts.journal_least counts.redo_least counts.rise fresh.0 fresh.1 fresh.2
+
+  -- what failed stays counted
+  pub failed_still : (old new : Devices D T) → RiseByOne d t old new → 0 < failed_by d t old → 0 < failed_by d t new
+  failed_still old new rise before =
+      let image = rise.image_least in
+      let journal = rise.journal_least in
+      let redo = rise.redo_least in
+      omega (arith, image, journal, redo, before)
 
 module _ {D T R : Type 0} (d : DeviceViews D) (t : StoreViews T) (remaining : R → Option (List ℕ)) where
   pub steps_of : (old new : SessionView D T) (c : Task R) (reply : Reply) → Obeys d t old new reply (λ before. TaskStep remaining before c)

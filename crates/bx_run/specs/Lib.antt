@@ -1,4 +1,5 @@
 pub mod RunState
+pub mod Failures
 pub mod session
 pub mod Edit
 pub mod dump

@@ -3,6 +3,7 @@
 ghost use Rattle.std.specs.Prelude.{◌≡◌, ◌↔◌, ◌<◌, ◌≤◌, List, ℕ, Option, None, Some, IfSome, true};
 ghost use Rattle.bx_journal.specs.Images.{Images};
 ghost use Rattle.bx_cli_commands.specs.Refusal.{IsWholeRefusal};
+ghost use Rattle.bx_cli_commands.specs.Run.{is_failure};
 ghost use Rattle.bx_cli_commands.specs.declared.command.Reply.TheVariants.{Refused};
 ghost use Rattle.bx_cli_commands.specs.declared.fault.Fault.TheVariants.{OpenFailed};
 ghost use Rattle.bx_world.specs.World.{NothingNewFound, SystemState, number_if};
@@ -18,7 +19,8 @@ ghost use Rattle.bx_run.specs.session.Named.{AreNotLeft, KeepsOthers, NothingDon
 ghost use Rattle.bx_run.specs.session.Task.{IsNearTask};
 ghost use Rattle.bx_run.specs.preview.Changing.{DoesChange};
 ghost use Rattle.bx_run.specs.run.Outcome.{first_unopened};
-ghost use Rattle.bx_run.specs.renew.Renewal.{ClearsImage, DoesRenew, EndsNote, IsDroppable, IsOfAnother, IsRefusedBehind, IsRefusedRenewal, JudgesOpening, KeepsNamed, MayDrop, MayNotOpen, NothingRenewed, OpensToDrop, RenewsFiles, SurvivesRenewal, SurvivesRenewing, TellsOpening, only_told};
+ghost use Rattle.bx_run.specs.renew.Renewal.{ClearsImage, DoesRenew, EndsNote, IsDroppable, IsOfAnother, IsRefusedBehind, IsRefusedRenewal, JudgesOpening, KeepsNamed, MayDrop, MayNotOpen, NothingRenewed, OpensToDrop, RenewsFiles, SurvivesRenewal, SurvivesRenewing, TellsOpening, is_renewed_failed, only_told};
+ghost use Rattle.bx_run.specs.Failures.{CountsFailure};
 ghost use Rattle.bx_run.specs.RunState.{run_state_beside};
 
 use crate::forget::{forget_files, take_note};
@@ -132,6 +134,7 @@ fn open_to_drop<W: World, R: Read + Drop>(
     ensures fit { W.faithful world.old → WereOpened result.unopened → AreFit names.now guard.mounted (W.state world.old) }
     ensures opened { W.faithful world.old → MayDrop result → WereOpened result.unopened }
     ensures judged { W.faithful world.old → JudgesOpening R.remaining guard (W.note world.old) names.now (W.state world.old) result }
+    ensures counted { W.faithful world.old → CountsFailure (is_failure result.reply) (W.refusals world.old) (W.refusals world.new) }
     ensures others { W.faithful world.old → KeepsOthers names.now (W.state world.old) (W.state world.new) }
     ensures texts { W.faithful world.old → AreNotLeft names.now (W.state world.old) (W.state world.new) (W.state world.new) }
     ensures streams { W.faithful world.old → SaysRecovered result.how (W.state world.old) (W.state world.new) }
@@ -175,6 +178,9 @@ fn take_steps<W: World, R: Read + Drop>(
     ensures why_unopened { W.faithful world.old → IfSome (first_unopened result)
         (MayRefuseOpening names.now guard.mounted true (W.refusals world.old < W.refusals world.new) (W.state world.old)) }
     ensures fit { W.faithful world.old → first_unopened result ≡ None → AreFit names.now guard.mounted (W.state world.old) }
+
+    // The fault of a device is answered only where a call was refused that is counted.
+    ensures failed { W.faithful world.old → is_renewed_failed result ≡ true → W.refusals world.old < W.refusals world.new }
 
     // No other file is changed, and nothing is written but what was recovered.
     ensures others { W.faithful world.old → KeepsNamed names.now (W.state world.old) (W.state world.new) }
@@ -298,6 +304,9 @@ fn renew_locked<W: World, R: Read + Drop>(
         (MayRefuseOpening names.now guard.mounted true (W.refusals world.old < W.refusals world.new) (W.state world.old)) }
     ensures fit { W.faithful world.old → first_unopened result ≡ None → AreFit names.now guard.mounted (W.state world.old) }
 
+    // The fault of a device is answered only where a call was refused that is counted.
+    ensures failed { W.faithful world.old → is_renewed_failed result ≡ true → W.refusals world.old < W.refusals world.new }
+
     // No other file is changed, and nothing is written but what was recovered.
     ensures others { W.faithful world.old → KeepsNamed names.now (W.state world.old) (W.state world.new) }
     ensures streams { W.faithful world.old → TellsOpening result (W.state world.old) (W.state world.new) }
@@ -342,6 +351,9 @@ pub fn renew_files<W: World, R: Read + Drop>(
     ensures why_unopened { W.faithful world.old → IfSome (first_unopened result)
         (MayRefuseOpening names.now guard.mounted true (W.refusals world.old < W.refusals world.new) (W.state world.old)) }
     ensures fit { W.faithful world.old → first_unopened result ≡ None → AreFit names.now guard.mounted (W.state world.old) }
+
+    // The fault of a device is answered only where a call was refused that is counted.
+    ensures failed { W.faithful world.old → is_renewed_failed result ≡ true → W.refusals world.old < W.refusals world.new }
 
     // No other file is changed, and nothing is written but what was recovered.
     ensures others { W.faithful world.old → KeepsNamed names.now (W.state world.old) (W.state world.new) }

@@ -6,7 +6,7 @@ mod request;
 
 ghost use Rattle.std.specs.Prelude.{◌≡◌, ◌↔◌, ◌<◌, Option, None, IfSome};
 ghost use Rattle.bx_world.specs.declared.world.Outgrown.{Outgrown};
-ghost use Rattle.bx_run.specs.run.Commands.{Answers, Fulfills, LeavesOthers, MayOpen, HasRun, StandsAs, StopsUnopened, SurvivesLoss, WereJudged, Writes};
+ghost use Rattle.bx_run.specs.run.Commands.{Answers, CountsFault, Fulfills, LeavesOthers, MayOpen, HasRun, StandsAs, StopsUnopened, SurvivesLoss, WereJudged, Writes};
 ghost use Rattle.bx_run.specs.run.Outcome.{unopened_by};
 ghost use Rattle.bx_run.specs.RunState.{run_state};
 ghost use Rattle.bx_run.specs.declared.run.outcome.Outcome.{Outcome};
@@ -48,6 +48,7 @@ fn run_command<W: World, R: Read + Drop, O: Write>(
         (run_state W.state W.refusals W.note O.contents world.old out.old) (run_state W.state W.refusals W.note O.contents world.new out.new)) }
     ensures streams { W.faithful world.old → Writes request.entry result
         (run_state W.state W.refusals W.note O.contents world.old out.old) (run_state W.state W.refusals W.note O.contents world.new out.new) }
+    ensures failed { W.faithful world.old → CountsFault request.entry result (W.refusals world.old < W.refusals world.new) }
     ensures free { W.faithful world.old → (W.state world.new).lent ≡ None }
     ensures faith { W.faithful world.new ↔ W.faithful world.old }
 {

@@ -1,5 +1,5 @@
 -- A change with which a history begins anew: all changes before it are accepted, and it stands alone.
-use Rattle.std.specs.Prelude.{◌≡◌, ◌≢◌, ◌⊎◌, ◌<◌, ◌≤◌, ℕ, true, false, List, [], Option, None, Some, Result, Ok, Err, IfOk, IfSome, OnOk}
+use Rattle.std.specs.Prelude.{◌≡◌, ◌≢◌, ◌⊎◌, ◌<◌, ◌≤◌, ℕ, Bool, true, false, List, [], Option, None, Some, Result, Ok, Err, IfOk, IfSome, OnOk}
 use Rattle.bx_journal.specs.Forgotten.{only}
 use Rattle.bx_journal.specs.Images.{Images}
 use Rattle.bx_journal.specs.Machine.{top}
@@ -8,6 +8,7 @@ use Rattle.bx_journal.specs.Power.{Found}
 use Rattle.bx_journal.specs.SessionFault.TheVariants.{Interrupted}
 use Rattle.bx_cli_commands.specs.Refusal.{IsWholeRefusal}
 use Rattle.bx_cli_commands.specs.Replies.{stands_by}
+use Rattle.bx_cli_commands.specs.Run.{is_failure}
 use Rattle.bx_cli_commands.specs.declared.command.Reply.{Reply}
 use Rattle.bx_cli_commands.specs.declared.command.Reply.TheVariants.{Refused}
 use Rattle.bx_cli_commands.specs.declared.fault.Fault.TheVariants.{Session}
@@ -25,6 +26,7 @@ use Rattle.bx_run.specs.declared.session.task.Task.{Task}
 use Rattle.bx_run.specs.forget.Forgetting.{DropsNote, Held, IsNoTextNamed, IsOfTexts, LosesPart, held_by_names}
 use Rattle.bx_run.specs.declared.report.error.ReportError.{ReportError}
 use Rattle.bx_run.specs.declared.report.error.ReportError.TheVariants.{Stopped}
+use Rattle.bx_run.specs.report.Looks.{is_look_failed}
 use Rattle.bx_run.specs.preview.Changing.{DoesChange, DoesForget}
 use Rattle.bx_run.specs.run.Outcome.{renewed_end, unopened_fault}
 use Rattle.bx_run.specs.RunState.{RunState}
@@ -200,6 +202,12 @@ IsRefusedRenewal (Changed answer) = IsWholeRefusal answer.reply
 abbrev pub ClearsImage : Renewed → Option ℕ → SystemState → SystemState → Type 0
 ClearsImage renewed None ended new = new ≡ ended
 ClearsImage renewed (Some n) ended new = (IsRefusedRenewal renewed × Unmakes n ended new) ⊎ ((IsRefusedRenewal renewed → ⊥) × (new ≡ ended))
+
+-- whether such a change ended in the fault of a device
+abbrev pub is_renewed_failed : Renewed → Bool
+is_renewed_failed (Kept answer) = is_failure answer.reply
+is_renewed_failed (Undropped unseen) = is_look_failed {V = Unit {0}} (Err unseen)
+is_renewed_failed (Changed answer) = is_failure answer.reply
 
 -- the change was refused on an image whose history was dropped
 abbrev pub IsRefusedBehind : Renewed → Type 0

@@ -1,5 +1,5 @@
 -- Devices that are only read.
-use Rattle.std.specs.Prelude.{◌≡◌, ℕ, false, List}
+use Rattle.std.specs.Prelude.{◌≡◌, ◌+◌, ℕ, false, List}
 use Rattle.bx_image.specs.declared.device.Device.{Ghosts as DeviceViews}
 use Rattle.bx_journal_store.specs.declared.store.TextStore.{Ghosts as StoreViews}
 use Rattle.bx_text.specs.declared.fault.IoFault.TheVariants.{NoMemory as LacksMemory}
@@ -14,6 +14,10 @@ use Rattle.bx_world.specs.World.{ReadFiles, SystemState, bytes_if, held}
 use Rattle.bx_world.specs.declared.files.names.Names.{Names}
 use Rattle.bx_run.specs.declared.report.error.ReportError.{ReportError}
 use Rattle.bx_run.specs.declared.report.error.ReportError.TheVariants.{Stopped}
+
+-- how many calls of three devices failed that are only read
+abbrev pub failed_reads : {D T : Type 0} → DeviceViews D → StoreViews T → Devices D T → ℕ
+failed_reads d t x = d.failures x.image + t.failures x.journal + t.failures x.redo
 
 -- The devices are faithful, and hold these bytes
 pub record HoldBytes {D T : Type 0} (d : DeviceViews D) (t : StoreViews T) (image journal redo : List ℕ) (x : Devices D T) : Type 0 where

@@ -1,5 +1,5 @@
 -- What a person sees of the changes of an image, and why not.
-use Rattle.std.specs.Prelude.{◌≡◌, ◌⊎◌, ℕ, List, Option, None, Some, Result, Err}
+use Rattle.std.specs.Prelude.{◌≡◌, ◌⊎◌, ℕ, Bool, false, List, Option, None, Some, Result, Ok, Err}
 use Rattle.std.specs.List.{flat_map}
 use Rattle.bx_text.specs.declared.fault.IoFault.TheVariants.{NoMemory as LacksMemory}
 use Rattle.bx_journal.specs.Calls.{Differs, rows_of}
@@ -22,6 +22,7 @@ use Rattle.bx_world.specs.World.{SystemState, held}
 use Rattle.bx_world.specs.files.Reading.{MayRefuseReading}
 use Rattle.bx_world.specs.declared.files.names.Names.{Names}
 use Rattle.bx_world.specs.declared.files.unopened.OpenError.{OpenError as UnopenedFile}
+use Rattle.bx_run.specs.Failures.{is_device_fault}
 use Rattle.bx_run.specs.declared.report.error.ReportError.{ReportError}
 use Rattle.bx_run.specs.declared.report.error.ReportError.TheVariants.{Unopened, Unfinished, Another, Stopped}
 
@@ -104,6 +105,16 @@ IsNextCut image journal redo s old new unseen =
 abbrev pub unopened_in : {V : Type 0} → Result V ReportError → Option UnopenedFile
 unopened_in (Err (Unopened file)) = Some file
 unopened_in outcome = None
+
+-- whether a look is stopped by the fault of a device; that something is unfinished is none
+abbrev pub is_unseen_failed : ReportError → Bool
+is_unseen_failed (Stopped fault) = is_device_fault fault
+is_unseen_failed unseen = false
+
+-- whether a look ended so
+abbrev pub is_look_failed : {V : Type 0} → Result V ReportError → Bool
+is_look_failed (Ok v) = false
+is_look_failed (Err unseen) = is_unseen_failed unseen
 
 -- Why a log with ranges is stopped: the changes are not seen, and nothing is written; or a front of it is
 abbrev pub StopsRangesOf : Names → Type 0 → SystemState → Option (List ℕ) → Option (List ℕ) → ReportError → Type 0

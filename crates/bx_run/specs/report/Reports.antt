@@ -1,5 +1,5 @@
 -- Reports of the changes of an image.
-use Rattle.std.specs.Prelude.{◌<◌, ℕ, List, Option, Result}
+use Rattle.std.specs.Prelude.{◌≡◌, ◌<◌, ℕ, true, List, Option, Result}
 use Rattle.std.specs.Result.{MatchResult}
 use Rattle.std.specs.Io.KnownBytes.{Appends}
 use Rattle.bx_text.specs.Writing.{WritesFront}
@@ -8,7 +8,7 @@ use Rattle.bx_journal.specs.ShownText.{ShowsText}
 use Rattle.bx_cli_commands.specs.declared.fault.Fault.TheVariants.{Io}
 use Rattle.bx_world.specs.World.{SystemState, held}
 use Rattle.bx_world.specs.declared.files.names.Names.{Names}
-use Rattle.bx_run.specs.report.Looks.{IsLogOf, IsNextShown, IsUnseenOr, MayNotLook, StopsNextSteps, StopsRangesOf, StopsUndos, undos}
+use Rattle.bx_run.specs.report.Looks.{IsLogOf, IsNextShown, IsUnseenOr, MayNotLook, StopsNextSteps, StopsRangesOf, StopsUndos, is_look_failed, undos}
 use Rattle.bx_run.specs.report.Stepped.{OfNamed, StopsPatch, WritesSteps}
 use Rattle.bx_run.specs.report.Unfinished.{ListsFront, StopsFrontOf}
 use Rattle.bx_run.specs.declared.report.error.ReportError.{ReportError}
@@ -52,3 +52,13 @@ StopsReport names (Patch way count) counted w old new unseen = StopsPatch names 
 abbrev pub Reports : Names → Report → Result (Unit {0}) ReportError → RunState → RunState → Type 0
 Reports names report outcome old new = MatchResult outcome (λ _. WritesReport names report old.state old.written new.written)
     (StopsReport names report (old.refusals < new.refusals) old.state old.written new.written)
+
+-- a log and steps that are shown are stopped by the fault of a device only where a call failed that is counted; of a log that recovers nothing, and of a
+-- patch, nothing is said
+abbrev pub CountsStop : {V : Type 0} → Report → Result V ReportError → Type 0 → Type 0
+CountsStop Log outcome counted = is_look_failed outcome ≡ true → counted
+CountsStop LogWithRanges outcome counted = is_look_failed outcome ≡ true → counted
+CountsStop (LogUnfinished verbose) outcome counted = Unit {0}
+CountsStop (Show steps) outcome counted = is_look_failed outcome ≡ true → counted
+CountsStop (ShowUnfinished steps) outcome counted = is_look_failed outcome ≡ true → counted
+CountsStop (Patch way count) outcome counted = Unit {0}

@@ -20,6 +20,7 @@ use Rattle.bx_run.specs.session.Contents.{FoundIn, Holds, TellsUnfinished}
 use Rattle.bx_run.specs.session.Moves.{Moves, MovesFound, MovesRead, SparesMove, StopsMove, SurvivesMoving, TellsRecovered, stepped, task_of}
 use Rattle.bx_run.specs.session.Guarded.{WasJudged}
 use Rattle.bx_run.specs.session.Named.{KeepsOthers, MayRefuseTask, SurvivesTask, contents_of, is_missing, no_change}
+use Rattle.bx_run.specs.Failures.{is_failed}
 use Rattle.bx_run.specs.session.Task.{IsNearTask}
 use Rattle.bx_run.specs.declared.session.moves.Moved.{Moved}
 use Rattle.bx_run.specs.dump.Dumps.{CountsUndumped, DumpsInput, DumpsNamed, IsStopped, StopsInput, StopsNamed}
@@ -30,8 +31,9 @@ use Rattle.bx_run.specs.preview.Diffs.{StopsDiff, WritesDiff}
 use Rattle.bx_run.specs.run.Answer.{answer_by}
 use Rattle.bx_run.specs.run.Outcome.{ended_by, unopened_by, unopened_fault}
 use Rattle.bx_run.specs.preview.Previews.{StopsPreview, WritesPreview}
-use Rattle.bx_run.specs.renew.Renewal.{KeepsNamed, RenewsFiles, SurvivesRenewing, TellsOpening}
-use Rattle.bx_run.specs.report.Reports.{Reports}
+use Rattle.bx_run.specs.renew.Renewal.{KeepsNamed, RenewsFiles, SurvivesRenewing, TellsOpening, is_renewed_failed}
+use Rattle.bx_run.specs.report.Looks.{is_look_failed}
+use Rattle.bx_run.specs.report.Reports.{CountsStop, Reports}
 use Rattle.bx_run.specs.Edit.{asked}
 use Rattle.bx_run.specs.RunState.{RunState}
 use Rattle.bx_run.specs.declared.run.answer.Done.{Done}
@@ -173,6 +175,17 @@ WereJudged {R = R} (Recover names guard) (of.Changed answer) old = WasJudged gua
     (contents_of names.now old.state) (no_change {R = R}) answer.unopened answer.how
 WereJudged request outcome old = Unit {0}
 
+-- an undo, a redo, a change, the dropping of a history and a report end in the fault of a device only where a call was counted that the system or a device
+-- refused
+abbrev pub CountsFault : {R : Type 0} → Request R → Outcome → Type 0 → Type 0
+CountsFault (Move names guard way count) (of.Moved moved) counted = is_failed (ended_by (of.Moved moved)) ≡ true → counted
+CountsFault (Change names guard edit) (of.Changed answer) counted = is_failed (ended_by (of.Changed answer)) ≡ true → counted
+CountsFault (Recover names guard) (of.Changed answer) counted = is_failed (ended_by (of.Changed answer)) ≡ true → counted
+CountsFault (Forget names guard) (of.Forgotten outcome) counted = is_look_failed outcome ≡ true → counted
+CountsFault (Renew names guard edit) (of.Renewed renewed) counted = is_renewed_failed renewed ≡ true → counted
+CountsFault (Look names report) (of.Looked outcome) counted = CountsStop report outcome counted
+CountsFault request outcome counted = Unit {0}
+
 -- A file of an image wasn't opened, or it isn't the image: the fault says so, all files are as they were, nothing is written, and there is a reason
 pub record StopsUnopened {R : Type 0} (request : Request R) (outcome : Outcome) (old new : RunState) (file : OpenError) : Type 0 where
   pub fault : ended_by outcome ≡ Err (unopened_fault file.why)
@@ -190,7 +203,8 @@ Writes (Renew names guard edit) (of.Renewed renewed) old new = TellsOpening rene
 Writes request outcome old new = (new.state.output ≡ old.state.output) × (new.state.errors ≡ old.state.errors)
 
 -- What a command did that ended so, on the files as they were before it: it did what it is to do, on an image that was judged, in a way that a loss of
--- power leaves to be found, on files that may be opened; where one wasn't opened all are as they were; and what it wrote stands where it is to
+-- power leaves to be found, on files that may be opened; where one wasn't opened all are as they were; what it wrote stands where it is to; and it ended in the
+-- fault of a device only where a call was refused that is counted
 pub record HasRun {R : Type 0} (remaining : R → Option (List ℕ)) (request : Request R) (outcome : Outcome) (old new : RunState)
     (found left : ℕ → List ℕ → Type 0) : Type 0 where
   pub does : Fulfills remaining request outcome old new
@@ -199,6 +213,7 @@ pub record HasRun {R : Type 0} (remaining : R → Option (List ℕ)) (request : 
   pub fit : unopened_by outcome ≡ None → MayOpen request old.state
   pub unopened : IfSome (unopened_by outcome) (StopsUnopened request outcome old new)
   pub streams : Writes request outcome old new
+  pub failed : CountsFault request outcome (old.refusals < new.refusals)
 
 -- An answer stands for how a command ended: its fault is the one that this ended in
 pub record StandsAs {R : Type 0} (request : Request R) (outcome : Outcome) (outgrown : Option Outgrown) (answer : Result Done Failure) : Type 0 where

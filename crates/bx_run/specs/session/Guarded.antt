@@ -26,6 +26,7 @@ use Rattle.bx_journal_image.specs.Stand.{IsStandOf}
 use Rattle.bx_journal_image.specs.Ranges.{ending_line}
 use Rattle.bx_journal_image.specs.Unfinished.{IsOpenJudged, IsUnfinishedJudged, LeavesImage}
 use Rattle.bx_cli_commands.specs.declared.command.Command.TheVariants.{Redo, Undo}
+use Rattle.bx_world.specs.World.{failed_calls}
 use Rattle.bx_world.specs.declared.files.guard.Guard.{Guard}
 use Rattle.bx_world.specs.declared.files.unopened.OpenError.{OpenError}
 use Rattle.bx_world.specs.declared.files.unopened.FileRole.TheVariants.{Image}
@@ -196,12 +197,18 @@ CountLooks d t (Err e) old new = ThreeCounts e (d.failures old.image) (t.failure
 abbrev pub AreFew : {D T : Type 0} → DeviceViews D → StoreViews T → Devices D T → Type 0
 AreFew d t x = (d.failures x.image ≤ 1) × (t.failures x.journal ≤ 1) × (t.failures x.redo ≤ 2 ^ 32 + 1)
 
+-- how many calls of three devices failed that are fresh at first
+abbrev pub failed_by : {D T : Type 0} → DeviceViews D → StoreViews T → Devices D T → ℕ
+failed_by d t x = failed_calls (d.failures x.image) (t.failures x.journal) (t.failures x.redo)
+
 -- each of three devices counts at most one failed call more
 pub record RiseByOne {D T : Type 0} (d : DeviceViews D) (t : StoreViews T) (old new : Devices D T) : Type 0 where
+  pub image_least : d.failures old.image ≤ d.failures new.image
+  pub journal_least : t.failures old.journal ≤ t.failures new.journal
+  pub redo_least : t.failures old.redo ≤ t.failures new.redo
   pub image : d.failures new.image ≤ d.failures old.image + 1
   pub journal : t.failures new.journal ≤ t.failures old.journal + 1
   pub redo : t.failures new.redo ≤ t.failures old.redo + 1
-  pub redo_least : t.failures old.redo ≤ t.failures new.redo
 
 -- an image of this length is between these lengths
 abbrev pub Spans : ℕ → Span → Type 0

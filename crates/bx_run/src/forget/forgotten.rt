@@ -1,13 +1,14 @@
 //! An image whose history is dropped, by the names of its files: all changes are accepted, and nothing can be undone then.
-ghost use Rattle.std.specs.Prelude.{◌≡◌, ◌↔◌, ◌<◌, ◌≤◌, ◌^◌, ℕ, None, Some, IfErr, IfOk, OnErr, OnOk, false, true, IfSome};
+ghost use Rattle.std.specs.Prelude.{◌≡◌, ◌↔◌, ◌<◌, ◌≤◌, ◌+◌, ◌^◌, ℕ, is_err, None, Some, IfErr, IfOk, OnErr, OnOk, false, true, IfSome};
 ghost use Rattle.bx_image.specs.Power.{NoMore};
 ghost use Rattle.bx_journal.specs.ThreeDevices.{AreBelow};
-ghost use Rattle.bx_world.specs.World.{AreOwnFiles, ClosesTexts, IsNoText, IsNoneRead, NothingNewFound, NothingNewSpared, ReadFiles, Spares, TextsLeft, bytes_if, number_if};
+ghost use Rattle.bx_world.specs.World.{AreOwnFiles, ClosesTexts, IsNoText, IsNoneRead, NothingNewFound, NothingNewSpared, ReadFiles, Spares, TextsLeft, bytes_if, failed_calls, number_if};
 ghost use Rattle.bx_world.specs.files.Reading.{AreReadable, LeadToRead, MayRefuseForgetting, MayRefuseReading, StaysSeen, numbers_read, AreLockedAs};
 ghost use Rattle.bx_world.specs.files.Reasons.{IsReason, IsRefusedFor, NoneUnfit};
 ghost use Rattle.bx_run.specs.report.Devices.{HoldFiles, HoldNumbered};
 ghost use Rattle.bx_run.specs.forget.Forgetting.{AreLent, AreLentTexts, DropsNote, Empties, HasForgotten, LeavesNote, IsAlone, IsFoundOf, IsNoTextNamed, MayForgetNamed, StopsForgetting, SurvivesEmptying, SurvivesForgetting, held_by_names, texts_of};
-ghost use Rattle.bx_run.specs.report.Looks.{unopened_in};
+ghost use Rattle.bx_run.specs.report.Looks.{is_look_failed, unopened_in};
+ghost use Rattle.bx_run.specs.Failures.{CountsFailure};
 
 use crate::forget::judging::judge;
 use crate::report::devices::Seen;
@@ -42,6 +43,7 @@ fn lend_redo<W: World>(world: &mut W, redo: Option<W::File>) -> Result<W::Text, 
     ensures beside { W.faithful world.old → OnOk result ((f : ReadFiles) → W.beside world.old ≡ Some f → f.redo ≡ None
         → W.beside world.new ≡ Some (record { image = f.image; journal = f.journal; redo = number_if W.number redo })) }
     ensures why { W.faithful world.old → IfErr result (λ u. IsReason ⊥ NoneUnfit ⊥ (W.refusals world.old < W.refusals world.new) u.why) }
+    ensures calm { W.faithful world.old → OnOk result (W.refusals world.new ≡ W.refusals world.old) }
     ensures seen { W.faithful world.old → StaysSeen W.state W.survives world.old world.new }
     ensures note { W.faithful world.old → W.note world.new ≡ W.note world.old }
     ensures faith { W.faithful world.new ↔ W.faithful world.old }
@@ -69,6 +71,7 @@ fn lend_files<W: World>(
     ensures beside { W.faithful world.old → OnOk result (W.beside world.new ≡ Some (numbers_read W.number looked)) }
     ensures found { W.faithful world.old → IfOk result (λ d. NoMore (W.survives world.old (W.number looked.image)) (W.Image.survives d.image)) }
     ensures why { W.faithful world.old → IfErr result (λ u. IsReason ⊥ NoneUnfit ⊥ (W.refusals world.old < W.refusals world.new) u.why) }
+    ensures calm { W.faithful world.old → OnOk result (W.refusals world.new ≡ W.refusals world.old) }
     ensures seen { W.faithful world.old → StaysSeen W.state W.survives world.old world.new }
     ensures note { W.faithful world.old → W.note world.new ≡ W.note world.old }
     ensures faith { W.faithful world.new ↔ W.faithful world.old }
@@ -107,6 +110,7 @@ fn lend_named<W: World>(
         → NoMore (W.survives world.old f.image) (W.Image.survives d.image)) }
     ensures why { W.faithful world.old
         → IfErr result (MayRefuseReading names.now (W.refusals world.old < W.refusals world.new) (W.state world.old)) }
+    ensures calm { W.faithful world.old → OnOk result (W.refusals world.new ≡ W.refusals world.old) }
     ensures seen { W.faithful world.old → StaysSeen W.state W.survives world.old world.new }
     ensures note { W.faithful world.old → W.note world.new ≡ W.note world.old }
     ensures faith { W.faithful world.new ↔ W.faithful world.old }
@@ -143,6 +147,7 @@ fn lend_alone<W: World>(world: &mut W, names: &Names) -> Result<Lent<W::Image, W
         (W.survives world.old) (W.Image.survives l.devices.image)) }
     ensures why { W.faithful world.old
         → IfErr result (MayRefuseForgetting names.now (W.refusals world.old < W.refusals world.new) (W.state world.old)) }
+    ensures calm { W.faithful world.old → OnOk result (W.refusals world.new ≡ W.refusals world.old) }
     ensures seen { W.faithful world.old → StaysSeen W.state W.survives world.old world.new }
     ensures note { W.faithful world.old → W.note world.new ≡ W.note world.old }
     ensures faith { W.faithful world.new ↔ W.faithful world.old }
@@ -168,6 +173,7 @@ fn lend_own<W: World>(world: &mut W, names: &Names) -> Result<Lent<W::Image, W::
         (W.survives world.old) (W.Image.survives l.devices.image)) }
     ensures why { W.faithful world.old
         → IfErr result (MayRefuseForgetting names.now (W.refusals world.old < W.refusals world.new) (W.state world.old)) }
+    ensures calm { W.faithful world.old → OnOk result (W.refusals world.new ≡ W.refusals world.old) }
     ensures seen { W.faithful world.old → StaysSeen W.state W.survives world.old world.new }
     ensures note { W.faithful world.old → W.note world.new ≡ W.note world.old }
     ensures faith { W.faithful world.new ↔ W.faithful world.old }
@@ -207,6 +213,7 @@ fn lend_texts<W: World>(world: &mut W, names: &Names) -> Result<Lent<W::Image, W
         (W.survives world.old) (W.Image.survives l.devices.image)) }
     ensures why { W.faithful world.old
         → IfErr result (MayRefuseForgetting names.now (W.refusals world.old < W.refusals world.new) (W.state world.old)) }
+    ensures calm { W.faithful world.old → OnOk result (W.refusals world.new ≡ W.refusals world.old) }
     ensures seen { W.faithful world.old → StaysSeen W.state W.survives world.old world.new }
     ensures note { W.faithful world.old → W.note world.new ≡ W.note world.old }
     ensures faith { W.faithful world.new ↔ W.faithful world.old }
@@ -256,6 +263,8 @@ fn close_texts<W: World>(
         → NothingNewSpared (IsNoneRead f) (W.survives world.old) (W.survives world.new) }
     ensures dropped { W.faithful world.old → goes ≡ true → DropsNote (0 < W.refusals world.new) (W.note world.old) (W.note world.new) }
     ensures stays { W.faithful world.old → goes ≡ false → W.note world.new ≡ W.note world.old }
+    ensures counted { W.faithful world.old
+        → W.refusals world.old + failed_calls (W.Image.failures image) (W.Text.failures journal) (W.Text.failures redo) ≤ W.refusals world.new }
     ensures faith { W.faithful world.new ↔ W.faithful world.old }
 {
     take_note(world, goes);
@@ -289,6 +298,7 @@ fn empty_lent<W: World>(
         → W.Image.image devices.image ≡ (W.state world.old).bytes f.image
         → SurvivesEmptying (texts_of false f) result (W.state world.old) (W.Image.survives devices.image) (W.survives world.old) (W.survives world.new) }
     ensures note { W.faithful world.old → LeavesNote result goes (0 < W.refusals world.new) (W.note world.old) (W.note world.new) }
+    ensures counted { W.faithful world.old → CountsFailure (is_err result) (W.refusals world.old) (W.refusals world.new) }
     ensures faith { W.faithful world.new ↔ W.faithful world.old }
 {
     let Devices {
@@ -330,6 +340,7 @@ fn empty_alone<W: World>(
         → W.Image.image devices.image ≡ (W.state world.old).bytes f.image
         → SurvivesEmptying (texts_of true f) result (W.state world.old) (W.Image.survives devices.image) (W.survives world.old) (W.survives world.new) }
     ensures note { W.faithful world.old → LeavesNote result goes (0 < W.refusals world.new) (W.note world.old) (W.note world.new) }
+    ensures counted { W.faithful world.old → CountsFailure (is_err result) (W.refusals world.old) (W.refusals world.new) }
     ensures faith { W.faithful world.new ↔ W.faithful world.old }
 {
     let Devices {
@@ -372,6 +383,7 @@ fn empty_texts<W: World>(
         → W.Image.image devices.image ≡ (W.state world.old).bytes f.image
         → SurvivesEmptying (texts_of exchanged f) result (W.state world.old) (W.Image.survives devices.image) (W.survives world.old) (W.survives world.new) }
     ensures note { W.faithful world.old → LeavesNote result goes (0 < W.refusals world.new) (W.note world.old) (W.note world.new) }
+    ensures counted { W.faithful world.old → CountsFailure (is_err result) (W.refusals world.old) (W.refusals world.new) }
     ensures faith { W.faithful world.new ↔ W.faithful world.old }
 {
     if exchanged {
@@ -420,6 +432,10 @@ pub fn forget_files<W: World>(
     ensures others { W.faithful world.old
         → Spares (IsNoTextNamed names.now (W.state world.old)) (W.state world.old) (W.state world.new) }
     ensures note { W.faithful world.old → LeavesNote result goes (0 < W.refusals world.new) (W.note world.old) (W.note world.new) }
+
+    // The fault of a device is answered only where a call was refused that is counted.
+    ensures counted { W.faithful world.old → OnOk result (W.refusals world.old ≤ W.refusals world.new) }
+    ensures failed { W.faithful world.old → is_look_failed result ≡ true → W.refusals world.old < W.refusals world.new }
     ensures faith { W.faithful world.new ↔ W.faithful world.old }
 {
     let Lent { devices, exchanged } = match lend_texts(world, names) {

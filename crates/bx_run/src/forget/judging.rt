@@ -5,9 +5,9 @@ ghost use Rattle.bx_journal_format.specs.Shown.{shown};
 ghost use Rattle.bx_journal_model.specs.Looking.{FaultCounts, OnlyReadsText};
 ghost use Rattle.bx_journal_read.specs.scan.Recovery.{FindFault};
 ghost use Rattle.bx_journal.specs.ThreeDevices.{AreBelow};
-ghost use Rattle.bx_run.specs.report.Devices.{HoldBytes};
+ghost use Rattle.bx_run.specs.report.Devices.{HoldBytes, failed_reads};
 ghost use Rattle.bx_run.specs.forget.Forgetting.{EndsWithEntry, IsJudgedOpen, IsOfTexts, IsNoteLine, KeepsHistory, MayForget, drops};
-ghost use Rattle.bx_run.specs.report.Looks.{HidesChanges};
+ghost use Rattle.bx_run.specs.report.Looks.{HidesChanges, is_look_failed};
 
 use crate::report::devices::{Seen, closed, is_whole};
 use crate::report::error::{ReportError, reason_of};
@@ -52,6 +52,7 @@ fn judge_found<D: Device, T: TextStore>(alloc: Global, devices: Devices<D, T>) -
     ensures found_before { (x text redo : List ℕ) → HoldBytes D.Device T.TextStore x text redo devices
         → OnOk result.outcome (NoMore (D.survives devices.image) (D.survives result.devices.image)) }
     ensures unfailed { OnOk result.outcome (D.failures result.devices.image ≡ D.failures devices.image) }
+    ensures failed { is_look_failed result.outcome ≡ true → 0 < failed_reads D.Device T.TextStore result.devices }
 {
     match Session::open_devices(alloc, devices) {
         Ok((session, found)) => {
@@ -171,6 +172,7 @@ fn judge_told<D: Device, T: TextStore>(
     ensures found_before { (x text redo : List ℕ) → HoldBytes D.Device T.TextStore x text redo devices
         → OnOk result.outcome (NoMore (D.survives devices.image) (D.survives result.devices.image)) }
     ensures unfailed { OnOk result.outcome (D.failures result.devices.image ≡ D.failures devices.image) }
+    ensures failed { known.is_read ≡ true → is_look_failed result.outcome ≡ true → 0 < failed_reads D.Device T.TextStore result.devices }
 {
     let Some(verdict) = found else {
         return judge_found(alloc, devices);
@@ -205,6 +207,7 @@ pub fn judge<D: Device, T: TextStore>(
     ensures found_before { (x text redo : List ℕ) → HoldBytes D.Device T.TextStore x text redo devices
         → OnOk result.outcome (NoMore (D.survives devices.image) (D.survives result.devices.image)) }
     ensures unfailed { OnOk result.outcome (D.failures result.devices.image ≡ D.failures devices.image) }
+    ensures failed { known.is_read ≡ true → is_look_failed result.outcome ≡ true → 0 < failed_reads D.Device T.TextStore result.devices }
 {
     let mut devices = devices;
     match judge_open(alloc, &mut devices.image, &mut devices.journal, known.line) {

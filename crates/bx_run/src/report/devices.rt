@@ -1,12 +1,12 @@
 //! Looks at three devices, which are handed back.
-ghost use Rattle.std.specs.Prelude.{◌≡◌, ◌↔◌, ◌<◌, List, ℕ, IfErr, IfOk, OnOk, true, string_bytes};
+ghost use Rattle.std.specs.Prelude.{◌≡◌, ◌↔◌, ◌<◌, ◌+◌, List, ℕ, IfErr, IfOk, OnOk, true, string_bytes};
 ghost use Rattle.bx_journal.specs.SessionView.{devices_of};
 ghost use Rattle.bx_journal.specs.Showing.{RangesOf};
 ghost use Rattle.bx_journal.specs.ShownText.{ShowsText};
 ghost use Rattle.bx_journal.specs.ThreeDevices.{AreBelow};
 ghost use Rattle.bx_journal.specs.Undoing.{HasCount};
-ghost use Rattle.bx_run.specs.report.Devices.{HoldBytes, IsDeviceStop, IsOpenedWhole, IsUnbroken};
-ghost use Rattle.bx_run.specs.report.Looks.{AreStepsCut, HidesChanges, IsListCut, IsLogOf, IsNextCut, IsNextShown, IsUnseenOr, stepped_text, undos};
+ghost use Rattle.bx_run.specs.report.Devices.{HoldBytes, IsDeviceStop, IsOpenedWhole, IsUnbroken, failed_reads};
+ghost use Rattle.bx_run.specs.report.Looks.{AreStepsCut, HidesChanges, IsListCut, IsLogOf, IsNextCut, IsNextShown, IsUnseenOr, is_look_failed, is_unseen_failed, stepped_text, undos};
 ghost use Rattle.bx_run.specs.report.Stepped.{CountsHeld};
 
 use crate::report::error::{ReportError, reason_of};
@@ -61,6 +61,7 @@ pub fn open_whole<D: Device, T: TextStore>(
         → IfOk result (CountsHeld x text redo) }
     ensures hides { (x text redo : List ℕ) → HoldBytes D.Device T.TextStore x text redo devices
         → IfErr result (λ e. HidesChanges x text redo e.1) }
+    ensures failed { IfErr result (λ e. is_unseen_failed e.1 ≡ true → 0 < failed_reads D.Device T.TextStore e.0) }
 {
     match Session::open_devices(alloc, devices) {
         Ok((session, found)) => {
@@ -82,6 +83,7 @@ fn log_in<D: Device, T: TextStore>(
     ensures log { T.faithful session.old.journal → HasCount (T.text session.old.journal) session.old.count
         → IfOk result (λ text. IsLogOf (T.text session.old.journal) (string_bytes text)) }
     ensures fails { T.faithful session.old.journal → HasCount (T.text session.old.journal) session.old.count → IfErr result IsDeviceStop }
+    ensures failed { is_look_failed result ≡ true → 0 < failed_reads D.Device T.TextStore (devices_of session.new) }
 {
     let rows = match session.log() {
         Ok(rows) => rows,
@@ -100,6 +102,7 @@ pub fn log_on<D: Device, T: TextStore>(alloc: Global, devices: Devices<D, T>) ->
         → IfOk result.outcome (λ log. IsLogOf text (string_bytes log)) }
     ensures hides { (x text redo : List ℕ) → HoldBytes D.Device T.TextStore x text redo devices
         → IfErr result.outcome (HidesChanges x text redo) }
+    ensures failed { is_look_failed result.outcome ≡ true → 0 < failed_reads D.Device T.TextStore result.devices }
 {
     match open_whole(alloc, devices) {
         Ok(mut session) => {
@@ -125,6 +128,7 @@ fn list_on<T: TextStore, O: Write>(
     requires { T.failures journal.old < u64.MAX }
     ensures rows { T.faithful journal.old → OnOk result (RangesOf (T.text journal.old) (O.contents out.old) (O.contents out.new)) }
     ensures cut { T.faithful journal.old → IfErr result (IsListCut (T.text journal.old) (O.contents out.old) (O.contents out.new)) }
+    ensures failed { is_look_failed result ≡ true → 0 < T.failures journal.new }
 {
     match list_ranges(&alloc, journal, out) {
         Ok(()) => Ok(()),
@@ -143,6 +147,7 @@ pub fn ranges_on<D: Device, T: TextStore, O: Write>(
         → OnOk result.outcome (RangesOf text (O.contents out.old) (O.contents out.new)) }
     ensures stops { (x text redo : List ℕ) → HoldBytes D.Device T.TextStore x text redo devices → IfErr result.outcome (λ u.
         IsUnseenOr (HidesChanges x text redo u) (O.contents out.old) (O.contents out.new) (IsListCut text (O.contents out.old) (O.contents out.new) u)) }
+    ensures failed { is_look_failed result.outcome ≡ true → 0 < failed_reads D.Device T.TextStore result.devices }
 {
     match open_whole(alloc, devices) {
         Ok(session) => {
@@ -171,6 +176,7 @@ fn show_text<D: Device, T: TextStore, O: Write>(
         (ShowsText (T.text text.old) (D.image image.old) steps (O.contents out.old) (O.contents out.new)) }
     ensures cut { T.faithful text.old → D.faithful image.old → IfErr result
         (AreStepsCut (T.text text.old) (D.image image.old) steps (O.contents out.old) (O.contents out.new)) }
+    ensures failed { is_look_failed result ≡ true → 0 < D.failures image.new + T.failures text.new }
 {
     match list_steps(&alloc, image, text, steps, out) {
         Ok(()) => Ok(()),
@@ -190,6 +196,7 @@ fn show_next<D: Device, T: TextStore, O: Write>(
         (ShowsText (stepped_text steps.way text redo) x steps (O.contents out.old) (O.contents out.new)) }
     ensures cut { (x text redo : List ℕ) → HoldBytes D.Device T.TextStore x text redo devices.old → IfErr result
         (AreStepsCut (stepped_text steps.way text redo) x steps (O.contents out.old) (O.contents out.new)) }
+    ensures failed { is_look_failed result ≡ true → 0 < failed_reads D.Device T.TextStore devices.new }
 {
     match steps.way {
         Direction::Undo => show_text(alloc, &mut devices.image, &mut devices.journal, steps, out),
@@ -210,6 +217,7 @@ pub fn show_on<D: Device, T: TextStore, O: Write>(
     ensures stops { (x text redo : List ℕ) → HoldBytes D.Device T.TextStore x text redo devices → IfErr result.outcome (λ u.
         IsUnseenOr (HidesChanges x text redo u) (O.contents out.old) (O.contents out.new)
         (IsNextCut x text redo steps (O.contents out.old) (O.contents out.new) u)) }
+    ensures failed { is_look_failed result.outcome ≡ true → 0 < failed_reads D.Device T.TextStore result.devices }
 {
     match open_whole(alloc, devices) {
         Ok(session) => {
@@ -237,6 +245,7 @@ pub fn undos_on<D: Device, T: TextStore, O: Write>(
         → OnOk result.outcome (ShowsText text x (undos steps) (O.contents out.old) (O.contents out.new)) }
     ensures cut { (x text redo : List ℕ) → HoldBytes D.Device T.TextStore x text redo devices
         → IfErr result.outcome (AreStepsCut text x (undos steps) (O.contents out.old) (O.contents out.new)) }
+    ensures failed { is_look_failed result.outcome ≡ true → 0 < failed_reads D.Device T.TextStore result.devices }
 {
     let mut devices = devices;
     let way = Direction::Undo;

@@ -1,9 +1,9 @@
 //! Reports of the changes of an image, by the names of its files.
-ghost use Rattle.std.specs.Prelude.{◌≡◌, ◌↔◌, ◌<◌, None, IfErr, IfSome, OnOk};
+ghost use Rattle.std.specs.Prelude.{◌≡◌, ◌↔◌, ◌<◌, None, IfErr, IfSome, OnOk, true};
 ghost use Rattle.bx_world.specs.World.{NothingNewFound, held};
 ghost use Rattle.bx_world.specs.files.Reading.{AreReadable, MayRefuseReading};
-ghost use Rattle.bx_run.specs.report.Looks.{unopened_in};
-ghost use Rattle.bx_run.specs.report.Reports.{Reports, StopsLogOf, WritesLog};
+ghost use Rattle.bx_run.specs.report.Looks.{is_look_failed, unopened_in};
+ghost use Rattle.bx_run.specs.report.Reports.{CountsStop, Reports, StopsLogOf, WritesLog};
 ghost use Rattle.bx_run.specs.RunState.{run_state};
 
 use crate::report::{
@@ -53,6 +53,7 @@ fn write_log<W: World, O: Write>(
     ensures stops { W.faithful world.old → IfErr result (StopsLogOf names.now (W.refusals world.old < W.refusals world.new)
         (W.state world.old) (O.contents out.old) (O.contents out.new)) }
     ensures fit { W.faithful world.old → unopened_in result ≡ None → AreReadable names.now (W.state world.old) }
+    ensures failed { W.faithful world.old → is_look_failed result ≡ true → W.refusals world.old < W.refusals world.new }
     ensures same { W.faithful world.old → W.state world.new ≡ W.state world.old }
     ensures survives { W.faithful world.old → NothingNewFound (W.survives world.old) (W.survives world.new) }
     ensures faith { W.faithful world.new ↔ W.faithful world.old }
@@ -81,6 +82,7 @@ pub fn write_report<W: World, O: Write>(
     ensures why { W.faithful world.old
         → IfSome (unopened_in result) (MayRefuseReading names.now (W.refusals world.old < W.refusals world.new) (W.state world.old)) }
     ensures fit { W.faithful world.old → unopened_in result ≡ None → AreReadable names.now (W.state world.old) }
+    ensures failed { W.faithful world.old → CountsStop report result (W.refusals world.old < W.refusals world.new) }
     ensures same { W.faithful world.old → W.state world.new ≡ W.state world.old }
     ensures survives { W.faithful world.old → NothingNewFound (W.survives world.old) (W.survives world.new) }
     ensures faith { W.faithful world.new ↔ W.faithful world.old }

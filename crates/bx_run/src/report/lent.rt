@@ -1,10 +1,10 @@
 //! Files that are lent as devices to be read.
-ghost use Rattle.std.specs.Prelude.{◌≡◌, ◌↔◌, ◌<◌, false, IfErr, IfOk, IfSome, OnOk};
+ghost use Rattle.std.specs.Prelude.{◌≡◌, ◌↔◌, ◌<◌, ◌+◌, false, IfErr, IfOk, IfSome, OnOk};
 ghost use Rattle.bx_journal.specs.ThreeDevices.{AreBelow};
 ghost use Rattle.bx_world.specs.World.{NothingNewFound, bytes_if, number_if};
 ghost use Rattle.bx_world.specs.files.Reading.{AreLockedAs, AreReadable, MayRefuseReading, StaysSeen, numbers_read};
 ghost use Rattle.bx_world.specs.files.Reasons.{IsReason, NoneUnfit};
-ghost use Rattle.bx_run.specs.report.Devices.{HoldFiles, HoldNumbered};
+ghost use Rattle.bx_run.specs.report.Devices.{HoldFiles, HoldNumbered, failed_reads};
 
 use crate::report::devices::Seen;
 use crate::report::error::ReportError;
@@ -93,7 +93,8 @@ pub fn into_devices<W: World>(
 /// Closes the files that were lent, and answers what was seen.
 pub fn close<W: World, V>(world: &mut W, seen: Seen<W::Image, W::Text, V>) -> Result<V, ReportError>
     ensures outcome { result ≡ seen.outcome }
-    ensures calm { W.faithful world.old → W.refusals world.new ≡ W.refusals world.old }
+    ensures counted { W.faithful world.old
+        → W.refusals world.new ≡ W.refusals world.old + failed_reads W.Image.Device W.Text.TextStore seen.devices }
     ensures same { W.faithful world.old → W.state world.new ≡ W.state world.old }
     ensures survives { W.faithful world.old → NothingNewFound (W.survives world.old) (W.survives world.new) }
     ensures note { W.faithful world.old → W.note world.new ≡ W.note world.old }

@@ -1,9 +1,9 @@
 //! The changes that stand, a line each, by the names of their files.
-ghost use Rattle.std.specs.Prelude.{◌≡◌, ◌↔◌, ◌<◌, None, IfErr, IfOk, OnOk, string_bytes};
+ghost use Rattle.std.specs.Prelude.{◌≡◌, ◌↔◌, ◌<◌, None, IfErr, IfOk, OnOk, string_bytes, true};
 ghost use Rattle.bx_journal.specs.Showing.{RangesOf};
 ghost use Rattle.bx_world.specs.World.{NothingNewFound, held};
 ghost use Rattle.bx_world.specs.files.Reading.{AreReadable};
-ghost use Rattle.bx_run.specs.report.Looks.{IsLogOf, MayNotLook, StopsRangesOf, unopened_in};
+ghost use Rattle.bx_run.specs.report.Looks.{IsLogOf, MayNotLook, StopsRangesOf, is_look_failed, unopened_in};
 
 use crate::report::devices::{log_on, ranges_on};
 use crate::report::error::ReportError;
@@ -23,6 +23,7 @@ pub fn log<W: World>(world: &mut W, alloc: Global, names: &Names) -> Result<Stri
     ensures why { W.faithful world.old
         → IfErr result (MayNotLook names.now (W.refusals world.old < W.refusals world.new) (W.state world.old)) }
     ensures fit { W.faithful world.old → unopened_in result ≡ None → AreReadable names.now (W.state world.old) }
+    ensures failed { W.faithful world.old → is_look_failed result ≡ true → W.refusals world.old < W.refusals world.new }
     ensures same { W.faithful world.old → W.state world.new ≡ W.state world.old }
     ensures survives { W.faithful world.old → NothingNewFound (W.survives world.old) (W.survives world.new) }
     ensures faith { W.faithful world.new ↔ W.faithful world.old }
@@ -50,6 +51,7 @@ pub fn log_with_ranges<W: World, O: Write>(
     ensures stops { W.faithful world.old → IfErr result (StopsRangesOf names.now (W.refusals world.old < W.refusals world.new)
         (W.state world.old) (O.contents out.old) (O.contents out.new)) }
     ensures fit { W.faithful world.old → unopened_in result ≡ None → AreReadable names.now (W.state world.old) }
+    ensures failed { W.faithful world.old → is_look_failed result ≡ true → W.refusals world.old < W.refusals world.new }
     ensures same { W.faithful world.old → W.state world.new ≡ W.state world.old }
     ensures survives { W.faithful world.old → NothingNewFound (W.survives world.old) (W.survives world.new) }
     ensures faith { W.faithful world.new ↔ W.faithful world.old }

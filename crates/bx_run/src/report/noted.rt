@@ -1,5 +1,5 @@
 //! What the note beside a journal says of the image.
-ghost use Rattle.std.specs.Prelude.{◌≡◌, ◌↔◌, ◌≤◌, List, ℕ, length};
+ghost use Rattle.std.specs.Prelude.{◌≡◌, ◌↔◌, ◌≤◌, ◌+◌, List, ℕ, cond, length};
 ghost use Rattle.bx_world.specs.World.{IsFrontRead};
 ghost use Rattle.bx_world.specs.files.Reading.{StaysSeen};
 ghost use Rattle.bx_run.specs.forget.Forgetting.{IsLineIn, IsNoteLine};
@@ -31,7 +31,7 @@ fn note_line(buf: &[u8], n: usize) -> Option<ImageLine>
 pub fn read_note_line<W: World>(world: &mut W) -> NoteLine
     ensures told { W.faithful world.old → IsNoteLine (W.note world.old) result }
     ensures beside { W.faithful world.old → W.beside world.new ≡ W.beside world.old }
-    ensures calm { W.faithful world.old → W.refusals world.new ≡ W.refusals world.old }
+    ensures counted { W.faithful world.old → W.refusals world.new ≡ cond result.is_read (W.refusals world.old) (W.refusals world.old + 1) }
     ensures seen { W.faithful world.old → StaysSeen W.state W.survives world.old world.new }
     ensures note { W.faithful world.old → W.note world.new ≡ W.note world.old }
     ensures faith { W.faithful world.new ↔ W.faithful world.old }

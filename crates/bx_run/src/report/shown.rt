@@ -1,9 +1,9 @@
 //! What the next undos or redos would do, by the names of the files.
-ghost use Rattle.std.specs.Prelude.{◌≡◌, ◌↔◌, ◌<◌, None, IfErr, OnOk};
+ghost use Rattle.std.specs.Prelude.{◌≡◌, ◌↔◌, ◌<◌, None, IfErr, OnOk, true};
 ghost use Rattle.bx_journal.specs.ShownText.{ShowsText};
 ghost use Rattle.bx_world.specs.World.{NothingNewFound, held};
 ghost use Rattle.bx_world.specs.files.Reading.{AreReadable};
-ghost use Rattle.bx_run.specs.report.Looks.{IsNextShown, StopsNextSteps, StopsUndos, undos, unopened_in};
+ghost use Rattle.bx_run.specs.report.Looks.{IsNextShown, StopsNextSteps, StopsUndos, is_look_failed, undos, unopened_in};
 
 use crate::report::devices::{show_on, undos_on};
 use crate::report::error::ReportError;
@@ -31,6 +31,7 @@ pub fn show<W: World, O: Write>(
     ensures stops { W.faithful world.old → IfErr result (StopsNextSteps names.now (W.refusals world.old < W.refusals world.new)
         (W.state world.old) steps (O.contents out.old) (O.contents out.new)) }
     ensures fit { W.faithful world.old → unopened_in result ≡ None → AreReadable names.now (W.state world.old) }
+    ensures failed { W.faithful world.old → is_look_failed result ≡ true → W.refusals world.old < W.refusals world.new }
     ensures same { W.faithful world.old → W.state world.new ≡ W.state world.old }
     ensures survives { W.faithful world.old → NothingNewFound (W.survives world.old) (W.survives world.new) }
     ensures faith { W.faithful world.new ↔ W.faithful world.old }
@@ -61,6 +62,7 @@ pub fn show_unfinished<W: World, O: Write>(
     ensures stops { W.faithful world.old → IfErr result (StopsUndos names.now (W.refusals world.old < W.refusals world.new)
         (W.state world.old) steps (O.contents out.old) (O.contents out.new)) }
     ensures fit { W.faithful world.old → unopened_in result ≡ None → AreReadable names.now (W.state world.old) }
+    ensures failed { W.faithful world.old → is_look_failed result ≡ true → W.refusals world.old < W.refusals world.new }
     ensures same { W.faithful world.old → W.state world.new ≡ W.state world.old }
     ensures survives { W.faithful world.old → NothingNewFound (W.survives world.old) (W.survives world.new) }
     ensures faith { W.faithful world.new ↔ W.faithful world.old }

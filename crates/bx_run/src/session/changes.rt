@@ -4,7 +4,7 @@ ghost use Rattle.bx_journal.specs.Images.{Images};
 ghost use Rattle.bx_journal.specs.SessionFault.TheVariants.{Interrupted};
 ghost use Rattle.bx_cli_commands.specs.Refusal.{IsWholeRefusal};
 ghost use Rattle.bx_cli_commands.specs.Replies.{stands_by};
-ghost use Rattle.bx_cli_commands.specs.Run.{Unfailed};
+ghost use Rattle.bx_cli_commands.specs.Run.{Unfailed, is_failure};
 ghost use Rattle.bx_cli_commands.specs.declared.command.Reply.TheVariants.{Refused};
 ghost use Rattle.bx_cli_commands.specs.declared.fault.Fault.TheVariants.{Session};
 ghost use Rattle.bx_world.specs.files.Fit.{AreFit};
@@ -13,6 +13,7 @@ ghost use Rattle.bx_run.specs.session.Contents.{DoesFound, FoundIn, Holds, Steps
 ghost use Rattle.bx_run.specs.session.Guarded.{WasJudged, WereOpened};
 ghost use Rattle.bx_run.specs.session.Moves.{recovered_line};
 ghost use Rattle.bx_run.specs.session.Named.{AreNotLeft, KeepsOthers, MayRefuseTask, NothingDone, SurvivesTask, contents_of, is_missing, no_change};
+ghost use Rattle.bx_run.specs.Failures.{CountsFailure};
 ghost use Rattle.bx_run.specs.session.Task.{IsNearTask};
 
 use crate::session::moves::tell_recovered;
@@ -77,6 +78,9 @@ pub fn change_files<W: World, R: Read + Drop>(
     // An undo of no change leaves no text that was missing.
     ensures texts { W.faithful world.old → task ≡ no_change
         → AreNotLeft names.now (W.state world.old) (W.state world.new) (W.state world.new) }
+
+    // The fault of a device is answered only where a device or the note failed.
+    ensures counted { W.faithful world.old → CountsFailure (is_failure result.reply) (W.refusals world.old) (W.refusals world.new) }
 
     // No other file is changed, whatever the files hold and whatever becomes of the task, and nothing is written but what was recovered.
     ensures others { W.faithful world.old → KeepsOthers names.now (W.state world.old) (W.state world.new) }

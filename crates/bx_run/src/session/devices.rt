@@ -1,5 +1,5 @@
 //! A task on three devices, which are opened as a session and handed back.
-ghost use Rattle.std.specs.Prelude.{◌≡◌, Some, IfSome};
+ghost use Rattle.std.specs.Prelude.{◌≡◌, ◌<◌, Some, IfSome, true};
 ghost use Rattle.bx_journal_format.specs.Shown.{shown};
 ghost use Rattle.bx_journal_format.specs.Text.{IsAccepted};
 ghost use Rattle.bx_journal.specs.Images.{Images};
@@ -8,10 +8,10 @@ ghost use Rattle.bx_journal.specs.Session.{HasUndone, IsReady};
 ghost use Rattle.bx_journal.specs.SessionView.{devices_of};
 ghost use Rattle.bx_cli_commands.specs.Refusal.{IsWholeRefusal};
 ghost use Rattle.bx_cli_commands.specs.Replies.{stands_by};
-ghost use Rattle.bx_cli_commands.specs.Run.{Unfailed};
+ghost use Rattle.bx_cli_commands.specs.Run.{Unfailed, is_failure};
 ghost use Rattle.bx_cli_commands.specs.Standing.{Shows, Standing};
 ghost use Rattle.bx_run.specs.session.Contents.{AreFresh, AreHonest, AreInPlace, Does, DoesFound, FoundIn, Holds, KeepHonesty, Spared, SparesDisk, StandsIn, StepsRead, StepsTo, Survives, SurvivesFound, TellsUnfinished, held_by};
-ghost use Rattle.bx_run.specs.session.Guarded.{AreFew};
+ghost use Rattle.bx_run.specs.session.Guarded.{AreFew, failed_by};
 ghost use Rattle.bx_run.specs.session.Task.{IsNearTask, TaskStep};
 
 use crate::session::task::{Task, do_task};
@@ -43,6 +43,7 @@ fn run_and_close<D: Device, T: TextStore, R: Read + Drop>(
     requires fresh { AreFresh D.Device T.TextStore (devices_of session) }
     ensures order { AreInPlace D.Device T.TextStore result.devices }
     ensures few { AreFew D.Device T.TextStore result.devices }
+    ensures failed { is_failure result.reply ≡ true → 0 < failed_by D.Device T.TextStore result.devices }
     ensures faith { KeepHonesty D.Device T.TextStore (devices_of session) result.devices }
     ensures how { result.how ≡ Some how }
     ensures does { AreHonest D.Device T.TextStore (devices_of session) → (s : Images)
@@ -84,6 +85,9 @@ pub fn open_and_run<D: Device, T: TextStore, R: Read + Drop>(
     ensures order { AreInPlace D.Device T.TextStore result.devices }
     ensures few { AreFew D.Device T.TextStore result.devices }
     ensures faith { KeepHonesty D.Device T.TextStore devices result.devices }
+
+    // The fault of a device is answered only where a call of one failed.
+    ensures failed { is_failure result.reply ≡ true → 0 < failed_by D.Device T.TextStore result.devices }
 
     // Only a journal that is accepted is opened.
     ensures accepted { AreHonest D.Device T.TextStore devices

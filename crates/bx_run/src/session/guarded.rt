@@ -1,12 +1,13 @@
 //! A task on three devices that are lent, of whose image the note tells: it is judged before anything is written, and sealed before the
 //! task's first write.
-ghost use Rattle.std.specs.Prelude.{◌≡◌, ◌↔◌, None, Some, IfSome, true};
+ghost use Rattle.std.specs.Prelude.{◌≡◌, ◌↔◌, ◌<◌, ◌≤◌, ◌+◌, None, Some, IfSome, cond, true};
+ghost use Rattle.bx_cli_commands.specs.Run.{is_failure};
 ghost use Rattle.bx_cli_commands.specs.declared.command.Reply.TheVariants.{Refused};
 ghost use Rattle.bx_cli_commands.specs.declared.fault.Fault.TheVariants.{OpenFailed, Session};
 ghost use Rattle.bx_world.specs.declared.world.Noted.TheVariants.{Stands};
 ghost use Rattle.bx_world.specs.World.{NothingNewFound};
 ghost use Rattle.bx_run.specs.session.Contents.{AreFresh, AreHonest, AreInPlace, KeepHonesty, held_by};
-ghost use Rattle.bx_run.specs.session.Guarded.{AreFew, IsSealed, LookAt, RiseByOne, WasJudged, another, line_to_put};
+ghost use Rattle.bx_run.specs.session.Guarded.{AreFew, IsSealed, LookAt, RiseByOne, WasJudged, another, failed_by, line_to_put};
 ghost use Rattle.bx_run.specs.session.Ran.{EndsAs, IsUnbegun, RunsTask};
 ghost use Rattle.bx_run.specs.session.Task.{IsNearTask};
 
@@ -59,6 +60,7 @@ fn line_to_put(seal: Seal, found: Option<ImageLine>) -> Option<ImageLine>
 /// Puts what the note is to have while a task writes, on the disk; says no where it stands as it was.
 fn put_seal<W: World>(world: &mut W, line: Option<ImageLine>) -> bool
     ensures sealed { W.faithful world.old → result ≡ true → IsSealed line (W.note world.old) (W.note world.new) (W.note_survives world.new) }
+    ensures counted { W.faithful world.old → W.refusals world.new ≡ cond result (W.refusals world.old) (W.refusals world.old + 1) }
     ensures same { W.faithful world.old → W.state world.new ≡ W.state world.old }
     ensures survives { W.faithful world.old → NothingNewFound (W.survives world.old) (W.survives world.new) }
     ensures faith { W.faithful world.new ↔ W.faithful world.old }
@@ -120,6 +122,7 @@ fn put_end<W: World>(
     requires few { AreFew W.Image.Device W.Text.TextStore devices.old }
     ensures looks { LookAt W.Image.Device W.Text.TextStore devices.old devices.new }
     ensures counts { RiseByOne W.Image.Device W.Text.TextStore devices.old devices.new }
+    ensures counted { W.faithful world.old → W.refusals world.old ≤ W.refusals world.new }
     ensures same { W.faithful world.old → W.state world.new ≡ W.state world.old }
     ensures survives { W.faithful world.old → NothingNewFound (W.survives world.old) (W.survives world.new) }
     ensures faith { W.faithful world.new ↔ W.faithful world.old }
@@ -174,6 +177,8 @@ fn run_sealed<W: World, R: Read + Drop>(
     ensures order { AreInPlace W.Image.Device W.Text.TextStore result.devices }
     ensures faithful { KeepHonesty W.Image.Device W.Text.TextStore devices result.devices }
     ensures runs { RunsTask W.Image.Device W.Text.TextStore R.remaining devices task result }
+    ensures failed { is_failure result.reply ≡ true → 0 < failed_by W.Image.Device W.Text.TextStore result.devices }
+    ensures counted { W.faithful world.old → W.refusals world.old ≤ W.refusals world.new }
     ensures unopened { result.unopened ≡ None }
     ensures same { W.faithful world.old → W.state world.new ≡ W.state world.old }
     ensures survives { W.faithful world.old → NothingNewFound (W.survives world.old) (W.survives world.new) }
@@ -210,6 +215,9 @@ fn run_looked<W: World, R: Read + Drop>(
     ensures order { AreInPlace W.Image.Device W.Text.TextStore result.devices }
     ensures faithful { KeepHonesty W.Image.Device W.Text.TextStore devices result.devices }
     ensures runs { RunsTask W.Image.Device W.Text.TextStore R.remaining devices task result }
+    ensures failed { W.faithful world.old → is_failure result.reply ≡ true
+        → W.refusals world.old < W.refusals world.new + failed_by W.Image.Device W.Text.TextStore result.devices }
+    ensures counted { W.faithful world.old → W.refusals world.old ≤ W.refusals world.new }
     ensures unopened { EndsAs looked result.unopened result.how }
     ensures left { IfSome result.unopened (IsUnbegun W.Image.Device W.Text.TextStore devices result) }
     ensures same { W.faithful world.old → W.state world.new ≡ W.state world.old }
@@ -244,6 +252,11 @@ pub fn run_guarded<W: World, R: Read + Drop>(
     ensures order { AreInPlace W.Image.Device W.Text.TextStore result.devices }
     ensures faithful { KeepHonesty W.Image.Device W.Text.TextStore devices result.devices }
     ensures runs { RunsTask W.Image.Device W.Text.TextStore R.remaining devices task result }
+
+    // The fault of a device is answered only where a call of one failed, or the note couldn't be put.
+    ensures failed { W.faithful world.old → is_failure result.reply ≡ true
+        → W.refusals world.old < W.refusals world.new + failed_by W.Image.Device W.Text.TextStore result.devices }
+    ensures counted { W.faithful world.old → W.refusals world.old ≤ W.refusals world.new }
 
     // A task that isn't begun leaves the three as they were.
     ensures left { IfSome result.unopened (IsUnbegun W.Image.Device W.Text.TextStore devices result) }

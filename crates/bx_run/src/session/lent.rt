@@ -3,7 +3,7 @@ ghost use Rattle.std.specs.Prelude.{◌≡◌, ◌↔◌, None, IfSome};
 ghost use Rattle.bx_journal.specs.Images.{Images};
 ghost use Rattle.bx_cli_commands.specs.Refusal.{IsWholeRefusal};
 ghost use Rattle.bx_cli_commands.specs.Replies.{stands_by};
-ghost use Rattle.bx_cli_commands.specs.Run.{Unfailed};
+ghost use Rattle.bx_cli_commands.specs.Run.{Unfailed, is_failure};
 ghost use Rattle.bx_cli_commands.specs.declared.command.Reply.TheVariants.{Refused};
 ghost use Rattle.bx_cli_commands.specs.declared.fault.Fault.TheVariants.{OpenFailed};
 ghost use Rattle.bx_world.specs.files.Numbers.{AreLocked, numbers_of};
@@ -11,6 +11,7 @@ ghost use Rattle.bx_world.specs.World.{AreThreeFiles, ChangesOnly, NothingNewFou
 ghost use Rattle.bx_run.specs.session.Contents.{StayOnDisk, Does, DoesFound, FoundIn, Holds, Spared, Survives, StepsRead, SurvivesFound, TellsUnfinished};
 ghost use Rattle.bx_run.specs.session.Guarded.{WasJudged, another};
 ghost use Rattle.bx_run.specs.session.Named.{IsUnrecovered, bytes_of_files};
+ghost use Rattle.bx_run.specs.Failures.{CountsFailure};
 ghost use Rattle.bx_run.specs.session.Task.{IsNearTask};
 
 use crate::session::guarded::{Ended, run_guarded};
@@ -72,11 +73,12 @@ pub fn with_devices<W: World, R: Read + Drop>(
     ensures stands { W.faithful world.old → Unfailed result.reply
         → IfSome result.how (λ how. StepsRead R.remaining task how result.reply (bytes_of_files (numbers_of W.number files) (W.state world.old))
         (bytes_of_files (numbers_of W.number files) (W.state world.new))) }
-    ensures before { W.faithful world.old → IsWholeRefusal result.reply → IsUnrecovered result.how
-        → NothingNewFound (W.survives world.old) (W.survives world.new) }
-    ensures settled { W.faithful world.old → IsWholeRefusal result.reply → (IsUnrecovered result.how → ⊥)
+    ensures spares { W.faithful world.old → IsWholeRefusal result.reply
+        → (IsUnrecovered result.how → NothingNewFound (W.survives world.old) (W.survives world.new))
+        × ((IsUnrecovered result.how → ⊥)
         → StayOnDisk (bytes_of_files (numbers_of W.number files) (W.state world.new)) (W.survives world.new (W.number files.image))
-        (W.survives world.new (W.number files.journal)) (W.survives world.new (W.number files.redo)) }
+        (W.survives world.new (W.number files.journal)) (W.survives world.new (W.number files.redo))) }
+    ensures counted { W.faithful world.old → CountsFailure (is_failure result.reply) (W.refusals world.old) (W.refusals world.new) }
     ensures unbegun { IfSome result.unopened (λ u. (u ≡ another) × (result.reply ≡ Refused OpenFailed) × (result.how ≡ None)) }
     ensures judged { W.faithful world.old → WasJudged guard files.made.image (W.note world.old)
         (bytes_of_files (numbers_of W.number files) (W.state world.old)) task result.unopened result.how }

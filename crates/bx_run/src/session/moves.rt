@@ -6,6 +6,7 @@ ghost use Rattle.bx_world.specs.files.Fit.{AreFit};
 ghost use Rattle.bx_run.specs.session.Contents.{FoundIn, Holds, TellsUnfinished};
 ghost use Rattle.bx_run.specs.session.Guarded.{WasJudged, WereOpened};
 ghost use Rattle.bx_run.specs.session.Named.{KeepsOthers, MayRefuseTask, contents_of, is_missing};
+ghost use Rattle.bx_run.specs.Failures.{CountsFailure, is_failed};
 ghost use Rattle.bx_run.specs.session.Moves.{IsMoved, IsUnwritten, MovedFound, MovedRead, Moves, MovesFound, MovesRead, NothingMoved, RefusesMove, SparesMove, StopsLine, StopsMove, StopsPart, SurvivesMoving, TellsRecovered, number_line, recovered_line, stepped, task_of};
 ghost use Rattle.bx_run.specs.session.Task.{IsNearTask};
 
@@ -37,6 +38,7 @@ fn put<W: World>(world: &mut W, before: u64, bytes: &[u8]) -> Result<(), Fault>
         → IfErr result (StopsPart before bytes.now (W.state world.old).output (W.state world.new).output) }
     ensures failed { W.faithful world.old → OnErr result (W.has_unwritten world.new) }
     ensures handed { W.faithful world.old → (line : List ℕ) → W.was_handed world.old line → W.was_handed world.new line }
+    ensures noted { W.faithful world.old → W.refusals world.new ≡ W.refusals world.old }
     ensures survives { W.faithful world.old → NothingNewFound (W.survives world.old) (W.survives world.new) }
     ensures errors { W.faithful world.old → (W.state world.new).errors ≡ (W.state world.old).errors }
     ensures files { W.faithful world.old → KeepsFiles (W.state world.old) (W.state world.new) }
@@ -64,6 +66,7 @@ fn put_number<W: World>(world: &mut W, number: u32) -> Result<(), Fault>
         → IfErr result (StopsLine (number_line number) (W.state world.old).output (W.state world.new).output) }
     ensures failed { W.faithful world.old → OnErr result (W.has_unwritten world.new) }
     ensures handed { W.faithful world.old → (line : List ℕ) → W.was_handed world.old line → W.was_handed world.new line }
+    ensures noted { W.faithful world.old → W.refusals world.new ≡ W.refusals world.old }
     ensures survives { W.faithful world.old → NothingNewFound (W.survives world.old) (W.survives world.new) }
     ensures errors { W.faithful world.old → (W.state world.new).errors ≡ (W.state world.old).errors }
     ensures files { W.faithful world.old → KeepsFiles (W.state world.old) (W.state world.new) }
@@ -90,7 +93,7 @@ fn tell_number<W: World>(world: &mut W, standing: Result<u32, Fault>) -> Result<
     ensures refused { W.faithful world.old → IfErr standing (λ e. (result ≡ Err e) × (W.state world.new ≡ W.state world.old)) }
     ensures failed { W.faithful world.old → IfOk standing (λ _. OnErr result (W.has_unwritten world.new)) }
     ensures handed { W.faithful world.old → (line : List ℕ) → W.was_handed world.old line → W.was_handed world.new line }
-    ensures noted { W.faithful world.old → OnErr standing (W.refusals world.new ≡ W.refusals world.old) }
+    ensures noted { W.faithful world.old → W.refusals world.new ≡ W.refusals world.old }
     ensures survives { W.faithful world.old → NothingNewFound (W.survives world.old) (W.survives world.new) }
     ensures errors { W.faithful world.old → (W.state world.new).errors ≡ (W.state world.old).errors }
     ensures files { W.faithful world.old → KeepsFiles (W.state world.old) (W.state world.new) }
@@ -178,6 +181,7 @@ fn moved_by<W: World>(
         → MovedFound count way s result.how result.outcome (contents_of names.now (W.state world.new)) }
     ensures stands { W.faithful world.old → IfSome result.how (λ how. IfOk result.outcome (λ left.
         MovedRead count way how left (contents_of names.now (W.state world.old)) (contents_of names.now (W.state world.new)))) }
+    ensures counted { W.faithful world.old → CountsFailure (is_failed result.outcome) (W.refusals world.old) (W.refusals world.new) }
     ensures others { W.faithful world.old → KeepsOthers names.now (W.state world.old) (W.state world.new) }
     ensures silent { W.faithful world.old → KeepsStreams (W.state world.old) (W.state world.new) }
     ensures faith { W.faithful world.new ↔ W.faithful world.old }
@@ -226,9 +230,10 @@ pub fn move_changes<W: World>(
         → MovesFound names.now count way s result.how result.outcome (W.state world.old) (W.state world.new) }
     ensures stands { W.faithful world.old → IfSome result.how (λ how. OnOk result.outcome
         (MovesRead names.now count way how (W.state world.old) (W.state world.new))) }
+    ensures counted { W.faithful world.old → CountsFailure (is_failed result.outcome) (W.refusals world.old) (W.refusals world.new) }
     ensures others { W.faithful world.old → KeepsOthers names.now (W.state world.old) (W.state world.new) }
-    ensures errors { W.faithful world.old → TellsRecovered result.how (W.state world.old).errors (W.state world.new).errors }
-    ensures told { W.faithful world.old → W.was_handed world.new (recovered_line result.how)
+    ensures told { W.faithful world.old → TellsRecovered result.how (W.state world.old).errors (W.state world.new).errors
+        × W.was_handed world.new (recovered_line result.how)
         × ((s : Images) → Holds (contents_of names.now (W.state world.old)) s
         → IfErr result.outcome (λ e. IsUnwritten e → W.has_unwritten world.new)) }
     ensures free { W.faithful world.old → (W.state world.new).lent ≡ None }

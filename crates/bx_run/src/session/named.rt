@@ -3,7 +3,7 @@ ghost use Rattle.std.specs.Prelude.{◌≡◌, ◌↔◌, ◌<◌, ◌≤◌, �
 ghost use Rattle.bx_journal.specs.Images.{Images};
 ghost use Rattle.bx_cli_commands.specs.Refusal.{IsWholeRefusal};
 ghost use Rattle.bx_cli_commands.specs.Replies.{stands_by};
-ghost use Rattle.bx_cli_commands.specs.Run.{Unfailed};
+ghost use Rattle.bx_cli_commands.specs.Run.{Unfailed, is_failure};
 ghost use Rattle.bx_world.specs.World.{AreThreeFiles, KeepsStreams, NothingNewFound, SystemState};
 ghost use Rattle.bx_world.specs.files.Files.{AreAllThere, HasMade, IsOneOfMade, IsOneOfMadeTexts, LeavesFiles, TakesMade, TakesOnly};
 ghost use Rattle.bx_world.specs.files.Fit.{AreFit};
@@ -11,6 +11,7 @@ ghost use Rattle.bx_world.specs.files.Numbers.{numbers_of};
 ghost use Rattle.bx_run.specs.session.Contents.{DoesFound, FoundIn, Holds, StepsRead, StepsTo, TellsUnfinished};
 ghost use Rattle.bx_run.specs.session.Guarded.{WasJudged, WereOpened};
 ghost use Rattle.bx_run.specs.session.Named.{AreNotLeft, LeadTo, IsUnrecovered, KeepsOthers, LeavesRefused, MayRefuse, MayRefuseTask, NothingDone, SurvivesTask, contents_of, is_missing, no_change};
+ghost use Rattle.bx_run.specs.Failures.{CountsFailure};
 ghost use Rattle.bx_run.specs.session.Task.{IsNearTask};
 
 use crate::session::lent::{Done, with_devices};
@@ -82,6 +83,7 @@ fn clear<W: World>(world: &mut W, names: &Names, done: &Done<W::File>, opening: 
         → TakesMade (IsOneOfMadeTexts done.now.files.made (numbers_of W.number done.now.files)) (W.state world.old) (W.state world.new) }
     ensures most { W.faithful world.old
         → TakesOnly (IsOneOfMade done.now.files.made (numbers_of W.number done.now.files)) (W.state world.old) (W.state world.new) }
+    ensures counted { W.faithful world.old → W.refusals world.new ≡ W.refusals world.old }
     ensures survives { W.faithful world.old → NothingNewFound (W.survives world.old) (W.survives world.new) }
     ensures faith { W.faithful world.new ↔ W.faithful world.old }
 {
@@ -149,6 +151,9 @@ pub fn run_on_files<W: World, R: Read + Drop>(
     // An undo of no change leaves no text that was missing.
     ensures texts { W.faithful world.old → task ≡ no_change
         → AreNotLeft names.now (W.state world.old) (W.state world.new) (W.state world.new) }
+
+    // The fault of a device is answered only where a device or the note failed.
+    ensures counted { W.faithful world.old → CountsFailure (is_failure result.reply) (W.refusals world.old) (W.refusals world.new) }
 
     // No other file is changed, whatever the files hold and whatever becomes of the task, and nothing is written.
     ensures others { W.faithful world.old → KeepsOthers names.now (W.state world.old) (W.state world.new) }

@@ -1,5 +1,5 @@
 //! What a task goes by: what it may do, and what the note tells of its image.
-ghost use Rattle.std.specs.Prelude.{◌≡◌, ◌↔◌, ℕ, List, false, take};
+ghost use Rattle.std.specs.Prelude.{◌≡◌, ◌↔◌, ◌≤◌, ℕ, List, false, take};
 ghost use Rattle.bx_world.specs.World.{NothingNewFound};
 ghost use Rattle.bx_run.specs.session.Guarded.{NoteSays, is_kept_off, is_moved_off, keeps_off};
 
@@ -49,6 +49,7 @@ fn line_in(bytes: &[u8]) -> Option<ImageLine>
 /// What the note tells, which is only read.
 pub fn told_by<W: World>(world: &mut W) -> Told
     ensures known { W.faithful world.old → result.unread ≡ false → NoteSays (W.note world.old) result.line }
+    ensures counted { W.faithful world.old → W.refusals world.old ≤ W.refusals world.new }
     ensures same { W.faithful world.old → W.state world.new ≡ W.state world.old }
     ensures survives { W.faithful world.old → NothingNewFound (W.survives world.old) (W.survives world.new) }
     ensures faith { W.faithful world.new ↔ W.faithful world.old }

@@ -1,4 +1,4 @@
-use Rattle.std.proofs.Common.{◌∙◌}
+use Rattle.std.proofs.Common.{◌∙◌, arith}
 use Rattle.bx_run.proofs.RenewalLess.{renewing_less}
 use Rattle.bx_run.proofs.renew.renew_files.Goals as goal
 
@@ -63,3 +63,11 @@ returns-clause-free g c old =
     let mid = c.keep_locks.ensures.faith.1 old in
     let behind = c.renew_locked-renewed.ensures.faith.1 mid in
     rw (c.pass_locks.ensures.same behind) (c.renew_locked-renewed.ensures.free mid)
+
+pub returns-clause-failed : goal.returns-clause-failed
+returns-clause-failed g c old is =
+    let mid = c.keep_locks.ensures.faith.1 old in
+    let first = c.keep_locks.ensures.counted old in
+    let failed = c.renew_locked-renewed.ensures.failed mid is in
+    let last = c.pass_locks.ensures.counted (c.renew_locked-renewed.ensures.faith.1 mid) in
+    omega (arith, first, failed, last)

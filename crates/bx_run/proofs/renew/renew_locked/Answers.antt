@@ -1,4 +1,4 @@
-use Rattle.std.proofs.Common.{◌≡◌, ◌∙◌, Some, None, refl}
+use Rattle.std.proofs.Common.{◌≡◌, ◌∙◌, Some, None, refl, arith}
 use Rattle.bx_world.specs.World.{number_if}
 use Rattle.bx_world.specs.files.Files.{AreAllThere}
 use Rattle.bx_world.specs.declared.files.unopened.OpenError.{OpenError}
@@ -152,3 +152,12 @@ returns-clause-free g c old =
     let begun = c.make_missing_image.ensures.faith.1 old in
     let ended = c.take_steps-renewed.ensures.faith.1 begun in
     (cleared_streams c.take_steps-renewed.result _ _ _ (c.finish.ensures.clears ended)).lent ∙ c.take_steps-renewed.ensures.free begun
+
+pub returns-clause-failed : goal.returns-clause-failed
+returns-clause-failed g c old is =
+    let begun = c.make_missing_image.ensures.faith.1 old in
+    let ended = c.take_steps-renewed.ensures.faith.1 begun in
+    let first = c.make_missing_image.ensures.counted old in
+    let failed = c.take_steps-renewed.ensures.failed begun is in
+    let last = c.finish.ensures.counted ended in
+    omega (arith, first, failed, last)

@@ -1,4 +1,4 @@
-use Rattle.std.proofs.Common.{◌∙◌, sym}
+use Rattle.std.proofs.Common.{◌∙◌, sym, arith}
 use Rattle.std.proofs.lemmas.Bool.{false≢true}
 use Rattle.bx_journal.specs.Forgotten.{only}
 use Rattle.bx_world.specs.World.{held}
@@ -152,3 +152,20 @@ returns-then-not-may_drop-clause-unopened g c old = nothing_kept _ _ _ (c.open_t
 
 pub returns-then-not-may_drop-clause-refused : goal.returns-then-not-may_drop-clause-refused
 returns-then-not-may_drop-clause-refused g c old = kept_refused c.open_to_drop-opened.result _ _ (c.open_to_drop-opened.ensures.unopened old)
+
+pub returns-in-Ok-clause-failed : goal.returns-in-Ok-clause-failed
+returns-in-Ok-clause-failed g c old is =
+    let mid = c.open_to_drop-opened.ensures.faith.1 old in
+    let behind = c.forget_files.ensures.faith.1 mid in
+    let first = (c.open_to_drop-opened.ensures.counted old).least in
+    let second = c.in-Ok.ensures.counted mid in
+    let last = (c.change_files.ensures.counted behind).rise is in
+    omega (arith, first, second, last)
+
+pub returns-in-Err-clause-failed : goal.returns-in-Err-clause-failed
+returns-in-Err-clause-failed g c old is =
+    let mid = c.open_to_drop-opened.ensures.faith.1 old in
+    let first = (c.open_to_drop-opened.ensures.counted old).least in
+    let unseen = c.in-Err.is in
+    let last = c.forget_files.ensures.failed mid (rw unseen is) in
+    omega (arith, first, last)

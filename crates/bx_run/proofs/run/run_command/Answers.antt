@@ -1,7 +1,9 @@
 use Rattle.std.proofs.Common.{refl}
+use Rattle.bx_cli_commands.specs.Replies.{stands_by}
 use Rattle.bx_run.specs.preview.Changing.{DoesChange}
 use Rattle.bx_run.specs.session.Named.{no_change}
 use Rattle.bx_run.proofs.Ending.{leaves_same, stops_forgetting, stops_move, stops_renewal, stops_report, stops_task}
+use Rattle.bx_run.proofs.Failing.{failed_begun, failed_reply}
 use Rattle.bx_run.proofs.run.run_command.Goals as goal
 
 pub returns-in-Move-clause-survives : goal.returns-in-Move-clause-survives
@@ -88,3 +90,26 @@ returns-in-Forget-clause-does g c old =
       does = record { may = did.may old; done = did.done old; stopped = did.stopped old };
       note = did.note old;
     })
+
+pub returns-in-Move-clause-failed : goal.returns-in-Move-clause-failed
+returns-in-Move-clause-failed g c old =
+    rw c.in-Move.is (λ is. (c.move_changes.ensures.counted old).rise (failed_begun c.move_changes.result.unopened c.move_changes.result.outcome is))
+
+pub returns-in-Change-clause-failed : goal.returns-in-Change-clause-failed
+returns-in-Change-clause-failed g c old =
+    let answer = c.change_files-answer.result in
+    rw c.in-Change.is (λ is. (c.change_files-answer.ensures.counted old).rise (failed_reply answer.reply (failed_begun answer.unopened (stands_by answer.reply) is)))
+
+pub returns-in-Recover-clause-failed : goal.returns-in-Recover-clause-failed
+returns-in-Recover-clause-failed g c old =
+    let answer = c.change_files-recovered.result in
+    rw c.in-Recover.is (λ is. (c.change_files-recovered.ensures.counted old).rise (failed_reply answer.reply (failed_begun answer.unopened (stands_by answer.reply) is)))
+
+pub returns-in-Renew-clause-failed : goal.returns-in-Renew-clause-failed
+returns-in-Renew-clause-failed g c old = rw c.in-Renew.is (c.renew_files.ensures.failed old)
+
+pub returns-in-Forget-clause-failed : goal.returns-in-Forget-clause-failed
+returns-in-Forget-clause-failed g c old = rw c.in-Forget.is (c.forget_files.ensures.failed old)
+
+pub returns-in-Look-clause-failed : goal.returns-in-Look-clause-failed
+returns-in-Look-clause-failed g c old = rw c.in-Look.is (c.write_report.ensures.failed old)

@@ -15,6 +15,7 @@ returns-clause-runs g c =
           fit = ran.fit old;
           unopened = ran.unopened old;
           streams = ran.streams old;
+          failed = ran.failed old;
         },
       )),
     )

@@ -1,4 +1,4 @@
-use Rattle.std.proofs.Common.{◌∙◌, sym, ap}
+use Rattle.std.proofs.Common.{◌∙◌, sym, ap, arith}
 use Rattle.bx_world.specs.World.{SystemState}
 use Rattle.bx_run.proofs.Emptied.{dropped_before}
 use Rattle.bx_run.proofs.forget.forgotten.close_texts.Goals as goal
@@ -27,4 +27,12 @@ returns-clause-others g c old f is n spared x left =
 pub returns-clause-dropped : goal.returns-clause-dropped
 returns-clause-dropped g c old is =
     let mid = c.take_note.ensures.faith.1 old in
-    dropped_before _ _ _ _ _ _ (sym (c.close_beside.ensures.counted mid)) (c.close_beside.ensures.note mid) (c.take_note.ensures.dropped old is)
+    let counted = c.close_beside.ensures.counted mid in
+    dropped_before _ _ _ _ _ _ (omega (arith, counted)) (c.close_beside.ensures.note mid) (c.take_note.ensures.dropped old is)
+
+pub returns-clause-counted : goal.returns-clause-counted
+returns-clause-counted g c old =
+    let mid = c.take_note.ensures.faith.1 old in
+    let first = c.take_note.ensures.counted old in
+    let last = c.close_beside.ensures.counted mid in
+    omega (arith, first, last)

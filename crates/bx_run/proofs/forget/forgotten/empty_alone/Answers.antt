@@ -1,8 +1,9 @@
-use Rattle.std.proofs.Common.{◌∙◌, true, sym}
+use Rattle.std.proofs.Common.{◌∙◌, true, sym, arith}
 use Rattle.bx_world.specs.World.{IsNoText}
 use Rattle.bx_run.specs.forget.Forgetting.{texts_of}
 use Rattle.bx_run.proofs.Emptied.{emptied, finds_first, left_note, spares_then, survived}
 use Rattle.bx_run.proofs.Placed.{as_texts, lets_texts, neither, others_texts, placed, placed_first, placed_left}
+use Rattle.bx_run.proofs.Failing.{failed_exchanged}
 use Rattle.bx_run.proofs.forget.forgotten.empty_alone.Goals as goal
 
 pub close_texts-requires-clause-devices : goal.close_texts-requires-clause-devices
@@ -65,3 +66,16 @@ returns-clause-note g c old =
     left_note _ c.goes_behind-with_note.result c.forget_devices-outcome.result _ _ _ c.goes_behind-with_note.ensures.done
     c.goes_behind-with_note.ensures.stopped (rw (c.let_change-redo.ensures.note old) at (c.close_texts.ensures.dropped mid))
     (λ is. c.close_texts.ensures.stays mid is ∙ c.let_change-redo.ensures.note old)
+
+pub returns-clause-counted : goal.returns-clause-counted
+returns-clause-counted g c old =
+    let forgets = c.forget_devices-outcome.ensures in
+    let fresh = c.let_change-redo.ensures.failures in
+    let first = c.let_change-redo.ensures.counted old in
+    let last = c.close_texts.ensures.counted (c.let_change-redo.ensures.faith.1 old) in
+    record {
+      least = omega (arith, first, last);
+      rise = λ is.
+          let some = failed_exchanged c.forget_devices-outcome.result _ _ _ _ _ _ forgets.fault forgets.counts c.requires.unfailed fresh.1 fresh.0 is in
+          omega (arith, first, some, last);
+    }

@@ -1,8 +1,9 @@
-use Rattle.std.proofs.Common.{◌≡◌, ◌<◌, ◌∙◌, Ok, Err, subst}
+use Rattle.std.proofs.Common.{◌≡◌, ◌<◌, ◌∙◌, Ok, Err, refl, sym, subst, arith}
 use Rattle.bx_world.specs.World.{Spares}
 use Rattle.bx_run.specs.forget.Forgetting.{Empties, IsNoteLine, SurvivesEmptying, texts_of}
 use Rattle.bx_run.proofs.ByNames.{done, failed, forgotten_named, hidden_stops, hidden_survives, image_held, others_named, stopped_named, survived_all, survived_named}
 use Rattle.bx_run.proofs.Emptied.{IsNeither}
+use Rattle.bx_run.proofs.Failing.{failed_judging, note_least}
 use Rattle.bx_run.proofs.Placed.{as_texts}
 use Rattle.bx_run.proofs.forget.forgotten.forget_files.Goals as goal
 
@@ -151,3 +152,33 @@ returns-in-Err-outcome-clause-note g c old =
     let lent_then = c.lend_texts.ensures.faith.1 old in
     let mid = c.read_note_line-known.ensures.faith.1 lent_then in
     rw c.close.ensures.outcome (c.close.ensures.note mid ∙ c.read_note_line-known.ensures.note lent_then ∙ c.lend_texts.ensures.note old)
+
+pub returns-in-Ok-empty_texts-clause-counted : goal.returns-in-Ok-empty_texts-clause-counted
+returns-in-Ok-empty_texts-clause-counted g c old =
+    let lent_then = c.lend_texts.ensures.faith.1 old in
+    let mid = c.read_note_line-known.ensures.faith.1 lent_then in
+    let first = c.in-Ok.ensures.calm old in
+    let second = note_least c.read_note_line-known.result.is_read _ _ (c.read_note_line-known.ensures.counted lent_then) in
+    let last = (c.empty_texts.ensures.counted mid).least in
+    omega (arith, first, second, last)
+
+pub returns-in-Err-empty_texts-clause-failed : goal.returns-in-Err-empty_texts-clause-failed
+returns-in-Err-empty_texts-clause-failed g c old is =
+    let lent_then = c.lend_texts.ensures.faith.1 old in
+    let mid = c.read_note_line-known.ensures.faith.1 lent_then in
+    let first = c.in-Ok.ensures.calm old in
+    let second = note_least c.read_note_line-known.result.is_read _ _ (c.read_note_line-known.ensures.counted lent_then) in
+    let stopped = c.in-Err-empty_texts.is in
+    let last = (c.empty_texts.ensures.counted mid).rise (rw stopped refl) in
+    omega (arith, first, second, last)
+
+pub returns-in-Err-outcome-clause-failed : goal.returns-in-Err-outcome-clause-failed
+returns-in-Err-outcome-clause-failed g c old is =
+    let lent_then = c.lend_texts.ensures.faith.1 old in
+    let mid = c.read_note_line-known.ensures.faith.1 lent_then in
+    let first = c.in-Ok.ensures.calm old in
+    let unseen = c.in-Err-outcome.is in
+    let closed = c.close.ensures.outcome in
+    let last = failed_judging c.read_note_line-known.result.is_read _ _ _ _ (c.read_note_line-known.ensures.counted lent_then) (c.close.ensures.counted mid)
+    (λ read. c.judge-devices.ensures.failed read (rw unseen (rw closed at is))) in
+    omega (arith, first, last)

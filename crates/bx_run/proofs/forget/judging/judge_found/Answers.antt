@@ -2,6 +2,7 @@ use Rattle.std.proofs.Common.{◌∙◌, inl, sym}
 use Rattle.std.proofs.lemmas.Bool.{false≢true}
 use Rattle.bx_run.proofs.Judged.{of_texts_found, of_texts_image, of_texts_may, of_texts_unfailed}
 use Rattle.bx_run.proofs.Looking.{opened_refused, opened_unclean, opened_whole}
+use Rattle.bx_run.proofs.Failing.{failed_reason}
 use Rattle.bx_run.proofs.forget.judging.judge_found.Goals as goal
 
 pub returns-then-is_whole-clause-may : goal.returns-then-is_whole-clause-may
@@ -38,3 +39,7 @@ returns-then-is_of_texts-clause-unfailed g c =
 pub returns-else-is_of_texts-clause-hides : goal.returns-else-is_of_texts-clause-hides
 returns-else-is_of_texts-clause-hides g c x text redo holds =
     rw c.reason_of.ensures (opened_refused g.D.Device g.T.TextStore c.args.devices x text redo holds _ _ c.in-Err.ensures)
+
+pub returns-else-is_of_texts-clause-failed : goal.returns-else-is_of_texts-clause-failed
+returns-else-is_of_texts-clause-failed g c is =
+    failed_reason c.in-Err.fault _ _ _ _ _ _ c.in-Err.ensures.devices.counts (rw c.reason_of.ensures at is)

@@ -88,3 +88,8 @@ returns-clause-streams g c old =
       lent = (c.tell_recovered.ensures.files behind).lent ∙ silent.lent;
       before = (c.tell_recovered.ensures.files behind).before ∙ silent.before;
     }
+
+pub returns-clause-counted : goal.returns-clause-counted
+returns-clause-counted g c old =
+    let behind = c.run_on_files-answer.ensures.faith.1 old in
+    rw (c.tell_recovered.ensures.noted behind) (c.run_on_files-answer.ensures.counted old)

@@ -1,7 +1,7 @@
 use Rattle.std.proofs.Common.{refl, inl, inr}
 use Rattle.bx_journal.specs.SessionView.{devices_of}
 use Rattle.bx_run.specs.session.Contents.{AreHonest, StepsRead, held_by, recovered_as}
-use Rattle.bx_run.proofs.Obeyed.{few_refused, placed_refused}
+use Rattle.bx_run.proofs.Obeyed.{failed_refused, few_refused, placed_refused}
 use Rattle.bx_run.proofs.Opened.{read_opened, spared_opened, spares_opened, tells_opened}
 use Rattle.bx_run.proofs.Refused.{spared, spared_whole, stopped_amid}
 use Rattle.bx_run.proofs.session.devices.open_and_run.Goals as goal
@@ -111,3 +111,7 @@ returns-in-Err-clause-few g c =
 
 pub returns-in-Ok-clause-accepted : goal.returns-in-Ok-clause-accepted
 returns-in-Ok-clause-accepted g c faithful = rw c.run_and_close.ensures.how (c.in-Ok.ensures.text.accepted faithful.1)
+
+pub returns-in-Err-clause-failed : goal.returns-in-Err-clause-failed
+returns-in-Err-clause-failed g c =
+    failed_refused _ _ _ _ _ _ _ c.in-Err.ensures.devices.counts c.requires.fresh.0 c.requires.fresh.1 c.requires.fresh.2

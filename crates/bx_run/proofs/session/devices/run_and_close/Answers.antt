@@ -1,6 +1,6 @@
 use Rattle.std.proofs.Common.{refl}
 use Rattle.bx_cli_commands.specs.Run.{is_failure}
-use Rattle.bx_run.proofs.Obeyed.{few_behind, placed_behind, stands_of, steps_of, survives_of}
+use Rattle.bx_run.proofs.Obeyed.{failed_behind, few_behind, placed_behind, stands_of, steps_of, survives_of}
 use Rattle.bx_run.proofs.session.devices.run_and_close.Goals as goal
 
 pub returns-clause-order : goal.returns-clause-order
@@ -58,3 +58,10 @@ returns-clause-few g c =
     let obeys = c.do_task-reply.ensures.obeys in
     rw (c.close-image.ensures.image, c.close-image.ensures.journal, c.close-image.ensures.redo)
     (few_behind g.D.Device g.T.TextStore c.args.session behind.session (is_failure c.do_task-reply.result) obeys.counts c.requires.fresh)
+
+pub returns-clause-failed : goal.returns-clause-failed
+returns-clause-failed g c is =
+    let behind = c.do_task-reply.new in
+    let obeys = c.do_task-reply.ensures.obeys in
+    rw (c.close-image.ensures.image, c.close-image.ensures.journal, c.close-image.ensures.redo)
+    (failed_behind g.D.Device g.T.TextStore c.args.session behind.session (is_failure c.do_task-reply.result) obeys.counts c.requires.fresh is)

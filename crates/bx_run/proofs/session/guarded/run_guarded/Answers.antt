@@ -1,6 +1,8 @@
-use Rattle.std.proofs.Common.{◌≡◌, refl, sym, subst}
+use Rattle.std.proofs.Common.{◌≡◌, ◌<◌, refl, sym, subst, arith}
 use Rattle.bx_run.specs.session.Contents.{held_by}
+use Rattle.bx_run.specs.session.Guarded.{failed_by}
 use Rattle.bx_run.specs.session.Ran.{RunsTask}
+use Rattle.bx_run.proofs.Obeyed.{failed_refused}
 use Rattle.bx_run.proofs.RanLemmas.{failed_runs, judged_by, ran_behind, unjudged}
 use Rattle.bx_run.proofs.session.guarded.run_guarded.Goals as goal
 
@@ -31,3 +33,18 @@ returns-in-Err-clause-judged g c h faithful =
     (record { guard = c.args.guard; missing = c.args.missing; line = c.told_by-told.result.line; unread = c.told_by-told.result.unread })
     (record { guard_is = refl; missing_is = refl; line_is = c.told_by-told.ensures.known h }) c.failed.result.unopened c.failed.result.how
     c.failed.ensures.unopened c.failed.ensures.how
+
+pub returns-in-Ok-clause-failed : goal.returns-in-Ok-clause-failed
+returns-in-Ok-clause-failed g c h is =
+    let first = c.told_by-told.ensures.counted h in
+    let ran = c.run_looked.ensures.failed (c.told_by-told.ensures.faith.1 h) is in
+    omega (arith, first, ran)
+
+pub returns-in-Err-clause-failed : goal.returns-in-Err-clause-failed
+returns-in-Err-clause-failed g c h is =
+    let first = c.told_by-told.ensures.counted h in
+    let devices = c.failed.ensures.devices in
+    let fresh = c.requires.fresh in
+    let some : 0 < failed_by g.W.Image.Device g.W.Text.TextStore c.look_at.new.devices =
+    failed_refused c.in-Err.fault _ _ _ _ _ _ c.in-Err.ensures.counts fresh.0 fresh.1 fresh.2 (rw c.failed.ensures.reply at is) in
+    rw devices (omega (arith, first, some))

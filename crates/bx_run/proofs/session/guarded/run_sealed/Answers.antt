@@ -1,7 +1,8 @@
-use Rattle.std.proofs.Common.{◌≡◌, sym, subst}
-use Rattle.bx_run.specs.session.Guarded.{LookAt}
+use Rattle.std.proofs.Common.{◌≡◌, ◌<◌, sym, subst}
+use Rattle.bx_run.specs.session.Guarded.{LookAt, failed_by}
 use Rattle.bx_run.specs.session.Ran.{RunsTask}
 use Rattle.bx_run.proofs.LookLemmas.{look_still}
+use Rattle.bx_run.proofs.Obeyed.{failed_still}
 use Rattle.bx_run.proofs.RanLemmas.{ended_as, ran_before}
 use Rattle.bx_run.proofs.session.guarded.run_sealed.Goals.{else-is_ended, then-is_ended}
 use Rattle.bx_run.proofs.session.guarded.run_sealed.Goals as goal
@@ -27,3 +28,12 @@ returns-clause-runs g c =
     ] in
     ran_before g.W.Image.Device g.W.Text.TextStore g.R.Read.remaining c.args.devices c.if-is_ended.devices c.args.task (ended_as c.open_and_run-closed.result)
     said.faith ran looks
+
+pub returns-clause-failed : goal.returns-clause-failed
+returns-clause-failed g c is =
+    let failed = c.open_and_run-closed.ensures.failed is in
+    elim c.if-is_ended.branch [
+      | then-is_ended w ↦ subst (λ x. 0 < failed_by g.W.Image.Device g.W.Text.TextStore x) (sym w.devices-is)
+          (failed_still g.W.Image.Device g.W.Text.TextStore c.open_and_run-closed.result.devices _ w.put_end.ensures.counts failed)
+      | else-is_ended w ↦ subst (λ x. 0 < failed_by g.W.Image.Device g.W.Text.TextStore x) (sym w.devices-is) failed
+    ]

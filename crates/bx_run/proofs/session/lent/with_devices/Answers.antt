@@ -1,4 +1,4 @@
-use Rattle.std.proofs.Common.{◌≡◌, ◌∙◌, Some, refl, sym, subst}
+use Rattle.std.proofs.Common.{◌≡◌, ◌∙◌, Some, refl, sym, subst, arith}
 use Rattle.bx_world.specs.files.Numbers.{numbers_of}
 use Rattle.bx_world.specs.World.{ChangesOnly, SystemState, Trio}
 use Rattle.bx_run.proofs.Begun.{unbegun_as}
@@ -115,27 +115,8 @@ returns-clause-stands g c h unfailed =
     let stands = c.run_guarded-ended.ensures.runs.stands (image.0, journal.0, redo.0) unfailed in
     rw (given.image_bytes, given.journal_bytes, given.redo_bytes) (rw (image.1, journal.1, redo.1) at stands)
 
-pub returns-clause-before : goal.returns-clause-before
-returns-clause-before g c h whole is =
-    let lends = c.into_devices-image.ensures.lent h in
-    let lent = c.into_devices-image.ensures.faith.1 h in
-    let behind = c.run_guarded-ended.ensures.faith.1 lent in
-    let is_lent = still _ _ _ (c.run_guarded-ended.ensures.same lent) lends.lent in
-    let numbers = numbers_of g.W.World.number c.args.files in
-    let left = c.into_files-image.ensures.survives behind numbers is_lent in
-    let image = c.into_devices-image.ensures.image h in
-    let journal = c.into_devices-image.ensures.journal h in
-    let redo = c.into_devices-image.ensures.redo h in
-    let found = (c.run_guarded-ended.ensures.runs.spares (image.0, journal.0, redo.0) whole).before is in
-    let meanwhile = c.run_guarded-ended.ensures.survives lent in
-    nothing_new numbers _ _
-    (λ n none x there. c.into_devices-image.ensures.survives h n none x (meanwhile n x (c.into_files-image.ensures.others behind numbers is_lent n none x there)))
-    (λ x there. c.into_devices-image.ensures.image_survives h x (found.image_before image.0 x (left.image_found x there)))
-    (λ x there. c.into_devices-image.ensures.journal_survives h x (found.journal_before journal.0 x (left.journal_found x there)))
-    (λ x there. c.into_devices-image.ensures.redo_survives h x (found.redo_before redo.0 x (left.redo_found x there)))
-
-pub returns-clause-settled : goal.returns-clause-settled
-returns-clause-settled g c h whole other =
+pub returns-clause-spares : goal.returns-clause-spares
+returns-clause-spares g c h whole =
     let lends = c.into_devices-image.ensures.lent h in
     let lent = c.into_devices-image.ensures.faith.1 h in
     let behind = c.run_guarded-ended.ensures.faith.1 lent in
@@ -146,12 +127,23 @@ returns-clause-settled g c h whole other =
     let image = c.into_devices-image.ensures.image h in
     let journal = c.into_devices-image.ensures.journal h in
     let redo = c.into_devices-image.ensures.redo h in
-    let settled = (c.run_guarded-ended.ensures.runs.spares (image.0, journal.0, redo.0) whole).settled other in
-    record {
-      image = λ x there. settled.image x (left.image_found x there) ∙ sym given.image_bytes;
-      journal = λ x there. settled.journal x (left.journal_found x there) ∙ sym given.journal_bytes;
-      redo = λ x there. settled.redo x (left.redo_found x there) ∙ sym given.redo_bytes;
-    }
+    let sparing = c.run_guarded-ended.ensures.runs.spares (image.0, journal.0, redo.0) whole in
+    let meanwhile = c.run_guarded-ended.ensures.survives lent in (
+      λ is.
+          let found = sparing.before is in
+          nothing_new numbers _ _
+          (λ n none x there. c.into_devices-image.ensures.survives h n none x (meanwhile n x (c.into_files-image.ensures.others behind numbers is_lent n none x there)))
+          (λ x there. c.into_devices-image.ensures.image_survives h x (found.image_before image.0 x (left.image_found x there)))
+          (λ x there. c.into_devices-image.ensures.journal_survives h x (found.journal_before journal.0 x (left.journal_found x there)))
+          (λ x there. c.into_devices-image.ensures.redo_survives h x (found.redo_before redo.0 x (left.redo_found x there))),
+      λ other.
+          let settled = sparing.settled other in
+          record {
+            image = λ x there. settled.image x (left.image_found x there) ∙ sym given.image_bytes;
+            journal = λ x there. settled.journal x (left.journal_found x there) ∙ sym given.journal_bytes;
+            redo = λ x there. settled.redo x (left.redo_found x there) ∙ sym given.redo_bytes;
+          },
+    )
 
 pub returns-clause-files : goal.returns-clause-files
 returns-clause-files g c h =
@@ -170,3 +162,14 @@ returns-clause-judged g c h =
 
 pub returns-clause-unbegun : goal.returns-clause-unbegun
 returns-clause-unbegun g c = unbegun_as g.W.Image.Device g.W.Text.TextStore _ c.run_guarded-ended.result c.run_guarded-ended.result.unopened c.run_guarded-ended.ensures.left
+
+pub returns-clause-counted : goal.returns-clause-counted
+returns-clause-counted g c h =
+    let lent = c.into_devices-image.ensures.faith.1 h in
+    let first = c.into_devices-image.ensures.counted h in
+    let ran = c.run_guarded-ended.ensures.counted lent in
+    let last = c.into_files-image.ensures.counted (c.run_guarded-ended.ensures.faith.1 lent) in
+    record {
+      least = omega (arith, first, ran, last);
+      rise = λ is. let failed = c.run_guarded-ended.ensures.failed lent is in omega (arith, first, failed, last);
+    }

@@ -4,6 +4,7 @@ use Rattle.bx_run.specs.session.Moves.{stepped, task_of}
 use Rattle.bx_run.specs.session.Named.{MayRefuseTask}
 use Rattle.bx_run.proofs.Answered.{why_kept}
 use Rattle.bx_run.proofs.Lines.{done_behind, failed_behind, found_behind, keeps_then, leads_back, moved_before, moved_behind, moved_less, others_kept, read_behind, settled_kept, spares_behind, stopped_behind, tells_alone, tells_behind, unopened_kept}
+use Rattle.bx_run.proofs.Failing.{failed_told}
 use Rattle.bx_run.proofs.session.moves.move_changes.Goals as goal
 
 pub returns-clause-done : goal.returns-clause-done
@@ -80,9 +81,9 @@ returns-clause-why_unopened g c old =
     let moved = c.moved_by-moved.ensures in
     let behind = moved.faith.1 old in
     let told = c.tell_recovered.ensures.faith.1 behind in
-    why_kept _ _ _ _ _ _ _ (λ count u. MayRefuseTask c.args.guard false (g.W.World.note c.args.world.now) (task_of c.args.way c.args.count) c.args.names.now
+    why_kept _ _ _ _ (λ count u. MayRefuseTask c.args.guard false (g.W.World.note c.args.world.now) (task_of c.args.way c.args.count) c.args.names.now
     (g.W.World.refusals c.args.world.now < count) (g.W.World.state c.args.world.now) u)
-    (moved.unopened old) (c.tell_recovered.ensures.noted behind) (c.tell_number-outcome.ensures.noted told) (moved.why_unopened old)
+    (c.tell_recovered.ensures.noted behind) (c.tell_number-outcome.ensures.noted told) (moved.why_unopened old)
 
 pub returns-clause-recovered : goal.returns-clause-recovered
 returns-clause-recovered g c old s found is_opened =
@@ -99,13 +100,6 @@ returns-clause-others g c old =
     let behind = moved.faith.1 old in
     let told = c.tell_recovered.ensures.faith.1 behind in
     others_kept _ _ _ _ (moved.others old) (keeps_then _ _ _ (c.tell_recovered.ensures.files behind) (c.tell_number-outcome.ensures.files told))
-
-pub returns-clause-errors : goal.returns-clause-errors
-returns-clause-errors g c old =
-    let moved = c.moved_by-moved.ensures in
-    let behind = moved.faith.1 old in
-    let told = c.tell_recovered.ensures.faith.1 behind in
-    tells_alone _ _ _ _ _ (moved.silent old).errors (c.tell_recovered.ensures.errors behind) (c.tell_number-outcome.ensures.errors told)
 
 pub returns-clause-free : goal.returns-clause-free
 returns-clause-free g c old =
@@ -129,7 +123,17 @@ returns-clause-told g c old =
     let behind = moved.faith.1 old in
     let told = c.tell_recovered.ensures.faith.1 behind in
     let line = c.tell_number-outcome.ensures in (
+      tells_alone _ _ _ _ _ (moved.silent old).errors (c.tell_recovered.ensures.errors behind) (line.errors told),
       line.handed told _ (c.tell_recovered.ensures.handed behind),
       λ s holds.
           failed_behind c.args.names.now c.args.count (stepped c.args.way s) _ _ _ _ _ _ _ _ (moved.refused old s holds) (line.failed told) (line.refused told),
     )
+
+pub returns-clause-counted : goal.returns-clause-counted
+returns-clause-counted g c old =
+    let moved = c.moved_by-moved.ensures in
+    let behind = moved.faith.1 old in
+    let told = c.tell_recovered.ensures.faith.1 behind in
+    let line = c.tell_number-outcome.ensures in
+    failed_told c.moved_by-moved.result.outcome c.tell_number-outcome.result _ _ _ _ _ _ _ (line.lost told) (line.refused told)
+    (line.noted told ∙ c.tell_recovered.ensures.noted behind) (moved.counted old)

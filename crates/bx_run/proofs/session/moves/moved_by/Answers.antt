@@ -1,5 +1,6 @@
 use Rattle.bx_run.specs.session.Named.{contents_of}
 use Rattle.bx_run.proofs.Answered.{found_survives, moved_err, moved_found, moved_ok, moved_read, moved_survives, nothing_moved, opened_moved, reason, spares_by, whole_of}
+use Rattle.bx_run.proofs.Failing.{failed_reply}
 use Rattle.bx_run.proofs.session.moves.moved_by.Goals as goal
 
 pub returns-clause-done : goal.returns-clause-done
@@ -82,3 +83,8 @@ returns-clause-why_unopened g c old = rw c.task_by-task.ensures.is at (c.run_on_
 
 pub returns-clause-judged : goal.returns-clause-judged
 returns-clause-judged g c old = rw c.task_by-task.ensures.is at (c.run_on_files-answer.ensures.judged old)
+
+pub returns-clause-counted : goal.returns-clause-counted
+returns-clause-counted g c old =
+    let counts = c.run_on_files-answer.ensures.counted old in
+    rw c.standing.ensures (record { least = counts.least; rise = λ is. counts.rise (failed_reply c.run_on_files-answer.result.reply is) })

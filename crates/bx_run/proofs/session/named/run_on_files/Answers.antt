@@ -1,4 +1,4 @@
-use Rattle.std.proofs.Common.{◌≡◌, ◌<◌, ◌≤◌, ℕ, Bool, sym, ap, subst, inl, inr}
+use Rattle.std.proofs.Common.{◌≡◌, ◌<◌, ◌≤◌, ℕ, Bool, true, false, sym, ap, subst, inl, inr, arith}
 use Rattle.bx_cli_commands.specs.Replies.{stands_by}
 use Rattle.bx_world.specs.files.Files.{AreAllThere, IsOneOfMade}
 use Rattle.bx_world.specs.files.Numbers.{numbers_of}
@@ -84,10 +84,10 @@ returns-clause-survives g c old =
           _ _ _ _ _ _ (nothing _) (nothing _) (nothing _)
           (c.with_devices-done.ensures.endures opening s (subst (λ contents. FoundIn contents s) before found) stopped));
       refused = λ whole is.
-          before_all _ _ _ _ _ (c.open_image_files.ensures.survives old) (c.with_devices-done.ensures.before opening whole is) (c.clear.ensures.survives done);
+          before_all _ _ _ _ _ (c.open_image_files.ensures.survives old) ((c.with_devices-done.ensures.spares opening whole).0 is) (c.clear.ensures.survives done);
       settled = λ whole other t behind.
           let trio = trio_cleared _ _ t _ _ _ named most behind in
-          let settled = c.with_devices-done.ensures.settled opening whole other in
+          let settled = (c.with_devices-done.ensures.spares opening whole).1 other in
           rw (trio.0, trio.1, trio.2, contents_cleared _ _ _ _ _ named most) (record {
             image = λ x there. settled.image x (nothing _ x there);
             journal = λ x there. settled.journal x (nothing _ x there);
@@ -227,3 +227,18 @@ returns-clause-texts g c old is =
 pub returns-in-Err-clause-fit : goal.returns-in-Err-clause-fit
 returns-in-Err-clause-fit g c old is = absurd (never_another c.args.names.now c.args.guard.mounted c.args.makes (g.W.World.refusals c.args.world.now < g.W.World.refusals c.open_image_files.new.world)
     (g.W.World.state c.args.world.now) c.in-Err.unopened (c.in-Err.ensures.why old) is)
+
+pub returns-clause-counted : goal.returns-clause-counted
+returns-clause-counted g c old =
+    let opening = c.open_image_files.ensures.faith.1 old in
+    let first = c.open_image_files.ensures.counted old in
+    let ran = c.with_devices-done.ensures.counted opening in
+    let last = c.clear.ensures.counted (c.with_devices-done.ensures.faith.1 opening) in
+    let least = ran.least in
+    record {
+      least = omega (arith, first, least, last);
+      rise = λ is. let rise = ran.rise is in omega (arith, first, rise, last);
+    }
+
+pub returns-in-Err-clause-counted : goal.returns-in-Err-clause-counted
+returns-in-Err-clause-counted g c old = record { least = c.open_image_files.ensures.counted old; rise = λ is. absurd (let wrong : false ≡ true = is in cc) }
