@@ -14,7 +14,6 @@ mod states;
 mod steps;
 
 use crate::faults::show_fault;
-use crate::history::changes::change_image;
 use crate::history::forget::forget;
 use crate::history::told::look_for_others;
 use crate::jobs::copies::{copy_onto, tell};
@@ -30,23 +29,19 @@ use crate::jobs::steps::take_steps;
 use crate::progress::{progress_of_input, progress_of_standard};
 use crate::streams::closed::Held;
 use crate::streams::input::{MOST_INPUT, Placed, whole};
-use bx_cli::{
-    ChangeJob, DdImageJob, DumpJob, Fault, ForgetJob, Job, RevertJob, plan_words, read_dump,
-};
+use bx_cli::{ChangeJob, DdImageJob, DumpJob, Fault, ForgetJob, Job, RevertJob, plan_words};
 use bx_dd::Counts;
 use bx_hints::{
     Audience, Remarks, STANDARD_INPUT, Seen, Stopped, Terminals, Watched, asks_for_hints,
 };
-use bx_image::Change;
 use bx_journal::Direction;
-use bx_read::ReadFault;
-use bx_run::Edit;
+use bx_run::ReadEdit;
 use bx_system::{Counted, Noted, Progress, Tally};
 use bx_text::{IoFault, Source, Words, emit};
 use std::alloc::Global;
 use std::env;
 use std::fs::File;
-use std::io::{self, Empty, Read, Write};
+use std::io::{self, Read, Write};
 use std::rt::{Env, Files};
 use std::time::Clock;
 
@@ -272,10 +267,10 @@ where
     R: Files<File = File> + Input + Print + Eprint + Clock + AllocGlobal,
 {
     let mut seen = remarks.seen_of(rt.alloc(), job.plain);
-    let read = dump_of(rt, job, &mut seen, remarks)?;
+    let edit = dump_of(rt, job, &mut seen, remarks)?;
     let has_returns = seen.has_returns;
     remarks.look_at_dump(seen);
-    match put_dump(rt, job, read, out, remarks) {
+    match put_dump(rt, job, edit, out, remarks) {
         Err(stopped) if has_returns => Err(stopped.on_returns(dump_name(job))),
         outcome => outcome,
     }
@@ -289,13 +284,13 @@ fn dump_name(job: &RevertJob) -> &str {
     }
 }
 
-/// The change of the dump that a job reads, or the dump's fault; `seen` sees it.
+/// What the dump asks that a job reads; `seen` sees it.
 fn dump_of<'a, R>(
     rt: &R,
     job: &'a RevertJob,
     seen: &mut Seen,
     remarks: &Remarks,
-) -> Result<Result<Change, ReadFault>, Stopped<'a>>
+) -> Result<ReadEdit, Stopped<'a>>
 where
     R: Files<File = File> + Input + Eprint + Clock + AllocGlobal,
 {
@@ -304,16 +299,16 @@ where
         Some(name) => {
             let input = whole(rt, name)?;
             let progress = progress_of_input(rt, remarks, input.left);
-            let read = change_of(alloc, job, input, seen, &progress);
+            let edit = edit_of(alloc, job, input, seen, &progress);
             progress.end();
-            read
+            edit
         }
         None => {
             let input = Placed::whole(STANDARD_INPUT, rt.reader(), None);
             let progress = progress_of_standard(rt, remarks);
-            let read = change_of(alloc, job, input, seen, &progress);
+            let edit = edit_of(alloc, job, input, seen, &progress);
             progress.end();
-            read
+            edit
         }
     }
 }
@@ -322,7 +317,7 @@ where
 fn put_dump<'a, R, W: Write>(
     rt: &R,
     job: &'a RevertJob,
-    read: Result<Change, ReadFault>,
+    edit: ReadEdit,
     out: &mut W,
     remarks: &mut Remarks,
 ) -> Result<(), Stopped<'a>>
@@ -330,7 +325,6 @@ where
     R: Files<File = File> + Print + Eprint + Clock + AllocGlobal,
 {
     if job.dry_run {
-        let edit = Edit::of_read(read, job.no_grow);
         return preview_read(rt, &job.target, edit, remarks, out);
     }
     let progress = progress_of_input(rt, remarks, None);
@@ -339,34 +333,28 @@ where
         fresh: job.fresh,
         no_grow: job.no_grow,
     };
-    match read {
-        Ok(change) => {
-            look_at_change(rt, &job.target, &change, remarks);
-            put_change(rt, &job.target, manner, change, &progress, remarks)?;
-        }
-        Err(fault) => {
-            let edit: Edit<Empty> = Edit::Read(Err(fault));
-            change_image(rt, &job.target, edit, &progress, remarks)?;
-        }
+    if let Some(change) = edit.change() {
+        look_at_change(rt, &job.target, change, remarks);
     }
+    put_change(rt, &job.target, manner, edit, &progress, remarks)?;
     Ok(())
 }
 
-/// The change of the dump that an input gives, or the dump's fault.
-fn change_of<'a, R: Eprint + Clock, I: Read + Drop>(
+/// What the dump asks that an input gives.
+fn edit_of<'a, R: Eprint + Clock, I: Read + Drop>(
     alloc: Global,
     job: &RevertJob,
     input: Placed<'a, I>,
     seen: &mut Seen,
     progress: &Progress<'_, R>,
-) -> Result<Result<Change, ReadFault>, Stopped<'a>> {
+) -> Result<ReadEdit, Stopped<'a>> {
     let expected = input.left.unwrap_or(0);
     let name = input.name;
     let mut reader = Noted::new(input.reader);
     let watched = Watched::new(Counted::new(&mut reader, progress), seen);
     let mut source = Source::new(watched, MOST_INPUT);
-    match read_dump(&alloc, job, &mut source, expected) {
-        Ok(read) => Ok(read),
+    match ReadEdit::of_dump(alloc, job, &mut source, expected) {
+        Ok(edit) => Ok(edit),
         Err(fault) => Err(Stopped::from(fault).on_input(name, reader.error)),
     }
 }

@@ -12,6 +12,7 @@ pub mod Failing
 pub mod Files
 pub mod FrontRows
 pub mod Held
+pub mod Inputs
 pub mod Judged
 pub mod Lines
 pub mod LookLemmas

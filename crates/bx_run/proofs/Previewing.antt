@@ -21,7 +21,7 @@ use Rattle.bx_patch.specs.preview.Changed.{FitInTurn, effects}
 use Rattle.bx_world.specs.World.{MayBeRead, SystemState, held, stat_named}
 use Rattle.bx_run.specs.preview.Previews.{MakesFirst, StopsChange, StopsPreview, WritesChange, WritesPreview, has_fixed_length}
 use Rattle.bx_run.specs.preview.Proposed.{IsCompared, IsFitting, unchanged_for}
-use Rattle.bx_run.specs.declared.edit.Edit.{Edit}
+use Rattle.bx_run.specs.declared.session.task.Task.{Task}
 use Rattle.bx_run.specs.declared.preview.error.PreviewError.{PreviewError}
 use Rattle.bx_run.specs.declared.preview.error.PreviewError.TheVariants.{Refused, Stopped, Unfitting, Unopened}
 
@@ -79,11 +79,11 @@ module _ {A : Type 0} (change : Change A) (x : List ℕ) where
           )
 
 -- a fault cuts the patch of what is made of an image
-pub cut_behind : {R A : Type 0} (remaining : R → Option (List ℕ)) (edit : Edit R) (keeps : Bool) (x z : List ℕ) (change : Change A) (counts : Option Counts)
+pub cut_behind : {R A : Type 0} (remaining : R → Option (List ℕ)) (task : Task R) (keeps : Bool) (x z : List ℕ) (change : Change A) (counts : Option Counts)
     (old new : Option (List ℕ)) (outcome : Result (Unit {0}) DiffFault) (fault : DiffFault) → z ≡ x → outcome ≡ Err fault
-    → MakesFirst remaining edit x counts (effect change x) → IsFitting change keeps x → IsCompared change z outcome old new
-    → StopsChange remaining edit keeps x old new (Stopped fault)
-cut_behind remaining edit keeps x z change counts old new outcome fault same is makes fits compared =
+    → MakesFirst remaining task x counts (effect change x) → IsFitting change keeps x → IsCompared change z outcome old new
+    → StopsChange remaining task keeps x old new (Stopped fault)
+cut_behind remaining task keeps x z change counts old new outcome fault same is makes fits compared =
     let one = subst (λ (u : List ℕ). IsCompared change u outcome old new) same compared in
     let two = subst (λ (o : Result (Unit {0}) DiffFault). IsCompared change x o old new) is one in
     inr (counts, effect change x, makes, fits.1, two.0, two.1 fits.0)
@@ -101,10 +101,10 @@ pub may_none : (w : SystemState) (name : List ℕ) → stat_named w name ≡ Non
 may_none w name missing n leads = absurd (let wrong : Some (w.stat n) ≡ None = rw leads at missing in cc)
 
 -- what is said of the bytes of a file is said of its name
-module _ {R : Type 0} (remaining : R → Option (List ℕ)) (name : List ℕ) (edit : Edit R) (counted : Type 0) (w : SystemState) (x : List ℕ)
+module _ {R : Type 0} (remaining : R → Option (List ℕ)) (name : List ℕ) (task : Task R) (counted : Type 0) (w : SystemState) (x : List ℕ)
     (keeps : Bool) (may : MayBeRead w name) (keeps_is : keeps ≡ has_fixed_length (stat_named w name)) (x_is : x ≡ held w name) (old new : Option (List ℕ)) where
-  stopped : (why : PreviewError) → StopsChange remaining edit (has_fixed_length (stat_named w name)) (held w name) old new why
-      → StopsPreview remaining name edit counted w old new why
+  stopped : (why : PreviewError) → StopsChange remaining task (has_fixed_length (stat_named w name)) (held w name) old new why
+      → StopsPreview remaining name task counted w old new why
   stopped (Unopened why) (inl not) = absurd not.0
   stopped (Unopened why) (inr not) = absurd not
   stopped (Refused fault) is = (may, is)
@@ -112,10 +112,10 @@ module _ {R : Type 0} (remaining : R → Option (List ℕ)) (name : List ℕ) (e
   stopped (Stopped fault) is = (may, is)
 
   pub named : (outcome : Result (Option Counts) PreviewError)
-      → MatchResult outcome (λ counts. WritesChange remaining edit keeps x counts old new) (StopsChange remaining edit keeps x old new)
-      → MatchResult outcome (λ counts. WritesPreview remaining name edit w counts old new) (StopsPreview remaining name edit counted w old new)
+      → MatchResult outcome (λ counts. WritesChange remaining task keeps x counts old new) (StopsChange remaining task keeps x old new)
+      → MatchResult outcome (λ counts. WritesPreview remaining name task w counts old new) (StopsPreview remaining name task counted w old new)
   named outcome does =
-      let P : Bool → Type 0 = λ k. MatchResult outcome (λ counts. WritesChange remaining edit k x counts old new) (StopsChange remaining edit k x old new) in
-      let Q : List ℕ → Type 0 = λ u. MatchResult outcome (λ counts. WritesChange remaining edit (has_fixed_length (stat_named w name)) u counts old new)
-      (StopsChange remaining edit (has_fixed_length (stat_named w name)) u old new) in
+      let P : Bool → Type 0 = λ k. MatchResult outcome (λ counts. WritesChange remaining task k x counts old new) (StopsChange remaining task k x old new) in
+      let Q : List ℕ → Type 0 = λ u. MatchResult outcome (λ counts. WritesChange remaining task (has_fixed_length (stat_named w name)) u counts old new)
+      (StopsChange remaining task (has_fixed_length (stat_named w name)) u old new) in
       MatchResult-weaker outcome (subst Q x_is (subst P keeps_is does)) (λ counts is. (may, is)) stopped

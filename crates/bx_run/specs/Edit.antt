@@ -1,29 +1,36 @@
 -- What is asked of an image.
-use Rattle.std.specs.Prelude.{Bool, true, false, Result, Ok, Err}
-use Rattle.std.specs.Global.{Global}
-use Rattle.bx_image.specs.declared.change.Change.{Change}
-use Rattle.bx_patch.specs.declared.read.patch.Patch.{Patch}
-use Rattle.bx_read.specs.declared.fault.ReadFault.{ReadFault}
+use Rattle.std.specs.Prelude.{Bool}
 use Rattle.bx_cli_commands.specs.declared.command.Command.TheVariants as command
-use Rattle.bx_cli_commands.specs.declared.command.Kept.TheVariants as kept
 use Rattle.bx_run.specs.declared.edit.Edit.{Edit}
 use Rattle.bx_run.specs.declared.edit.Edit.TheVariants as edit
+use Rattle.bx_run.specs.declared.edit.proposal.Proposal.{Proposal}
+use Rattle.bx_run.specs.declared.edit.proposal.Proposal.TheVariants as proposal
+use Rattle.bx_run.specs.declared.edit.read.ReadEdit.{ReadEdit}
 use Rattle.bx_run.specs.declared.session.task.Task.{Task}
 use Rattle.bx_run.specs.declared.session.task.Task.TheVariants.{Keep, Put, Run}
+use Rattle.bx_run.specs.Input.{HasInput, Input, IsMadeOf}
+
+-- what an input that was read asks
+abbrev pub proposed : ReadEdit → Proposal
+proposed read = read.proposal
+
+-- the task that does what such an input asks
+abbrev pub task_by : {R : Type 0} → Proposal → Task R
+task_by (proposal.Read read) = Put read
+task_by (proposal.Patch patch) = Run (command.Patch patch)
+task_by (proposal.Keep kept) = Keep kept
 
 -- the task that does what is asked
 abbrev pub asked : {R : Type 0} → Edit R → Task R
-asked (edit.Read read) = Put read
-asked (edit.Patch patch) = Run (command.Patch patch)
-asked (edit.Keep kept) = Keep kept
+asked (edit.Read read) = task_by (proposed read)
 asked (edit.Copy plan input) = Run (command.Copy plan input)
 
--- the change of a dump that was read, or its fault; with `no_grow` one that isn't to make the image longer
-abbrev pub edit_of_read : {R : Type 0} → Bool → Result (Change Global) ReadFault → Edit R
-edit_of_read true (Ok change) = edit.Keep (kept.Change change)
-edit_of_read no_grow read = edit.Read read
+-- the edit is what this input asks, which was read before; dd's that copies when the image is open has its input yet
+abbrev pub IsEditOf : {R : Type 0} → Bool → Input → Edit R → Type 0
+IsEditOf keeps input (edit.Read read) = IsMadeOf keeps input (proposed read)
+IsEditOf keeps input (edit.Copy plan given) = ⊥
 
--- the change of a patch; with `no_grow` one that isn't to make the image longer
-abbrev pub edit_of_patch : {R : Type 0} → Bool → Patch Global → Edit R
-edit_of_patch true patch = edit.Keep (kept.Patch patch)
-edit_of_patch false patch = edit.Patch patch
+-- the edit is what some input asks
+abbrev pub IsOfInput : {R : Type 0} → Edit R → Type 0
+IsOfInput (edit.Read read) = ∥ HasInput (proposed read) ∥₁
+IsOfInput (edit.Copy plan given) = Unit {0}

@@ -1,10 +1,16 @@
--- What files that are missing stand for.
-use Rattle.std.specs.Prelude.{◌≡◌, ℕ, None, List, [], ◌∷◌}
+-- What files that are missing stand for, and what an edit's step puts onto an image.
+use Rattle.std.specs.Prelude.{◌≡◌, ℕ, Bool, Option, None, List, [], ◌∷◌}
 use Rattle.bx_world.specs.World.{SystemState, held}
 use Rattle.bx_world.specs.declared.files.names.Names.{Names}
 use Rattle.bx_journal.specs.Images.{Images}
+use Rattle.bx_cli_commands.specs.Standing.{Standing}
+use Rattle.bx_cli_commands.specs.declared.command.Reply.{Reply}
+use Rattle.bx_run.specs.Edit.{IsEditOf, asked}
+use Rattle.bx_run.specs.Input.{Input, InputStep}
+use Rattle.bx_run.specs.declared.edit.Edit.{Edit}
 use Rattle.bx_run.specs.session.Contents.{Holds}
 use Rattle.bx_run.specs.session.Named.{contents_of}
+use Rattle.bx_run.specs.session.Task.{TaskStep}
 
 -- the images of no change
 abbrev pub unchanged : List ℕ → Images
@@ -19,3 +25,9 @@ MissingIsUnchanged = (names : Names) (w : SystemState) → w.named names.journal
 abbrev pub MissingIsEmpty : Type 0
 MissingIsEmpty = (names : Names) (w : SystemState) → w.named names.image ≡ None → w.named names.journal ≡ None → w.named names.redo ≡ None
     → Holds (contents_of names w) (unchanged [])
+
+-- The bytes of an input are what is written onto the image: where an edit is made of an input, each step of the edit's task is the one that puts this input onto
+-- the image
+abbrev pub EditIsPut : {R : Type 0} → (R → Option (List ℕ)) → Type 0
+EditIsPut {R = R} remaining = (keeps : Bool) (input : Input) (edit : Edit R) → IsEditOf keeps input edit → (before after : Standing) (reply : Reply)
+    → TaskStep remaining before (asked edit) reply after → InputStep keeps input before reply after

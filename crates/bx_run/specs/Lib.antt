@@ -1,6 +1,7 @@
 pub mod RunState
 pub mod Failures
 pub mod session
+pub mod Input
 pub mod Edit
 pub mod dump
 pub mod report

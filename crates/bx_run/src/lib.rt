@@ -13,6 +13,6 @@ mod report;
 mod run;
 mod session;
 
-pub use edit::Edit;
+pub use edit::{Edit, ReadEdit};
 pub use report::{Report, ReportError};
 pub use run::{Cause, CommandFile, Done, Failure, Request, Step, Stop, run_request};

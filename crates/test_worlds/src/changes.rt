@@ -1,13 +1,12 @@
 //! A change, as a case asks for it.
 use crate::report::Wrong;
 use crate::setting::CAREFUL;
-use bx_cli_commands::{Fault, Form, Kept, Reply, change_from};
+use bx_cli::plan_words;
+use bx_cli_commands::{ChangeJob, Fault, Form, Job, Reply};
 use bx_dd::{Counts, parse};
-use bx_image::{Change, Fuse};
-use bx_patch::{Patch, read_patch};
-use bx_read::ReadFault;
-use bx_run::{Done, Edit, Failure, Request, run_request};
-use bx_text::{Pieces, Source, Words};
+use bx_image::Fuse;
+use bx_run::{Done, Edit, Failure, ReadEdit, Request, run_request};
+use bx_text::{Source, Words};
 use bx_world::Names;
 use std::alloc::Global;
 use std::io::sink;
@@ -25,30 +24,68 @@ fn input_of(alloc: Global, bytes: &[u8], reads: Fuse) -> Result<LentInput, Wrong
     Ok(LentInput::new(bytes.to_vec(alloc)?, 0, reads))
 }
 
-/// The patch of a text, in its direction.
-fn patch_of(alloc: Global, text: &[u8], reversed: bool) -> Result<Patch, Wrong> {
-    match read_patch(alloc, text) {
-        Ok(patch) if reversed => patch.reversed().ok_or(Wrong::Unknown),
-        Ok(patch) => Ok(patch),
+/// The job that words ask for.
+fn job_of(alloc: Global, command: &str) -> Result<ChangeJob, Wrong> {
+    let mut words = Words::new(alloc);
+    words.push(command)?;
+    words.push("disk")?;
+    match plan_words(alloc, &words) {
+        Ok(Job::Change(job)) => Ok(job),
+        Ok(_) | Err(_) => Err(Wrong::Unknown),
+    }
+}
+
+/// The patch of a text, in its direction, whose image with `keeps` isn't to get longer.
+pub fn patch_of(
+    alloc: Global,
+    text: &[u8],
+    reversed: bool,
+    keeps: bool,
+) -> Result<Edit<LentInput>, Wrong> {
+    let ChangeJob::Patch(mut job) = job_of(alloc, "patch")? else {
+        return Err(Wrong::Unknown);
+    };
+    job.reverse = reversed;
+    job.no_grow = keeps;
+    match ReadEdit::of_patch(alloc, &job, text) {
+        Ok(read) => Ok(Edit::Read(read)),
         Err(_) => Err(Wrong::Unknown),
     }
 }
 
-/// The change of a text that is read before, or its fault.
-fn read_as(
+/// What dd makes of these bytes by an operand, whose image with `keeps` isn't to get longer: read before, as with `--fresh`.
+pub fn copied(alloc: Global, operand: &str, bytes: &[u8], keeps: bool) -> Result<ReadEdit, Wrong> {
+    let mut words = Words::new(alloc);
+    words.push(operand)?;
+    let Ok(plan) = parse(alloc, &words) else {
+        return Err(Wrong::Unknown);
+    };
+    let mut input = bytes;
+    match ReadEdit::of_copy(alloc, &plan, &mut input, keeps) {
+        Ok((read, _)) => Ok(read),
+        Err(_) => Err(Wrong::Unknown),
+    }
+}
+
+/// What the text of a dump asks, or its fault, whose image with `keeps` isn't to get longer.
+pub fn read_as(
     alloc: Global,
     text: &[u8],
     form: Form,
     at: u64,
-) -> Result<Result<Change, ReadFault>, Wrong> {
+    keeps: bool,
+) -> Result<ReadEdit, Wrong> {
+    let ChangeJob::Revert(mut job) = job_of(alloc, "revert")? else {
+        return Err(Wrong::Unknown);
+    };
+    job.plain = form == Form::Plain;
+    job.at = at.min(MOST_PLACE);
+    job.no_grow = keeps;
     let mut source = Source::new(text, MOST_TEXT);
-    match change_from(&alloc, &mut source, form, at.min(MOST_PLACE), 0) {
+    match ReadEdit::of_dump(alloc, &job, &mut source, 0) {
         Ok(read) => Ok(read),
-        // The program refuses it before anything is opened; the session's row on it stays.
-        Err(Fault::NothingToWrite) => Ok(Ok(Change {
-            base: None,
-            writes: Pieces::from_vec(Vec::new(alloc)),
-        })),
+        // The program refuses it before anything is opened; the session's row on it stays, as that of a copy of nothing.
+        Err(Fault::NothingToWrite) => copied(alloc, "conv=notrunc", b"", keeps),
         Err(_) => Err(Wrong::Unknown),
     }
 }
@@ -69,23 +106,6 @@ fn copy_of(
     }
 }
 
-/// What was read of a text, whose image with `keeps` isn't to get longer.
-fn edit_of_read(read: Result<Change, ReadFault>, keeps: bool) -> Edit<LentInput> {
-    match read {
-        Ok(change) if keeps => Edit::Keep(Kept::Change(change)),
-        read => Edit::Read(read),
-    }
-}
-
-/// A patch, whose image with `keeps` isn't to get longer.
-fn edit_of_patch(patch: Patch, keeps: bool) -> Edit<LentInput> {
-    if keeps {
-        Edit::Keep(Kept::Patch(patch))
-    } else {
-        Edit::Patch(patch)
-    }
-}
-
 /// What a case asks of its image, which with `keeps` isn't to get longer, read before as the program does it; of dd's reads those fail that
 /// the fuse says.
 pub fn edit_of(
@@ -96,18 +116,15 @@ pub fn edit_of(
 ) -> Result<Edit<LentInput>, Wrong> {
     match ask {
         Ask::Revert { dump, shift } => {
-            let read = read_as(alloc, dump.as_slice(), Form::Dump, *shift)?;
-            Ok(edit_of_read(read, keeps))
+            let read = read_as(alloc, dump.as_slice(), Form::Dump, *shift, keeps)?;
+            Ok(Edit::Read(read))
         }
         Ask::Plain { digits, at } => {
-            let read = read_as(alloc, digits.as_slice(), Form::Plain, *at)?;
-            Ok(edit_of_read(read, keeps))
+            let read = read_as(alloc, digits.as_slice(), Form::Plain, *at, keeps)?;
+            Ok(Edit::Read(read))
         }
         Ask::Dd { operands, input } => copy_of(alloc, operands, input.as_slice(), reads),
-        Ask::Patch { text, reversed } => {
-            let patch = patch_of(alloc, text.as_slice(), *reversed)?;
-            Ok(edit_of_patch(patch, keeps))
-        }
+        Ask::Patch { text, reversed } => patch_of(alloc, text.as_slice(), *reversed, keeps),
         Ask::Undo(_) | Ask::Redo(_) | Ask::Change { .. } | Ask::Open => Err(Wrong::Unknown),
     }
 }

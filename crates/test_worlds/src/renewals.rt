@@ -1,10 +1,10 @@
 //! Plays a change with which the history begins anew, where some of an image and its texts are missing: each call fails in turn. Where it
 //! is refused no file is there that wasn't, and an image that was there holds what it held.
+use crate::changes::{copied, read_as};
 use crate::report::{Failure, Wrong};
-use crate::seen::asked::whole_change;
 use crate::setting::{CAREFUL, Held, There, has_other, held_by, names, there_in, world_with};
 use crate::sweeps::{Failing, MOST_CALLS};
-use bx_cli_commands::Fault;
+use bx_cli_commands::{Fault, Form};
 use bx_journal::SessionFault;
 use bx_read::ReadFault;
 use bx_run::{Done, Edit, Failure as Refused, Request, Step, run_request};
@@ -26,7 +26,10 @@ const TEXT: &[u8] =
 /// What the note has, which is no line on an image.
 const NOTE: &[u8] = b"a note";
 
-/// The fault of a change that can't be read.
+/// A dump that can't be read.
+const FAULTY: &[u8] = b"00000000:\n";
+
+/// Its fault.
 const UNREAD: ReadFault = ReadFault::NoData { line: 1 };
 
 /// How many calls in a row have to fail without a difference, so that no later one is made.
@@ -74,9 +77,9 @@ impl Renewal<'_> {
     /// The change that is asked for.
     fn edit(&self) -> Result<Edit<Empty>, Wrong> {
         if self.reads {
-            Ok(Edit::Read(Ok(whole_change(self.alloc, NEW)?)))
+            Ok(Edit::Read(copied(self.alloc, "of=disk", NEW, false)?))
         } else {
-            Ok(Edit::Read(Err(UNREAD)))
+            Ok(Edit::Read(read_as(self.alloc, FAULTY, Form::Dump, 0, false)?))
         }
     }
 

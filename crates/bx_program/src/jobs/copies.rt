@@ -109,13 +109,13 @@ where
 {
     let plan = plan_behind(rt, job, input.passed);
     let mut ready = Ready::new(rt, job, input, progress);
-    let made = ready.made(rt.alloc(), &plan)?;
+    let (edit, counts) = ready.made(rt.alloc(), &plan, job.no_grow)?;
     let manner = Manner {
         fresh: job.fresh,
         no_grow: job.no_grow,
     };
-    match put_change(rt, &job.target, manner, made.change, progress, remarks) {
-        Ok(_) => Ok(Some(made.counts)),
+    match put_change(rt, &job.target, manner, edit, progress, remarks) {
+        Ok(_) => Ok(Some(counts)),
         Err(stopped) => Err(ready.stopped(stopped)),
     }
 }

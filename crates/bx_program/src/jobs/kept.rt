@@ -7,11 +7,12 @@ use crate::history::changes::{change_anew, change_image};
 use crate::history::settle_image;
 use bx_cli::{Fault, Target, refuse_growth};
 use bx_hints::{Remarks, Stopped};
-use bx_image::{Change, MAX_LEN};
+use bx_image::MAX_LEN;
 use bx_patch::Patch;
-use bx_run::{Done, Edit};
+use bx_run::{Done, Edit, ReadEdit};
 use bx_system::Progress;
 use std::fs::File;
+use std::io::Empty;
 use std::rt::Files;
 use std::time::Clock;
 
@@ -24,25 +25,29 @@ pub struct Manner {
     pub no_grow: bool,
 }
 
-/// Makes a change on an image. Nothing is dropped for one that would make the image longer, once that is recovered.
+/// Makes the change that was read on an image, or refuses it for its text's fault. Nothing is dropped for one that has a fault, or would make the
+/// image longer, once that is recovered.
 pub fn put_change<'a, R>(
     rt: &R,
     target: &'a Target,
     manner: Manner,
-    change: Change,
+    edit: ReadEdit,
     progress: &Progress<'_, R>,
     remarks: &mut Remarks,
 ) -> Result<Done, Stopped<'a>>
 where
     R: Files<File = File> + Print + Eprint + Clock + AllocGlobal,
 {
-    if manner.fresh && manner.no_grow {
+    let has_change = edit.change().is_some();
+    if has_change && manner.fresh && manner.no_grow {
         settle_image(rt, target, progress)?;
         let image = target.image.as_str();
-        refused(image, refuse_growth(&change, length_named(rt, image)?))?;
+        if let Some(change) = edit.change() {
+            refused(image, refuse_growth(change, length_named(rt, image)?))?;
+        }
     }
-    let edit = Edit::of_read(Ok(change), manner.no_grow);
-    if manner.fresh {
+    let edit: Edit<Empty> = Edit::Read(edit);
+    if has_change && manner.fresh {
         change_anew(rt, target, edit, progress, remarks)
     } else {
         change_image(rt, target, edit, progress, remarks)
@@ -55,7 +60,7 @@ pub fn put_patch<'a, R>(
     rt: &R,
     target: &'a Target,
     manner: Manner,
-    patch: Patch,
+    edit: ReadEdit,
     progress: &Progress<'_, R>,
     remarks: &mut Remarks,
 ) -> Result<Done, Stopped<'a>>
@@ -63,17 +68,18 @@ where
     R: Files<File = File> + Print + Eprint + Clock + AllocGlobal,
 {
     if !manner.fresh {
-        let edit = Edit::of_patch(patch, manner.no_grow);
+        let edit: Edit<Empty> = Edit::Read(edit);
         return change_image(rt, target, edit, progress, remarks);
     }
     let image = target.image.as_str();
     settle_image(rt, target, progress)?;
-    agree(rt, image, &patch, progress)?;
-    if manner.no_grow {
-        refused(image, refuse_longer(&patch, length_named(rt, image)?))?;
+    if let Some(patch) = edit.patch() {
+        agree(rt, image, patch, progress)?;
+        if manner.no_grow {
+            refused(image, refuse_longer(patch, length_named(rt, image)?))?;
+        }
     }
-    let edit = Edit::of_patch(patch, manner.no_grow);
-    change_anew(rt, target, edit, progress, remarks)
+    change_anew(rt, target, Edit::Read(edit), progress, remarks)
 }
 
 /// What stopped a change that would make its image longer.

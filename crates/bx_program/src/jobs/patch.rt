@@ -7,16 +7,15 @@ use crate::jobs::previews::preview_patch;
 use crate::jobs::states::tell_before_patch;
 use crate::progress::{progress_of_input, progress_of_standard};
 use crate::streams::input::{MOST_INPUT, Placed, whole};
-use bx_cli::{Fault, PatchJob, read_patch_of};
+use bx_cli::{Fault, PatchJob};
 use bx_hints::{Remarks, STANDARD_INPUT, Stopped};
-use bx_patch::Patch;
-use bx_run::Edit;
+use bx_patch::{Patch, PatchLengths};
+use bx_run::ReadEdit;
 use bx_system::{Counted, Noted, Progress};
-use bx_text::Source;
+use bx_text::{Bytes, Piece, Source};
 use std::alloc::Global;
 use std::fs::File;
 use std::io::{Read, Write};
-use std::mem::swap;
 use std::rt::Files;
 use std::time::Clock;
 
@@ -30,28 +29,29 @@ pub fn patch<'a, R, W: Write>(
 where
     R: Files<File = File> + Input + Print + Eprint + Clock + AllocGlobal,
 {
-    let patch = read_named(rt, job, remarks)?;
+    let edit = read_named(rt, job, remarks)?;
     let image = job.target.image.as_str();
-    if changes_length(&patch) && is_device(rt, image) {
+    if changes_length(&edit) && is_device(rt, image) {
         return Err(Stopped::fixed(image));
     }
     let progress = progress_of_input(rt, remarks, None);
     if job.dry_run {
-        let edit = Edit::of_patch(patch, job.no_grow);
         return preview_patch(rt, &job.target, edit, &progress, out);
     }
-    if patch.changes_nothing() {
-        remarks.look_at_no_change();
-        return agree(rt, image, &patch, &progress);
+    if let Some(patch) = edit.patch() {
+        if patch.changes_nothing() {
+            remarks.look_at_no_change();
+            return agree(rt, image, patch, &progress);
+        }
     }
-    apply(rt, job, patch, &progress, remarks)
+    apply(rt, job, edit, &progress, remarks)
 }
 
 /// Applies a patch that was read, and changes something.
 fn apply<'a, R>(
     rt: &R,
     job: &'a PatchJob,
-    patch: Patch,
+    edit: ReadEdit,
     progress: &Progress<'_, R>,
     remarks: &mut Remarks,
 ) -> Result<(), Stopped<'a>>
@@ -59,59 +59,83 @@ where
     R: Files<File = File> + Print + Eprint + Clock + AllocGlobal,
 {
     let image = job.target.image.as_str();
-    let mut patch = patch;
-    let is_applied = remarks.are_wanted() && is_applied(rt, image, &mut patch, progress);
-    match change_by(rt, job, patch, progress, remarks) {
+    let is_applied = remarks.are_wanted() && is_applied(rt, image, &edit, progress);
+    match change_by(rt, job, edit, progress, remarks) {
         Err(stopped) if is_applied => Err(stopped.on_applied(image, job.reverse)),
         outcome => outcome,
     }
 }
 
 /// Whether an image isn't what a patch expects, and has what it writes.
-fn is_applied<R>(rt: &R, image: &str, patch: &mut Patch, progress: &Progress<'_, R>) -> bool
+fn is_applied<R>(rt: &R, image: &str, edit: &ReadEdit, progress: &Progress<'_, R>) -> bool
 where
     R: Files<File = File> + Eprint + Clock + AllocGlobal,
 {
+    let Some(patch) = edit.patch() else {
+        return false;
+    };
     if agree(rt, image, patch, progress).is_ok() {
         return false;
     }
-    turn(patch);
-    let is_there = agree(rt, image, patch, progress).is_ok();
-    turn(patch);
-    is_there
+    match written_by(rt.alloc(), patch) {
+        Some(written) => agree(rt, image, &written, progress).is_ok(),
+        None => false,
+    }
 }
 
-/// Exchanges what a patch expects and what it writes.
-fn turn(patch: &mut Patch) {
-    swap(&mut patch.expected, &mut patch.written);
-    if let Some(lengths) = &mut patch.lengths {
-        swap(&mut lengths.old, &mut lengths.new);
+/// A patch that expects what this one writes, and writes nothing; none without memory. It is smaller than the text that this one was read from.
+fn written_by(alloc: Global, patch: &Patch) -> Option<Patch> {
+    let mut expected = Vec::new(alloc);
+    for piece in patch.written.as_slice() {
+        let bytes = piece.bytes.as_slice().to_vec(alloc).ok()?;
+        let copied = Piece {
+            at: piece.at,
+            bytes: Bytes::from_vec(bytes),
+        };
+        expected.push(copied).ok()?;
     }
+    let lengths = match patch.lengths {
+        Some(lengths) => Some(PatchLengths {
+            old: lengths.new,
+            new: lengths.old,
+        }),
+        None => None,
+    };
+    Some(Patch {
+        lengths,
+        expected,
+        written: Vec::new(alloc),
+    })
 }
 
 /// Applies a patch, with whose change the history may begin anew.
 fn change_by<'a, R>(
     rt: &R,
     job: &'a PatchJob,
-    patch: Patch,
+    edit: ReadEdit,
     progress: &Progress<'_, R>,
     remarks: &mut Remarks,
 ) -> Result<(), Stopped<'a>>
 where
     R: Files<File = File> + Print + Eprint + Clock + AllocGlobal,
 {
-    tell_before_patch(rt, &job.target, &patch, remarks);
+    if let Some(patch) = edit.patch() {
+        tell_before_patch(rt, &job.target, patch, remarks);
+    }
     look_for_others(rt, &job.target, job.fresh, remarks);
     let manner = Manner {
         fresh: job.fresh,
         no_grow: job.no_grow,
     };
-    put_patch(rt, &job.target, manner, patch, progress, remarks)?;
+    put_patch(rt, &job.target, manner, edit, progress, remarks)?;
     Ok(())
 }
 
 /// Whether a patch brings the image to another length.
-fn changes_length(patch: &Patch) -> bool {
+fn changes_length(edit: &ReadEdit) -> bool {
+    let Some(patch) = edit.patch() else {
+        return false;
+    };
     match patch.lengths {
         Some(lengths) => lengths.old != lengths.new,
         None => false,
@@ -119,7 +143,7 @@ fn changes_length(patch: &Patch) -> bool {
 }
 
 /// What the patch asks that a job names, or standard input.
-fn read_named<'a, R>(rt: &R, job: &'a PatchJob, remarks: &Remarks) -> Result<Patch, Stopped<'a>>
+fn read_named<'a, R>(rt: &R, job: &'a PatchJob, remarks: &Remarks) -> Result<ReadEdit, Stopped<'a>>
 where
     R: Files<File = File> + Input + Eprint + Clock + AllocGlobal,
 {
@@ -163,9 +187,9 @@ fn asked_of<'a>(
     job: &PatchJob,
     name: &'a str,
     text: Vec<u8>,
-) -> Result<Patch, Stopped<'a>> {
-    match read_patch_of(alloc, job, text.as_slice()) {
-        Ok(patch) => Ok(patch),
+) -> Result<ReadEdit, Stopped<'a>> {
+    match ReadEdit::of_patch(alloc, job, text.as_slice()) {
+        Ok(edit) => Ok(edit),
         Err(fault @ Fault::Patch(_)) if has_returns(text.as_slice()) => {
             Err(Stopped::from(fault).on_returns(name))
         }

@@ -13,7 +13,7 @@ use crate::streams::input::{Placed, file, standard};
 use bx_cli::{DdImageJob, Fault, Target};
 use bx_dd::Counts;
 use bx_hints::{Remarks, Stopped};
-use bx_run::{Cause, Edit, Failure, Request, Stop, run_request};
+use bx_run::{Cause, Edit, Failure, ReadEdit, Request, Stop, run_request};
 use bx_system::{Progress, SystemWorld};
 use std::fs::File;
 use std::io::{Empty, Read, Write};
@@ -75,7 +75,7 @@ where
 pub fn preview_read<'a, R, W: Write>(
     rt: &R,
     target: &'a Target,
-    edit: Edit<Empty>,
+    edit: ReadEdit,
     remarks: &Remarks,
     out: &mut W,
 ) -> Result<(), Stopped<'a>>
@@ -83,6 +83,7 @@ where
     R: Files<File = File> + Print + Eprint + Clock + AllocGlobal,
 {
     let progress = progress_of_input(rt, remarks, None);
+    let edit: Edit<Empty> = Edit::Read(edit);
     preview(rt, target, edit, &progress, out)?;
     Ok(())
 }
@@ -91,13 +92,14 @@ where
 pub fn preview_patch<'a, R, W: Write>(
     rt: &R,
     target: &'a Target,
-    edit: Edit<Empty>,
+    edit: ReadEdit,
     progress: &Progress<'_, R>,
     out: &mut W,
 ) -> Result<(), Stopped<'a>>
 where
     R: Files<File = File> + Print + Eprint + Clock + AllocGlobal,
 {
+    let edit: Edit<Empty> = Edit::Read(edit);
     preview(rt, target, edit, progress, out)?;
     Ok(())
 }
@@ -135,11 +137,11 @@ where
     let plan = plan_behind(rt, job, input.passed);
     let mut ready = Ready::new(rt, job, input, progress);
     if job.no_grow {
-        let made = ready.made(rt.alloc(), &plan)?;
-        let edit: Edit<Empty> = Edit::of_read(Ok(made.change), true);
+        let (edit, counts) = ready.made(rt.alloc(), &plan, job.no_grow)?;
+        let edit: Edit<Empty> = Edit::Read(edit);
         return match preview(rt, &job.target, edit, progress, out) {
             Ok(_) if job.plan.quiet => Ok(None),
-            Ok(_) => Ok(Some(made.counts)),
+            Ok(_) => Ok(Some(counts)),
             Err(stopped) => Err(ready.stopped(stopped)),
         };
     }

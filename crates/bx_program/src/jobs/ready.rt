@@ -5,9 +5,10 @@ use crate::files::look::{device_length, is_device};
 use crate::streams::fitting::Fitting;
 use crate::streams::input::Placed;
 use crate::streams::part::Part;
-use bx_cli::{DdChange, DdImageJob, Fault, change_of_plan, plan_rest};
-use bx_dd::Plan;
+use bx_cli::{DdImageJob, Fault, plan_rest};
+use bx_dd::{Counts, Plan};
 use bx_hints::Stopped;
+use bx_run::ReadEdit;
 use bx_system::{Noted, Progress};
 use std::alloc::Global;
 use std::fs::File;
@@ -60,9 +61,14 @@ impl<'a, 'p, 'r, I: Read, R: Clock + Eprint> Ready<'a, Part<'p, 'r, I, R>> {
         }
     }
 
-    /// What the plan makes of this input, which is read whole.
-    pub fn made(&mut self, alloc: Global, plan: &Plan) -> Result<DdChange, Stopped<'a>> {
-        match change_of_plan(&alloc, plan, &mut self.reader) {
+    /// What the plan makes of this input, which is read whole, and its counts. With `no_grow` it isn't to make the image longer.
+    pub fn made(
+        &mut self,
+        alloc: Global,
+        plan: &Plan,
+        no_grow: bool,
+    ) -> Result<(ReadEdit, Counts), Stopped<'a>> {
+        match ReadEdit::of_copy(alloc, plan, &mut self.reader, no_grow) {
             Ok(made) => Ok(made),
             Err(fault) => Err(self.stopped(Stopped::from(Fault::from(fault)))),
         }

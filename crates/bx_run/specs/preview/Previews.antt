@@ -1,5 +1,6 @@
 -- The patch that a change of a named image would be.
-use Rattle.std.specs.Prelude.{◌≡◌, ◌⊎◌, ◌<◌, ◌≤◌, ℕ, Bool, true, false, List, length, Option, Ok}
+use Rattle.std.specs.Prelude.{◌≡◌, ◌⊎◌, ◌<◌, ◌≤◌, ℕ, Bool, true, false, List, length, Option, Result, Ok}
+use Rattle.std.specs.Result.{MatchResult}
 use Rattle.std.specs.Option.{option_map_or}
 use Rattle.std.specs.Io.KnownBytes.{Appends}
 use Rattle.bx_dd.specs.declared.counts.Counts.{Counts}
@@ -25,14 +26,13 @@ use Rattle.bx_world.specs.declared.stat.Stat.{Stat}
 use Rattle.bx_world.specs.files.Reading.{IsUnfitToRead}
 use Rattle.bx_world.specs.files.Reasons.{IsReason}
 use Rattle.bx_world.specs.declared.files.unopened.OpenFailure.{OpenFailure}
+use Rattle.bx_run.specs.RunState.{RunState}
 use Rattle.bx_run.specs.session.Task.{TaskStep}
-use Rattle.bx_run.specs.Edit.{asked}
-use Rattle.bx_run.specs.declared.edit.Edit.{Edit}
-use Rattle.bx_run.specs.declared.edit.Edit.TheVariants as edit
+use Rattle.bx_run.specs.declared.session.task.Task.{Task}
 use Rattle.bx_run.specs.declared.preview.error.PreviewError.{PreviewError}
 use Rattle.bx_run.specs.declared.preview.error.PreviewError.TheVariants.{Refused, Stopped, Unfitting, Unopened}
 
--- the faults of a edit itself: of its dump, its patch or its input, that the image would get longer, or that no image can be so long
+-- the faults of a task itself: of its dump, its patch or its input, that the image would get longer, or that no image can be so long
 abbrev pub IsOwnFault : Fault → Type 0
 IsOwnFault (Read e) = Unit {0}
 IsOwnFault (Dd e) = Unit {0}
@@ -45,19 +45,19 @@ IsOwnFault fault = ⊥
 abbrev pub HasRoom : Bool → List ℕ → List ℕ → Type 0
 HasRoom keeps x y = keeps ≡ true → length y ≤ length x
 
-module _ {R : Type 0} (remaining : R → Option (List ℕ)) (edit : Edit R) where
+module _ {R : Type 0} (remaining : R → Option (List ℕ)) (task : Task R) where
   -- What the machine's step makes of an image alone: it is made as the first change, its reply tells the counts, and y is then the newest image
   pub record MakesFirst (x : List ℕ) (counts : Option Counts) (y : List ℕ) : Type 0 where
     pub reply : Reply
     pub next : Images
-    pub step : TaskStep remaining (Standing.Up (only x)) (asked edit) reply (Standing.Up next)
+    pub step : TaskStep remaining (Standing.Up (only x)) task reply (Standing.Up next)
     pub stands : stands_by reply ≡ Ok 1
     pub counted : counts ≡ counted_by reply
     pub newest : y ≡ top next.stack
 
   -- the machine's step refuses it of an image alone
   abbrev pub Refuses : List ℕ → Fault → Type 0
-  Refuses x fault = IsOwnFault fault × TaskStep remaining (Standing.Up (only x)) (asked edit) (reply.Refused fault) (Standing.Up (only x))
+  Refuses x fault = IsOwnFault fault × TaskStep remaining (Standing.Up (only x)) task (reply.Refused fault) (Standing.Up (only x))
 
   -- the patch from an image to what is made of it was written
   abbrev pub WritesChange : Bool → List ℕ → Option Counts → Option (List ℕ) → Option (List ℕ) → Type 0
@@ -99,14 +99,21 @@ has_fixed_length found = option_map_or (λ (image : Stat). is_block image.kind) 
 abbrev pub MayNotOpen : List ℕ → Type 0 → SystemState → OpenFailure → Type 0
 MayNotOpen name counted w why = IsReason ⊥ (IsUnfitToRead w name) ⊥ counted why
 
-module _ {R : Type 0} (remaining : R → Option (List ℕ)) (name : List ℕ) (edit : Edit R) where
+module _ {R : Type 0} (remaining : R → Option (List ℕ)) (name : List ℕ) (task : Task R) where
   -- what the name leads to may be read, and the patch was written from what it holds, which is nothing where it is missing
   abbrev pub WritesPreview : SystemState → Option Counts → Option (List ℕ) → Option (List ℕ) → Type 0
   WritesPreview w counts old new =
-      MayBeRead w name × WritesChange remaining edit (has_fixed_length (stat_named w name)) (held w name) counts old new
+      MayBeRead w name × WritesChange remaining task (has_fixed_length (stat_named w name)) (held w name) counts old new
 
   -- why it was not: the file was not opened, and nothing was written; or the patch is not whole
   abbrev pub StopsPreview : Type 0 → SystemState → Option (List ℕ) → Option (List ℕ) → PreviewError → Type 0
   StopsPreview counted w old new (Unopened why) = MayNotOpen name counted w why × (new ≡ old)
   StopsPreview counted w old new unpreviewed =
-      MayBeRead w name × StopsChange remaining edit (has_fixed_length (stat_named w name)) (held w name) old new unpreviewed
+      MayBeRead w name × StopsChange remaining task (has_fixed_length (stat_named w name)) (held w name) old new unpreviewed
+
+-- A preview writes the patch from what the image has, nothing where it is missing, to what the machine's step would make of it, or a front of it and
+-- says why; an image that isn't opened may not be read by the rule, or the system counted a call that it refused
+abbrev pub DoesPreview : {R : Type 0} → (R → Option (List ℕ)) → List ℕ → Task R → Result (Option Counts) PreviewError → RunState → RunState → Type 0
+DoesPreview remaining name task outcome old new =
+    MatchResult outcome (λ counts. WritesPreview remaining name task old.state counts old.written new.written)
+    (StopsPreview remaining name task (old.refusals < new.refusals) old.state old.written new.written)

@@ -27,8 +27,7 @@ use Rattle.bx_cli_commands.specs.Standing.{PerformUp, Standing}
 use Rattle.bx_cli_commands.specs.declared.fault.Fault.TheVariants.{Disagrees, Session}
 use Rattle.bx_run.specs.session.Task.{TaskStep}
 use Rattle.bx_run.specs.preview.Previews.{HasRoom, Refuses}
-use Rattle.bx_run.specs.Edit.{asked}
-use Rattle.bx_run.specs.declared.edit.Edit.{Edit}
+use Rattle.bx_run.specs.declared.session.task.Task.{Task}
 use Rattle.bx_run.specs.declared.preview.error.PreviewError.{PreviewError}
 use Rattle.bx_run.specs.declared.preview.error.PreviewError.TheVariants.{Refused, Stopped, Unfitting, Unopened}
 
@@ -38,9 +37,9 @@ failed_image (Err (Stopped OldFailed)) = true
 failed_image result = false
 
 -- the change is what is proposed: each step of the session for it, from an image alone, is one of the task
-abbrev pub IsProposedChange : {R A : Type 0} → (R → Option (List ℕ)) → Edit R → List ℕ → Change A → Option Counts → Type 0
-IsProposedChange remaining edit x change counts = (r : Result ℕ SessionFault) (after : Standing) → PerformUp change (only x) r after
-    → TaskStep remaining (Standing.Up (only x)) (asked edit) (answered (made_reply counts) r) after
+abbrev pub IsProposedChange : {R A : Type 0} → (R → Option (List ℕ)) → Task R → List ℕ → Change A → Option Counts → Type 0
+IsProposedChange remaining task x change counts = (r : Result ℕ SessionFault) (after : Standing) → PerformUp change (only x) r after
+    → TaskStep remaining (Standing.Up (only x)) task (answered (made_reply counts) r) after
 
 -- what an image has otherwise than a patch expects, or that its device failed
 abbrev pub IsUnagreed : Asked → List ℕ → PreviewError → Type 0
@@ -67,10 +66,10 @@ IsUnkept {A = A} (OfPatch patch) x why =
     IsUnagreed (asked_of patch) x why ⊎ (Agrees (asked_of patch) x × IsGrown (patch_change {A = A} (asked_of patch)) x why)
 
 -- why there is no change: the machine's step refuses what is proposed, or the device of the image failed
-abbrev pub HasNoChange : {R : Type 0} → (R → Option (List ℕ)) → Edit R → List ℕ → PreviewError → Type 0
-HasNoChange remaining edit x (Refused fault) = Refuses remaining edit x fault
-HasNoChange remaining edit x (Stopped fault) = fault ≡ OldFailed
-HasNoChange remaining edit x unpreviewed = ⊥
+abbrev pub HasNoChange : {R : Type 0} → (R → Option (List ℕ)) → Task R → List ℕ → PreviewError → Type 0
+HasNoChange remaining task x (Refused fault) = Refuses remaining task x fault
+HasNoChange remaining task x (Stopped fault) = fault ≡ OldFailed
+HasNoChange remaining task x unpreviewed = ⊥
 
 -- the change can be made of the image, and what it makes is no longer than an image can be
 abbrev pub IsMakeable : {A : Type 0} → Change A → List ℕ → Type 0

@@ -1,7 +1,6 @@
 -- What a command on named files does, in the words of the calls that it is made of.
 use Rattle.std.specs.Prelude.{◌≡◌, ◌<◌, ℕ, true, false, List, Option, None, Result, Err, IfErr, IfSome, OnOk}
 use Rattle.std.specs.Result.{MatchResult}
-use Rattle.bx_dd.specs.declared.counts.Counts.{Counts}
 use Rattle.bx_patch.specs.declared.diff.row.Extent.{Extent}
 use Rattle.bx_journal.specs.Images.{Images}
 use Rattle.bx_journal.specs.Direction.{Direction}
@@ -26,12 +25,12 @@ use Rattle.bx_run.specs.declared.session.moves.Moved.{Moved}
 use Rattle.bx_run.specs.dump.Dumps.{CountsUndumped, DumpsInput, DumpsNamed, IsStopped, StopsInput, StopsNamed}
 use Rattle.bx_run.specs.declared.dump.error.DumpError.{DumpError}
 use Rattle.bx_run.specs.forget.Forgetting.{IsNoTextNamed, SurvivesForgetting}
-use Rattle.bx_run.specs.preview.Changing.{DoesChange, DoesRecover, ForgetsFiles}
+use Rattle.bx_run.specs.preview.Changing.{DoesRecover, ForgetsFiles}
 use Rattle.bx_run.specs.preview.Diffs.{StopsDiff, WritesDiff}
 use Rattle.bx_run.specs.run.Answer.{answer_by}
+use Rattle.bx_run.specs.run.Edits.{DoesEdit, PreviewsEdit, RenewsEdit}
 use Rattle.bx_run.specs.run.Outcome.{ended_by, unopened_by, unopened_fault}
-use Rattle.bx_run.specs.preview.Previews.{StopsPreview, WritesPreview}
-use Rattle.bx_run.specs.renew.Renewal.{KeepsNamed, RenewsFiles, SurvivesRenewing, TellsOpening, is_renewed_failed}
+use Rattle.bx_run.specs.renew.Renewal.{KeepsNamed, SurvivesRenewing, TellsOpening, is_renewed_failed}
 use Rattle.bx_run.specs.report.Looks.{is_look_failed}
 use Rattle.bx_run.specs.report.Reports.{CountsStop, Reports}
 use Rattle.bx_run.specs.Edit.{asked}
@@ -41,8 +40,6 @@ use Rattle.bx_run.specs.declared.run.answer.Failure.{Failure}
 use Rattle.bx_run.specs.declared.preview.diff.DiffError.{DiffError}
 use Rattle.bx_run.specs.declared.run.outcome.Outcome.{Outcome}
 use Rattle.bx_run.specs.declared.run.outcome.Outcome.TheVariants as of
-use Rattle.bx_run.specs.declared.edit.Edit.{Edit}
-use Rattle.bx_run.specs.declared.preview.error.PreviewError.{PreviewError}
 use Rattle.bx_run.specs.declared.run.request.Request.{Request}
 use Rattle.bx_run.specs.declared.run.request.Request.TheVariants.{Move, Change, Recover, Dump, DumpInput, Diff, Preview, Look, Forget, Renew}
 
@@ -77,13 +74,6 @@ DoesDiff extent old_name new_name outcome old new =
     MatchResult outcome (λ _. WritesDiff extent old_name new_name old.state old.written new.written)
     (StopsDiff extent old_name new_name (old.refusals < new.refusals) old.state old.written new.written)
 
--- A preview writes the patch from what the image has, nothing where it is missing, to what the machine's step would make of it, or a front of it and
--- says why; an image that isn't opened may not be read by the rule, or the system counted a call that it refused
-abbrev pub DoesPreview : {R : Type 0} → (R → Option (List ℕ)) → List ℕ → Edit R → Result (Option Counts) PreviewError → RunState → RunState → Type 0
-DoesPreview remaining name edit outcome old new =
-    MatchResult outcome (λ counts. WritesPreview remaining name edit old.state counts old.written new.written)
-    (StopsPreview remaining name edit (old.refusals < new.refusals) old.state old.written new.written)
-
 -- each command has an answer of its own; an input is open, and no seek places it
 abbrev pub Answers : {R : Type 0} → Request R → Outcome → Type 0
 Answers (Move names guard way count) (of.Moved moved) = Unit {0}
@@ -101,15 +91,15 @@ Answers request outcome = ⊥
 -- what each command does
 abbrev pub Fulfills : {R : Type 0} → (R → Option (List ℕ)) → Request R → Outcome → RunState → RunState → Type 0
 Fulfills remaining (Move names guard way count) (of.Moved moved) old new = DoesMove names.now way count moved old.state new.state
-Fulfills remaining (Change names guard edit) (of.Changed answer) old new = DoesChange remaining names.now (asked edit) answer old.state new.state
+Fulfills remaining (Change names guard edit) (of.Changed answer) old new = DoesEdit remaining edit names.now answer old.state new.state
 Fulfills remaining (Recover names guard) (of.Changed answer) old new = DoesRecover remaining names.now answer old.state new.state
 Fulfills remaining (Dump job name) (of.Dumped outcome) old new = DoesDump job.now name.now outcome old new
 Fulfills remaining (DumpInput job input) (of.Dumped outcome) old new = DoesDumpInput job.now (remaining input) outcome old new
 Fulfills remaining (Diff old_name new_name extent) (of.Compared outcome) old new = DoesDiff extent old_name.now new_name.now outcome old new
-Fulfills remaining (Preview name edit) (of.Previewed outcome) old new = DoesPreview remaining name.now edit outcome old new
+Fulfills remaining (Preview name edit) (of.Previewed outcome) old new = PreviewsEdit remaining edit name.now outcome old new
 Fulfills remaining (Look names report) (of.Looked outcome) old new = Reports names.now report outcome old new
 Fulfills remaining (Forget names guard) (of.Forgotten outcome) old new = ForgetsFiles guard names.now outcome old new
-Fulfills remaining (Renew names guard edit) (of.Renewed renewed) old new = RenewsFiles remaining names.now guard (asked edit) renewed old new
+Fulfills remaining (Renew names guard edit) (of.Renewed renewed) old new = RenewsEdit remaining edit names.now guard renewed old new
 Fulfills remaining request outcome old new = ⊥
 
 -- whatever is found of the files after a loss of power: behind an undo, a redo and a change opening finds the images behind some of its steps, or

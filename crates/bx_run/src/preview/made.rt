@@ -5,10 +5,14 @@ ghost use Rattle.bx_cli_commands.specs.Growth.{LengthensNot};
 ghost use Rattle.bx_patch.specs.Diff.{OnlyReads};
 ghost use Rattle.bx_patch.specs.Patch.{Agrees, patch_change};
 ghost use Rattle.bx_patch.specs.Read.{asked_of};
+ghost use Rattle.bx_cli_commands.specs.declared.command.Command.TheVariants as command;
+ghost use Rattle.bx_run.specs.Edit.{asked, task_by};
+ghost use Rattle.bx_run.specs.declared.session.task.Task.TheVariants as task;
 ghost use Rattle.bx_run.specs.preview.Previews.{MakesFirst, StopsBefore};
 ghost use Rattle.bx_run.specs.preview.Proposed.{IsProposedChange, IsFitting, IsGrown, IsKeptChange, IsTooLong, IsUnagreed, IsUnkept, HasNoChange, failed_image};
 
 use crate::edit::Edit;
+use crate::edit::proposal::Proposal;
 use crate::preview::error::PreviewError;
 use bx_cli_commands::{Fault, Kept, change_of_plan, refuse_growth};
 use bx_dd::{Counts, Plan};
@@ -44,8 +48,8 @@ fn change_of_patch<D: Device>(image: &mut D, patch: Patch) -> Result<Change, Pre
 
 /// The change that dd's plan makes of an input, and its counts.
 fn make_of_copy<R: Read + Drop>(alloc: Global, plan: Plan, input: R) -> Result<Made, PreviewError>
-    ensures made { (x : List ℕ) → IfOk result (λ made. IsProposedChange R.remaining (Edit.Copy plan input) x made.change made.counts) }
-    ensures stops { (x : List ℕ) → IfErr result (HasNoChange R.remaining (Edit.Copy plan input) x) }
+    ensures made { (x : List ℕ) → IfOk result (λ made. IsProposedChange R.remaining (task.Run (command.Copy plan input)) x made.change made.counts) }
+    ensures stops { (x : List ℕ) → IfErr result (HasNoChange R.remaining (task.Run (command.Copy plan input)) x) }
     ensures calm { failed_image result ≡ false }
 {
     let mut input = input;
@@ -95,8 +99,8 @@ fn change_of_kept<D: Device>(image: &mut D, kept: Kept) -> Result<Change, Previe
 fn make_of_kept<D: Device, R: Read + Drop>(image: &mut D, kept: Kept) -> Result<Made, PreviewError>
     requires countable { D.failures image.old < u64.MAX }
     ensures made { D.faithful image.old
-        → IfOk result (λ made. IsProposedChange R.remaining (Edit.Keep kept) (D.image image.old) made.change made.counts) }
-    ensures stops { D.faithful image.old → IfErr result (HasNoChange R.remaining (Edit.Keep kept) (D.image image.old)) }
+        → IfOk result (λ made. IsProposedChange R.remaining (task.Keep kept) (D.image image.old) made.change made.counts) }
+    ensures stops { D.faithful image.old → IfErr result (HasNoChange R.remaining (task.Keep kept) (D.image image.old)) }
     ensures reads { OnlyReads D.faithful D.image D.room D.failures D.survives (failed_image result) image.old image.new }
 {
     match change_of_kept(image, kept) {
@@ -108,6 +112,34 @@ fn make_of_kept<D: Device, R: Read + Drop>(image: &mut D, kept: Kept) -> Result<
     }
 }
 
+/// The change that an input asks that was read.
+fn make_of_read<D: Device, R: Read + Drop>(
+    image: &mut D,
+    proposal: Proposal,
+) -> Result<Made, PreviewError>
+    requires countable { D.failures image.old < u64.MAX }
+    ensures made { D.faithful image.old
+        → IfOk result (λ made. IsProposedChange R.remaining (task_by proposal) (D.image image.old) made.change made.counts) }
+    ensures stops { D.faithful image.old → IfErr result (HasNoChange R.remaining (task_by proposal) (D.image image.old)) }
+    ensures reads { OnlyReads D.faithful D.image D.room D.failures D.survives (failed_image result) image.old image.new }
+{
+    match proposal {
+        Proposal::Read(Ok(change)) => Ok(Made {
+            change,
+            counts: None,
+        }),
+        Proposal::Read(Err(fault)) => Err(PreviewError::Refused(Fault::Read(fault))),
+        Proposal::Patch(patch) => match change_of_patch(image, patch) {
+            Ok(change) => Ok(Made {
+                change,
+                counts: None,
+            }),
+            Err(why) => Err(why),
+        },
+        Proposal::Keep(kept) => make_of_kept::<D, R>(image, kept),
+    }
+}
+
 /// The change that is proposed, and its counts.
 fn make_change<D: Device, R: Read + Drop>(
     alloc: Global,
@@ -116,24 +148,12 @@ fn make_change<D: Device, R: Read + Drop>(
 ) -> Result<Made, PreviewError>
     requires countable { D.failures image.old < u64.MAX }
     ensures made { D.faithful image.old
-        → IfOk result (λ made. IsProposedChange R.remaining edit (D.image image.old) made.change made.counts) }
-    ensures stops { D.faithful image.old → IfErr result (HasNoChange R.remaining edit (D.image image.old)) }
+        → IfOk result (λ made. IsProposedChange R.remaining (asked edit) (D.image image.old) made.change made.counts) }
+    ensures stops { D.faithful image.old → IfErr result (HasNoChange R.remaining (asked edit) (D.image image.old)) }
     ensures reads { OnlyReads D.faithful D.image D.room D.failures D.survives (failed_image result) image.old image.new }
 {
     match edit {
-        Edit::Read(Ok(change)) => Ok(Made {
-            change,
-            counts: None,
-        }),
-        Edit::Read(Err(fault)) => Err(PreviewError::Refused(Fault::Read(fault))),
-        Edit::Patch(patch) => match change_of_patch(image, patch) {
-            Ok(change) => Ok(Made {
-                change,
-                counts: None,
-            }),
-            Err(why) => Err(why),
-        },
-        Edit::Keep(kept) => make_of_kept::<D, R>(image, kept),
+        Edit::Read(read) => make_of_read::<D, R>(image, read.into_proposal()),
         Edit::Copy { plan, input } => make_of_copy(alloc, plan, input),
     }
 }
@@ -176,9 +196,9 @@ pub fn make_fitting<D: Device, R: Read + Drop>(
 ) -> Result<Made, PreviewError>
     requires countable { D.failures image.old ≡ 0 }
     ensures made { D.faithful image.old
-        → IfOk result (λ made. MakesFirst R.remaining edit (D.image image.old) made.counts (effect made.change (D.image image.old))) }
+        → IfOk result (λ made. MakesFirst R.remaining (asked edit) (D.image image.old) made.counts (effect made.change (D.image image.old))) }
     ensures fits { D.faithful image.old → IfOk result (λ made. IsFitting made.change keeps (D.image image.old)) }
-    ensures stops { D.faithful image.old → IfErr result (StopsBefore R.remaining edit keeps (D.image image.old)) }
+    ensures stops { D.faithful image.old → IfErr result (StopsBefore R.remaining (asked edit) keeps (D.image image.old)) }
     ensures reads { OnlyReads D.faithful D.image D.room D.failures D.survives (failed_image result) image.old image.new }
 {
     let made = match make_change(alloc, image, edit) {

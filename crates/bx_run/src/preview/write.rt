@@ -4,6 +4,7 @@ ghost use Rattle.bx_image.specs.declared.change.Change.{Change as ChangeOf};
 ghost use Rattle.bx_world.specs.World.{MayBeRead, held, stat_named};
 ghost use Rattle.bx_world.specs.files.Reading.{StaysSeen};
 ghost use Rattle.bx_world.specs.files.Reasons.{IsReason, NoneUnfit};
+ghost use Rattle.bx_run.specs.Edit.{asked};
 ghost use Rattle.bx_run.specs.preview.Previews.{StopsChange, StopsPreview, WritesChange, WritesPreview, is_block};
 ghost use Rattle.bx_run.specs.preview.Proposed.{IsCompared, unchanged_for};
 
@@ -101,8 +102,8 @@ fn preview_pair<D: Device + Drop, R: Read + Drop, O: Write>(
     requires image { D.failures pair.image ≡ 0 }
     requires again { D.failures pair.again ≡ 0 }
     ensures previews { D.faithful pair.image → D.faithful pair.again → D.image pair.again ≡ D.image pair.image → MatchResult result.1
-        (λ counts. WritesChange R.remaining edit keeps (D.image pair.image) counts (O.contents out.old) (O.contents out.new))
-        (StopsChange R.remaining edit keeps (D.image pair.image) (O.contents out.old) (O.contents out.new)) }
+        (λ counts. WritesChange R.remaining (asked edit) keeps (D.image pair.image) counts (O.contents out.old) (O.contents out.new))
+        (StopsChange R.remaining (asked edit) keeps (D.image pair.image) (O.contents out.old) (O.contents out.new)) }
 {
     let Pair { mut image, again } = pair;
     let made = match make_fitting(alloc, &mut image, keeps, edit) {
@@ -188,8 +189,8 @@ fn preview_there<W: World, R: Read + Drop, O: Write>(
     requires may { W.faithful world.old → MayBeRead (W.state world.old) name.now }
     requires found { W.faithful world.old → stat_named (W.state world.old) name.now ≡ Some found.now }
     ensures previews { W.faithful world.old → MatchResult result
-        (λ counts. WritesPreview R.remaining name.now edit (W.state world.old) counts (O.contents out.old) (O.contents out.new))
-        (StopsPreview R.remaining name.now edit (W.refusals world.old < W.refusals world.new) (W.state world.old)
+        (λ counts. WritesPreview R.remaining name.now (asked edit) (W.state world.old) counts (O.contents out.old) (O.contents out.new))
+        (StopsPreview R.remaining name.now (asked edit) (W.refusals world.old < W.refusals world.new) (W.state world.old)
         (O.contents out.old) (O.contents out.new)) }
     ensures seen { W.faithful world.old → StaysSeen W.state W.survives world.old world.new }
     ensures faith { W.faithful world.new ↔ W.faithful world.old }
@@ -210,8 +211,8 @@ fn preview_missing<R: Read + Drop, O: Write>(
     out: &mut O,
 ) -> Result<Option<Counts>, PreviewError>
     ensures previews { MatchResult result
-        (λ counts. WritesChange R.remaining edit false [] counts (O.contents out.old) (O.contents out.new))
-        (StopsChange R.remaining edit false [] (O.contents out.old) (O.contents out.new)) }
+        (λ counts. WritesChange R.remaining (asked edit) false [] counts (O.contents out.old) (O.contents out.new))
+        (StopsChange R.remaining (asked edit) false [] (O.contents out.old) (O.contents out.new)) }
 {
     let pair = Pair {
         image: MemImage::new(alloc),
@@ -230,8 +231,8 @@ pub fn write_preview<W: World, R: Read + Drop, O: Write>(
     out: &mut O,
 ) -> Result<Option<Counts>, PreviewError>
     ensures previews { W.faithful world.old → MatchResult result
-        (λ counts. WritesPreview R.remaining name.now edit (W.state world.old) counts (O.contents out.old) (O.contents out.new))
-        (StopsPreview R.remaining name.now edit (W.refusals world.old < W.refusals world.new) (W.state world.old)
+        (λ counts. WritesPreview R.remaining name.now (asked edit) (W.state world.old) counts (O.contents out.old) (O.contents out.new))
+        (StopsPreview R.remaining name.now (asked edit) (W.refusals world.old < W.refusals world.new) (W.state world.old)
         (O.contents out.old) (O.contents out.new)) }
     ensures seen { W.faithful world.old → StaysSeen W.state W.survives world.old world.new }
     ensures faith { W.faithful world.new ↔ W.faithful world.old }

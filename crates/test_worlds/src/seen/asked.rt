@@ -2,19 +2,19 @@
 ghost use Rattle.std.specs.Prelude.{◌≡◌, None};
 
 use crate::answers::which_of;
+use crate::changes::{copied, patch_of};
 use crate::left::Cause;
 use crate::report::Wrong;
 use crate::setting::CAREFUL;
 use crate::sweeps::Failing;
 use bx_cli_commands::{Done, DumpJob, Fault};
 use bx_dd::{Plan as DdPlan, parse};
-use bx_image::Change;
 use bx_journal::{Direction, Steps};
-use bx_patch::{Extent, read_patch};
+use bx_patch::Extent;
 use bx_run::{
     Cause as FileCause, Done as Answered, Edit, Failure, Report, ReportError, Request, run_request,
 };
-use bx_text::{Bytes, IoFault, Piece, Pieces, Words};
+use bx_text::{IoFault, Words};
 use bx_world::{FileRole, Names, OpenError, OpenFailure, Refusal, World};
 use std::alloc::Global;
 use std::io::{Empty, Write};
@@ -183,21 +183,6 @@ fn forget<O: Write>(world: &mut MemoryWorld, alloc: Global, names: &Names, out: 
     seen_of(run_request(world, alloc, request, out))
 }
 
-/// A change that makes these bytes of any image.
-pub fn whole_change(alloc: Global, bytes: &[u8]) -> Result<Change, Wrong> {
-    let mut pieces = Vec::new(alloc);
-    if !bytes.is_empty() {
-        let bytes = Bytes::from_vec(bytes.to_vec(alloc)?);
-        pieces
-            .push(Piece { at: 0, bytes })
-            .map_err(|_| Wrong::NoMemory)?;
-    }
-    Ok(Change {
-        base: Some(0),
-        writes: Pieces::from_vec(pieces),
-    })
-}
-
 /// The plan of a copy onto an image.
 fn copying(alloc: Global) -> Result<DdPlan, Wrong> {
     let mut words = Words::new(alloc);
@@ -214,11 +199,8 @@ fn edit_of(
 ) -> Result<Edit<LentInput>, Wrong> {
     let new = case.new.as_slice();
     match proposed {
-        Proposed::Read => Ok(Edit::Read(Ok(whole_change(alloc, new)?))),
-        Proposed::Patch => match read_patch(alloc, case.output.as_slice()) {
-            Ok(patch) => Ok(Edit::Patch(patch)),
-            Err(_) => Err(Wrong::Unknown),
-        },
+        Proposed::Read => Ok(Edit::Read(copied(alloc, "of=disk", new, false)?)),
+        Proposed::Patch => patch_of(alloc, case.output.as_slice(), false, false),
         Proposed::Copy => Ok(Edit::Copy {
             plan: copying(alloc)?,
             input: LentInput::new(new.to_vec(alloc)?, 0, plan.input),

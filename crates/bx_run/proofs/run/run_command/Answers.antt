@@ -1,9 +1,11 @@
 use Rattle.std.proofs.Common.{refl}
 use Rattle.bx_cli_commands.specs.Replies.{stands_by}
+use Rattle.bx_run.specs.Edit.{asked}
 use Rattle.bx_run.specs.preview.Changing.{DoesChange}
 use Rattle.bx_run.specs.session.Named.{no_change}
 use Rattle.bx_run.proofs.Ending.{leaves_same, stops_forgetting, stops_move, stops_renewal, stops_report, stops_task}
 use Rattle.bx_run.proofs.Failing.{failed_begun, failed_reply}
+use Rattle.bx_run.proofs.Inputs.{does_edit, previews_edit, renews_edit}
 use Rattle.bx_run.proofs.run.run_command.Goals as goal
 
 pub returns-in-Move-clause-survives : goal.returns-in-Move-clause-survives
@@ -21,13 +23,19 @@ returns-in-Change-clause-does g c old =
       how = did.how old;
       recovered = did.recovered old;
     } in
-    rw c.in-Change.is (rw c.task_of-change.ensures.is at does)
+    rw c.in-Change.is (does_edit g.R.Read.remaining c.in-Change.edit c.in-Change.names.now _ _ _ (rw c.task_of-change.ensures.is at does))
 
 pub returns-in-Change-clause-survives : goal.returns-in-Change-clause-survives
 returns-in-Change-clause-survives g c old = rw c.in-Change.is (rw c.task_of-change.ensures.is at (c.change_files-answer.ensures.survives old))
 
 pub returns-in-Renew-clause-does : goal.returns-in-Renew-clause-does
-returns-in-Renew-clause-does g c old = rw c.in-Renew.is (rw c.task_of-anew.ensures.is at (c.renew_files.ensures.does old (g.O.Write.contents c.args.out.now)))
+returns-in-Renew-clause-does g c old =
+    rw c.in-Renew.is (renews_edit g.R.Read.remaining c.in-Renew.edit c.in-Renew.names.now c.in-Renew.guard _ _ _
+    (rw c.task_of-anew.ensures.is at (c.renew_files.ensures.does old (g.O.Write.contents c.args.out.now))))
+
+pub returns-in-Preview-clause-does : goal.returns-in-Preview-clause-does
+returns-in-Preview-clause-does g c old =
+    rw c.in-Preview.is (previews_edit g.R.Read.remaining c.in-Preview.edit c.in-Preview.name.now c.write_preview.result _ _ (c.write_preview.ensures.previews old))
 
 pub returns-in-Renew-clause-survives : goal.returns-in-Renew-clause-survives
 returns-in-Renew-clause-survives g c old = rw c.in-Renew.is (rw c.task_of-anew.ensures.is at (c.renew_files.ensures.survives old))

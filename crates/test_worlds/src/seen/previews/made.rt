@@ -1,6 +1,6 @@
 //! What files hold once the change of a case is made, and once it is taken back.
+use crate::changes::copied;
 use crate::report::Wrong;
-use crate::seen::asked::whole_change;
 use crate::setting::{CAREFUL, Held, Kept, held_by, world_of};
 use bx_journal::Direction;
 use bx_run::{Edit, Request, run_request};
@@ -33,11 +33,11 @@ pub fn changed(alloc: Global, names: &Names, case: &PatchWritten) -> Result<Kept
             redo: b"",
         },
     )?;
-    let change = whole_change(alloc, case.new.as_slice())?;
+    let read = copied(alloc, "of=disk", case.new.as_slice(), false)?;
     let request = Request::Change {
         names,
         guard: CAREFUL,
-        edit: Edit::Read(Ok(change)),
+        edit: Edit::Read(read),
     };
     held_behind(alloc, world, request)
 }

@@ -1,9 +1,4 @@
-use Rattle.bx_run.proofs.Proposing.{unagreed}
 use Rattle.bx_run.proofs.preview.made.make_change.Goals as goal
-
-pub returns-in-Err-clause-stops : goal.returns-in-Err-clause-stops
-returns-in-Err-clause-stops g c faithful =
-    rw c.in-Patch.is (unagreed g.R.Read.remaining (g.D.Device.image c.args.image.now) c.in-Patch.patch c.in-Err.why (c.in-Err.ensures.stops faithful))
 
 pub returns-in-Copy-clause-made : goal.returns-in-Copy-clause-made
 returns-in-Copy-clause-made g c faithful = rw c.in-Copy.is (c.make_of_copy.ensures.made (g.D.Device.image c.args.image.now))
@@ -11,8 +6,10 @@ returns-in-Copy-clause-made g c faithful = rw c.in-Copy.is (c.make_of_copy.ensur
 pub returns-in-Copy-clause-stops : goal.returns-in-Copy-clause-stops
 returns-in-Copy-clause-stops g c faithful = rw c.in-Copy.is (c.make_of_copy.ensures.stops (g.D.Device.image c.args.image.now))
 
-pub returns-in-Keep-clause-made : goal.returns-in-Keep-clause-made
-returns-in-Keep-clause-made g c faithful = rw c.in-Keep.is (c.make_of_kept.ensures.made faithful)
+pub returns-in-Read-clause-made : goal.returns-in-Read-clause-made
+returns-in-Read-clause-made g c faithful =
+    rw c.in-Read.is (rw c.into_proposal.ensures at (c.make_of_read.ensures.made faithful))
 
-pub returns-in-Keep-clause-stops : goal.returns-in-Keep-clause-stops
-returns-in-Keep-clause-stops g c faithful = rw c.in-Keep.is (c.make_of_kept.ensures.stops faithful)
+pub returns-in-Read-clause-stops : goal.returns-in-Read-clause-stops
+returns-in-Read-clause-stops g c faithful =
+    rw c.in-Read.is (rw c.into_proposal.ensures at (c.make_of_read.ensures.stops faithful))

@@ -1,4 +1,5 @@
 use Rattle.std.proofs.Common.{◌<◌, ◌∙◌, sym, refl}
+use Rattle.bx_run.specs.Edit.{asked}
 use Rattle.bx_run.proofs.Previewing.{named}
 use Rattle.bx_run.proofs.preview.write.preview_there.Goals as goal
 
@@ -7,6 +8,6 @@ returns-clause-previews g c faithful =
     let bytes = c.in-Ok.ensures.bytes faithful in
     let new_is = c.in-Ok.ensures.faithful faithful in
     let counted = g.W.World.refusals c.args.world.now < g.W.World.refusals c.close_pair.new.world in
-    named g.R.Read.remaining c.args.name.now c.args.edit counted (g.W.World.state c.args.world.now) (g.W.Image.Device.image c.in-Ok.pair.image) c.is_block.result
+    named g.R.Read.remaining c.args.name.now (asked c.args.edit) counted (g.W.World.state c.args.world.now) (g.W.Image.Device.image c.in-Ok.pair.image) c.is_block.result
     (c.requires.may faithful) (rw (c.is_block.ensures, c.requires.found faithful) refl) bytes.0 _ _ c.preview_pair-pair.result.1
     (c.preview_pair-pair.ensures.previews new_is.0 new_is.1 (bytes.1 ∙ sym bytes.0))
