@@ -18,7 +18,7 @@ use Rattle.bx_cli_commands.specs.declared.fault.Fault.{Fault}
 use Rattle.bx_cli_commands.specs.declared.fault.Fault.TheVariants.{OpenFailed, Session}
 use Rattle.bx_run.specs.session.Contents.{StayOnDisk, Contents, FindsIn, FoundIn, Holds, Spared, StandsIn, TellsUnfinished, recovered_as}
 use Rattle.bx_run.specs.session.Moves.{Course, HasMoved, IsMidway, IsMoved, IsUnwritten, LosesLine, MovedFound, MovedRead, Moves, MovesFound, MovesRead, RefusesRecovered, RefusesMove, SparesMove, StopsRecovered, StopsLine, StopsMove, StopsPart, SurvivesMoved, TellsRecovered, number_line, recovered_line, stepped}
-use Rattle.bx_run.specs.session.Named.{IsNamedBy, IsUnrecovered, KeepsOthers, LeadTo, LeavesRefused, NothingDone, contents_of}
+use Rattle.bx_run.specs.session.Named.{AreNotLeft, IsNamedBy, IsUnrecovered, KeepsOthers, LeadTo, LeavesRefused, NothingDone, contents_of}
 
 -- the first part couldn't be written
 pub stops_first : (first second old new : List ℕ) (e : Fault) → StopsPart 0 first old new e → StopsLine (first ++ second) old new e
@@ -176,6 +176,14 @@ led_still names m mid new keeps made = elim made [
     ]
 
 -- no other file was changed, and then all were kept
+-- texts that were missing aren't left
+pub not_left_kept : (names : Names) (old mid new : SystemState) → AreNotLeft names old mid mid → KeepsFiles mid new → AreNotLeft names old new new
+not_left_kept names old mid new left keeps = record {
+  journal = λ missing stuck empty.
+      keeps.named names.journal ∙ left.journal missing (sym keeps.stuck ∙ stuck) (sym (held_kept mid new names.journal keeps) ∙ empty);
+  redo = λ missing stuck empty. keeps.named names.redo ∙ left.redo missing (sym keeps.stuck ∙ stuck) (sym (held_kept mid new names.redo keeps) ∙ empty);
+}
+
 pub others_kept : (names : Names) (old mid new : SystemState) → KeepsOthers names old mid → KeepsFiles mid new → KeepsOthers names old new
 others_kept names old mid new others keeps = record {
   bytes = λ n below image journal redo. keeps.bytes n ∙ others.bytes n below image journal redo;

@@ -72,6 +72,11 @@ pub record AreNotLeft (names : Names) (old behind new : SystemState) : Type 0 wh
   pub journal : old.named names.journal ≡ None → new.stuck ≡ old.stuck → held behind names.journal ≡ [] → new.named names.journal ≡ None
   pub redo : old.named names.redo ≡ None → new.stuck ≡ old.stuck → held behind names.redo ≡ [] → new.named names.redo ≡ None
 
+-- A change leaves all files but the three as they were; and an undo of no change leaves no text that was missing
+pub record LeavesRest {R : Type 0} (names : Names) (task : Task R) (old new : SystemState) : Type 0 where
+  pub others : KeepsOthers names old new
+  pub texts : task ≡ no_change → AreNotLeft names old new new
+
 -- opening found finished entries alone, or was refused
 abbrev pub IsUnrecovered : Option RecoveryOutcome → Type 0
 IsUnrecovered how = IfSome how (λ h. h ≡ Clean)

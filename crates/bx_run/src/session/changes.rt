@@ -12,7 +12,7 @@ ghost use Rattle.bx_run.specs.session.Changes.{Changes, InterruptsChange, Refuse
 ghost use Rattle.bx_run.specs.session.Contents.{DoesFound, FoundIn, Holds, StepsRead, TellsUnfinished};
 ghost use Rattle.bx_run.specs.session.Guarded.{WasJudged, WereOpened};
 ghost use Rattle.bx_run.specs.session.Moves.{recovered_line};
-ghost use Rattle.bx_run.specs.session.Named.{AreNotLeft, KeepsOthers, MayRefuseTask, NothingDone, SurvivesTask, contents_of, is_missing, no_change};
+ghost use Rattle.bx_run.specs.session.Named.{LeavesRest, MayRefuseTask, NothingDone, SurvivesTask, contents_of, is_missing};
 ghost use Rattle.bx_run.specs.Failures.{CountsFailure};
 ghost use Rattle.bx_run.specs.session.Task.{IsNearTask};
 
@@ -75,15 +75,12 @@ pub fn change_files<W: World, R: Read + Drop>(
     ensures stands { W.faithful world.old → Unfailed result.reply → IfSome result.how (λ how. StepsRead R.remaining task how result.reply
         (contents_of names.now (W.state world.old)) (contents_of names.now (W.state world.new))) }
 
-    // An undo of no change leaves no text that was missing.
-    ensures texts { W.faithful world.old → task ≡ no_change
-        → AreNotLeft names.now (W.state world.old) (W.state world.new) (W.state world.new) }
-
     // The fault of a device is answered only where a device or the note failed.
     ensures counted { W.faithful world.old → CountsFailure (is_failure result.reply) (W.refusals world.old) (W.refusals world.new) }
 
-    // No other file is changed, whatever the files hold and whatever becomes of the task, and nothing is written but what was recovered.
-    ensures others { W.faithful world.old → KeepsOthers names.now (W.state world.old) (W.state world.new) }
+    // No other file is changed, whatever the files hold and whatever becomes of the task, an undo of no change leaves no text that was
+    // missing, and nothing is written but what was recovered.
+    ensures rest { W.faithful world.old → LeavesRest names.now task (W.state world.old) (W.state world.new) }
     ensures streams { W.faithful world.old → SaysRecovered result.how (W.state world.old) (W.state world.new) }
     ensures handed { W.faithful world.old → W.was_handed world.new (recovered_line result.how) }
     ensures faith { W.faithful world.new ↔ W.faithful world.old }

@@ -27,15 +27,15 @@ returns-clause-opens g c old may =
     record {
       may = may;
       does = does;
-      others = did.others old;
+      others = (did.rest old).others;
       same = same g.R.Read.remaining c.args.names.now c.change_files.result _ _ does may unopened alone;
       found = found g.R.Read.remaining c.args.names.now c.change_files.result _ _ does may unopened alone;
       image = image_spared g.R.Read.remaining c.args.names.now c.change_files.result _ _ does may unopened alone;
-      texts = did.texts old refl;
+      texts = (did.rest old).texts refl;
     }
 
 pub returns-clause-texts : goal.returns-clause-texts
-returns-clause-texts g c old = c.change_files.ensures.texts old refl
+returns-clause-texts g c old = (c.change_files.ensures.rest old).texts refl
 
 pub returns-clause-made : goal.returns-clause-made
 returns-clause-made g c old may =

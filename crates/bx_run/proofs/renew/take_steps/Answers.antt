@@ -48,7 +48,7 @@ returns-in-Ok-clause-does g c old written =
         how = did.how behind;
         recovered = did.recovered behind;
       };
-      others = did.others behind;
+      others = (did.rest behind).others;
       unopened = did.why_unopened behind;
     })
 
@@ -79,7 +79,7 @@ returns-in-Ok-clause-others g c old =
     λ name n e. g.met.W.World.within c.open_to_drop-opened.new.world name n mid e in
     keeps_named c.args.names.now (g.W.World.state c.args.world.now) (g.W.World.state c.open_to_drop-opened.new.world)
     (g.W.World.state c.forget_files.new.world) (g.W.World.state c.change_files.new.world) within first_within (c.open_to_drop-opened.ensures.others old) (c.forget_files.ensures.others mid)
-    (c.change_files.ensures.others behind)
+    ((c.change_files.ensures.rest behind).others)
 
 pub returns-in-Ok-clause-streams : goal.returns-in-Ok-clause-streams
 returns-in-Ok-clause-streams g c old =

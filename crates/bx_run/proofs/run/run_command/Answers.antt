@@ -79,7 +79,7 @@ returns-in-Recover-clause-does g c old =
       how = did.how old;
       recovered = did.recovered old;
     } in
-    rw c.in-Recover.is (record { does = does; texts = did.texts old refl })
+    rw c.in-Recover.is (record { does = does; texts = (did.rest old).texts refl })
 
 pub returns-in-Recover-clause-survives : goal.returns-in-Recover-clause-survives
 returns-in-Recover-clause-survives g c old = rw c.in-Recover.is (c.change_files-recovered.ensures.survives old)

@@ -1,6 +1,6 @@
 use Rattle.std.proofs.Common.{◌∙◌, refl, sym, subst}
 use Rattle.bx_run.specs.session.Contents.{DoesFound}
-use Rattle.bx_run.proofs.Lines.{contents_kept, leads_back, nothing_kept, others_kept, refused_kept, settled_kept, tells_alone}
+use Rattle.bx_run.proofs.Lines.{contents_kept, leads_back, not_left_kept, nothing_kept, others_kept, refused_kept, settled_kept, tells_alone}
 use Rattle.bx_run.proofs.Parts.{changed_by, interrupted_by}
 use Rattle.bx_run.proofs.Refused.{endures_less, read_between}
 use Rattle.bx_run.proofs.session.changes.change_files.Goals as goal
@@ -72,10 +72,13 @@ returns-clause-stands g c old unfailed =
     read_between g.R.Read.remaining c.args.task answer.how answer.reply _ _ _ _ refl
     (contents_kept c.args.names.now _ _ (c.tell_recovered.ensures.files behind)) (c.run_on_files-answer.ensures.stands old unfailed)
 
-pub returns-clause-others : goal.returns-clause-others
-returns-clause-others g c old =
+pub returns-clause-rest : goal.returns-clause-rest
+returns-clause-rest g c old =
     let behind = c.run_on_files-answer.ensures.faith.1 old in
-    others_kept _ _ _ _ (c.run_on_files-answer.ensures.others old) (c.tell_recovered.ensures.files behind)
+    record {
+      others = others_kept _ _ _ _ (c.run_on_files-answer.ensures.others old) (c.tell_recovered.ensures.files behind);
+      texts = λ is. not_left_kept _ _ _ _ (c.run_on_files-answer.ensures.texts old is) (c.tell_recovered.ensures.files behind);
+    }
 
 pub returns-clause-streams : goal.returns-clause-streams
 returns-clause-streams g c old =
