@@ -509,6 +509,50 @@ Dumps and a patch, and two files that are dumped as one:
   bx: line 2: goes back in a stream
   hint: a stream is written from front to end; onto a file lines may go back: bx xxd -r DUMP OUT
   [1]
+  $ bx od -a words
+  bx: bad arguments
+  hint: unexpected argument '-a' found: give -c for characters; Usage: bx od [OPTIONS] [FILE]...
+  [2]
+  $ bx od -f words
+  bx: bad arguments
+  hint: unexpected argument '-f' found: numbers are shown as integers alone; Usage: bx od [OPTIONS] [FILE]...
+  [2]
+  $ bx od -S 3 words
+  bx: bad arguments
+  hint: unexpected argument '-S' found: bx strings shows texts; Usage: bx od [OPTIONS] [FILE]...
+  [2]
+  $ bx xxd -E words
+  bx: bad arguments
+  hint: unexpected argument '-E' found: characters are shown as ASCII alone; Usage: bx xxd [OPTIONS] [FILE] [OUT]
+  [2]
+  $ bx xxd -C -i words
+  bx: bad arguments
+  hint: unexpected argument '-C' found: give -n NAME for the name of the array; Usage: bx xxd [OPTIONS] [FILE] [OUT]
+  [2]
+  $ bx xxd -R always words
+  bx: bad arguments
+  hint: unexpected argument '-R' found: a dump has no colors; Usage: bx xxd [OPTIONS] [FILE] [OUT]
+  [2]
+  $ bx xxd --name=n -i words
+  bx: bad arguments
+  hint: unexpected argument '--name' found: give -n NAME; Usage: bx xxd [OPTIONS] [FILE] [OUT]
+  [2]
+  $ bx hexdump -e '1/1 "%02x"' words
+  bx: bad arguments
+  hint: unexpected argument '-e' found: -C is the only form; Usage: bx hexdump [OPTIONS] [FILE]...
+  [2]
+  $ bx hexdump -x words
+  bx: bad arguments
+  hint: unexpected argument '-x' found: -C is the only form; bx od has others; Usage: bx hexdump [OPTIONS] [FILE]...
+  [2]
+  $ bx strings -o words
+  bx: bad arguments
+  hint: unexpected argument '-o' found: give -t o; Usage: bx strings [OPTIONS] [FILE]...
+  [2]
+  $ bx strings --print-file-name words
+  bx: bad arguments
+  hint: unexpected argument '--print-file-name' found: give -f; Usage: bx strings [OPTIONS] [FILE]...
+  [2]
   $ bx od -r words
   bx: bad arguments
   hint: unexpected argument '-r' found; Usage: bx od [OPTIONS] [FILE]...

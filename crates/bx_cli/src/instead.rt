@@ -19,7 +19,7 @@ pub(crate) fn instead(name: &str, said: &str) -> &'static str {
     } else if word.starts_with("--") {
         short(name, word)
     } else if word.starts_with('-') {
-        ""
+        letter(name, word)
     } else {
         alone(name)
     }
@@ -38,9 +38,50 @@ fn alone(name: &str) -> &'static str {
         "undo" | "redo" | "log" | "show" | "forget" =>
             "one word is the image, and there is no other",
         "xxd" => "one word is the file that is read, and with -r another the file that is written",
-        "od" | "hexdump" | "strings" => {
-            "one word is the file that is read; the dump goes to standard output"
-        }
+        _ => "",
+    }
+}
+
+/// What stands for a letter of other tools, or why there is nothing.
+fn letter(name: &str, word: &str) -> &'static str {
+    match name {
+        "od" => letter_of_od(word),
+        "xxd" => letter_of_xxd(word),
+        "hexdump" => letter_of_hexdump(word),
+        "strings" => letter_of_strings(word),
+        _ => "",
+    }
+}
+
+fn letter_of_od(word: &str) -> &'static str {
+    match word {
+        "-a" => "give -c for characters",
+        "-e" | "-f" => "numbers are shown as integers alone",
+        "-S" => "bx strings shows texts",
+        _ => "",
+    }
+}
+
+fn letter_of_xxd(word: &str) -> &'static str {
+    match word {
+        "-C" => "give -n NAME for the name of the array",
+        "-E" => "characters are shown as ASCII alone",
+        "-R" => "a dump has no colors",
+        _ => "",
+    }
+}
+
+fn letter_of_hexdump(word: &str) -> &'static str {
+    match word {
+        "-b" | "-c" | "-d" | "-o" | "-x" => "-C is the only form; bx od has others",
+        "-e" | "-f" | "-L" => "-C is the only form",
+        _ => "",
+    }
+}
+
+fn letter_of_strings(word: &str) -> &'static str {
+    match word {
+        "-o" => "give -t o",
         _ => "",
     }
 }
@@ -81,6 +122,8 @@ fn short_of_xxd(long: &str) -> &'static str {
         "--bits" => "give -b",
         "--include" => "give -i",
         "--upper" | "--uppercase" => "give -u",
+        "--decimal" => "give -d",
+        "--name" => "give -n NAME",
         _ => "",
     }
 }
@@ -101,6 +144,7 @@ fn short_of_strings(long: &str) -> &'static str {
         "--bytes" => "give -n COUNT",
         "--radix" => "give -t RADIX",
         "--encoding" => "give -e ENCODING",
+        "--print-file-name" => "give -f",
         _ => "",
     }
 }
