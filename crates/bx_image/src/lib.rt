@@ -27,7 +27,7 @@ pub use device::pages::PagedImage;
 pub use device::system::{FailedCall, Operation, SystemFile};
 pub use device::{Device, DeviceFailed, ImageFault, TooLarge};
 pub use record::Saved;
-pub use record::fill::{room, room_to_restore, zeros_over};
+pub use record::fill::{room, zeros_over};
 pub use record::save::save;
 pub use record::spans::{Span, touched_by, touched_to_restore};
 pub use record::zeros::touched_but_zeros;

@@ -223,16 +223,7 @@ impl<'a> Stopped<'a> {
         }
     }
 
-    /// By a text that has more permission bits than these, which are those of the image.
-    pub fn too_wide(file: &'a str, bits: u32) -> Stopped<'a> {
-        Stopped {
-            fault: Fault::OpenFailed,
-            file: Some(file),
-            reason: Reason::Wide { bits },
-        }
-    }
-
-    /// The same, or, where the system doesn't let a file be written, that recovery has to.
+    /// The same stop, or, where the system doesn't let a file be written, that recovery has to.
     pub fn unrecovered(self) -> Stopped<'a>
         ensures { result.fault ≡ self.entry.fault }
     {

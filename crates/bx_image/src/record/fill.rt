@@ -1,7 +1,7 @@
 //! A record is made with zeros for its bytes, and filled later, when no memory may be taken.
 ghost use Rattle.std.specs.Prelude.{◌≡◌, ◌+◌, ◌<◌, ◌≤◌, ℕ, length, All, IfOk, OnOk, is_err};
 ghost use Rattle.bx_image.specs.declared.change.Change.{Change as ChangeOf};
-ghost use Rattle.bx_image.specs.Change.{saved, AllWithin, AreBytes, HaveBytes, IsOf, Restores};
+ghost use Rattle.bx_image.specs.Change.{saved, AllWithin, AreBytes, HaveBytes, IsOf};
 ghost use Rattle.bx_image.specs.Device.{GoesOn};
 ghost use Rattle.bx_image.specs.Image.{zeros};
 ghost use Rattle.bx_image.specs.Power.{NoMore};
@@ -29,26 +29,6 @@ pub fn room<A: Allocator + Clone>(
     ensures below { IfOk result (λ s. LieBelow len s.runs) }
 {
     match zero_record(alloc, change.base, change.writes.as_slice(), len) {
-        Ok(record) => Ok(record),
-        Err(_) => Err(NoMemory),
-    }
-}
-
-/// What `save` would read of an image of this length before a record is restored, with zeros for its bytes.
-///
-/// # Errors
-/// `NoMemory` where a growth is refused.
-pub fn room_to_restore<A: Allocator + Clone>(
-    alloc: A,
-    kept: &Saved<A>,
-    len: u64,
-) -> Result<Saved<A>, NoMemory>
-    ensures zeros { IfOk result (λ s. (change : ChangeOf A) → Restores change kept.now → s ≡ saved change (zeros len)) }
-    ensures len { IfOk result (λ s. s.len ≡ len) }
-    ensures within { IfOk result (λ s. AllWithin s.len s.runs) }
-    ensures below { IfOk result (λ s. LieBelow len s.runs) }
-{
-    match zero_record(alloc, Some(kept.len), kept.runs.as_slice(), len) {
         Ok(record) => Ok(record),
         Err(_) => Err(NoMemory),
     }
