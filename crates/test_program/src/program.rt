@@ -355,7 +355,8 @@ private private.img.bxj.redo
 undo -k 2 private.img -> done
 rm private.img private.img.bxj private.img.bxj.redo private.dump",
     ),
-    // Each command that may change an image makes the redo text where it is missing; `log` makes none, and where the journal is missing nothing is made.
+    // Each command that may change an image makes the redo text where it is missing; `log` makes none, an undo of no change keeps none, and where
+    // the journal is missing nothing is made.
     (
         "redo_text_is_made",
         "\
@@ -375,8 +376,7 @@ log -v -J made.j made.img -> done
 made.j has 0
 no made.j.redo
 undo -k 0 -J made.j made.img -> done
-made.j.redo has 0
-rm made.j.redo
+no made.j.redo
 redo -k 0 -J made.j made.img -> done
 made.j.redo has 0
 rm made.j.redo
