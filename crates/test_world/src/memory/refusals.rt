@@ -73,7 +73,7 @@ impl Refusals {
         self.count.raise();
     }
 
-    /// Takes note of this many more, of a device.
+    /// Adds the failed calls of a device to the count.
     fn note_failures(&mut self, count: u64)
         ensures { self.new.count.number ≡ self.old.count.number + count }
     {
