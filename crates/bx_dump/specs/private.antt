@@ -2,7 +2,6 @@
 pub mod Chars
 pub mod Dumped
 pub mod FoldBy
-pub mod Folded
 pub mod Hexdump
 pub mod OdDump
 pub mod Pages

@@ -1,4 +1,3 @@
 //! What each dump is written by: an input read block by block, its text a page at a time, lines that repeat folded.
-pub(crate) mod folded;
 pub(crate) mod pages;
 pub(crate) mod wide;

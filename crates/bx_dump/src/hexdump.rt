@@ -7,8 +7,8 @@ ghost use Rattle.bx_dump.specs.private.Hexdump.{canon_end};
 
 mod options;
 
-use crate::driver::folded::{FoldedPages, Form};
 use crate::driver::pages::dump_part;
+use crate::driver::wide::{WideForm, WidePages};
 use bx_dump_columns::hex_lanes::put_canon_sixteen;
 use bx_text::{
     IoFault, ShortText, blank, emit_after, hex_digit, hex_field, push_text, put_address, put_text,
@@ -71,8 +71,20 @@ fn short_canon(at: u64, bytes: &[u8]) -> ShortText<96>
 #[derive(Drop)]
 struct CanonLines;
 
-impl Form for CanonLines {
+impl WideForm for CanonLines {
     ghost line = { λ _. canon_line };
+
+    ghost cols = { λ _. 16 };
+
+    ghost room = { λ _. 128 };
+
+    fn line_len(&self) -> usize {
+        16
+    }
+
+    fn room_len(&self) -> usize {
+        128
+    }
 
     #[inline]
     fn put(&self, page: &mut [u8], at: u64, bytes: &[u8]) -> usize {
@@ -114,7 +126,7 @@ pub fn hexdump_c<R: Read, W: Write>(
     ensures ok { IfOk result (WritesAll (hexdump_of o.now) (R.remaining r.old) (R.remaining r.new) (W.contents w.old) (W.contents w.new)) }
     ensures err { IfErr result (WritesFrontOf (hexdump_of o.now) (R.remaining r.old) (R.remaining r.new) (W.contents w.old) (W.contents w.new)) }
 {
-    let mut pages = FoldedPages::new(CanonLines, o.all, o.first + o.skip);
+    let mut pages = WidePages::new(CanonLines, o.all, o.first + o.skip);
     let lines = match dump_part(r, w, &mut pages, o.skip, o.limit, 0) {
         Ok(lines) => lines,
         Err(fault) => return Err(fault),

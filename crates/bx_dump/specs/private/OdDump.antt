@@ -3,7 +3,6 @@ use Rattle.std.specs.Prelude.{◌≡◌, ℕ, ◌+◌, ◌^◌, ◌≤◌, ◌�
 use Rattle.bx_text.specs.declared.fault.IoFault.{IoFault}
 use Rattle.bx_text.specs.declared.fault.IoFault.TheVariants.{SkipPastEnd}
 use Rattle.bx_text.specs.private.Stream.{StopsAfter}
-use Rattle.bx_text.specs.Fold.{folded}
 use Rattle.bx_dump.specs.FoldBy.{folded_by}
 use Rattle.bx_dump.specs.Od.{columns_below, od_line, od_rows}
 use Rattle.bx_dump.specs.OdDump.{EndsBefore, shown_line}
@@ -23,10 +22,6 @@ lines_with_rows o bytes =
 -- lines of one type of values
 abbrev pub od_lines : OdOptions → List ℕ → List ℕ
 od_lines o bytes = folded_by o.width (od_line o.address o.kind o.endian) o.all (o.first + o.skip) bytes
-
--- the same of lines of 16 bytes
-abbrev pub plain_lines : OdOptions → List ℕ → List ℕ
-plain_lines o bytes = folded (od_line o.address o.kind o.endian) o.all (o.first + o.skip) bytes
 
 -- Of what comes behind the bytes that were taken, at most `limit` of it, the lines were written, or a front of them; how many bytes were
 -- read and written is a number that more can be added to.

@@ -3,14 +3,13 @@ ghost use Rattle.std.specs.Prelude.{◌≡◌, ◌⊎◌, ℕ, ◌+◌, ◌^◌,
 ghost use Rattle.bx_text.specs.Stream.{Skips};
 ghost use Rattle.bx_dump.specs.OdDump.{Reaches, StopsOd, od_of};
 ghost use Rattle.bx_dump.specs.private.Pages.{streams_of};
-ghost use Rattle.bx_dump.specs.private.OdDump.{DumpsLines, StopsShort, lines_with_rows, od_lines, plain_lines, shown_lines};
+ghost use Rattle.bx_dump.specs.private.OdDump.{DumpsLines, StopsShort, lines_with_rows, od_lines, shown_lines};
 ghost use Rattle.bx_dump.specs.Pages.{WritesAll};
 
-use crate::driver::folded::FoldedPages;
 use crate::driver::pages::{LIMIT, Part, dump_pages, skip_front};
 use crate::driver::wide::WidePages;
 use crate::od::below::Column;
-use crate::od::lines::{OdLines, OdWide, end_line};
+use crate::od::lines::{OdLines, end_line};
 use crate::od::options::OdOptions;
 use crate::od::rows::OdRows;
 use bx_text::{IoFault, Meter, State, emit_after};
@@ -89,60 +88,7 @@ fn dump_lines<R: Read, W: Write>(
     requires limit { meter.old.limit ≡ 2 ^ 40 }
     ensures lines { DumpsLines (od_lines o.now) meter.old.taken o.now.limit (streams_of R.remaining r.old r.new W.contents w.old w.new) result }
 {
-    if o.width == 16 {
-        dump_sixteen(meter, r, w, o)
-    } else {
-        dump_wide(meter, r, w, o)
-    }
-}
-
-/// The same of lines of 16 bytes.
-fn dump_sixteen<R: Read, W: Write>(
-    meter: &mut Meter,
-    r: &mut R,
-    w: &mut W,
-    o: &OdOptions,
-) -> Result<Part, IoFault>
-    requires open { meter.old.state ≡ State.Open }
-    requires limit { meter.old.limit ≡ 2 ^ 40 }
-    requires width { o.now.width ≡ 16 }
-    ensures lines { DumpsLines (od_lines o.now) meter.old.taken o.now.limit (streams_of R.remaining r.old r.new W.contents w.old w.new) result }
-{
-    dump_plain(meter, r, w, o)
-}
-
-/// Writes the lines of 16 bytes by code of their own.
-fn dump_plain<R: Read, W: Write>(
-    meter: &mut Meter,
-    r: &mut R,
-    w: &mut W,
-    o: &OdOptions,
-) -> Result<Part, IoFault>
-    requires open { meter.old.state ≡ State.Open }
-    requires limit { meter.old.limit ≡ 2 ^ 40 }
-    ensures lines { DumpsLines (plain_lines o.now) meter.old.taken o.now.limit (streams_of R.remaining r.old r.new W.contents w.old w.new) result }
-{
     let lines = OdLines {
-        address: o.address,
-        kind: o.kind,
-        endian: o.endian,
-    };
-    let mut pages = FoldedPages::new(lines, o.all, o.first + o.skip);
-    dump_pages(meter, r, w, &mut pages, o.limit, 0)
-}
-
-/// The same of any lines.
-fn dump_wide<R: Read, W: Write>(
-    meter: &mut Meter,
-    r: &mut R,
-    w: &mut W,
-    o: &OdOptions,
-) -> Result<Part, IoFault>
-    requires open { meter.old.state ≡ State.Open }
-    requires limit { meter.old.limit ≡ 2 ^ 40 }
-    ensures lines { DumpsLines (od_lines o.now) meter.old.taken o.now.limit (streams_of R.remaining r.old r.new W.contents w.old w.new) result }
-{
-    let lines = OdWide {
         address: o.address,
         kind: o.kind,
         endian: o.endian,

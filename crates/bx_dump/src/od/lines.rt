@@ -4,11 +4,10 @@ ghost use Rattle.bx_dump_columns.specs.Lines.{in_lines};
 ghost use Rattle.bx_dump_columns.specs.Values.{field_width, value_text_in, width_of};
 ghost use Rattle.bx_dump.specs.Od.{address_text, od_line, od_end};
 
-use crate::driver::folded::Form;
 use crate::driver::wide::WideForm;
 use bx_dump_columns::od::octal::{put_eight, put_nine, put_seven};
 use bx_dump_columns::od::options::{Address, Endian, Kind};
-use bx_dump_columns::od::values::{put_any, put_values};
+use bx_dump_columns::od::values::{put_full, put_values};
 use bx_text::{ShortText, dec_field, hex_field, oct_field};
 
 /// An address in digits.
@@ -105,42 +104,26 @@ pub fn end_line(address: Address, at: u64) -> ShortText<24>
     line
 }
 
-/// Puts the values of a line of at most 16 bytes, and answers how long their text is.
+/// Puts the values of a line, those of 16 bytes at once, and answers how long their text is.
 #[inline(always)]
-fn put_few(text: &mut [u8], kind: Kind, endian: Endian, bytes: &[u8]) -> usize
-    requires room { 80 ≤ length text.old }
-    requires few { length bytes.now ≤ 16 }
-    ensures most { result ≤ 80 }
+fn put_line_values(text: &mut [u8], kind: Kind, endian: Endian, bytes: &[u8]) -> usize
+    requires room { (field_width kind + 1) * ((length bytes.now + width_of kind - 1) / width_of kind) ≤ length text.old }
+    requires few { length bytes.now ≤ 4096 }
+    ensures most { result ≤ (field_width kind + 1) * ((length bytes.now + width_of kind - 1) / width_of kind) }
     ensures text { take result text.new ≡ in_lines (value_text_in endian kind) (width_of kind) 0 bytes.now }
 {
-    match endian {
-        Endian::Little => put_any(text, kind, bytes),
-        Endian::Big => put_values(text, kind, Endian::Big, bytes),
+    if let Endian::Little = endian
+        && let Some(full) = bytes.first_chunk::<16>()
+        && (bytes.len() == 16 && text.len() >= 80)
+    {
+        return put_full(text, kind, full);
     }
+    put_values(text, kind, endian, bytes)
 }
 
-/// od's lines of 16 bytes.
+/// od's lines.
 #[derive(Drop)]
 pub struct OdLines {
-    pub address: Address,
-    pub kind: Kind,
-    pub endian: Endian,
-}
-
-impl Form for OdLines {
-    ghost line = { λ l. od_line l.address l.kind l.endian };
-
-    fn put(&self, page: &mut [u8], at: u64, bytes: &[u8]) -> usize {
-        let start = put_start(page, self.address, at);
-        let used = put_few(&mut page[start..], self.kind, self.endian, bytes);
-        page[start + used] = b'\n';
-        start + used + 1
-    }
-}
-
-/// od's lines of any length.
-#[derive(Drop)]
-pub struct OdWide {
     pub address: Address,
     pub kind: Kind,
     pub endian: Endian,
@@ -149,7 +132,7 @@ pub struct OdWide {
     ghost narrow: { width ≤ 256 },
 }
 
-impl WideForm for OdWide {
+impl WideForm for OdLines {
     ghost line = { λ l. od_line l.address l.kind l.endian };
 
     ghost cols = { λ l. l.width };
@@ -167,7 +150,7 @@ impl WideForm for OdWide {
 
     fn put(&self, page: &mut [u8], at: u64, bytes: &[u8]) -> usize {
         let start = put_start(page, self.address, at);
-        let used = put_values(&mut page[start..], self.kind, self.endian, bytes);
+        let used = put_line_values(&mut page[start..], self.kind, self.endian, bytes);
         page[start + used] = b'\n';
         start + used + 1
     }

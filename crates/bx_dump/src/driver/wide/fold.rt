@@ -1,5 +1,5 @@
 //! Lines of any length that repeat the line before.
-ghost use Rattle.std.specs.Prelude.{◌≡◌, ℕ, suc, ◌<◌, ◌≤◌, List, length};
+ghost use Rattle.std.specs.Prelude.{◌≡◌, ℕ, suc, ◌<◌, ◌≤◌, false, List, length, min, take, bytes_eq};
 
 use bx_text::Show;
 
@@ -32,23 +32,49 @@ impl WideFold {
         }
     }
 
+    /// Whether a line has the bytes of the last one. 16 bytes are compared at once.
+    #[inline(always)]
+    fn repeats(&self, line: &[u8]) -> bool
+        ensures { result ≡ bytes_eq line.now (take (min self.now.len 256) self.now.last) }
+    {
+        if self.len == 16 && line.len() == 16 {
+            return line[..16] == self.last[..16];
+        }
+        line == &self.last[..self.len.min(WIDEST)]
+    }
+
+    /// Keeps a line, 16 bytes at once.
+    #[inline(always)]
+    fn keep(&mut self, line: &[u8])
+        requires { length line.now ≤ 256 }
+        ensures last { take self.new.len self.new.last ≡ line.now }
+        ensures hidden { self.new.hidden ≡ false }
+    {
+        self.len = line.len();
+        self.hidden = false;
+        if line.len() == 16 {
+            self.last[..16].copy_from_slice(&line[..16]);
+        } else {
+            self.last[..line.len()].copy_from_slice(line);
+        }
+    }
+
     /// Says what stands for the next line.
+    #[inline]
     pub fn step(&mut self, line: &[u8]) -> Show
         requires some { 0 < length line.now }
         requires fits { length line.now ≤ 256 }
         ensures show { (n : ℕ) (bytes : List ℕ) (k : ℕ) → line.now ≡ line_bytes_by n bytes k → HasTakenBy n self.old bytes k → result ≡ show_by n bytes k }
         ensures taken { (n : ℕ) (bytes : List ℕ) (k : ℕ) → line.now ≡ line_bytes_by n bytes k → HasTakenBy n self.old bytes k → HasTakenBy n self.new bytes (suc k) }
     {
-        if line == &self.last[..self.len.min(WIDEST)] {
+        if self.repeats(line) {
             if self.hidden {
                 return Show::Nothing;
             }
             self.hidden = true;
             return Show::Star;
         }
-        self.last[..line.len()].copy_from_slice(line);
-        self.len = line.len();
-        self.hidden = false;
+        self.keep(line);
         Show::Line
     }
 }

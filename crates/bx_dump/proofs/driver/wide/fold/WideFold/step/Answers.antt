@@ -1,4 +1,4 @@
-use Rattle.std.proofs.Common.{◌≡◌, ◌∙◌, sym, length, take, arith}
+use Rattle.std.proofs.Common.{◌≡◌, ◌∙◌, sym, refl, min, length, take, arith}
 use Rattle.std.proofs.lemmas.Slice.Eq.{bytes_eq-Decides}
 use Rattle.bx_dump.proofs.FoldByLemmas.{taken_again}
 use Rattle.bx_dump.proofs.driver.wide.fold.WideFold.step.Goals as goal
@@ -7,13 +7,13 @@ pub returns-then-self-clause-taken : goal.returns-then-self-clause-taken
 returns-then-self-clause-taken c n bytes k is taken =
     let last = c.args.self.now.last in
     let long : length last ≡ 256 = omega arith in
-    let same = (bytes_eq-Decides c.args.line.now (take c.min.result last)).0 (sym c.eq.ensures ∙ c.if-eq.true) in
-    let again = taken_again n c.args.self.now c.min.result c.args.line.now bytes k long c.min.ensures same c.requires.some is taken in
+    let same = (bytes_eq-Decides c.args.line.now (take (min c.args.self.now.len 256) last)).0 (sym c.repeats.ensures ∙ c.if-repeats.true) in
+    let again = taken_again n c.args.self.now (min c.args.self.now.len 256) c.args.line.now bytes k long refl same c.requires.some is taken in
     (again.0, c.if-self.true ∙ again.1)
 
-pub returns-then-eq-clause-taken : goal.returns-then-eq-clause-taken
-returns-then-eq-clause-taken c n bytes k is taken =
+pub returns-then-repeats-clause-taken : goal.returns-then-repeats-clause-taken
+returns-then-repeats-clause-taken c n bytes k is taken =
     let last = c.args.self.now.last in
     let long : length last ≡ 256 = omega arith in
-    let same = (bytes_eq-Decides c.args.line.now (take c.min.result last)).0 (sym c.eq.ensures ∙ c.if-eq.true) in
-    taken_again n c.args.self.now c.min.result c.args.line.now bytes k long c.min.ensures same c.requires.some is taken
+    let same = (bytes_eq-Decides c.args.line.now (take (min c.args.self.now.len 256) last)).0 (sym c.repeats.ensures ∙ c.if-repeats.true) in
+    taken_again n c.args.self.now (min c.args.self.now.len 256) c.args.line.now bytes k long refl same c.requires.some is taken

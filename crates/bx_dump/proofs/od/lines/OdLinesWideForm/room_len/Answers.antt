@@ -1,7 +1,7 @@
 use Rattle.std.proofs.Common.{◌≡◌, ◌+◌, ◌-◌, ◌*◌, ◌/◌, ◌≤◌, arith, ap, refl}
 use Rattle.bx_dump_columns.specs.Values.{field_width, width_of}
 use Rattle.bx_dump_columns.proofs.OdLemmas.{values_few}
-use Rattle.bx_dump.proofs.od.lines.OdWideWideForm.room_len.Goals as goal
+use Rattle.bx_dump.proofs.od.lines.OdLinesWideForm.room_len.Goals as goal
 
 pub returns-clause-most : goal.returns-clause-most
 returns-clause-most c =

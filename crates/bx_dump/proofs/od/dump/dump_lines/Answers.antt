@@ -1,7 +1,7 @@
 use Rattle.std.proofs.Common.{◌*◌, arith}
 use Rattle.bx_dump.specs.Od.{od_line}
 use Rattle.bx_dump.proofs.FoldByLemmas.{none_by}
-use Rattle.bx_dump.proofs.od.dump.dump_wide.Goals as goal
+use Rattle.bx_dump.proofs.od.dump.dump_lines.Goals as goal
 
 pub dump_pages-requires-clause-seen : goal.dump_pages-requires-clause-seen
 dump_pages-requires-clause-seen g c = (0, omega arith, c.new-pages.ensures.fresh)
