@@ -338,6 +338,34 @@ Of 1 TiB no more is read than what the change touches, by `-n` and by `show -p`.
   $ timeout 20 bx undo img; timeout 20 bx show -rp img | cmp - want
   0
 
+# The patch of a dump in whatever order
+
+Of lines that overlap the later one wins, by `-n` as on the image. In random order 100,000 bytes take little longer than in the order of their addresses.
+
+  $ truncate -s 3M img; python3 - << .
+  > import random
+  > draw, want = random.Random(7), bytearray(3 << 20)
+  > with open("dump", "w") as dump:
+  >     for _ in range(30000):
+  >         at, count = draw.randrange((3 << 20) - 200), draw.choice([1, 1, 2, 16, 200])
+  >         want[at : at + count] = part = draw.randbytes(count)
+  >         print(f"{at:08x}: {part.hex()}", file=dump)
+  >     for at in [70, 32760, 70, 32768, 32760]:
+  >         want[at : at + 20] = part = draw.randbytes(20)
+  >         print(f"{at:08x}: {part.hex()}", file=dump)
+  > open("want", "wb").write(want)
+  > .
+  $ timeout 60 bx revert -n -f dump img > patch; bx diff img want | cmp - patch
+  $ bx patch -f patch img && cmp img want
+  $ rm img*; truncate -s 64M img; python3 - << .
+  > import random
+  > draw = random.Random(8)
+  > with open("dump", "w") as dump:
+  >     for _ in range(100000):
+  >         print(f"{draw.randrange(64 << 20):08x}: 78", file=dump)
+  > .
+  $ sort -u dump > sorted; timeout 60 bx revert -n -f sorted img > patch; timeout 60 bx revert -n -f dump img | cmp - patch
+
 # Random pairs of files, beside `cmp -l`
 
   $ python3 "$FOLDER/../../tools/cases.py" --compare --bx "$(command -v bx)" patches

@@ -61,7 +61,7 @@ pub ordered_front : {A : Type 0} (n : ℕ) (ps : List (Piece A)) → AreByPlace 
 ordered_front n ps is = (IsNonDecreasingBy-take (λ p. p.at) n ps is.0, IsNonDecreasingBy-take (λ p. p.at + length p.bytes) n ps is.1)
 
 -- an address outside of a piece
-outside : (at : ℕ) (bytes : List ℕ) (j : ℕ) → (j < at) ⊎ (at + length bytes ≤ j) → is_within at bytes j ≡ false
+pub outside : (at : ℕ) (bytes : List ℕ) (j : ℕ) → (j < at) ⊎ (at + length bytes ≤ j) → is_within at bytes j ≡ false
 outside at bytes j out = elim (cases_Bool (is_within at bytes j)) [
   | inl within ↦ absurd (grind (arith, nat_tests))
   | inr without ↦ without

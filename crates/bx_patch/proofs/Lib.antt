@@ -24,3 +24,5 @@ pub mod ChangesOrder
 pub mod ChangedWindow
 pub mod UntouchedLemmas
 pub mod ChangesLemmas
+pub mod RefusedLemmas
+pub mod IndexLemmas

@@ -1,2 +1,3 @@
 -- An image behind changes that aren't made.
 pub mod Changed
+pub mod Index

@@ -1,8 +1,10 @@
 //! Laws of patches, over definitions alone.
 ghost use Rattle.bx_patch.specs.Fault.{FaultIsOfPatch, PatchFaultIsUnique};
 ghost use Rattle.bx_patch.specs.Other.{OtherDisagrees};
+ghost use Rattle.bx_patch.specs.preview.Changed.{OnlyReadRefusesNone};
 ghost use Rattle.bx_patch.specs.Laws.{EqualIsEmpty, FailedIsRefused, FrontIsRefused, FrontOfAnyIsRefused, NothingIsChanged, PatchIsLeast, PatchIsStrict, PatchIsUnique, PatchMakesNew, PatchReversed, PatchTellsLength, PatchTurnsRound, TurnedMakesOld};
 
+use bx_image::Device;
 use std::alloc::Allocator;
 
 /// No text asks two different things.
@@ -84,4 +86,9 @@ pub fn equal_is_empty()
 /// An image in which anything is found otherwise than a patch expects doesn't agree with it.
 pub fn other_disagrees()
     ensures { OtherDisagrees }
+{}
+
+/// An image behind changes that was only read has refused no call that would write, so the device within has failed as often.
+pub fn only_read_refuses_none<D: Device, A: Allocator>()
+    ensures { OnlyReadRefusesNone D.Device A }
 {}

@@ -15,7 +15,7 @@ pub use diff::fault::DiffFault;
 pub use diff::row::Extent;
 pub use diff::write_patch;
 pub use other::{Other, find_other};
-pub use preview::{ChangedImage, Untouched};
+pub use preview::{ChangedImage, PieceIndex, Untouched};
 pub use read::fault::PatchFault;
 pub use read::lengths::PatchLengths;
 pub use read::patch::Patch;

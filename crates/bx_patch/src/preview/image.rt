@@ -1,11 +1,14 @@
 //! An image behind changes that aren't made.
-ghost use Rattle.std.specs.Prelude.{◌≡◌, ◌⊎◌, ◌↔◌, ◌+◌, ◌<◌, ◌≤◌, ℕ, List, length, take, drop, min, IfErr, IfOk, IsOk, OnErr, OnOk, MatchResult, false, is_err, refl};
+ghost use Rattle.std.specs.Prelude.{◌≡◌, ◌⊎◌, ◌↔◌, ◌+◌, ◌<◌, ◌≤◌, ℕ, List, length, take, drop, min, IfErr, IfOk, IsOk, OnErr, OnOk, MatchResult, false, true, is_err, refl};
+ghost use Rattle.std.proofs.Common.{inl};
 ghost use Rattle.bx_image.specs.declared.change.TheConstants.{MAX_LEN};
 ghost use Rattle.bx_patch.specs.Diff.{OnlyReads};
 ghost use Rattle.bx_patch.specs.preview.Changed.{FitInTurn, AreBeforeAndBehind, effects, is_of_device};
+ghost use Rattle.bx_patch.specs.preview.Index.{IsIndexFor};
 
 mod window;
 
+use crate::preview::index::PieceIndex;
 use crate::preview::untouched::Untouched;
 use bx_image::{Change, Device, DeviceFailed, ImageFault, NoMemory, TooLarge, check};
 use std::alloc::{Allocator, Global};
@@ -13,7 +16,8 @@ use std::marker::Model;
 use window::{put_changes, read_window};
 
 /// An image behind changes that aren't made: a device that is only read, and has the bytes that the changes would make, one after
-/// another. It is faithful where the device within is, and `faults` counts its own failed calls from 0. Calls that would write fail.
+/// another. It is faithful where the device within is. `faults` counts from 0: the failed calls of the device within, which `into_device`
+/// gives back, and calls that would write, which are refused and fail.
 #[derive(Drop)]
 pub struct ChangedImage<'a, D: Device, A: Allocator = Global> {
     device: D,
@@ -22,17 +26,19 @@ pub struct ChangedImage<'a, D: Device, A: Allocator = Global> {
     // the length behind the changes
     len: u64,
     failures: u64,
+    // whether a call that would write was refused
+    refused: bool,
 }
 
 impl<'a, D: Device, A: Allocator> Model for ChangedImage<'a, D, A> {
-    ghost use Rattle.std.specs.Prelude.{◌≤◌};
+    ghost use Rattle.std.specs.Prelude.{◌≡◌, ◌≤◌, false};
     ghost use Rattle.bx_patch.specs.preview.Changed.{AreLengthsOf, Changed};
 
     ghost Value = { Changed D A };
 
-    ghost view = { λ c. record { device = c.device; changes = c.known.changes.now; before = c.known.before; len = c.len; failures = c.failures } };
+    ghost view = { λ c. record { device = c.device; changes = c.known.changes.now; before = c.known.before; len = c.len; failures = c.failures; refused = c.refused } };
 
-    ghost invariant = { λ c. (D.failures c.device ≤ c.failures) × (D.faithful c.device
+    ghost invariant = { λ c. (D.failures c.device ≤ c.failures) × (c.refused ≡ false → D.failures c.device ≡ c.failures) × (D.faithful c.device
         → AreLengthsOf c.known.changes.now (D.image c.device) c.known.before c.len) };
 }
 
@@ -51,6 +57,8 @@ impl<'a, D: Device, A: Allocator> ChangedImage<'a, D, A> {
             → IfOk result (λ c. AreBeforeAndBehind c.changes c.before (D.image device) (⟦<ChangedImage<'a, D, A> as Device>⟧.image c)) }
         ensures faithful { D.faithful device → IfOk result ⟦<ChangedImage<'a, D, A> as Device>⟧.faithful }
         ensures failures { IfOk result (λ c. ⟦<ChangedImage<'a, D, A> as Device>⟧.failures c ≡ 0) }
+        ensures changes { IfOk result (λ c. c.changes ≡ changes.now) }
+        ensures refused { IfOk result (λ c. c.refused ≡ false) }
         ensures fault { D.faithful device → IfErr result (λ e. (e.1 ≡ ImageFault.DeviceFailed)
             ⊎ ((e.1 ≡ ImageFault.TooLarge) × (FitInTurn changes.now (D.image device) MAX_LEN → ⊥))) }
 
@@ -68,8 +76,23 @@ impl<'a, D: Device, A: Allocator> ChangedImage<'a, D, A> {
                 known: Untouched::by(changes, before),
                 len,
                 failures: 0,
+                refused: false,
             }),
             Err(_) => Err((device, ImageFault::TooLarge)),
+        }
+    }
+
+    /// The same image, which finds the pieces of the changes by an index.
+    pub fn searched<B: Allocator>(self, index: &'a PieceIndex<B>) -> Self
+        requires { IsIndexFor index.now self.changes }
+        ensures { result ≡ self.entry }
+    {
+        ChangedImage {
+            device: self.device,
+            known: self.known.searched(index),
+            len: self.len,
+            failures: self.failures,
+            refused: self.refused,
         }
     }
 
@@ -82,12 +105,16 @@ impl<'a, D: Device, A: Allocator> ChangedImage<'a, D, A> {
             changes: self.known.changes,
             before: self.known.before,
             ordered: self.known.ordered,
+            index: self.known.index,
+            indexed: self.known.indexed,
         }
     }
 
-    /// The device within.
+    /// The device within. Its failures are those of this image, unless a call that would write was refused: none was where `OnlyReads` says
+    /// of a caller that it only read.
     pub fn into_device(self) -> D
-        ensures { result ≡ self.entry.device }
+        ensures device { result ≡ self.entry.device }
+        ensures failures { self.entry.refused ≡ false → D.failures result ≡ self.entry.failures }
     {
         self.device
     }
@@ -115,6 +142,16 @@ fn failed(failures: &mut u64) -> DeviceFailed
 {
     *failures += 1;
     DeviceFailed
+}
+
+/// Refuses a call that would write, and counts that as a failure.
+fn refuse(failures: &mut u64, refused: &mut bool) -> DeviceFailed
+    requires { failures.old < u64.MAX }
+    ensures failures { failures.new ≡ failures.old + 1 }
+    ensures refused { refused.new ≡ true }
+{
+    *refused = true;
+    failed(failures)
 }
 
 /// Fills a buffer with the bytes that an image has behind changes, from an address on.
@@ -158,7 +195,7 @@ impl<D: Device, A: Allocator> Device for ChangedImage<'_, D, A> {
 
     ghost within_room = { λ c faithful. faithful.1.within };
 
-    ghost present = { λ c _. refl };
+    ghost present = { λ c _. inl refl };
 
     fn len(&mut self) -> Result<u64, DeviceFailed>
         requires { failures_behind self.old < u64.MAX }
@@ -199,7 +236,7 @@ impl<D: Device, A: Allocator> Device for ChangedImage<'_, D, A> {
         ensures goes_on { GoesOn (faithful_behind D.Device) room_behind failures_behind (is_err result) self.old self.new }
         ensures device { self.new.device ≡ self.old.device }
     {
-        Err(failed(&mut self.failures))
+        Err(refuse(&mut self.failures, &mut self.refused))
     }
 
     fn set_len(&mut self, n: u64) -> Result<(), DeviceFailed>
@@ -214,7 +251,7 @@ impl<D: Device, A: Allocator> Device for ChangedImage<'_, D, A> {
         ensures goes_on { GoesOn (faithful_behind D.Device) room_behind failures_behind (is_err result) self.old self.new }
         ensures device { self.new.device ≡ self.old.device }
     {
-        Err(failed(&mut self.failures))
+        Err(refuse(&mut self.failures, &mut self.refused))
     }
 
     fn sync(&mut self) -> Result<(), DeviceFailed>
@@ -225,7 +262,12 @@ impl<D: Device, A: Allocator> Device for ChangedImage<'_, D, A> {
         ensures goes_on { GoesOn (faithful_behind D.Device) room_behind failures_behind (is_err result) self.old self.new }
         ensures device { self.new.device ≡ self.old.device }
     {
-        Ok(())
+        // What was refused is never on the disk.
+        if self.refused {
+            Err(failed(&mut self.failures))
+        } else {
+            Ok(())
+        }
     }
 
     fn reserve(&mut self, n: u64) -> Result<(), NoMemory>

@@ -1,13 +1,15 @@
 //! What changes leave of an image.
-ghost use Rattle.std.specs.Prelude.{◌≡◌, ◌⊎◌, ◌<◌, ◌≤◌, ℕ, All, IsTrue, false};
+ghost use Rattle.std.specs.Prelude.{◌≡◌, ◌⊎◌, ◌^◌, ◌<◌, ◌≤◌, ℕ, All, IsTrue, false};
 ghost use Rattle.std.proofs.Props.{props};
 ghost use Rattle.bx_image.specs.Change.{touches};
 ghost use Rattle.bx_image.specs.Image.{is_within};
 ghost use Rattle.bx_patch.specs.preview.Changed.{AreBeforeAndBehind};
+ghost use Rattle.bx_patch.specs.preview.Index.{IsIndexFor, IsIndexOf};
 ghost use Rattle.bx_patch.specs.private.preview.Order.{AreByPlace};
 ghost use Rattle.bx_patch.specs.private.preview.Untouched.{AreUntouched, is_overwritten, is_past_base};
 
 use crate::Alike;
+use crate::preview::index::{MOST, PieceIndex, SPAN, count_below, may_search};
 use crate::preview::order::{all_ordered, count_ended};
 use bx_image::Change;
 use bx_text::Piece;
@@ -23,7 +25,11 @@ pub struct Untouched<'a, A: Allocator = Global> {
     pub before: u64,
     // whether a search may look for their pieces
     pub(crate) ordered: bool,
+    // by what another search looks for them, if it may
+    pub(crate) index: &'a [u64],
+    pub(crate) indexed: bool,
     ghost order: { IsTrue ordered → All (λ c. AreByPlace c.writes) changes.now } by { Prim.hlevel props },
+    ghost found: { IsTrue indexed → All (λ c. IsIndexOf index.now c.writes) changes.now } by { Prim.hlevel props },
 }
 
 impl<'a, A: Allocator> Untouched<'a, A> {
@@ -36,6 +42,23 @@ impl<'a, A: Allocator> Untouched<'a, A> {
             changes,
             before,
             ordered: all_ordered(changes),
+            index: &[],
+            indexed: false,
+        }
+    }
+
+    /// The same, with an index.
+    pub(crate) fn searched<B: Allocator>(self, index: &'a PieceIndex<B>) -> Self
+        requires { IsIndexFor index.now self.changes.now }
+        ensures changes { result.changes.now ≡ self.entry.changes.now }
+        ensures before { result.before ≡ self.entry.before }
+    {
+        Untouched {
+            changes: self.changes,
+            before: self.before,
+            ordered: self.ordered,
+            index: index.keys(),
+            indexed: index.is_made(),
         }
     }
 }
@@ -101,18 +124,56 @@ fn until_next<A: Allocator>(pieces: &[Piece<A>], at: u64, end: u64) -> u64
     }
 }
 
+/// The same of pieces in whatever order, by an index of them: the first window behind the address that one of them meets.
+fn until_found<A: Allocator>(pieces: &[Piece<A>], keys: &[u64], at: u64, end: u64) -> u64
+    requires index { IsIndexOf keys.now pieces.now }
+    requires small { at ≤ 2 ^ 48 }
+    ensures most { result ≤ end }
+    ensures untouched { (j : ℕ) → at ≤ j → j < result → is_overwritten pieces.now j ≡ false }
+{
+    match keys.get(count_below(keys, at / SPAN * MOST)) {
+        Some(key) => end.min(at.max(*key / MOST * SPAN)),
+        None => end,
+    }
+}
+
+/// The same, by an index where there is one.
+fn until_any<A: Allocator>(
+    pieces: &[Piece<A>],
+    keys: &[u64],
+    indexed: bool,
+    at: u64,
+    end: u64,
+) -> u64
+    requires index { IsTrue indexed → IsIndexOf keys.now pieces.now }
+    ensures most { result ≤ end }
+    ensures untouched { (j : ℕ) → at ≤ j → j < result → is_overwritten pieces.now j ≡ false }
+{
+    if may_search(indexed, at, 0) {
+        until_found(pieces, keys, at, end)
+    } else {
+        until_pieces(pieces, at, end)
+    }
+}
+
 /// A place, `end` at most, up to which a change cuts off and overwrites nothing from an address on.
-fn until_change<A: Allocator>(change: &Change<A>, ordered: bool, at: u64, end: u64) -> u64
-    requires ordered { IsTrue ordered → AreByPlace change.now.writes }
+fn until_change<A: Allocator>(
+    change: &Change<A>,
+    known: &Untouched<'_, A>,
+    at: u64,
+    end: u64,
+) -> u64
+    requires ordered { IsTrue known.now.ordered → AreByPlace change.now.writes }
+    requires index { IsTrue known.now.indexed → IsIndexOf known.now.index.now change.now.writes }
     ensures most { result ≤ end }
     ensures untouched { (j : ℕ) → at ≤ j → j < result → touches change.now j ≡ false }
 {
     let until = until_base(change.base, end);
     let pieces = change.writes.as_slice();
-    if ordered {
+    if known.ordered {
         until_next(pieces, at, until)
     } else {
-        until_pieces(pieces, at, until)
+        until_any(pieces, known.index, known.indexed, at, until)
     }
 }
 
@@ -123,7 +184,7 @@ fn until_changes<A: Allocator>(known: &Untouched<'_, A>, at: u64) -> u64
 {
     let mut until = known.before;
     for change in known.changes {
-        until = until_change(change, known.ordered, at, until);
+        until = until_change(change, known, at, until);
     }
     until
 }

@@ -9,6 +9,7 @@ loop-change-init g c = record { most = omega arith; untouched = λ j above below
 pub until_change-until-requires : goal.until_change-until-requires
 until_change-until-requires g c = record {
   ordered = λ is. rw c.change-item.is (c.args.known.now.order is c.loop-change.change-index c.change-item.result c.loop-change-test.true);
+  index = λ is. rw c.change-item.is (c.args.known.now.found is c.loop-change.change-index c.change-item.result c.loop-change-test.true);
 }
 
 pub loop-change-preserved : goal.loop-change-preserved

@@ -12,6 +12,7 @@ loop-change-init g c = record { long = refl; put = λ y win. (y, win, refl) }
 pub put_change-requires : goal.put_change-requires
 put_change-requires g c = record {
   ordered = λ is. rw c.change-item.is (c.args.known.now.order is c.loop-change.change-index c.change-item.result c.loop-change-test.true);
+  index = λ is. rw c.change-item.is (c.args.known.now.found is c.loop-change.change-index c.change-item.result c.loop-change-test.true);
 }
 
 pub loop-change-preserved : goal.loop-change-preserved
