@@ -44,6 +44,19 @@ The undo keeps no block of zeros of what it takes off, so its redo file is short
   $ bx undo img; rm img*
   0
 
+Nor does an undo of three with gaps of 32 MiB, of any of them. A byte that a later change wrote into a gap comes back too:
+
+  $ printf A > img
+  $ for line in '02000000: 42' '04000000: 43' '06000000: 44' '01000000: 45' '01000000: 00'; do echo "$line" | bx revert img; done
+  $ cp img before; within 20000 bx undo -k 5 img; cat img; echo; test $(wc -c < img.bxj.redo) -le 131072
+  A
+  $ within 20000 bx redo -k 4 img; bx dd if=img bs=1 skip=$((0x01000000)) count=1 2> /dev/null; echo
+  E
+  $ within 20000 bx redo img; cmp img before; wc -c < img
+  100663297
+  $ bx undo -k 5 img; rm img* before
+  0
+
 # A redo file of a gigabyte, in four of memory
 
   $ fresh ABxyEFGH "$patched" ''; truncate -s 1G img.bxj.redo; (ulimit -v 3906250; bx log img)

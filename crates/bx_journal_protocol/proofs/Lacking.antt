@@ -1,6 +1,6 @@
 -- Memory that is lacking behind a look at a device.
 use Rattle.std.proofs.Common.{◌≡◌, ℕ, List, Result, Ok, Err, refl, sym, subst}
-use Rattle.std.specs.Prelude.{IsErrAnd}
+use Rattle.std.specs.Prelude.{IfErr, IsErrAnd}
 use Rattle.bx_journal_model.specs.declared.fault.SessionFault.{SessionFault}
 use Rattle.bx_journal_model.specs.declared.fault.SessionFault.TheVariants.{NoMemory}
 use Rattle.bx_journal_model.specs.Looking.{FaultCounts, LooksAt}
@@ -39,3 +39,9 @@ ends_alike faithful view failures old new x y looks = record { same = looks.same
 pub lacks_handed : {D X R : Type 0} (faithful : D → Type 0) (view : D → List ℕ) (failures : D → ℕ) (old new : D) (x : X) (fault : SessionFault) → LooksAt {R = X} faithful view failures (Ok x) old new
     → (r : Result R SessionFault) → IsErrAnd r (λ e. e ≡ fault) → fault ≡ NoMemory → LooksAt faithful view failures r old new
 lacks_handed faithful view failures old new x fault looks r is lacks = lacks_behind faithful view failures old new x looks r (subst (λ f. IsErrAnd r (λ e. e ≡ f)) lacks is)
+
+-- what is done behind the look takes memory, or lacks it
+pub takes_behind : {D X R : Type 0} (faithful : D → Type 0) (view : D → List ℕ) (failures : D → ℕ) (old new : D) (x : X) → LooksAt {R = X} faithful view failures (Ok x) old new
+    → (r : Result R SessionFault) → IfErr r (λ e. e ≡ NoMemory) → LooksAt faithful view failures r old new
+takes_behind faithful view failures old new x looks (Ok y) is = ends_alike faithful view failures old new x y looks
+takes_behind faithful view failures old new x looks (Err e) is = lacks_behind faithful view failures old new x looks (Err e) is

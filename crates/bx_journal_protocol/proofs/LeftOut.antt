@@ -12,7 +12,7 @@ use Rattle.bx_image.specs.Image.{zeros}
 use Rattle.bx_image.specs.Over.{run_over, saved_over, LeavesZerosOut, LieWithin}
 use Rattle.bx_image.specs.Runs.{AreRunsOf, HaveShape, LieBelow}
 use Rattle.bx_image.specs.private.Spans.{StandOver}
-use Rattle.bx_image.proofs.FillLemmas.{filled-saved, length-zeros}
+use Rattle.bx_image.proofs.FillLemmas.{length-zeros}
 use Rattle.bx_image.proofs.Images.{same_image, slice_index_past}
 use Rattle.bx_image.proofs.OverLemmas.{runs_are, stand_over}
 use Rattle.bx_image.proofs.Records.{length-restore, restore-saved, slice_index-restore}
@@ -20,9 +20,9 @@ use Rattle.bx_journal_format.specs.Kept.{Kept, kept_of}
 use Rattle.bx_journal_format.specs.declared.read.types.EntryRead.{EntryRead}
 use Rattle.bx_journal_format.proofs.KeptLemmas.{is_of_in, same_byte}
 use Rattle.bx_journal_protocol.specs.declared.before.overwritten.Overwritten.{Overwritten}
-use Rattle.bx_journal_protocol.specs.before.Overwritten.{AreOverwritten, AreOverwrittenOf, HaveRoom, HaveZeros, IsOverwrittenOf}
+use Rattle.bx_journal_protocol.specs.before.Overwritten.{AreOverwrittenOf, HaveRoom, IsOverwrittenOf}
 use Rattle.bx_journal_model.specs.Taken.{taken, IsKeptOf}
-use Rattle.bx_journal_protocol.specs.protocol.Takens.{AreRoomFrom, AreZeros, IsFirstBelow, IsRoomFor, IsZeros}
+use Rattle.bx_journal_protocol.specs.protocol.Takens.{AreReady, AreRoomFrom, IsFirstBelow, IsRoomFor, LieBehind, LieInTurn}
 use Rattle.bx_journal_protocol.proofs.Restored.{back_of, keeps_restored}
 use Rattle.bx_journal_protocol.proofs.TakenLemmas.{reverse_last}
 use Rattle.bx_journal_protocol.proofs.TakenText.{saved_in}
@@ -77,28 +77,23 @@ kept_from {A = A} e x new of_x left = record {
     by_case i (inl same) = inl (same_byte new.runs i ∙ same ∙ full_byte i)
     by_case i (inr out) = inr (out.0, same_byte new.runs i ∙ out.1, sym (full_byte i) ∙ out.2)
 
--- a record of zeros for all that is overwritten can be filled from any image of its length
-room_of_zeros : {A : Type 0} (x : List ℕ) (e : EntryRead A) (t : Saved A) → IsZeros (length x) e t → IsRoomFor x e t
-room_of_zeros x e t z = record {
-  len_is = z.len_is;
-  below = z.below;
-  fills = λ new len shape read of_x long.
-      let same : new ≡ saved (entry_back e) x =
-      filled-saved (entry_back e) (zeros (length x)) x t new (z.zeros long (entry_back e) (record { base = refl; writes = refl })) (length-zeros (length x)) len shape read in
-      kept_from e x new of_x (record { len = ap (λ (s : Saved _). s.len) same; bytes = λ i. inl (ap (λ (s : Saved _). byte_in s.runs i) same) });
-}
+-- where records can be filled in turn, each lies below its image's length
+pub in_turn : {A : Type 0} (x : List ℕ) (es : List (EntryRead A)) (ts : List (Saved A)) → AreRoomFrom x es ts → LieInTurn (length x) es ts
+in_turn x es [] all = tt
+in_turn x [] (t ∷ ts) all = absurd all
+in_turn x (e ∷ es) (t ∷ ts) all = (all.0.below, subst (λ n. LieInTurn n es ts) (length-restore e.kept x) (in_turn (restore e.kept x) es ts all.1))
 
-pub rooms_of_zeros : {A : Type 0} (x : List ℕ) (es : List (EntryRead A)) (ts : List (Saved A)) → AreZeros (length x) es ts → AreRoomFrom x es ts
-rooms_of_zeros x es [] all = tt
-rooms_of_zeros x [] (t ∷ ts) all = absurd all
-rooms_of_zeros x (e ∷ es) (t ∷ ts) all = (room_of_zeros x e t all.0, all.1)
+pub ready_behind : {A : Type 0} (x : List ℕ) (es : List (EntryRead A)) (ts : List (Saved A)) → AreReady x es ts → LieBehind es ts
+ready_behind x es [] all = tt
+ready_behind x [] (t ∷ ts) all = absurd all
+ready_behind x (e ∷ es) (t ∷ ts) all = subst (λ n. LieInTurn n es ts) (length-restore e.kept x) (in_turn (restore e.kept x) es ts all.1)
 
 pub first_of_rooms : {A : Type 0} (x : List ℕ) (es : List (EntryRead A)) (ts : List (Saved A)) → AreRoomFrom x es ts → IsFirstBelow (length x) ts
 first_of_rooms x es [] all = tt
 first_of_rooms x [] (t ∷ ts) all = absurd all
 first_of_rooms x (e ∷ es) (t ∷ ts) all = all.0.below
 
--- and one of zeros for ranges that leave some out from the image that they are of
+-- a record of zeros over ranges can be filled from the image that they are of
 stand_shape : {A : Type 0} (spans : List Span) (olds : List (Piece A)) (news : List (Piece A)) → StandOver spans olds → HaveShape olds news → StandOver spans news
 stand_shape [] [] [] stand shape = tt
 stand_shape [] [] (r ∷ news) stand shape = absurd shape
@@ -129,18 +124,11 @@ room_of_ranges {A = A} x e o t over is below = record {
     len : t.len ≡ length x
     len = ap (λ (s : Saved _). s.len) is ∙ length-zeros o.len ∙ over.len_is
 
-pub room_next : {A : Type 0} (os : List (Overwritten A)) (ts : List (Saved A)) (o : Overwritten A) (t : Saved A) → HaveZeros os ts → t ≡ saved_over (zeros o.len) o.ranges.items → LieBelow o.len t.runs
+pub room_next : {A : Type 0} (os : List (Overwritten A)) (ts : List (Saved A)) (o : Overwritten A) (t : Saved A) → HaveRoom os ts → t ≡ saved_over (zeros o.len) o.ranges.items → LieBelow o.len t.runs
     → HaveRoom (os ++ o ∷ []) (ts ++ t ∷ [])
 room_next {A = A} os ts o t all is below x es over =
     subst (AreRoomFrom x es) (sym (reverse_last ts t)) (go es (subst (AreOverwrittenOf x es) (reverse_last os o) over))
   where
     go : (fs : List (EntryRead A)) → AreOverwrittenOf x fs (o ∷ reverse os) → AreRoomFrom x fs (t ∷ reverse ts)
     go [] here = absurd here
-    go (e ∷ fs) here = (room_of_ranges x e o t here.0 is below, all e.kept.len fs here.1)
-
--- ranges of the image for the newest entry, and for those before it
-pub overwritten_first : {A B : Type 0} (x : List ℕ) (es older : List (EntryRead A)) (e : EntryRead A) (all os : List (Overwritten B)) (o : Overwritten B) → es ≡ older ++ e ∷ [] → all ≡ os ++ o ∷ []
-    → IsOverwrittenOf x e o → AreOverwritten e.kept.len (reverse older) (reverse os) → AreOverwrittenOf x (reverse es) (reverse all)
-overwritten_first x es older e all os o entries ranges one rest =
-    subst (λ fs. AreOverwrittenOf x fs (reverse all)) (sym (ap reverse entries ∙ reverse_last older e))
-    (subst (AreOverwrittenOf x (e ∷ reverse older)) (sym (ap reverse ranges ∙ reverse_last os o)) (one, rest))
+    go (e ∷ fs) here = (room_of_ranges x e o t here.0 is below, all (restore e.kept x) fs here.1)

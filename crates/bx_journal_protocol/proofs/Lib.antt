@@ -1,3 +1,4 @@
+pub mod Behind
 pub mod ChangeSteps
 pub mod DeviceLemmas
 pub mod EndLineLemmas
@@ -24,6 +25,7 @@ pub mod RedoLoop
 pub mod RedoText
 pub mod Restored
 pub mod Shapes
+pub mod SpanParts
 pub mod StandingLoop
 pub mod StepFound
 pub mod StepSurvivors

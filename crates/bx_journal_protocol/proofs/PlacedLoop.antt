@@ -2,6 +2,8 @@
 use Rattle.std.proofs.Common.{◌≡◌, ℕ, ◌+◌, ◌≤◌, List, [], ◌∷◌, ◌++◌, length, take, ap, sym, ◌∙◌, subst, arith, length-append}
 use Rattle.std.specs.Prelude.{reverse}
 use Rattle.bx_image.specs.declared.record.Saved.{Saved}
+use Rattle.bx_image.specs.Change.{restore}
+use Rattle.bx_journal_format.specs.Kept.{kept_of}
 use Rattle.bx_journal_format.specs.declared.read.types.EntryRead.{EntryRead}
 use Rattle.bx_journal_protocol.specs.declared.protocol.undo_entry.Placed.{Placed}
 use Rattle.bx_journal_protocol.specs.protocol.Placed.{AllFit, ArePlaced, ArePrepared, IsPlaced}
@@ -61,15 +63,16 @@ module _ {A : Type 0} {text_faithful faithful : Type 0} {first now x : List ℕ}
   saved_within th = omega (arith, long_at last.turn th, last.placed.saved)
 
   -- behind the turn
-  pub one_taken : {new z : List ℕ} {room_new window_new : ℕ} {filled : List (Saved A)} → (text_faithful → new ≡ take last.e.begins now) → (faithful → length z ≡ last.e.kept.len) → room ≤ room_new → window_new ≡ window
+  pub one_taken : {new z : List ℕ} {room_new window_new : ℕ} {filled : List (Saved A)} → (text_faithful → new ≡ take last.e.begins now) → (faithful → length z ≡ last.e.kept.len)
+      → (text_faithful → faithful → z ≡ restore (kept_of last.e.kept) x) → room ≤ room_new → window_new ≡ window
       → (AllShaped ts → AllShaped filled) → length filled ≡ length ts → (faithful → AreFilled z ts filled) → PlacesLeft text_faithful faithful first new z room_new window_new (i + 1) takens filled ps
-  one_taken {new = new} {room_new = room_new} {window_new = window_new} cut long more same shaped count filled =
+  one_taken {new = new} {room_new = room_new} {window_new = window_new} cut long restored more same shaped count filled =
       let older = (popped was.left.place.text last.es last.e was.left.place.to last.turn.undone).0 in
       let before = all_before was.left.place.text older.older 0 last.e.begins last.es older.marked in
       record {
         entries = was.entries;
         all = last.es;
-        left = one_gone last.turn cut long shaped count filled;
+        left = one_gone last.turn cut long restored shaped count filled;
         placed = placed_cut text_faithful now new last.e.begins (reverse last.es) (reverse ps) (λ th. omega (arith, long_at last.turn th, (places last.turn).0.order)) cut before last.below;
         fit = subst (λ w. AllFit room_new w ps) (sym same) (fit_more room room_new window ps more last.fit.0);
         same = last.same ∙ sym count;

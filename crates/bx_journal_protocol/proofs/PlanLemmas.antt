@@ -2,12 +2,9 @@
 use Rattle.std.proofs.Common.{◌≡◌, ℕ, zero, suc, ◌+◌, ◌-◌, ◌<◌, ◌≤◌, List, [], ◌∷◌, ◌++◌, length, length-append, length-take, take, drop, map, refl, ap, sym, ◌∙◌, subst, arith, Result, Ok, Err}
 use Rattle.std.specs.Prelude.{reverse, slice_index_or, OnOk}
 use Rattle.std.specs.List.{All}
-use Rattle.std.proofs.lemmas.List.{take_more, length-reverse, reverse-append, take-append-drop}
-use Rattle.bx_image.specs.declared.record.Saved.{Saved}
-use Rattle.bx_image.specs.Image.{zeros}
-use Rattle.bx_image.specs.Over.{saved_over, LieWithin}
-use Rattle.bx_image.specs.Runs.{LieBelow}
-use Rattle.bx_image.proofs.FillLemmas.{length-zeros}
+use Rattle.std.proofs.lemmas.List.{drop_more, take_more, length-reverse, reverse-append, take-append-drop}
+use Rattle.bx_image.specs.Change.{restore}
+use Rattle.bx_image.specs.Over.{LieWithin}
 use Rattle.bx_journal_format.specs.Kept.{kept_of}
 use Rattle.bx_journal_format.specs.Text.{Entry, split}
 use Rattle.bx_journal_format.specs.declared.read.types.EntryRead.{EntryRead}
@@ -15,28 +12,29 @@ use Rattle.bx_journal_format.specs.count.Mark.{HasMarks}
 use Rattle.bx_journal_format.specs.Parsed.{entry_of, AreMarked}
 use Rattle.bx_journal_protocol.specs.declared.protocol.undo_entry.Placed.{Placed}
 use Rattle.bx_journal_protocol.specs.declared.before.overwritten.Overwritten.{Overwritten}
-use Rattle.bx_journal_protocol.specs.before.Overwritten.{AreAllWithin, AreOrdered, AreOverwritten, HaveZeros, IsOrdered, IsOverwritten, place_in}
+use Rattle.bx_journal_protocol.specs.before.Overwritten.{AreAllWithin, AreOrdered, AreOverwrittenOf, IsOrdered, IsOverwrittenOf, image_below, place_in}
 use Rattle.bx_journal_protocol.specs.protocol.Placed.{AllFit, ArePlaced, IsPlaced}
 use Rattle.bx_journal_model.specs.Restoring.{IsEnough, StandsAt}
-use Rattle.bx_journal_protocol.specs.protocol.Takens.{AreZeros, IsZeros, length_at}
 use Rattle.bx_journal_model.proofs.StandLemmas.{stands_of}
 use Rattle.bx_journal_protocol.proofs.TakenLemmas.{reverse_last}
-use Rattle.bx_journal_protocol.proofs.TakingLemmas.{length_here}
 use Rattle.bx_journal_format.proofs.Splits.{split-append}
 
 -- what restoring the next entry overwrites
-pub overwritten_push : {A B : Type 0} (len : ℕ) (es : List (EntryRead A)) (os : List (Overwritten B)) (place : ℕ) (d : EntryRead A) (o : Overwritten B) → place < length es
-    → AreOverwritten (length_at (drop place es) len) (reverse (take place es)) (reverse os) → IsOverwritten (length_at (drop (place + 1) es) len) (slice_index_or es place d) o
-    → AreOverwritten (length_at (drop (place + 1) es) len) (reverse (take (place + 1) es)) (reverse (os ++ o ∷ []))
-overwritten_push len es os place d o inside all one =
+pub overwritten_push : {A B : Type 0} (x : List ℕ) (es : List (EntryRead A)) (os : List (Overwritten B)) (place : ℕ) (d : EntryRead A) (o : Overwritten B) → place < length es
+    → AreOverwrittenOf (image_below (drop place es) x) (reverse (take place es)) (reverse os) → IsOverwrittenOf (image_below (drop (place + 1) es) x) (slice_index_or es place d) o
+    → AreOverwrittenOf (image_below (drop (place + 1) es) x) (reverse (take (place + 1) es)) (reverse (os ++ o ∷ []))
+overwritten_push x es os place d o inside all one =
     let e = slice_index_or es place d in
-    let above : ℕ = length_at (drop (place + 1) es) len in
+    let y : List ℕ = image_below (drop (place + 1) es) x in
     let more : reverse (take (place + 1) es) ≡ e ∷ reverse (take place es) = ap reverse (take_more es place d inside) ∙ reverse_last (take place es) e in
-    let rest : AreOverwritten e.kept.len (reverse (take place es)) (reverse os) = subst (λ n. AreOverwritten n (reverse (take place es)) (reverse os)) (length_here es place len d inside) all in
-    subst (λ fs. AreOverwritten above fs (reverse (os ++ o ∷ []))) (sym more) (subst (λ us. AreOverwritten above (e ∷ reverse (take place es)) us) (sym (reverse_last os o)) (one, rest))
+    let rest : AreOverwrittenOf (restore e.kept y) (reverse (take place es)) (reverse os) = subst (λ fs. AreOverwrittenOf (image_below fs x) (reverse (take place es)) (reverse os)) (drop_more es place d inside) all in
+    subst (λ fs. AreOverwrittenOf y fs (reverse (os ++ o ∷ []))) (sym more) (subst (λ us. AreOverwrittenOf y (e ∷ reverse (take place es)) us) (sym (reverse_last os o)) (one, rest))
 
-pub within_of : {A B : Type 0} {len : ℕ} {e : EntryRead A} {o : Overwritten B} → IsOverwritten len e o → LieWithin o.len o.ranges.items
-within_of {o = o} one = subst (λ n. LieWithin n o.ranges.items) (sym one.len_is) one.within
+-- with older entries, and nothing is said of these
+pub overwritten_more : {A B : Type 0} (x : List ℕ) (es fs : List (EntryRead A)) (os : List (Overwritten B)) → AreOverwrittenOf x es os → AreOverwrittenOf x (es ++ fs) os
+overwritten_more x es fs [] all = tt
+overwritten_more x [] fs (o ∷ os) all = absurd all
+overwritten_more x (e ∷ es) fs (o ∷ os) all = (all.0, overwritten_more (restore e.kept x) es fs os all.1)
 
 pub within_push : {B : Type 0} (os : List (Overwritten B)) (o : Overwritten B) → AreAllWithin os → LieWithin o.len o.ranges.items → AreAllWithin (os ++ o ∷ [])
 within_push [] o all one = (one, tt)
@@ -46,23 +44,6 @@ pub within_at : {B : Type 0} (os : List (Overwritten B)) (i : ℕ) (d : Overwrit
 within_at [] i d inside all = absurd (omega (arith, inside))
 within_at (o ∷ os) zero d inside all = all.0
 within_at (o ∷ os) (suc i) d inside all = within_at os i d (omega (arith, inside)) all.1
-
--- a record of zeros for the next
-zeros_of : {A B : Type 0} (len : ℕ) (e : EntryRead A) (o : Overwritten B) (t : Saved A) → IsOverwritten len e o → t ≡ saved_over (zeros o.len) o.ranges.items → LieBelow o.len t.runs → IsZeros len e t
-zeros_of len e o t over is below = record {
-  len_is = ap (λ (s : Saved _). s.len) is ∙ length-zeros o.len ∙ over.len_is;
-  below = subst (λ n. LieBelow n t.runs) over.len_is below;
-  zeros = λ few c back. is ∙ ap (λ n. saved_over (zeros n) o.ranges.items) over.len_is ∙ over.saved few c back (zeros len) (length-zeros len);
-}
-
-pub zeros_next : {A : Type 0} (os : List (Overwritten A)) (ts : List (Saved A)) (o : Overwritten A) (t : Saved A) → HaveZeros os ts → t ≡ saved_over (zeros o.len) o.ranges.items → LieBelow o.len t.runs
-    → HaveZeros (os ++ o ∷ []) (ts ++ t ∷ [])
-zeros_next {A = A} os ts o t all is below len es over =
-    subst (AreZeros len es) (sym (reverse_last ts t)) (go es (subst (AreOverwritten len es) (reverse_last os o) over))
-  where
-    go : (fs : List (EntryRead A)) → AreOverwritten len fs (o ∷ reverse os) → AreZeros len fs (t ∷ reverse ts)
-    go [] here = absurd here
-    go (e ∷ fs) here = (zeros_of len e o t here.0 is below, all e.kept.len fs here.1)
 
 -- the save line of each ends behind its first line
 pub ordered_at : {A : Type 0} (es : List (EntryRead A)) (i : ℕ) (d : EntryRead A) → i < length es → AreOrdered es → IsOrdered (slice_index_or es i d)

@@ -92,7 +92,7 @@ module _ {A : Type 0} {text_faithful faithful : Type 0} {first text x : List ℕ
         let es_below : List Entry = entries_onto turn.undone.older es in
         let long : length (drop 1 s.stack) ≡ suc (length es_below) = ap (λ k. length (drop 1 k)) (stack_below s.stack stands) ∙ length-stack_of es_below (restore (kept_of e.kept) x) in
         let bounded : AreBounded (entry_of e ∷ es_below) = subst AreBounded (entries_same turn th stands.entries stands.reads) (read_bounded (split text).lines (record { entries = stands.entries; stage = Between }) stands.reads.lines).0 in
-        let taken = (turn.ready h).0 in
+        let taken = (turn.ready th h).0 in
         record {
           stack_is = shape_of s.stack stands;
           some = omega (arith, long);
@@ -177,4 +177,4 @@ module _ {A : Type 0} {text_faithful faithful : Type 0} {first text x : List ℕ
         (subst (λ gs. AreKept (length ts) gs z m redo_new last) rest
         (subst (λ k. AreKept k (drop (i + 1) fs) z m redo_new last) count left)))) in
         subst (λ gs. AreKept (length records) gs x n redo last) (sym same)
-        (subst (λ k. AreKept k (entry_of e ∷ below) x n redo last) most (kept_turned (length ts) e t below x redo last n (turn.ready h).0 turned))
+        (subst (λ k. AreKept k (entry_of e ∷ below) x n redo last) most (kept_turned (length ts) e t below x redo last n (turn.ready th h).0 turned))

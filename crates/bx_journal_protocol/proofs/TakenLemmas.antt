@@ -9,7 +9,7 @@ use Rattle.bx_image.specs.Runs.{AreRunsOf, HaveShape}
 use Rattle.bx_journal_format.specs.Kept.{kept_of}
 use Rattle.bx_journal_format.specs.Entry.{entry_text}
 use Rattle.bx_journal_format.specs.declared.read.types.EntryRead.{EntryRead}
-use Rattle.bx_journal_protocol.specs.protocol.Takens.{AreRoomFrom, AreReady, AllShaped, entries_len}
+use Rattle.bx_journal_protocol.specs.protocol.Takens.{AreRoomFrom, AreReady, AllShaped, LieBehind, LieInTurn, entries_len}
 use Rattle.bx_journal_protocol.proofs.Shapes.{runs_same, entry_long}
 
 -- the last of a list, before and behind
@@ -49,6 +49,13 @@ filled_ready x (e ∷ es) t new ts shape filled z = (
 
 pub ready_filled : {A : Type 0} (x : List ℕ) (es : List (EntryRead A)) (front : List (Saved A)) (t new : Saved A) → IsShapedAs t new → IsFilled x t new → AreRoomFrom x es (reverse (front ++ t ∷ [])) → AreReady x es (reverse (front ++ new ∷ []))
 ready_filled x es front t new shape filled z = rw (reverse_last front new) (filled_ready x es t new (reverse front) shape filled (rw (reverse_last front t) at z))
+
+pub behind_filled : {A : Type 0} (len : ℕ) (es : List (EntryRead A)) (front : List (Saved A)) (t new : Saved A) → LieInTurn len es (reverse (front ++ t ∷ [])) → LieBehind es (reverse (front ++ new ∷ []))
+behind_filled {A = A} len es front t new z = rw (reverse_last front new) (go es (rw (reverse_last front t) at z))
+  where
+    go : (fs : List (EntryRead A)) → LieInTurn len fs (t ∷ reverse front) → LieBehind fs (new ∷ reverse front)
+    go [] z = absurd z
+    go (e ∷ fs) z = z.1
 
 shape_within : {A : Type 0} (t new : Saved A) → IsShapedAs t new → AllWithin t.len t.runs → AllWithin new.len new.runs
 shape_within t new shape within = subst (λ n. AllWithin n new.runs) (sym shape.len) (runs_within t.len t.runs new.runs shape.runs within)

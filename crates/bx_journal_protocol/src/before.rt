@@ -8,3 +8,4 @@ pub(crate) mod ranges;
 pub(crate) mod records;
 pub(crate) mod room;
 pub(crate) mod settle;
+pub(crate) mod spans;

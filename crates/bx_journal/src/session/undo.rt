@@ -34,7 +34,7 @@ impl<D: Device, T: TextStore, A: Allocator + Clone> Session<D, T, A> {
     /// can be made again; but an image of more than `MAX_LEN` bytes, and what was undone before it, is given up.
     ///
     /// All memory is taken before the first write. It is once the bytes that the k changes moved: first those that the journal's last k
-    /// entries saved, and then those that the k changes wrote or added; but zeros that the newest of them added take none. The faults come
+    /// entries saved, and then those that the k changes wrote or added; but blocks of zeros that they added take none. The faults come
     /// in this order: `Broken`, `TooFew`, `DeviceFailed` and `NoMemory` of reading, `Damaged` where the text was changed by others,
     /// `DeviceFailed` of the lengths, `NoMemory`, `DeviceFailed` of looking for zeros in the image, `NoMemory`, `DeviceFailed` of reading
     /// the image, and `Interrupted` from the first write on. Each but the last changes nothing.

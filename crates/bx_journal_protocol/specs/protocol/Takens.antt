@@ -1,22 +1,14 @@
 -- What some undos will take of the image: for each entry, the newest first, a record.
 use Rattle.std.specs.Prelude.{◌≡◌, ◌≤◌, ℕ, ◌+◌, List, [], ◌∷◌, length, reverse}
-use Rattle.bx_image.specs.declared.change.Change.{Change}
 use Rattle.bx_image.specs.declared.change.TheConstants.{MAX_LEN}
 use Rattle.bx_image.specs.declared.record.Saved.{Saved}
-use Rattle.bx_image.specs.Change.{saved, AllWithin, IsOf, Restores}
-use Rattle.bx_image.specs.Image.{zeros}
+use Rattle.bx_image.specs.Change.{restore, AllWithin, IsOf}
 use Rattle.bx_image.specs.Runs.{AreRunsOf, HaveShape, LieBelow}
 use Rattle.bx_journal_store.specs.declared.store.TextStore.{Ghosts as StoreViews}
 use Rattle.bx_journal_format.specs.Kept.{kept_of}
 use Rattle.bx_journal_format.specs.Entry.{entry_text}
 use Rattle.bx_journal_format.specs.declared.read.types.EntryRead.{EntryRead}
 use Rattle.bx_journal_model.specs.Taken.{IsKeptOf}
-
--- a record with zeros of what restoring an entry overwrites in an image of this length, if an entry can tell it
-pub record IsZeros {A : Type 0} (len : ℕ) (e : EntryRead A) (t : Saved A) : Type 0 where
-  pub len_is : t.len ≡ len
-  pub below : LieBelow len t.runs
-  pub zeros : len ≤ MAX_LEN → (c : Change A) → Restores c e.kept → t ≡ saved c (zeros len)
 
 -- a record whose bytes are filled later: whatever has its length and ranges and the bytes of x keeps what restoring the entry takes of x
 pub record IsRoomFor {A : Type 0} (x : List ℕ) (e : EntryRead A) (t : Saved A) : Type 0 where
@@ -31,31 +23,38 @@ pub record IsTakenBy {A : Type 0} (x : List ℕ) (e : EntryRead A) (t : Saved A)
   pub of_x : IsOf t x
   pub is : length x ≤ MAX_LEN → IsKeptOf (kept_of e.kept) x (kept_of t)
 
--- records for the newest of the entries, from an image of this length on
-abbrev pub AreZeros : {A : Type 0} → ℕ → List (EntryRead A) → List (Saved A) → Type 0
-AreZeros len es [] = Unit {0}
-AreZeros len [] (t ∷ ts) = ⊥
-AreZeros len (e ∷ es) (t ∷ ts) = IsZeros len e t × AreZeros e.kept.len es ts
-
--- the first of them for the image x, the others for any of their lengths
+-- records for the newest of the entries from the image x on, each for the image that restoring the ones above it leaves
 abbrev pub AreRoomFrom : {A : Type 0} → List ℕ → List (EntryRead A) → List (Saved A) → Type 0
 AreRoomFrom x es [] = Unit {0}
 AreRoomFrom x [] (t ∷ ts) = ⊥
-AreRoomFrom x (e ∷ es) (t ∷ ts) = IsRoomFor x e t × AreZeros e.kept.len es ts
+AreRoomFrom x (e ∷ es) (t ∷ ts) = IsRoomFor x e t × AreRoomFrom (restore e.kept x) es ts
 
 -- the first of them is filled
 abbrev pub AreReady : {A : Type 0} → List ℕ → List (EntryRead A) → List (Saved A) → Type 0
 AreReady x es [] = Unit {0}
 AreReady x [] (t ∷ ts) = ⊥
-AreReady x (e ∷ es) (t ∷ ts) = IsTakenBy x e t × AreZeros e.kept.len es ts
+AreReady x (e ∷ es) (t ∷ ts) = IsTakenBy x e t × AreRoomFrom (restore e.kept x) es ts
+
+-- each lies below the length that the image then has, from this one on
+abbrev pub LieInTurn : {A : Type 0} → ℕ → List (EntryRead A) → List (Saved A) → Type 0
+LieInTurn len es [] = Unit {0}
+LieInTurn len [] (t ∷ ts) = ⊥
+LieInTurn len (e ∷ es) (t ∷ ts) = LieBelow len t.runs × LieInTurn e.kept.len es ts
+
+-- all but the first do
+abbrev pub LieBehind : {A : Type 0} → List (EntryRead A) → List (Saved A) → Type 0
+LieBehind es [] = Unit {0}
+LieBehind [] (t ∷ ts) = ⊥
+LieBehind (e ∷ es) (t ∷ ts) = LieInTurn e.kept.len es ts
 
 -- those for the last of the entries, the oldest of both first
 abbrev pub AreReadyLast : {A : Type 0} → List ℕ → List (EntryRead A) → List (Saved A) → Type 0
 AreReadyLast x es ts = AreReady x (reverse es) (reverse ts)
 
--- the last record was filled from the image x: whatever entries the records are for, they are ready
-abbrev pub AreFilled : {A : Type 0} → List ℕ → List (Saved A) → List (Saved A) → Type 0
-AreFilled {A = A} x old new = (es : List (EntryRead A)) → AreRoomFrom x es (reverse old) → AreReady x es (reverse new)
+-- the last record was filled from the image x: whatever entries the records are for, they are ready, and the others lie where they did
+pub record AreFilled {A : Type 0} (x : List ℕ) (old new : List (Saved A)) : Type 0 where
+  pub ready : (es : List (EntryRead A)) → AreRoomFrom x es (reverse old) → AreReady x es (reverse new)
+  pub behind : (len : ℕ) (es : List (EntryRead A)) → LieInTurn len es (reverse old) → LieBehind es (reverse new)
 
 -- the runs of each end within its length
 abbrev pub AllShaped : {A : Type 0} → List (Saved A) → Type 0

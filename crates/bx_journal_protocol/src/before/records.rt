@@ -78,7 +78,7 @@ fn plan_last<D: Device, A: Allocator + Clone>(
     let entries = read.entries.as_slice();
     let (_, last) = entries.split_at(entries.len() - k as usize);
     let placed = places(alloc, last)?;
-    let overwritten = overwritten_from(alloc, image, entries, k, len)?;
+    let overwritten = overwritten_from(alloc, image, last, len)?;
     Ok(Plan {
         placed,
         overwritten,

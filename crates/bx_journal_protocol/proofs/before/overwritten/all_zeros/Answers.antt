@@ -5,10 +5,10 @@ use Rattle.bx_image.specs.Image.{zeros}
 use Rattle.bx_image.specs.Over.{saved_over, LieWithin}
 use Rattle.bx_image.specs.declared.record.Saved.{Saved}
 use Rattle.bx_journal_protocol.specs.declared.before.overwritten.Overwritten.{Overwritten}
-use Rattle.bx_journal_protocol.specs.before.Overwritten.{HaveRoom, HaveZeros}
+use Rattle.bx_journal_protocol.specs.before.Overwritten.{HaveRoom}
 use Rattle.bx_journal_protocol.specs.protocol.Takens.{AllShaped}
 use Rattle.bx_journal_protocol.proofs.LeftOut.{room_next}
-use Rattle.bx_journal_protocol.proofs.PlanLemmas.{within_at, zeros_next}
+use Rattle.bx_journal_protocol.proofs.PlanLemmas.{within_at}
 use Rattle.bx_journal_protocol.proofs.TakingLemmas.{shaped_push}
 use Rattle.bx_journal_protocol.proofs.before.overwritten.all_zeros.Goals as goal
 
@@ -33,14 +33,10 @@ loop-one-preserved g c =
     let more : take (i + 1) os ≡ take i os ++ o ∷ [] = take_more os i o c.loop-one-test.true ∙ ap (λ u. take i os ++ u ∷ []) (sym c.one-item.is) in
     let is : t ≡ saved_over (zeros o.len) o.ranges.items = c.in_ok-taken.ensures.zeros ∙ ap (saved_over (zeros o.len)) c.as_slice.ensures.value in
     record {
-      zeros = subst (λ us. HaveZeros us c.push.new.self.items) (sym more) (subst (HaveZeros (take i os ++ o ∷ [])) (sym items) (zeros_next (take i os) ts o t inv.zeros is c.in_ok-taken.ensures.below));
-      room = subst (λ us. HaveRoom us c.push.new.self.items) (sym more) (subst (HaveRoom (take i os ++ o ∷ [])) (sym items) (room_next (take i os) ts o t inv.zeros is c.in_ok-taken.ensures.below));
+      room = subst (λ us. HaveRoom us c.push.new.self.items) (sym more) (subst (HaveRoom (take i os ++ o ∷ [])) (sym items) (room_next (take i os) ts o t inv.room is c.in_ok-taken.ensures.below));
       shaped = subst AllShaped (sym items) (shaped_push ts t inv.shaped c.in_ok-taken.ensures.within);
       count = long ∙ ap (λ n. n + 1) inv.count;
     }
-
-pub returns-clause-zeros : goal.returns-clause-zeros
-returns-clause-zeros g c = subst (λ us. HaveZeros us c.loop-one.takens.items) (take_all c.loop-one.one-index c.args.overwritten.now (omega arith)) c.loop-one.invariant.zeros
 
 pub returns-clause-room : goal.returns-clause-room
 returns-clause-room g c = subst (λ us. HaveRoom us c.loop-one.takens.items) (take_all c.loop-one.one-index c.args.overwritten.now (omega arith)) c.loop-one.invariant.room

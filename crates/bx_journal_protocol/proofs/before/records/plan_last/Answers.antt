@@ -1,8 +1,9 @@
-use Rattle.std.proofs.Common.{◌≡◌, ◌≤◌, ◌-◌, ◌∙◌, List, length, drop, map, ap, subst, sym}
+use Rattle.std.proofs.Common.{◌≡◌, ◌≤◌, ◌-◌, ◌∙◌, ◌++◌, List, length, take, drop, map, ap, subst, sym, arith, length-drop}
+use Rattle.std.proofs.lemmas.List.{reverse-append, take-append-drop}
 use Rattle.std.specs.Prelude.{reverse, All}
 use Rattle.bx_journal_format.specs.declared.read.types.EntryRead.{EntryRead}
 use Rattle.bx_journal_protocol.specs.before.Overwritten.{AreOrdered, AreOverwrittenOf, place_in}
-use Rattle.bx_journal_protocol.proofs.PlanLemmas.{ordered_drop}
+use Rattle.bx_journal_protocol.proofs.PlanLemmas.{ordered_drop, overwritten_more}
 use Rattle.bx_journal_protocol.proofs.before.records.plan_last.Goals as goal
 use Rattle.bx_journal_protocol.proofs.before.records.plan_last.Goals.{After-split_at}
 
@@ -23,10 +24,17 @@ returns-clause-plan g c =
     record {
       places = c.in_ok-placed.ensures.places ∙ ap (map place_in) is;
       within = c.in_ok-overwritten.ensures.within;
-      count = c.in_ok-overwritten.ensures.count;
+      count = c.in_ok-overwritten.ensures.count ∙ ap length is ∙ omega (arith, length-drop (length es - c.args.k) es, c.requires.few);
       longest = subst (All (λ (e : EntryRead g.row.A.Denot). e.kept.len ≤ c.longest_of.result)) is c.longest_of.ensures;
     }
 
 pub returns-clause-overwritten : goal.returns-clause-overwritten
 returns-clause-overwritten g c faithful =
-    subst (λ fs. AreOverwrittenOf (g.D.Device.image c.args.image.now) (reverse fs) (reverse c.in_ok-overwritten.overwritten.items)) c.as_slice-entries.ensures.value (c.in_ok-overwritten.ensures.overwritten faithful)
+    let es : List (EntryRead g.row.A.Denot) = c.args.read.now.entries.items in
+    let n = length es - c.args.k in
+    let os = c.in_ok-overwritten.overwritten.items in
+    let x = g.D.Device.image c.args.image.now in
+    let is = last g (goal.at.returns-clause-overwritten g c).After-split_at in
+    let parts : reverse es ≡ reverse (drop n es) ++ reverse (take n es) = ap reverse (sym (take-append-drop n es)) ∙ reverse-append (take n es) (drop n es) in
+    let here : AreOverwrittenOf x (reverse (drop n es)) (reverse os) = subst (λ fs. AreOverwrittenOf x (reverse fs) (reverse os)) is (c.in_ok-overwritten.ensures.overwritten faithful) in
+    subst (λ fs. AreOverwrittenOf x fs (reverse os)) (sym parts) (overwritten_more x (reverse (drop n es)) (reverse (take n es)) (reverse os) here)

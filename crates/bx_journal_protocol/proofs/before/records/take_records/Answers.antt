@@ -33,7 +33,7 @@ returns-clause-filled g c faithful =
     let image : g.D.Device.image c.make_room.new.devices.image ≡ g.D.Device.image c.args.devices.now.image = same ∙ c.len.ensures.image faithful in
     let room : AreRoomFrom (g.D.Device.image c.make_room.new.devices.image) (reverse es) (reverse ts) =
     subst (λ x. AreRoomFrom x (reverse es) (reverse ts)) (sym same) (c.in-Ok.ensures.room first) in
-    subst (λ x. AreReady x (reverse es) (reverse c.fill_last.new.takens.items)) image (c.in_ok-fill_last.ensures.filled (c.make_room.ensures.stayed.image_faith.1 second) (reverse es) room)
+    subst (λ x. AreReady x (reverse es) (reverse c.fill_last.new.takens.items)) image ((c.in_ok-fill_last.ensures.filled (c.make_room.ensures.stayed.image_faith.1 second)).ready (reverse es) room)
 
 pub take_memory-requires-clause-long : goal.take_memory-requires-clause-long
 take_memory-requires-clause-long g c now =

@@ -4,8 +4,8 @@ use Rattle.std.proofs.lemmas.Result.{on_ok_weaker}
 use Rattle.bx_image.specs.declared.record.Saved.{Saved}
 use Rattle.bx_image.specs.Change.{IsOf}
 use Rattle.bx_image.specs.Runs.{AreRunsOf}
-use Rattle.bx_journal_protocol.proofs.TakenLemmas.{last_is, last_set, IsShapedAs, IsFilled, ready_filled, shaped_next, len_next}
-use Rattle.bx_journal_protocol.specs.protocol.Takens.{AreRoomFrom, AreReady, AllShaped, entries_len}
+use Rattle.bx_journal_protocol.proofs.TakenLemmas.{last_is, last_set, IsShapedAs, IsFilled, behind_filled, ready_filled, shaped_next, len_next}
+use Rattle.bx_journal_protocol.specs.protocol.Takens.{AreRoomFrom, AreReady, AllShaped, LieBehind, LieInTurn, entries_len}
 use Rattle.bx_journal_protocol.proofs.protocol.fill.fill_end.Goals as goal
 
 some_more : (n : ℕ) → (n ≡ 0 → ⊥) → n ≡ suc (n - 1)
@@ -26,8 +26,10 @@ returns-clause-filled g c faithful =
     let shape : IsShapedAs t c.fill.new.self = record { len = c.fill.ensures.len; runs = c.fill.ensures.shape } in
     let x = g.D.Device.image c.args.image.now in
     let filled = both t c.fill.new.self x c.fill.result (λ len. c.fill.ensures.kept faithful len) (c.fill.ensures.read faithful) in
-    on_ok_weaker c.fill.result (λ f es z. subst (λ us. AreReady x es (reverse us)) (sym new)
-    (ready_filled x es (take n ts) t c.fill.new.self shape f (subst (λ us. AreRoomFrom x es (reverse us)) old z))) filled
+    on_ok_weaker c.fill.result (λ f. record {
+      ready = λ es z. subst (λ us. AreReady x es (reverse us)) (sym new) (ready_filled x es (take n ts) t c.fill.new.self shape f (subst (λ us. AreRoomFrom x es (reverse us)) old z));
+      behind = λ len es z. subst (λ us. LieBehind es (reverse us)) (sym new) (behind_filled len es (take n ts) t c.fill.new.self (subst (λ us. LieInTurn len es (reverse us)) old z));
+    }) filled
 
 pub returns-clause-shaped : goal.returns-clause-shaped
 returns-clause-shaped g c all =

@@ -139,7 +139,7 @@ loop-i-preserved g c =
     let new = c.fill_last.new.takens.items in
     record {
       left = one_taken here_at done.cut (λ dh. ap length (filled.image (undo.steps_on.image_faith.1 (inv.steps_on.image_faith.1 dh))) ∙ undo.undoes.long (inv.steps_on.image_faith.1 dh) ∙ here_at.placed.len)
-          (omega (arith, undo.undoes.room_kept, filled.goes_on.no_less_room)) undo.buffers_kept.window filled.shaped filled.count
+          done.restored (omega (arith, undo.undoes.room_kept, filled.goes_on.no_less_room)) undo.buffers_kept.window filled.shaped filled.count
           (λ dh. let here = undo.steps_on.image_faith.1 (inv.steps_on.image_faith.1 dh) in subst (λ z. AreFilled z ts new) (sym (filled.image here)) (filled.filled here));
       parts = omega (arith, inv.parts, undo.buffers_kept.parts);
       bound = by_len (nat_le c.take_last-taken.result.1.len MAX_LEN) c.loop-i.undone c.undone_with-undone.result (length ts) (length new) (c.args.undone + length c.args.takens.now.items) c.undone_with-undone.ensures filled.count (omega (arith, inv.bound, turn.most));
