@@ -1,7 +1,7 @@
 //! The folders that names stand in.
+use crate::system::System;
 use std::fs::File;
 use std::io::{self, ErrorKind};
-use std::rt::Files;
 
 /// The folder of a name.
 pub fn folder_of(name: &str) -> &str {
@@ -25,7 +25,7 @@ fn is_passed(error: &io::Error) -> bool {
 /// # Errors
 /// Where the folder can't be opened or synced. One of a file system without such a sync, and one that this user may not read, is
 /// passed by.
-pub fn sync_folder<R: Files<File = File>>(rt: &R, folder: &str) -> io::Result<()> {
+pub fn sync_folder<R: System>(rt: &R, folder: &str) -> io::Result<()> {
     match File::open(rt, folder).and_then(|opened| opened.sync_all()) {
         Ok(()) => Ok(()),
         Err(error) if is_passed(&error) => Ok(()),

@@ -9,11 +9,11 @@ use crate::files::mode::Permits;
 use crate::files::open::{open_there, take_away};
 use crate::folders::{folder_of, sync_folder};
 use crate::note::text::{WORD, has_own_name, is_note, is_own, put_in_place, read_front};
+use crate::system::System;
 use bx_world::{Classes, Stat, Unfit, text_unfit};
 use std::alloc::{AllocError, Global};
 use std::fs::{self, File, Metadata};
 use std::io::{self, ErrorKind};
-use std::rt::Files;
 
 /// The names of an image and its texts, and that of its note.
 #[derive(Drop)]
@@ -97,6 +97,33 @@ enum Stands {
     Unknown,
 }
 
+/// What a run knows of a note.
+#[derive(Drop)]
+pub struct RunNote {
+    /// The note, once it was read or put, where it may be written in place.
+    pub open: Option<File>,
+    /// How many bytes a file had whose place the note took, where it had no more than the first word, and so said nothing; none where no
+    /// such file stood there.
+    pub blank: Option<u64>,
+}
+
+impl RunNote {
+    /// Nothing.
+    pub fn new() -> RunNote {
+        RunNote {
+            open: None,
+            blank: None,
+        }
+    }
+
+    /// Takes how many bytes the file had whose place the note took.
+    fn stood(&mut self, had: u64) {
+        if had <= WORD as u64 {
+            self.blank = Some(had);
+        }
+    }
+}
+
 /// What a put leaves.
 #[derive(Clone, Copy, PartialEq, Eq)]
 pub enum Put {
@@ -111,7 +138,7 @@ pub enum Put {
 }
 
 /// Whether none of the image and its texts is this file.
-fn is_apart<R: Files<File = File>>(rt: &R, names: &NoteNames, found: &Metadata) -> bool {
+fn is_apart<R: System>(rt: &R, names: &NoteNames, found: &Metadata) -> bool {
     for name in [&names.image, &names.journal, &names.redo] {
         if let Ok(other) = fs::metadata(rt, name.as_str()) {
             if is_same(found, &other) {
@@ -138,7 +165,7 @@ fn without_readers(place: &Place<'_>, image: &Stat, text: Stat) -> Fitness {
 }
 
 /// What the file of a note's name may be.
-fn fitness_of<R: Files<File = File>>(rt: &R, place: &Place<'_>, found: &Metadata) -> Fitness {
+fn fitness_of<R: System>(rt: &R, place: &Place<'_>, found: &Metadata) -> Fitness {
     let image = stat_of(&place.image, false);
     let text = stat_of(found, is_group_given(rt, place.name(), found));
     if !is_apart(rt, place.names, found) {
@@ -166,7 +193,7 @@ fn fitness_of<R: Files<File = File>>(rt: &R, place: &Place<'_>, found: &Metadata
 ///
 /// # Errors
 /// Where nothing has it.
-fn regular<R: Files<File = File>>(rt: &R, name: &str) -> io::Result<Option<Metadata>> {
+fn regular<R: System>(rt: &R, name: &str) -> io::Result<Option<Metadata>> {
     match fs::symlink_metadata(rt, name) {
         Ok(found) if found.is_file() => Ok(Some(found)),
         Err(error) if error.kind() == ErrorKind::NotFound => Err(error),
@@ -184,7 +211,7 @@ struct OpenNote {
 
 /// Opens a file of a note's name to read it, and to write it too where it may be written, and says whether it may. One that is to be
 /// written is opened so, or not at all.
-fn open_as<R: Files<File = File>>(rt: &R, name: &str, writes: bool) -> io::Result<(File, bool)> {
+fn open_as<R: System>(rt: &R, name: &str, writes: bool) -> io::Result<(File, bool)> {
     match open_there(rt, name, true) {
         Ok(file) => Ok((file, true)),
         Err(error) if writes || error.kind() == ErrorKind::NotFound => Err(error),
@@ -197,11 +224,7 @@ fn open_as<R: Files<File = File>>(rt: &R, name: &str, writes: bool) -> io::Resul
 ///
 /// # Errors
 /// Where nothing has the name, and where what may be a note can't be opened.
-fn opened<R: Files<File = File>>(
-    rt: &R,
-    place: &Place<'_>,
-    writes: bool,
-) -> io::Result<Option<OpenNote>> {
+fn opened<R: System>(rt: &R, place: &Place<'_>, writes: bool) -> io::Result<Option<OpenNote>> {
     let Some(looked) = regular(rt, place.name())? else {
         return Ok(None);
     };
@@ -236,15 +259,12 @@ fn keep(opened: OpenNote, open: &mut Option<File>) {
 ///
 /// # Errors
 /// Where it can't be opened or read.
-pub fn read<R>(
+pub fn read<R: System>(
     rt: &R,
     place: &Place<'_>,
     buf: &mut [u8],
     open: &mut Option<File>,
-) -> io::Result<usize>
-where
-    R: Files<File = File> + AllocGlobal,
-{
+) -> io::Result<usize> {
     let opened = match opened(rt, place, false) {
         Ok(Some(opened)) => opened,
         Ok(None) => return Ok(0),
@@ -264,7 +284,7 @@ where
 
 /// Whether a file that can't be opened to be written is a note: by what it has, or where it can't be read, by its name. Not known
 /// where that tells nothing.
-fn is_closed_note<R: Files<File = File>>(rt: &R, place: &Place<'_>) -> Option<bool> {
+fn is_closed_note<R: System>(rt: &R, place: &Place<'_>) -> Option<bool> {
     match opened(rt, place, false) {
         Ok(Some(opened)) => is_own(&opened.file, place.name()).ok(),
         Ok(None) => Some(false),
@@ -274,7 +294,7 @@ fn is_closed_note<R: Files<File = File>>(rt: &R, place: &Place<'_>) -> Option<bo
 }
 
 /// What stands under the name of a note, where it can't be opened to be written, or isn't to be.
-fn closed<R: Files<File = File>>(rt: &R, place: &Place<'_>) -> Stands {
+fn closed<R: System>(rt: &R, place: &Place<'_>) -> Stands {
     let found = match regular(rt, place.name()) {
         Ok(Some(found)) => found,
         Ok(None) => return Stands::Another,
@@ -291,7 +311,7 @@ fn closed<R: Files<File = File>>(rt: &R, place: &Place<'_>) -> Stands {
 }
 
 /// What stands under the name of a note that is to be written.
-fn standing<R: Files<File = File>>(rt: &R, place: &Place<'_>) -> Stands {
+fn standing<R: System>(rt: &R, place: &Place<'_>) -> Stands {
     match opened(rt, place, true) {
         Ok(None) => Stands::Another,
         Ok(Some(opened)) if opened.fitness == Fitness::Fit => {
@@ -306,7 +326,7 @@ fn standing<R: Files<File = File>>(rt: &R, place: &Place<'_>) -> Stands {
 }
 
 /// Takes a file away, where it has its name still.
-fn remove<R: Files<File = File>>(rt: &R, name: &str, file: &Metadata) -> io::Result<()> {
+fn remove<R: System>(rt: &R, name: &str, file: &Metadata) -> io::Result<()> {
     let named = fs::symlink_metadata(rt, name)?;
     if !is_same(file, &named) {
         return Err(io::Error::from(ErrorKind::NotFound));
@@ -314,10 +334,9 @@ fn remove<R: Files<File = File>>(rt: &R, name: &str, file: &Metadata) -> io::Res
     fs::remove_file(rt, name)
 }
 
-/// Cuts a note to its first word, which says nothing, and by which it is known for a note later. It is never left empty: an empty
-/// file may be anybody's.
-fn cut_to_word(file: &File, syncs: bool) -> Put {
-    if file.set_len(WORD as u64).is_err() {
+/// Cuts a note to this length.
+fn cut_to(file: &File, len: u64, syncs: bool) -> Put {
+    if file.set_len(len).is_err() {
         return Put::Stands;
     }
     if syncs {
@@ -326,8 +345,14 @@ fn cut_to_word(file: &File, syncs: bool) -> Put {
     Put::Without
 }
 
+/// Cuts a note to its first word, which says nothing, and by which it is known for a note later. It isn't left empty: an empty file
+/// may be anybody's.
+fn cut_to_word(file: &File, syncs: bool) -> Put {
+    cut_to(file, WORD as u64, syncs)
+}
+
 /// Cuts a note that can't be taken away.
-fn cut<R: Files<File = File>>(rt: &R, name: &str, found: &Metadata, syncs: bool) -> Put {
+fn cut<R: System>(rt: &R, name: &str, found: &Metadata, syncs: bool) -> Put {
     match open_there(rt, name, true) {
         Ok(file) if file.metadata().is_ok_and(|open| is_same(&open, found)) => {
             cut_to_word(&file, syncs)
@@ -337,7 +362,7 @@ fn cut<R: Files<File = File>>(rt: &R, name: &str, found: &Metadata, syncs: bool)
 }
 
 /// Takes a note away that is open, or else cuts it.
-fn drop_note<R: Files<File = File>>(rt: &R, name: &str, file: &File, syncs: bool) -> Put {
+fn drop_note<R: System>(rt: &R, name: &str, file: &File, syncs: bool) -> Put {
     if file
         .metadata()
         .is_ok_and(|found| remove(rt, name, &found).is_ok())
@@ -350,23 +375,34 @@ fn drop_note<R: Files<File = File>>(rt: &R, name: &str, file: &File, syncs: bool
     cut_to_word(file, syncs)
 }
 
-/// Writes a note in place, and puts it on the disk where that is asked for.
-fn written(file: &File, bytes: &[u8], syncs: bool) -> io::Result<()> {
-    put_in_place(file, bytes)?;
-    if syncs { file.sync_all() } else { Ok(()) }
+/// Takes a note away that is open. A file stays that said nothing before this run put a line over it: it is cut to what says nothing,
+/// and one that was empty, which may be anybody's, is empty again.
+fn put_back<R: System>(rt: &R, name: &str, file: &File, syncs: bool, blank: Option<u64>) -> Put {
+    match blank {
+        Some(0) => cut_to(file, 0, syncs),
+        Some(_) => cut_to_word(file, syncs),
+        None => drop_note(rt, name, file, syncs),
+    }
+}
+
+/// Writes a note in place, puts it on the disk where that is asked for, and answers which length it had.
+fn written(file: &File, bytes: &[u8], syncs: bool) -> io::Result<u64> {
+    let had = put_in_place(file, bytes)?;
+    if syncs {
+        file.sync_all()?;
+    }
+    Ok(had)
 }
 
 /// Makes a note beside the image, with its bits, and puts it and its name on the disk where that is asked for. One that can't be
 /// written is taken away again.
-fn make<R>(rt: &R, place: &Place<'_>, bytes: &[u8], syncs: bool) -> io::Result<File>
-where
-    R: Files<File = File> + AllocGlobal,
-{
+fn make<R: System>(rt: &R, place: &Place<'_>, bytes: &[u8], syncs: bool) -> io::Result<File> {
     let name = place.name();
     let file = Permits::beside(&place.image).make(rt, name)?;
     let outcome = match written(&file, bytes, syncs) {
-        Ok(()) if syncs => sync_folder(rt, folder_of(name)),
-        outcome => outcome,
+        Ok(_) if syncs => sync_folder(rt, folder_of(name)),
+        Ok(_) => Ok(()),
+        Err(error) => Err(error),
     };
     match outcome {
         Ok(()) => Ok(file),
@@ -379,10 +415,13 @@ where
 }
 
 /// What is left where bytes are put under a name that no file has; a note that is made stays open. No bytes need no note.
-fn put_new<R>(rt: &R, place: &Place<'_>, bytes: &[u8], syncs: bool, open: &mut Option<File>) -> Put
-where
-    R: Files<File = File> + AllocGlobal,
-{
+fn put_new<R: System>(
+    rt: &R,
+    place: &Place<'_>,
+    bytes: &[u8],
+    syncs: bool,
+    open: &mut Option<File>,
+) -> Put {
     if bytes.is_empty() {
         return Put::Without;
     }
@@ -395,25 +434,46 @@ where
     }
 }
 
-/// What is left where bytes are put over a note that is open, and stays so. No bytes take it away, and so does a write or a sync that
-/// fails: an old line beside newer changes would be wrong of the image.
-fn put_over<R: Files<File = File>>(
+/// What is left where bytes are put over a note that is open, and stays so. No bytes take it away, or what was put over a file that said
+/// nothing; a write or a sync that fails takes it away too: an old line beside newer changes would be wrong of the image.
+fn put_over<R: System>(
     rt: &R,
     name: &str,
     file: File,
     bytes: &[u8],
     syncs: bool,
-    open: &mut Option<File>,
+    note: &mut RunNote,
 ) -> Put {
-    if !bytes.is_empty() && written(&file, bytes, syncs).is_ok() {
-        *open = Some(file);
-        return Put::InPlace;
+    if bytes.is_empty() {
+        return put_back(rt, name, &file, syncs, note.blank.take());
     }
-    drop_note(rt, name, &file, syncs)
+    match written(&file, bytes, syncs) {
+        Ok(had) => {
+            note.stood(had);
+            note.open = Some(file);
+            Put::InPlace
+        }
+        Err(_) => drop_note(rt, name, &file, syncs),
+    }
+}
+
+/// What is left where bytes are put under the name of a file of this length that was taken away.
+fn put_anew<R: System>(
+    rt: &R,
+    place: &Place<'_>,
+    bytes: &[u8],
+    syncs: bool,
+    had: u64,
+    note: &mut RunNote,
+) -> Put {
+    if !bytes.is_empty() {
+        note.stood(had);
+    }
+    put_new(rt, place, bytes, syncs, &mut note.open)
 }
 
 /// The note that is open, if it has its name still.
-fn still_open<R: Files<File = File>>(rt: &R, name: &str, open: &mut Option<File>) -> Option<File> {
+fn still_open<R: System>(rt: &R, name: &str, open: &mut Option<File>) -> Option<File> {
     let file = open.take()?;
     let named = fs::symlink_metadata(rt, name).ok()?;
     if is_same(&file.metadata().ok()?, &named) {
@@ -424,30 +484,28 @@ fn still_open<R: Files<File = File>>(rt: &R, name: &str, open: &mut Option<File>
 }
 
 /// Puts bytes in place of a note, and on the disk too where `syncs` says so. One that can't be written is taken away and made anew,
-/// and so is one of the caller's own whose bits are wider than the image's. No bytes take it away. `open` has the note where it was
-/// read or put by this run: it was judged then, and is judged again only where another file has taken its name.
-pub fn put_note<R>(
+/// and so is one of the caller's own whose bits are wider than the image's. No bytes take it away; a file that said nothing when this run
+/// put a line over it stays, as empty as it was. `note` has it open where it was read or put by this run: it was judged then, and is judged
+/// again only where another file has taken its name.
+pub fn put_note<R: System>(
     rt: &R,
     place: &Place<'_>,
     bytes: &[u8],
     syncs: bool,
-    open: &mut Option<File>,
-) -> Put
-where
-    R: Files<File = File> + AllocGlobal,
-{
+    note: &mut RunNote,
+) -> Put {
     let name = place.name();
-    if let Some(file) = still_open(rt, name, open) {
-        return put_over(rt, name, file, bytes, syncs, open);
+    if let Some(file) = still_open(rt, name, &mut note.open) {
+        return put_over(rt, name, file, bytes, syncs, note);
     }
     if is_among_devices(rt, folder_of(name)) {
         return Put::Without;
     }
     match standing(rt, place) {
-        Stands::Nothing => put_new(rt, place, bytes, syncs, open),
-        Stands::Note(file) => put_over(rt, name, file, bytes, syncs, open),
+        Stands::Nothing => put_new(rt, place, bytes, syncs, &mut note.open),
+        Stands::Note(file) => put_over(rt, name, file, bytes, syncs, note),
         Stands::Closed(found, fitness) => match remove(rt, name, &found) {
-            Ok(()) => put_new(rt, place, bytes, syncs, open),
+            Ok(()) => put_anew(rt, place, bytes, syncs, found.len(), note),
             Err(_) if fitness == Fitness::TooWide => Put::Without,
             Err(_) => cut(rt, name, &found, syncs),
         },

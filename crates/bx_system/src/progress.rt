@@ -1,4 +1,5 @@
 //! How far long work is: one line on a terminal, from the first second on, which is erased at the end.
+use crate::system::System;
 use std::cell::Cell;
 use std::io::{self, Read};
 use std::time::{Clock, Duration, Instant};
@@ -24,7 +25,7 @@ pub struct Progress<'r, R> {
     pub shows: bool,
 }
 
-impl<'r, R: Clock + Eprint> Progress<'r, R> {
+impl<'r, R: System> Progress<'r, R> {
     /// Nothing is passed yet of `total` bytes, where their number is known. `shows` says whether there is a line.
     pub fn new(rt: &'r R, shows: bool, total: Option<u64>) -> Progress<'r, R> {
         Progress {
@@ -129,14 +130,14 @@ pub struct Counted<'p, 'r, I, R> {
     progress: &'p Progress<'r, R>,
 }
 
-impl<'p, 'r, I: Read, R: Clock + Eprint> Counted<'p, 'r, I, R> {
+impl<'p, 'r, I: Read, R: System> Counted<'p, 'r, I, R> {
     /// A reader of an input.
     pub fn new(input: I, progress: &'p Progress<'r, R>) -> Counted<'p, 'r, I, R> {
         Counted { input, progress }
     }
 }
 
-impl<I: Read, R: Clock + Eprint> Read for Counted<'_, '_, I, R> {
+impl<I: Read, R: System> Read for Counted<'_, '_, I, R> {
     fn read(&mut self, buf: &mut [u8]) -> io::Result<usize> {
         let outcome = self.input.read(buf);
         if let Ok(count) = &outcome {

@@ -2,6 +2,7 @@
 ghost use Rattle.std.specs.Prelude.{◌≡◌, ◌≤◌, [], IfErr, IfOk, None, length};
 ghost use Rattle.bx_system.specs.Unseen.{unseen};
 
+use crate::facts::alias::Identity;
 use crate::facts::dev::is_among_devices;
 use crate::facts::stat::{caller_of, is_group_given, stat_of};
 use crate::files::counted_file::CountedFile;
@@ -14,10 +15,11 @@ use crate::files::mode::Permits;
 use crate::files::open::{fixed_length_of, length_of, open_there, open_to_read, take_away};
 use crate::files::opened::{Known, OpenFile};
 use crate::folders::{folder_of, sync_folder};
-use crate::note::{self, NoteNames, Place, Put};
+use crate::note::{self, NoteNames, Place, Put, RunNote};
 use crate::noted::Noted;
 use crate::progress::{Counted, Progress};
 use crate::refusal::{refused, unmade, unopened};
+use crate::system::System;
 use crate::tally::Tally;
 use bx_image::FileImage;
 use bx_journal_store::{FileText, TextStore};
@@ -27,9 +29,7 @@ use std::alloc::AllocError;
 use std::cell::Cell;
 use std::fs::{self, File, Metadata, TryLockError};
 use std::io::{self, Seek, SeekFrom, Write};
-use std::os::unix::fs::MetadataExt;
-use std::rt::Files;
-use std::time::Clock;
+use std::mem::replace;
 
 /// Where the failures of a redo text begin to count.
 const FIRST_OF_REDO: u64 = 1 << 32;
@@ -40,13 +40,6 @@ struct Lent {
     image: Known,
     journal: Known,
     redo: Known,
-}
-
-/// The folder whose names were put on the disk last, by the system's numbers.
-#[derive(Clone, Copy, PartialEq, Eq)]
-struct Folder {
-    device: u64,
-    inode: u64,
 }
 
 /// The system as a world: each call is the system's own. That it does what the trait says of a faithful world is trusted, so it
@@ -66,14 +59,15 @@ pub struct SystemWorld<'p, 'r, R> {
     lent: Lent,
     // how many bytes those have that are lent to be read: texts, or images that are compared
     to_read: u64,
-    kept: Option<Folder>,
+    // the folder whose names were put on the disk last
+    kept: Option<Identity>,
     locks: Locks,
     // the names of the files that a note stands beside; none where none is kept
     note: Option<NoteNames>,
     // what the system had of the image that was lent last, where a note is kept
     image: Option<Metadata>,
-    // the note, once it was read or put, where it may be written in place
-    open_note: Option<File>,
+    // what this run knows of the note
+    run_note: RunNote,
     /// What the devices of the last session said.
     pub left: Left,
     /// Whether a name was refused its place on the disk.
@@ -88,10 +82,7 @@ pub struct SystemWorld<'p, 'r, R> {
     pub is_without_note: bool,
 }
 
-impl<'p, 'r, R> SystemWorld<'p, 'r, R>
-where
-    R: Files<File = File> + Print + Eprint + Clock + AllocGlobal,
-{
+impl<'p, 'r, R: System> SystemWorld<'p, 'r, R> {
     /// The system that this process runs in. `waits` says whether a sync waits until the disk has all; else it does nothing, and
     /// no name is put on the disk. `progress` counts what is read of the texts, and what is written.
     pub fn new(rt: &'r R, progress: &'p Progress<'r, R>, waits: bool) -> Self {
@@ -112,7 +103,7 @@ where
             locks: Locks::PASSING,
             note: None,
             image: None,
-            open_note: None,
+            run_note: RunNote::new(),
             left: Left::NOTHING,
             is_unkept: false,
             unwritten: None,
@@ -208,10 +199,9 @@ where
 
     /// Puts the names that a folder has on the disk, unless that was done last and no file was made since.
     fn keep(&mut self, folder: &str) -> io::Result<()> {
-        let found = fs::metadata(self.rt, folder).ok().map(|found| Folder {
-            device: found.dev(),
-            inode: found.ino(),
-        });
+        let found = fs::metadata(self.rt, folder)
+            .ok()
+            .map(|found| Identity::of(&found));
         if found.is_some() && found == self.kept {
             return Ok(());
         }
@@ -264,10 +254,7 @@ fn put<W: Write>(out: &mut W, bytes: &[u8]) -> Result<(), Unwritten>
     }
 }
 
-impl<'p, 'r, R> World for SystemWorld<'p, 'r, R>
-where
-    R: Files<File = File> + Print + Eprint + Clock + AllocGlobal,
-{
+impl<'p, 'r, R: System> World for SystemWorld<'p, 'r, R> {
     type Image = FileImage<CountedFile<'p, 'r, R>>;
 
     type Text = FileText<CountedFile<'p, 'r, R>>;
@@ -383,7 +370,7 @@ where
         let file = open_there(self.rt, name, false).map_err(unopened)?;
         Ok(OpenFile::new(
             CountedFile::image(held(file, self.waits), self.progress),
-            Known::of_input(),
+            Known::of_image(None, false),
         ))
     }
 
@@ -596,19 +583,19 @@ where
         };
         let mut open = None;
         let count = note::read(self.rt, &place, buf, &mut open).map_err(refused)?;
-        self.open_note = open;
+        self.run_note.open = open;
         Ok(count.min(buf.len()))
     }
 
     fn put_note(&mut self, bytes: &[u8], synced: bool) -> bx_world::Noted {
-        let mut open = self.open_note.take();
+        let mut note = replace(&mut self.run_note, RunNote::new());
         let put = match self.place() {
             Some(place) => {
-                note::put_note(self.rt, &place, bytes, synced && self.waits, &mut open)
+                note::put_note(self.rt, &place, bytes, synced && self.waits, &mut note)
             }
             None => Put::Without,
         };
-        self.open_note = open;
+        self.run_note = note;
         self.is_without_note = put == Put::Without && !bytes.is_empty();
         match put {
             Put::InPlace => bx_world::Noted::Put,
@@ -622,6 +609,8 @@ where
     }
 
     fn drop_note(&mut self) -> Result<(), Refusal> {
+        // Whatever stood there before: the history goes, and all that was said of it.
+        self.run_note.blank = None;
         match self.put_note(&[], true) {
             bx_world::Noted::Put | bx_world::Noted::Without => Ok(()),
             bx_world::Noted::Stands => Err(Refusal::Other(None)),

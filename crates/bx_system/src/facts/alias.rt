@@ -1,8 +1,8 @@
 //! Two names of one file.
+use crate::system::System;
 use std::fs::{self, File, Metadata};
 use std::io;
 use std::os::unix::fs::MetadataExt;
-use std::rt::Files;
 
 /// Which file it is: the device that it stands on, and its number there.
 #[derive(Clone, Copy, PartialEq, Eq)]
@@ -27,7 +27,7 @@ pub fn is_same(a: &Metadata, b: &Metadata) -> bool {
 }
 
 /// Whether a file is empty, and the name its own and no link.
-pub fn is_untouched<R: Files<File = File>>(rt: &R, name: &str, file: &File) -> io::Result<bool> {
+pub fn is_untouched<R: System>(rt: &R, name: &str, file: &File) -> io::Result<bool> {
     let opened = file.metadata()?;
     let named = fs::symlink_metadata(rt, name)?;
     Ok(opened.len() == 0 && is_same(&opened, &named))

@@ -1,17 +1,14 @@
 //! The folder of devices, where no file is made.
-use std::fs::{self, File};
+use crate::system::System;
+use std::fs;
 use std::os::unix::fs::MetadataExt;
-use std::rt::Files;
 
 /// The folder that the system keeps its devices in.
 const DEVICES: &str = "/dev";
 
 /// Whether a folder is of the file system that has the devices. One in it that is a file system of its own, as `/dev/shm`, isn't.
 /// Where the devices have none of their own, the folder is theirs or below it.
-pub fn is_among_devices<R>(rt: &R, folder: &str) -> bool
-where
-    R: Files<File = File> + AllocGlobal,
-{
+pub fn is_among_devices<R: System>(rt: &R, folder: &str) -> bool {
     let (Ok(found), Ok(devices)) = (fs::metadata(rt, folder), fs::metadata(rt, DEVICES)) else {
         return false;
     };
@@ -23,10 +20,7 @@ where
 }
 
 /// Whether a folder is that of the devices, or below it, once all links are followed.
-fn is_below<R>(rt: &R, folder: &str) -> bool
-where
-    R: Files<File = File> + AllocGlobal,
-{
+fn is_below<R: System>(rt: &R, folder: &str) -> bool {
     let Ok(place) = fs::canonicalize(rt, folder) else {
         return false;
     };

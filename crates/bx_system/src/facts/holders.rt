@@ -3,10 +3,10 @@
 //! A device has a folder with a link by the name of each holder. Whether a folder has a name in it is asked for each name in
 //! the table of all devices, since listing a folder takes bounds that each caller would have to have too.
 use crate::facts::tables::{Unknown, column, is_part, table_of};
+use crate::system::System;
 use std::alloc::AllocError;
-use std::fs::{self, File};
+use std::fs;
 use std::io::ErrorKind;
-use std::rt::Files;
 
 /// All block devices that have a length, a line for each: its number in two columns, its length and its name.
 const DEVICES: &str = "/proc/partitions";
@@ -16,10 +16,7 @@ const DEVICES: &str = "/proc/partitions";
 ///
 /// # Errors
 /// Where it isn't known.
-pub fn is_held<R>(rt: &R, number: &str) -> Result<bool, Unknown>
-where
-    R: Files<File = File> + AllocGlobal,
-{
+pub fn is_held<R: System>(rt: &R, number: &str) -> Result<bool, Unknown> {
     let Some(table) = table_of(rt, DEVICES)? else {
         return Ok(false);
     };
@@ -30,10 +27,7 @@ where
 }
 
 /// Whether a device of the table stands on this one or on a partition of it.
-fn is_part_held<R>(rt: &R, table: &[u8], number: &str) -> Result<bool, AllocError>
-where
-    R: Files<File = File> + AllocGlobal,
-{
+fn is_part_held<R: System>(rt: &R, table: &[u8], number: &str) -> Result<bool, AllocError> {
     for line in table.split(|byte| *byte == b'\n') {
         let (major, minor) = (column(line, 0), column(line, 1));
         let used = format!(in rt.alloc(); "{major}:{minor}")?;
@@ -46,10 +40,7 @@ where
 }
 
 /// Whether a device of the table stands on the one in this place below `/sys/dev/block`.
-fn has_holder<R>(rt: &R, table: &[u8], place: &str) -> Result<bool, AllocError>
-where
-    R: Files<File = File> + AllocGlobal,
-{
+fn has_holder<R: System>(rt: &R, table: &[u8], place: &str) -> Result<bool, AllocError> {
     for line in table.split(|byte| *byte == b'\n') {
         let name = column(line, 3);
         if !name.is_empty() && is_holder(rt, place, name)? {
@@ -61,10 +52,7 @@ where
 
 /// Whether the device with this name stands on the one in this place; also where the system doesn't say. In its folders `!`
 /// stands for the `/` of a name.
-fn is_holder<R>(rt: &R, place: &str, name: &str) -> Result<bool, AllocError>
-where
-    R: Files<File = File> + AllocGlobal,
-{
+fn is_holder<R: System>(rt: &R, place: &str, name: &str) -> Result<bool, AllocError> {
     let name = name.replace(rt.alloc(), '/', "!")?;
     let name = name.as_str();
     let link = format!(in rt.alloc(); "/sys/dev/block/{place}/holders/{name}")?;

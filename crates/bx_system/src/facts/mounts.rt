@@ -5,10 +5,10 @@
 //! writing all the same, and then refuses each write; its table is read before.
 use crate::facts::holders::is_held;
 use crate::facts::tables::{Unknown, field, is_part, number_text, table_of};
+use crate::system::System;
 use std::alloc::AllocError;
-use std::fs::{self, File, Metadata};
+use std::fs::{self, Metadata};
 use std::os::unix::fs::{FileTypeExt, MetadataExt};
-use std::rt::Files;
 
 /// The mounts that this process sees, a line for each.
 const MOUNTS: &str = "/proc/self/mountinfo";
@@ -21,10 +21,7 @@ const SWAPS: &str = "/proc/swaps";
 ///
 /// # Errors
 /// Where it isn't known.
-pub fn is_mounted<R>(rt: &R, device: &Metadata) -> Result<bool, Unknown>
-where
-    R: Files<File = File> + AllocGlobal,
-{
+pub fn is_mounted<R: System>(rt: &R, device: &Metadata) -> Result<bool, Unknown> {
     let Some(table) = table_of(rt, MOUNTS)? else {
         return Err(Unknown::NoTable);
     };
@@ -38,10 +35,7 @@ where
 ///
 /// # Errors
 /// Where memory is short.
-pub fn is_read_only<R>(rt: &R, device: &Metadata) -> Result<bool, AllocError>
-where
-    R: Files<File = File> + AllocGlobal,
-{
+pub fn is_read_only<R: System>(rt: &R, device: &Metadata) -> Result<bool, AllocError> {
     let number = number_text(rt.alloc(), device.rdev())?;
     let number = number.as_str();
     // The second is that of the disk that a partition stands on.
@@ -58,10 +52,7 @@ where
 
 /// Whether a line of the mounts names this device or a partition of it: by its number, or, where the file system has a number of
 /// its own, as btrfs has, by its name.
-fn is_in_table<R>(rt: &R, table: &[u8], number: &str) -> bool
-where
-    R: Files<File = File> + AllocGlobal,
-{
+fn is_in_table<R: System>(rt: &R, table: &[u8], number: &str) -> bool {
     for line in table.split(|byte| *byte == b'\n') {
         if is_part(rt, field(line, 2), number) || is_named(rt, source(line), number) {
             return true;
@@ -82,10 +73,7 @@ fn source(line: &[u8]) -> &str {
 }
 
 /// Whether this is a name of the device, or of a partition of it.
-fn is_named<R>(rt: &R, name: &str, number: &str) -> bool
-where
-    R: Files<File = File> + AllocGlobal,
-{
+fn is_named<R: System>(rt: &R, name: &str, number: &str) -> bool {
     if !name.starts_with('/') {
         return false;
     }
@@ -104,10 +92,7 @@ where
 ///
 /// # Errors
 /// Where it isn't known.
-fn is_swap<R>(rt: &R, number: &str) -> Result<bool, Unknown>
-where
-    R: Files<File = File> + AllocGlobal,
-{
+fn is_swap<R: System>(rt: &R, number: &str) -> Result<bool, Unknown> {
     let Some(table) = table_of(rt, SWAPS)? else {
         return Ok(false);
     };

@@ -3,12 +3,12 @@ ghost use Rattle.std.specs.Prelude.{◌≡◌, ◌≤◌, IfOk, length};
 
 use crate::facts::mounts::{is_mounted, is_read_only};
 use crate::folders::folder_of;
+use crate::system::System;
 use bx_world::{Classes, Kind, Stat};
 use std::alloc::AllocError;
 use std::fs::{self, File, Metadata};
 use std::io::{self, Read};
 use std::os::unix::fs::{FileTypeExt, MetadataExt};
-use std::rt::Files;
 
 /// The number of root.
 const ROOT: u32 = 0;
@@ -50,10 +50,11 @@ pub fn stat_of(file: &Metadata, is_group_given: bool) -> Stat {
 ///
 /// # Errors
 /// Where memory is short.
-pub fn whole_stat_of<R>(rt: &R, file: &Metadata, is_group_given: bool) -> Result<Stat, AllocError>
-where
-    R: Files<File = File> + AllocGlobal,
-{
+pub fn whole_stat_of<R: System>(
+    rt: &R,
+    file: &Metadata,
+    is_group_given: bool,
+) -> Result<Stat, AllocError> {
     let stat = stat_of(file, is_group_given);
     match stat.kind {
         Kind::Block => Ok(Stat {
@@ -87,7 +88,7 @@ fn classes(bits: u32, group: u32, others: u32) -> Classes {
 /// Whether the group of a file of this name says nothing of its owner, who may have got it from a folder that gives its own: where
 /// others may write the file's folder, or another group may, or it is the owner's. A file keeps its group where it is moved. Also
 /// where that isn't known.
-pub fn is_group_given<R: Files<File = File>>(rt: &R, name: &str, file: &Metadata) -> bool {
+pub fn is_group_given<R: System>(rt: &R, name: &str, file: &Metadata) -> bool {
     match fs::metadata(rt, folder_of(name)) {
         Ok(folder) => {
             let bits = folder.mode();
@@ -100,15 +101,12 @@ pub fn is_group_given<R: Files<File = File>>(rt: &R, name: &str, file: &Metadata
 }
 
 /// Whether a user is root, or the one that this process acts for.
-pub fn is_root_or_caller<R>(rt: &R, user: u32) -> bool
-where
-    R: Files<File = File> + AllocGlobal,
-{
+pub fn is_root_or_caller<R: System>(rt: &R, user: u32) -> bool {
     user == ROOT || user == caller_of(rt)
 }
 
 /// Reads the front of a file, as much as one read gives.
-fn read_front<R: Files<File = File>>(rt: &R, name: &str, front: &mut [u8]) -> io::Result<usize>
+fn read_front<R: System>(rt: &R, name: &str, front: &mut [u8]) -> io::Result<usize>
     ensures within { IfOk result (λ count. count ≤ length front.old) }
     ensures length { length front.new ≡ length front.old }
 {
@@ -117,10 +115,7 @@ fn read_front<R: Files<File = File>>(rt: &R, name: &str, front: &mut [u8]) -> io
 }
 
 /// The user that this process acts for. Where the system doesn't say, it acts for nobody.
-pub fn caller_of<R>(rt: &R) -> u32
-where
-    R: Files<File = File> + AllocGlobal,
-{
+pub fn caller_of<R: System>(rt: &R) -> u32 {
     let mut front = [0; STATUS_FRONT];
     let Ok(count) = read_front(rt, STATUS, &mut front) else {
         return NOBODY;

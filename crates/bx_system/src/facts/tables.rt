@@ -1,8 +1,8 @@
 //! The system's tables of devices, and the numbers that they have there.
+use crate::system::System;
 use std::alloc::{AllocError, Global};
-use std::fs::{self, File};
+use std::fs;
 use std::io::ErrorKind;
-use std::rt::Files;
 
 /// Why it isn't known whether a device is in use.
 #[derive(Clone, Copy, Debug, PartialEq, Eq)]
@@ -23,10 +23,7 @@ impl From<AllocError> for Unknown {
 ///
 /// # Errors
 /// Where the table can't be read.
-pub fn table_of<R>(rt: &R, name: &str) -> Result<Option<Vec<u8>>, Unknown>
-where
-    R: Files<File = File> + AllocGlobal,
-{
+pub fn table_of<R: System>(rt: &R, name: &str) -> Result<Option<Vec<u8>>, Unknown> {
     match fs::read(rt, name) {
         Ok(table) => Ok(Some(table)),
         Err(e) if e.kind() == ErrorKind::NotFound => Ok(None),
@@ -58,10 +55,7 @@ pub fn number_text(alloc: Global, number: u64) -> Result<String, AllocError> {
 }
 
 /// Whether the device with the number `used` is this one, or a partition of it; also where the system doesn't say.
-pub fn is_part<R>(rt: &R, used: &str, number: &str) -> bool
-where
-    R: Files<File = File> + AllocGlobal,
-{
+pub fn is_part<R: System>(rt: &R, used: &str, number: &str) -> bool {
     if used == number {
         return true;
     }

@@ -2,8 +2,8 @@
 ghost use Rattle.std.specs.Prelude.{[]};
 
 use crate::progress::Progress;
+use crate::system::System;
 use bx_image::{FailedCall, RandomAccess, Stop, SystemFile};
-use std::time::Clock;
 
 /// An image, a journal or a redo file. One that is missing is as an empty one, and can't be written, nor can one that is only
 /// read. Progress counts all that is written to it, and of a text, and of an image that is compared, all that is read.
@@ -16,7 +16,7 @@ pub struct CountedFile<'p, 'r, R> {
     is_read: bool,
 }
 
-impl<'p, 'r, R: Clock + Eprint> CountedFile<'p, 'r, R> {
+impl<'p, 'r, R: System> CountedFile<'p, 'r, R> {
     /// An image's file.
     pub fn image(file: SystemFile, progress: &'p Progress<'r, R>) -> CountedFile<'p, 'r, R> {
         CountedFile {
@@ -77,7 +77,7 @@ impl<'p, 'r, R: Clock + Eprint> CountedFile<'p, 'r, R> {
 }
 
 /// What a file gives back is known to no proof, so it never counts as faithful here.
-impl<R: Clock + Eprint> RandomAccess for CountedFile<'_, '_, R> {
+impl<R: System> RandomAccess for CountedFile<'_, '_, R> {
     ghost content = { λ _. [] };
 
     ghost faithful = { λ _. ⊥ };

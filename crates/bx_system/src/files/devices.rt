@@ -3,9 +3,9 @@ ghost use Rattle.std.specs.Prelude.{◌≡◌};
 
 use crate::files::counted_file::CountedFile;
 use crate::progress::Progress;
+use crate::system::System;
 use bx_image::{Device, FileImage, SystemFile};
 use std::fs::File;
-use std::time::Clock;
 
 /// A file as a device holds it. `waits` says whether a sync waits until the disk has all; else it does nothing.
 pub fn held(file: File, waits: bool) -> SystemFile {
@@ -15,7 +15,7 @@ pub fn held(file: File, waits: bool) -> SystemFile {
 }
 
 /// The image of a file, which may have a length that stays.
-pub fn image_of<'p, 'r, R: Clock + Eprint>(
+pub fn image_of<'p, 'r, R: System>(
     file: CountedFile<'p, 'r, R>,
     length: Option<u64>,
 ) -> FileImage<CountedFile<'p, 'r, R>>

@@ -1,9 +1,9 @@
 //! What the devices of a session said as they were given back, for a person who wants to know which of them stopped it.
 use crate::files::counted_file::CountedFile;
+use crate::system::System;
 use bx_image::{Device, FailedCall, FileImage};
 use bx_journal_store::{FileText, TextStore};
 use bx_world::Outgrown;
-use std::time::Clock;
 
 /// What a device said of its calls.
 #[derive(Clone, Copy)]
@@ -45,7 +45,7 @@ impl Left {
     };
 
     /// What three devices said. The failures of the redo text count from `first` on.
-    pub fn of<R: Clock + Eprint>(
+    pub fn of<R: System>(
         image: &FileImage<CountedFile<'_, '_, R>>,
         journal: &FileText<CountedFile<'_, '_, R>>,
         redo: &FileText<CountedFile<'_, '_, R>>,
@@ -64,7 +64,7 @@ impl Left {
 }
 
 /// The length that an image was refused last, as one that can't grow so far.
-fn outgrown_by<R: Clock + Eprint>(image: &FileImage<CountedFile<'_, '_, R>>) -> Option<Outgrown> {
+fn outgrown_by<R: System>(image: &FileImage<CountedFile<'_, '_, R>>) -> Option<Outgrown> {
     let wanted = image.refused()?;
     Some(Outgrown {
         has: image.reserved(),
@@ -73,7 +73,7 @@ fn outgrown_by<R: Clock + Eprint>(image: &FileImage<CountedFile<'_, '_, R>>) -> 
 }
 
 /// What a text said of its calls, whose failures count from `first` on.
-fn ended_text<R: Clock + Eprint>(text: &FileText<CountedFile<'_, '_, R>>, first: u64) -> Ended {
+fn ended_text<R: System>(text: &FileText<CountedFile<'_, '_, R>>, first: u64) -> Ended {
     Ended {
         has_failed: text.faults() > first,
         call: text.file().failed(),

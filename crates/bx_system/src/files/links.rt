@@ -5,11 +5,11 @@ use crate::facts::stat::is_root_or_caller;
 use crate::files::mode::Permits;
 use crate::files::open::{open_there, take_away};
 use crate::folders::{folder_of, sync_folder};
+use crate::system::System;
 use std::alloc::AllocError;
 use std::fs::{self, File, Metadata};
 use std::io::{self, ErrorKind};
 use std::os::unix::fs::MetadataExt;
-use std::rt::Files;
 
 /// As many links in a row are followed, as Linux does.
 const MOST_LINKS: u32 = 40;
@@ -46,15 +46,12 @@ impl From<AllocError> for Unmade {
 /// # Errors
 /// `Misplaced` where a link leads among the devices, or belongs to somebody else than the caller and root, who could choose by it
 /// what the caller makes.
-pub fn make_image<R>(
+pub fn make_image<R: System>(
     rt: &R,
     name: &str,
     permits: Permits,
     waits: bool,
-) -> Result<(File, bool), Unmade>
-where
-    R: Files<File = File> + AllocGlobal,
-{
+) -> Result<(File, bool), Unmade> {
     match permits.make(rt, name) {
         Ok(file) => Ok((file, true)),
         // Another program made it by now, or a link leads to a file that is missing.
@@ -65,10 +62,12 @@ where
 
 /// Makes the image that a link leads to, and says whether this run made it. Where another program made it by now it is opened, and
 /// not made once more if it is missing again; and where its place has no name here, it is opened by the link's name.
-fn make_linked<R>(rt: &R, name: &str, permits: Permits, waits: bool) -> Result<(File, bool), Unmade>
-where
-    R: Files<File = File> + AllocGlobal,
-{
+fn make_linked<R: System>(
+    rt: &R,
+    name: &str,
+    permits: Permits,
+    waits: bool,
+) -> Result<(File, bool), Unmade> {
     let mut link = String::from_str(rt.alloc(), name)?;
     for _ in 0..MOST_LINKS {
         let Some(found) = own_link(rt, link.as_str())? else {
@@ -98,10 +97,7 @@ fn as_found(opened: io::Result<File>) -> Result<(File, bool), Unmade> {
 }
 
 /// A file that was made at a place, whose name is put on the disk where `waits` says so, or else is taken away again.
-fn kept<R>(rt: &R, place: &str, file: File, waits: bool) -> Result<File, Unmade>
-where
-    R: Files<File = File> + AllocGlobal,
-{
+fn kept<R: System>(rt: &R, place: &str, file: File, waits: bool) -> Result<File, Unmade> {
     if !waits {
         return Ok(file);
     }
@@ -115,10 +111,7 @@ where
 }
 
 /// Refuses a place among the devices.
-pub fn refuse_among_devices<R>(rt: &R, place: &str) -> Result<(), Unmade>
-where
-    R: Files<File = File> + AllocGlobal,
-{
+pub fn refuse_among_devices<R: System>(rt: &R, place: &str) -> Result<(), Unmade> {
     if is_among_devices(rt, folder_of(place)) {
         return Err(Unmade::Misplaced(Misplaced::AmongDevices));
     }
@@ -126,10 +119,7 @@ where
 }
 
 /// The link of this name, where it is one; refused where it belongs to somebody else than the caller and root.
-fn own_link<R>(rt: &R, name: &str) -> Result<Option<Metadata>, Unmade>
-where
-    R: Files<File = File> + AllocGlobal,
-{
+fn own_link<R: System>(rt: &R, name: &str) -> Result<Option<Metadata>, Unmade> {
     match fs::symlink_metadata(rt, name) {
         Ok(found) if !found.is_symlink() => Ok(None),
         Ok(found) if is_root_or_caller(rt, found.uid()) => Ok(Some(found)),
@@ -139,10 +129,7 @@ where
 }
 
 /// Refuses a name that has another link by now than the one that was looked at: what was read may be of a link of somebody else.
-fn refuse_another<R>(rt: &R, name: &str, link: &Metadata) -> Result<(), Unmade>
-where
-    R: Files<File = File> + AllocGlobal,
-{
+fn refuse_another<R: System>(rt: &R, name: &str, link: &Metadata) -> Result<(), Unmade> {
     match own_link(rt, name)? {
         Some(found) if is_same(&found, link) => Ok(()),
         Some(_) | None => Err(Unmade::Misplaced(Misplaced::OfAnother)),
@@ -150,10 +137,7 @@ where
 }
 
 /// The place that a link leads to; none where it is no link, or no name of a place here.
-fn target_of<R>(rt: &R, link: &str) -> Option<String>
-where
-    R: Files<File = File> + AllocGlobal,
-{
+fn target_of<R: System>(rt: &R, link: &str) -> Option<String> {
     let target = fs::read_link(rt, link).ok()?.into_string();
     if target.as_str().starts_with('/') {
         return Some(target);

@@ -1,11 +1,11 @@
 //! Who may read the texts of an image: nobody who may not read the image.
 use crate::facts::alias::is_untouched;
 use crate::facts::stat::stat_of;
+use crate::system::System;
 use bx_world::{Classes, Stat};
 use std::fs::{self, File, Metadata, TryLockError};
 use std::io;
 use std::os::unix::fs::{FileTypeExt, MetadataExt, OpenOptionsExt, fchown};
-use std::rt::Files;
 
 /// The bits to read and to write, of all three classes.
 const READ_AND_WRITE: u32 = 0o666;
@@ -48,7 +48,7 @@ impl Permits {
     /// Makes a file that is missing. Its bits are given at its opening, and the umask narrows them. Where it can't have the
     /// image's group, it is made anew without the bits of the group, which are those of another one; but not where another run
     /// has it locked by now, or another file has its name, which is refused later.
-    pub fn make<R: Files<File = File>>(self, rt: &R, name: &str) -> io::Result<File> {
+    pub fn make<R: System>(self, rt: &R, name: &str) -> io::Result<File> {
         let file = self.make_new(rt, name)?;
         let bits = self.narrowed(&file);
         if bits == self.bits
@@ -76,7 +76,7 @@ impl Permits {
         }
     }
 
-    fn make_new<R: Files<File = File>>(self, rt: &R, name: &str) -> io::Result<File> {
+    fn make_new<R: System>(self, rt: &R, name: &str) -> io::Result<File> {
         let mut how = File::options();
         // With its bits from the first moment on: set afterwards, somebody could have it open by then.
         how.read(true).write(true).create_new(true).mode(self.bits);
@@ -84,7 +84,7 @@ impl Permits {
     }
 
     /// Opens a file that may be missing, and then makes it with these bits.
-    pub fn open<R: Files<File = File>>(self, rt: &R, name: &str) -> io::Result<File> {
+    pub fn open<R: System>(self, rt: &R, name: &str) -> io::Result<File> {
         let mut how = File::options();
         how.read(true).write(true).create(true).mode(self.bits);
         how.open(rt, name)

@@ -1,12 +1,12 @@
 //! Opening one file, its lock, and taking away what was made.
 use crate::facts::alias::is_untouched;
+use crate::system::System;
 use std::fs::{self, File, Metadata, TryLockError};
 use std::io::{self, ErrorKind, Seek, SeekFrom};
 use std::os::unix::fs::FileTypeExt;
-use std::rt::Files;
 
 /// Opens a file that is there.
-pub fn open_there<R: Files<File = File>>(rt: &R, name: &str, writes: bool) -> io::Result<File> {
+pub fn open_there<R: System>(rt: &R, name: &str, writes: bool) -> io::Result<File> {
     let mut how = File::options();
     how.read(true).write(writes);
     how.open(rt, name)
@@ -14,7 +14,7 @@ pub fn open_there<R: Files<File = File>>(rt: &R, name: &str, writes: bool) -> io
 
 /// Opens a regular file to read it. Where it may be written it is opened for that too: a pipe that has taken its place by now is
 /// then open at once, and else not before somebody writes it. The system can't be asked for that in another way here.
-pub fn open_regular<R: Files<File = File>>(rt: &R, name: &str) -> io::Result<File> {
+pub fn open_regular<R: System>(rt: &R, name: &str) -> io::Result<File> {
     match open_there(rt, name, true) {
         Ok(file) => Ok(file),
         Err(error) if error.kind() == ErrorKind::NotFound => Err(error),
@@ -23,7 +23,7 @@ pub fn open_regular<R: Files<File = File>>(rt: &R, name: &str) -> io::Result<Fil
 }
 
 /// Opens a regular file or a block device to read it, and refuses any other one that has taken its place.
-pub fn open_to_read<R: Files<File = File>>(rt: &R, name: &str) -> io::Result<File> {
+pub fn open_to_read<R: System>(rt: &R, name: &str) -> io::Result<File> {
     let kind = fs::metadata(rt, name)?.file_type();
     let file = if kind.is_file() {
         open_regular(rt, name)?
@@ -89,7 +89,7 @@ pub fn lock_shared(file: &File) -> Result<(), TryLockError> {
 
 /// Takes a file away that this run made, if it is still empty and still has its name. Where the name is a link to it, the link
 /// stays.
-pub fn take_away<R: Files<File = File> + AllocGlobal>(rt: &R, name: &str, file: &File) {
+pub fn take_away<R: System>(rt: &R, name: &str, file: &File) {
     if is_untouched(rt, name, file).is_ok_and(|is| is) {
         let _ = fs::remove_file(rt, name);
     } else if let Ok(place) = fs::canonicalize(rt, name) {

@@ -3,12 +3,11 @@ use crate::facts::alias::Identity;
 use crate::facts::stat::whole_stat_of;
 use crate::files::counted_file::CountedFile;
 use crate::refusal::refused;
+use crate::system::System;
 use bx_world::{Refusal, Stat};
 use std::cell::Cell;
 use std::fs::{self, File, Metadata};
 use std::io;
-use std::rt::Files;
-use std::time::Clock;
 
 /// What a file is opened as.
 #[derive(Clone, Copy, PartialEq, Eq)]
@@ -21,7 +20,7 @@ pub enum Role {
 
 impl Role {
     /// What stands under a name: of an image, what its links lead to.
-    pub fn found<R: Files<File = File>>(self, rt: &R, name: &str) -> io::Result<Metadata> {
+    pub fn found<R: System>(self, rt: &R, name: &str) -> io::Result<Metadata> {
         match self {
             Role::Image => fs::metadata(rt, name),
             Role::Text => fs::symlink_metadata(rt, name),
@@ -43,7 +42,7 @@ pub struct Known {
 }
 
 impl Known {
-    /// Of an image of this length, where it can't have another one.
+    /// Of an image of this length, where it can't have another one, or of an input: behind whatever links lead to it.
     pub fn of_image(length: Option<u64>, made: bool) -> Known {
         Known {
             role: Role::Image,
@@ -51,11 +50,6 @@ impl Known {
             is_group_given: false,
             made,
         }
-    }
-
-    /// Of an input, behind whatever links lead to it.
-    pub fn of_input() -> Known {
-        Known::of_image(None, false)
     }
 
     /// Of a text.
@@ -80,7 +74,7 @@ pub struct OpenFile<'p, 'r, R> {
     identity: Cell<Option<Identity>>,
 }
 
-impl<'p, 'r, R: Eprint + Clock> OpenFile<'p, 'r, R> {
+impl<'p, 'r, R: System> OpenFile<'p, 'r, R> {
     /// A file about which the system was asked nothing yet.
     pub(crate) fn new(file: CountedFile<'p, 'r, R>, known: Known) -> Self {
         OpenFile {
@@ -128,10 +122,7 @@ impl<'p, 'r, R: Eprint + Clock> OpenFile<'p, 'r, R> {
     }
 
     /// What the system tells of the file.
-    pub fn stat(&self, rt: &R) -> Result<Stat, Refusal>
-    where
-        R: Files<File = File> + AllocGlobal,
-    {
+    pub fn stat(&self, rt: &R) -> Result<Stat, Refusal> {
         match whole_stat_of(rt, &self.metadata()?, self.known.is_group_given) {
             Ok(stat) => Ok(stat),
             Err(_) => Err(Refusal::Other(None)),

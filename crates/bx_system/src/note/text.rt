@@ -91,12 +91,13 @@ pub fn is_own(file: &File, name: &str) -> io::Result<bool> {
     Ok(room.get(..count).is_some_and(|text| is_note(text)))
 }
 
-/// Writes bytes over the first ones of a file, and gives it their length. It is never cut to nothing in between: whoever reads it
-/// meanwhile finds old bytes or new ones. No file takes its place, so whoever has it open has it still.
-pub fn put_in_place(file: &File, bytes: &[u8]) -> io::Result<()> {
+/// Writes bytes over the first ones of a file, gives it their length, and answers which length it had. It is never cut to nothing in
+/// between: whoever reads it meanwhile finds old bytes or new ones. No file takes its place, so whoever has it open has it still.
+pub fn put_in_place(file: &File, bytes: &[u8]) -> io::Result<u64> {
+    let had = file.metadata()?.len();
     file.write_all_at(bytes, 0)?;
-    if file.metadata()?.len() == bytes.len() as u64 {
-        return Ok(());
+    if had > bytes.len() as u64 {
+        file.set_len(bytes.len() as u64)?;
     }
-    file.set_len(bytes.len() as u64)
+    Ok(had)
 }
