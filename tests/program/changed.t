@@ -288,6 +288,46 @@ image is refused.
   0
   00000000
 
+# What a refused change leaves of the third text
+
+Its line is put before it is refused. Where no third text was there, or no journal, no line is left; a file of that name that says nothing is
+as it was, one without bytes too. Beside a journal a line is followed by another one.
+
+  $ printf ABCDEFGX > a; printf ABCDEFGY > b; bx diff a b > no
+  $ refuses() { # WORDS ..: the status, and how long the third text is
+  >   bx patch "$@" -f no img 2> /dev/null; echo "$? $(stat -c %s img.bxj.image 2> /dev/null || echo none)"
+  > }
+  $ changes '2: 7879'; cp img.bxj.image line; fresh ABCDEFGH; for text in none '' 'image3 ' '\0\0' mine; do
+  >   rm -f img.bxj.image; [ "$text" = none ] || printf %b "$text" > img.bxj.image; refuses; refuses --fresh
+  > done
+  1 none
+  1 none
+  1 0
+  1 0
+  1 7
+  1 7
+  1 7
+  1 7
+  1 4
+  1 4
+  $ cp line img.bxj.image; echo zz > bad; refused 'line 1: bad address' <<< 'revert -f bad img'; refuses; ls img*
+  1 none
+  img
+  $ : > own.image; bx patch -J own -f no img; ls -s own*
+  bx: the image has other bytes at 7
+  0 own.image
+  $ changes '2: 7879'; refuses; rm img.bxj.image; refuses; refuses; : > img.bxj.image; refuses; chmod 444 img.bxj.image; refuses; bx log img
+  1 439
+  1 none
+  1 none
+  1 0
+  1 0
+  1 8 2
+  $ bx undo img; wc -c < img.bxj.image; cat img
+  0
+  439
+  ABCDEFGH
+
 # Texts that say nothing
 
 One that isn't longer than a line, has a line's first word and no byte behind it that a line hasn't, or is zeros alone or empty, is written

@@ -8,8 +8,9 @@ The first line of a block of a document names what it quotes, and --write fills 
     ```rust examples/src/a.rt b   functions and structs of a file by their names, and an impl by impl:NAME of its type
                                   or trait
 
-In docs/HEADLINE.md each definition that a quoted line names is quoted too, or stands in its paragraphs between ` and `.
-The block at the head of a public crate's lib.rt stands in that crate's examples."""
+In docs/HEADLINE.md each definition that a quoted line names is quoted too, or stands in its paragraphs between ` and `;
+in docs/SAFETY.md it does so there or in HEADLINE.md. The block at the head of a public crate's lib.rt stands in that
+crate's examples."""
 import itertools
 import re
 
@@ -106,8 +107,15 @@ def heads():
                 yield f"the example at the head of {name} doesn't stand in examples/src/{path.name}"
 
 
+def shown_in(page):
+    """The names of definitions that a page quotes or explains."""
+    quoted = {word.rpartition("/")[2] for match in BLOCK.finditer(page) for word in match[2].split()}
+    spans = re.findall(r"`([^`\n]+)`", BLOCK.sub("", page))
+    return quoted | {word for span in spans for word in sources.NAME.findall(span)}
+
+
 def check(options):
-    found, bad = Sources(), []
+    found, bad, shown = Sources(), [], set()
     for name in (HEADLINE, "docs/SAFETY.md", "docs/CALLING.md"):
         found.named, page = set(), read(name)
         try:
@@ -115,10 +123,8 @@ def check(options):
         except ValueError as missing:
             return [f"{name}: {missing}"], ""
         bad += sources.generated(name, filled, options.write)
-        if name == HEADLINE:
-            shown = {word.rpartition("/")[2] for match in BLOCK.finditer(page) for word in match[2].split()}
-            spans = re.findall(r"`([^`\n]+)`", BLOCK.sub("", page))
-            shown |= {word for span in spans for word in sources.NAME.findall(span)}
+        shown |= shown_in(page)
+        if name != "docs/CALLING.md":
             bad += [f"{name} neither quotes nor explains {key[2]} of {key[0]}/{key[1]}" for key in sorted(found.named)
                     if key[2] not in shown]
     return [*bad, *heads()], "what is quoted is as its sources have it"

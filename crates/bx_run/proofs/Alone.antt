@@ -17,7 +17,7 @@ use Rattle.bx_world.specs.declared.files.unopened.FileRole.TheVariants.{Image, J
 use Rattle.bx_world.specs.declared.files.unopened.OpenFailure.{OpenFailure}
 use Rattle.bx_world.specs.declared.files.unopened.OpenFailure.TheVariants.{System, Unfit as NotFit, Alias, Another}
 use Rattle.bx_world.proofs.Readable.{unlent}
-use Rattle.bx_run.specs.report.Devices.{HoldFiles, HoldNumbered}
+use Rattle.bx_run_report.specs.report.Devices.{HoldFiles, HoldNumbered}
 use Rattle.bx_run.specs.forget.Forgetting.{AreLent, AreLentTexts, IsFoundOf}
 use Rattle.bx_run.proofs.Apart.{is_alone}
 

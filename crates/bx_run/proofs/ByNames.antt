@@ -9,8 +9,8 @@ use Rattle.bx_world.specs.World.{NothingNewFound, SystemState, Spares, held}
 use Rattle.bx_world.specs.declared.files.guard.Guard.{Guard}
 use Rattle.bx_world.specs.declared.files.names.Names.{Names}
 use Rattle.bx_run.specs.forget.Forgetting.{Empties, ForgetsPart, HasForgotten, Held, IsNoTextNamed, KeepsHistory, LeadToTexts, LosesAll, LosesPart, MayForgetNamed, StopsForgetting, SurvivesEmptying, SurvivesForgetting, TextFiles, found_if, held_by_names, held_by_numbers}
-use Rattle.bx_run.specs.declared.report.error.ReportError.{ReportError}
-use Rattle.bx_run.specs.declared.report.error.ReportError.TheVariants.{Unopened, Unfinished, Another, Stopped}
+use Rattle.bx_run_report.specs.declared.report.error.ReportError.{ReportError}
+use Rattle.bx_run_report.specs.declared.report.error.ReportError.TheVariants.{Unopened, Unfinished, Another, Stopped}
 use Rattle.bx_run.proofs.Emptied.{IsNeither, by_number, spares_bytes}
 use Rattle.bx_run.proofs.Placed.{same_texts}
 

@@ -13,15 +13,15 @@ use Rattle.bx_world.specs.files.Reasons.{MayRefuseOpening, RefusesAsBefore}
 use Rattle.bx_world.specs.declared.files.guard.Guard.{Guard}
 use Rattle.bx_world.specs.declared.files.names.Names.{Names}
 use Rattle.bx_world.specs.declared.files.unopened.OpenError.{OpenError}
-use Rattle.bx_run.specs.session.Changes.{SaysRecovered}
-use Rattle.bx_run.specs.session.Contents.{Contents}
-use Rattle.bx_run.specs.session.Moves.{recovered_line}
-use Rattle.bx_run.specs.session.Named.{IsNamedBy, NothingDone, contents_of}
-use Rattle.bx_run.specs.declared.session.named.Answer.{Answer}
-use Rattle.bx_run.specs.declared.session.task.Task.{Task}
+use Rattle.bx_run_session.specs.session.Changes.{SaysRecovered}
+use Rattle.bx_run_session.specs.session.Contents.{Contents}
+use Rattle.bx_run_session.specs.session.Moves.{recovered_line}
+use Rattle.bx_run_session.specs.session.Named.{IsNamedBy, NothingDone, contents_of}
+use Rattle.bx_run_session.specs.declared.session.named.Answer.{Answer}
+use Rattle.bx_run_session.specs.declared.session.task.Task.{Task}
 use Rattle.bx_run.specs.forget.Forgetting.{DropsNote}
 use Rattle.bx_run.specs.renew.Renewal.{ClearsImage, DoesRenew, EndsNote, IsRefusedBehind, IsRefusedRenewal, KeepsNamed, LeavesKept, LeavesNoImage, NothingRenewed, TellsOpening}
-use Rattle.bx_run.specs.RunState.{RunState}
+use Rattle.bx_run_model.specs.RunState.{RunState}
 use Rattle.bx_run.specs.declared.renew.Renewed.{Renewed}
 use Rattle.bx_run.specs.declared.renew.Renewed.TheVariants.{Kept, Undropped, Changed}
 

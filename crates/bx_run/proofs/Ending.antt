@@ -12,18 +12,18 @@ use Rattle.bx_world.specs.files.Reading.{MayRefuseForgetting}
 use Rattle.bx_world.specs.declared.files.guard.Guard.{Guard}
 use Rattle.bx_world.specs.declared.files.names.Names.{Names}
 use Rattle.bx_world.specs.declared.files.unopened.OpenError.{OpenError as UnopenedFile}
-use Rattle.bx_run.specs.session.Moves.{NothingMoved}
-use Rattle.bx_run.specs.session.Named.{NothingDone}
-use Rattle.bx_run.specs.declared.session.moves.Moved.{Moved as Movement}
-use Rattle.bx_run.specs.declared.session.named.Answer.{Answer}
+use Rattle.bx_run_session.specs.session.Moves.{NothingMoved}
+use Rattle.bx_run_session.specs.session.Named.{NothingDone}
+use Rattle.bx_run_session.specs.declared.session.moves.Moved.{Moved as Movement}
+use Rattle.bx_run_session.specs.declared.session.named.Answer.{Answer}
 use Rattle.bx_run.specs.forget.Forgetting.{IsUntouched, StopsForgetting}
-use Rattle.bx_run.specs.report.Looks.{unopened_in}
-use Rattle.bx_run.specs.declared.report.error.ReportError.{ReportError}
-use Rattle.bx_run.specs.declared.report.error.ReportError.TheVariants.{Another, Unopened, Unfinished, Stopped}
+use Rattle.bx_run_report.specs.report.Looks.{unopened_in}
+use Rattle.bx_run_report.specs.declared.report.error.ReportError.{ReportError}
+use Rattle.bx_run_report.specs.declared.report.error.ReportError.TheVariants.{Another, Unopened, Unfinished, Stopped}
 use Rattle.bx_run.specs.run.Commands.{MayRefuseFile, StopsUnopened}
 use Rattle.bx_run.specs.run.Outcome.{ended_with, task_fault, unopened_fault}
 use Rattle.bx_run.specs.renew.Renewal.{NothingRenewed}
-use Rattle.bx_run.specs.RunState.{RunState}
+use Rattle.bx_run_model.specs.RunState.{RunState}
 use Rattle.bx_run.specs.declared.run.outcome.Outcome.TheVariants as of
 use Rattle.bx_run.specs.declared.renew.Renewed.{Renewed}
 use Rattle.bx_run.specs.declared.renew.Renewed.TheVariants.{Kept}

@@ -1,51 +1,42 @@
 -- The step by what an input asks is the one that puts the input onto the image.
-use Rattle.std.proofs.Common.{◌≡◌, ◌∙◌, ℕ, Bool, true, false, List, Option, None, Some, Result, Ok, Err, ap, refl, subst, sym}
+use Rattle.std.proofs.Common.{ℕ, Bool, true, false, List, Option, None, Some, Result, Ok, Err, subst, sym}
 use Rattle.std.specs.Global.{Global}
 use Rattle.std.specs.Result.{IfOk, OnOk}
 use Rattle.std.specs.Option.{IfSome}
 use Rattle.bx_image.specs.declared.change.Change.{Change}
 use Rattle.bx_read.specs.declared.fault.ReadFault.{ReadFault}
 use Rattle.bx_dd.specs.declared.counts.Counts.{Counts}
-use Rattle.bx_dd.specs.declared.operands.plan.Plan.{Plan}
 use Rattle.bx_journal.specs.Forgotten.{only}
 use Rattle.bx_journal.specs.Images.{Images}
 use Rattle.bx_journal.specs.RecoveryOutcome.{RecoveryOutcome}
 use Rattle.bx_cli_commands.proofs.PutTexts.{dump_is_put}
-use Rattle.bx_cli_commands.specs.Copy.{CopiesBy}
 use Rattle.bx_cli_commands.specs.Inputs.{AsksByDump}
 use Rattle.bx_cli_commands.specs.Replies.{stands_by}
 use Rattle.bx_cli_commands.specs.Standing.{Standing}
-use Rattle.bx_cli_commands.specs.declared.changes.DdChange.{DdChange}
 use Rattle.bx_cli_commands.specs.declared.command.Reply.{Reply}
 use Rattle.bx_world.specs.World.{SystemState}
 use Rattle.bx_world.specs.declared.files.guard.Guard.{Guard}
 use Rattle.bx_world.specs.declared.files.names.Names.{Names}
-use Rattle.bx_run.specs.Edit.{IsEditOf, IsOfInput, asked, task_by}
-use Rattle.bx_run.specs.Input.{Input, InputStep, IsMadeOf, ReadWithin, read_as}
+use Rattle.bx_run_session.specs.Edit.{IsEditOf, asked, task_by}
+use Rattle.bx_run_session.specs.Input.{Input, InputStep, IsMadeOf, ReadWithin, read_as}
 use Rattle.bx_run.specs.Laws.{EditIsPut}
-use Rattle.bx_run.specs.RunState.{RunState}
-use Rattle.bx_run.specs.declared.edit.Edit.{Edit}
-use Rattle.bx_run.specs.declared.edit.Edit.TheVariants as edit
-use Rattle.bx_run.specs.declared.edit.proposal.Proposal.{Proposal}
-use Rattle.bx_run.specs.declared.preview.error.PreviewError.{PreviewError}
+use Rattle.bx_run_model.specs.RunState.{RunState}
+use Rattle.bx_run_session.specs.declared.edit.Edit.{Edit}
+use Rattle.bx_run_session.specs.declared.edit.Edit.TheVariants as edit
+use Rattle.bx_run_session.specs.declared.edit.proposal.Proposal.{Proposal}
+use Rattle.bx_run_session.specs.declared.preview.error.PreviewError.{PreviewError}
 use Rattle.bx_run.specs.declared.renew.Renewed.{Renewed}
 use Rattle.bx_run.specs.declared.renew.Renewed.TheVariants.{Kept, Undropped, Changed}
-use Rattle.bx_run.specs.declared.session.named.Answer.{Answer}
-use Rattle.bx_run.specs.declared.session.task.Task.{Task}
-use Rattle.bx_run.specs.preview.Changing.{DoesChange}
-use Rattle.bx_run.specs.preview.Previews.{DoesPreview}
-use Rattle.bx_run.specs.renew.Renewal.{DoesRenew, RenewsFiles}
+use Rattle.bx_run_session.specs.declared.session.named.Answer.{Answer}
+use Rattle.bx_run.specs.run.Changing.{DoesChange}
+use Rattle.bx_run_session.specs.preview.Previews.{DoesPreview}
+use Rattle.bx_run.specs.renew.Renewal.{RenewsFiles}
 use Rattle.bx_run.specs.run.Edits.{DoesEdit, PreviewsEdit, PreviewsInput, IsPutOn, PutsAnew, PutsFound, PutsInput, PutsRead, RenewsEdit}
-use Rattle.bx_run.specs.session.Changes.{Changes}
-use Rattle.bx_run.specs.session.Contents.{Contents, DoesFound, Holds, StepsRead}
-use Rattle.bx_run.specs.session.Named.{contents_of}
-use Rattle.bx_run.specs.session.Task.{TaskStep}
-
--- what a plan copied, as it was read
-pub made_by_copy : (keeps : Bool) (plan : Plan Global) (given left : Option (List ℕ)) (made : DdChange Global) (proposal : Proposal)
-    → CopiesBy plan given left made → proposal ≡ read_as keeps (Ok made.change) → IsMadeOf keeps (Input.OfCopy plan given left made.counts) proposal
-made_by_copy keeps plan given left made proposal (bytes, copies, is) asked =
-    (bytes, copies, asked ∙ ap (λ (change : Change Global). read_as keeps (Ok change)) is)
+use Rattle.bx_run_session.specs.session.Changes.{Changes}
+use Rattle.bx_run_session.specs.session.Contents.{Contents, DoesFound, Holds, StepsRead}
+use Rattle.bx_run_session.specs.session.Named.{contents_of}
+use Rattle.bx_run_session.specs.session.Task.{TaskStep}
+use Rattle.bx_run_session.proofs.Inputs.{of_input}
 
 module _ {R : Type 0} (remaining : R → Option (List ℕ)) where
   -- what was read of a text that isn't to make the image longer
@@ -153,16 +144,11 @@ module _ {R : Type 0} (remaining : R → Option (List ℕ)) where
         )
     puts_preview name (Err e) old new did = tt
 
-  -- an edit is what some input asks
-  pub of_input : (edit : Edit R) → IsOfInput edit
-  of_input (edit.Read read) = read.made
-  of_input (edit.Copy plan given) = tt
-
   pub does_edit : (edit : Edit R) (names : Names) (answer : Answer) (old new : SystemState) → DoesChange remaining names (asked edit) answer old new
       → DoesEdit remaining edit names answer old new
   does_edit edit names answer old new did = record {
     does = did;
-    made = of_input edit;
+    made = of_input remaining edit;
     puts = λ keeps input is. puts_input edit keeps input is names answer old new did;
   }
 
@@ -170,7 +156,7 @@ module _ {R : Type 0} (remaining : R → Option (List ℕ)) where
       → RenewsFiles remaining names guard (asked edit) renewed old new → RenewsEdit remaining edit names guard renewed old new
   renews_edit edit names guard renewed old new did = record {
     does = did;
-    made = of_input edit;
+    made = of_input remaining edit;
     puts = λ keeps input is. puts_anew edit keeps input is names guard renewed old new did;
   }
 
@@ -178,6 +164,6 @@ module _ {R : Type 0} (remaining : R → Option (List ℕ)) where
       → DoesPreview remaining name (asked edit) outcome old new → PreviewsEdit remaining edit name outcome old new
   previews_edit edit name outcome old new did = record {
     does = did;
-    made = of_input edit;
+    made = of_input remaining edit;
     puts = λ keeps input is. puts_preview edit keeps input is name outcome old new did;
   }

@@ -18,13 +18,14 @@ use Rattle.bx_journal.specs.Opening.{ThreeCounts}
 use Rattle.bx_journal.specs.SessionFault.{SessionFault}
 use Rattle.bx_journal.specs.SessionFault.TheVariants.{NoMemory, TooLarge, DeviceFailed, Damaged, TooFew, JournalFull, Interrupted, Broken, LengthDiffers, NothingToRedo, RedoDamaged}
 use Rattle.bx_world.specs.declared.files.guard.Guard.{Guard}
-use Rattle.bx_run.specs.report.Devices.{HoldBytes}
-use Rattle.bx_run.specs.forget.Forgetting.{EndsWithEntry, IsJudgedOpen, IsOfTexts, IsRecoveredFirst, IsNoteLine, KeepsHistory, MayForget, drops}
-use Rattle.bx_run.specs.report.Looks.{HidesChanges, StopsOpening, unseen_of}
-use Rattle.bx_run.specs.declared.report.noted.NoteLine.{NoteLine}
-use Rattle.bx_run.specs.declared.report.error.ReportError.{ReportError}
-use Rattle.bx_run.specs.declared.report.error.ReportError.TheVariants.{Unopened, Unfinished, Another, Stopped}
-use Rattle.bx_run.proofs.Looking.{opened_refused}
+use Rattle.bx_run_report.specs.report.Devices.{HoldBytes}
+use Rattle.bx_run.specs.forget.Forgetting.{EndsWithEntry, IsJudgedOpen, IsOfTexts, IsRecoveredFirst, KeepsHistory, MayForget, drops}
+use Rattle.bx_run_report.specs.report.Noted.{IsNoteLine}
+use Rattle.bx_run_report.specs.report.Looks.{HidesChanges, StopsOpening, unseen_of}
+use Rattle.bx_run_report.specs.declared.report.noted.NoteLine.{NoteLine}
+use Rattle.bx_run_report.specs.declared.report.error.ReportError.{ReportError}
+use Rattle.bx_run_report.specs.declared.report.error.ReportError.TheVariants.{Unopened, Unfinished, Another, Stopped}
+use Rattle.bx_run_report.proofs.Looking.{opened_refused}
 
 -- a fault of texts is no interruption, and none of a device
 of_texts : (A B : Type 0) (e : SessionFault) → IsOfTexts e → AfterFault e A B → B

@@ -8,16 +8,16 @@ use Rattle.bx_journal.specs.SessionFault.TheVariants.{Interrupted}
 use Rattle.bx_cli_commands.specs.declared.fault.Fault.TheVariants.{Session}
 use Rattle.bx_world.specs.World.{NothingNewBelow, NothingNewFound, SystemState}
 use Rattle.bx_world.specs.declared.files.names.Names.{Names}
-use Rattle.bx_run.specs.session.Contents.{recovered_as}
-use Rattle.bx_run.specs.session.Named.{no_change}
-use Rattle.bx_run.specs.declared.session.task.Task.{Task}
+use Rattle.bx_run_session.specs.session.Contents.{recovered_as}
+use Rattle.bx_run_session.specs.session.Named.{no_change}
+use Rattle.bx_run_session.specs.declared.session.task.Task.{Task}
 use Rattle.bx_run.specs.forget.Forgetting.{Held}
-use Rattle.bx_run.specs.declared.report.error.ReportError.{ReportError}
-use Rattle.bx_run.specs.declared.report.error.ReportError.TheVariants.{Stopped}
+use Rattle.bx_run_report.specs.declared.report.error.ReportError.{ReportError}
+use Rattle.bx_run_report.specs.declared.report.error.ReportError.TheVariants.{Stopped}
 use Rattle.bx_run.specs.renew.Renewal.{LosesUndropped, SurvivesRenewal, SurvivesRenewing, found_there}
 use Rattle.bx_run.specs.declared.renew.Renewed.{Renewed}
 use Rattle.bx_run.specs.declared.renew.Renewed.TheVariants.{Kept, Undropped, Changed}
-use Rattle.bx_run.proofs.Refused.{endures_less}
+use Rattle.bx_run_session.proofs.Refused.{endures_less}
 
 loses_less : (unseen : ReportError) (first : Held) (s : Images) (image journal redo now_image now_journal now_redo : List ℕ → Type 0)
     → NoMore image now_image → NoMore journal now_journal → NoMore redo now_redo → LosesUndropped unseen first s image journal redo

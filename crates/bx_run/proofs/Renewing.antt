@@ -26,21 +26,21 @@ use Rattle.bx_world.specs.files.Files.{AreAllThere, LeadsToMade, LeavesFiles}
 use Rattle.bx_world.specs.declared.files.guard.Guard.{Guard}
 use Rattle.bx_world.specs.declared.files.names.Names.{Names}
 use Rattle.bx_world.specs.declared.files.unopened.OpenError.{OpenError}
-use Rattle.bx_run.specs.session.Changes.{Changes, SaysRecovered}
-use Rattle.bx_run.specs.session.Contents.{Contents, DoesFound, EndsAt, FoundIn, Holds, Survives, SurvivesFound, recovered_as}
-use Rattle.bx_run.specs.session.Moves.{TellsRecovered, recovered_line}
-use Rattle.bx_run.specs.session.Guarded.{WereOpened, another}
-use Rattle.bx_run.specs.session.Named.{AreNotLeft, IsNamedBy, IsUnrecovered, KeepsOthers, LeadTo, MayRefuse, MayRefuseTask, NothingDone, contents_of, no_change}
-use Rattle.bx_run.specs.session.Task.{TaskStep}
-use Rattle.bx_run.specs.declared.session.named.Answer.{Answer}
-use Rattle.bx_run.specs.declared.session.task.Task.{Task}
-use Rattle.bx_run.proofs.Begun.{none_other}
-use Rattle.bx_run.proofs.Refused.{same_spared}
+use Rattle.bx_run_session.specs.session.Changes.{Changes, SaysRecovered}
+use Rattle.bx_run_session.specs.session.Contents.{Contents, DoesFound, EndsAt, FoundIn, Holds, Survives, SurvivesFound, recovered_as}
+use Rattle.bx_run_session.specs.session.Moves.{TellsRecovered, recovered_line}
+use Rattle.bx_run_session.specs.session.Guarded.{WereOpened, another}
+use Rattle.bx_run_session.specs.session.Named.{AreNotLeft, IsNamedBy, IsUnrecovered, KeepsOthers, LeadTo, MayRefuse, MayRefuseTask, NothingDone, contents_of, no_change}
+use Rattle.bx_run_session.specs.session.Task.{TaskStep}
+use Rattle.bx_run_session.specs.declared.session.named.Answer.{Answer}
+use Rattle.bx_run_session.specs.declared.session.task.Task.{Task}
+use Rattle.bx_run_session.proofs.Begun.{none_other}
+use Rattle.bx_run_session.proofs.Refused.{same_spared}
 use Rattle.bx_run.specs.forget.Forgetting.{HasForgotten, IsNoTextNamed, IsOfTexts, IsUntouched, StopsForgetting, SurvivesForgetting, held_by_names}
-use Rattle.bx_run.specs.declared.report.error.ReportError.{ReportError}
-use Rattle.bx_run.specs.declared.report.error.ReportError.TheVariants.{Another as OtherImage, Unopened as UnopenedFile, Unfinished, Stopped}
-use Rattle.bx_run.specs.preview.Changing.{DoesChange}
-use Rattle.bx_run.specs.renew.Renewal.{ChangesAlone, IsDroppable, IsOfAnother, JudgesOpening, KeepsNamed, LosesUndropped, MayDrop, MayNotOpen, only_told}
+use Rattle.bx_run_report.specs.declared.report.error.ReportError.{ReportError}
+use Rattle.bx_run_report.specs.declared.report.error.ReportError.TheVariants.{Another as OtherImage, Unopened as UnopenedFile, Unfinished, Stopped}
+use Rattle.bx_run.specs.run.Changing.{DoesChange}
+use Rattle.bx_run.specs.renew.Renewal.{ChangesAlone, IsDroppable, IsOfAnother, JudgesOpening, KeepsNamed, LosesUndropped, MayDrop, MayNotOpenToDrop, only_told}
 
 -- an undo of no change leaves the images
 undone_none : (s : Images) (i : ℕ) → i ≤ 0 → undo_of i s ≡ s
@@ -132,7 +132,7 @@ never_other remaining guard note names w answer s judged holds other = none_othe
 
 -- why an opening isn't begun
 pub why_told : {R : Type 0} (remaining : R → Option (List ℕ)) (guard told : Guard) (note : List ℕ) (names : Names) (counted : Type 0) (w : SystemState) (u : Option OpenError)
-    → told ≡ only_told guard → IfSome u (MayRefuseTask told true note (no_change {R = R}) names counted w) → IfSome u (MayNotOpen remaining guard note names counted w)
+    → told ≡ only_told guard → IfSome u (MayRefuseTask told true note (no_change {R = R}) names counted w) → IfSome u (MayNotOpenToDrop remaining guard note names counted w)
 why_told {R = R} remaining guard told note names counted w u is why =
     subst (λ (k : Guard). IfSome u (MayRefuseTask k true note (no_change {R = R}) names counted w)) is why
 

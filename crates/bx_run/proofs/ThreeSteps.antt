@@ -5,13 +5,13 @@ use Rattle.bx_journal.specs.Forgotten.{only}
 use Rattle.bx_world.specs.World.{held}
 use Rattle.bx_world.specs.declared.files.guard.Guard.{Guard}
 use Rattle.bx_world.specs.declared.files.names.Names.{Names}
-use Rattle.bx_run.specs.session.Named.{contents_of}
-use Rattle.bx_run.specs.declared.session.named.Answer.{Answer}
-use Rattle.bx_run.specs.declared.session.task.Task.{Task}
-use Rattle.bx_run.specs.declared.report.error.ReportError.{ReportError}
+use Rattle.bx_run_session.specs.session.Named.{contents_of}
+use Rattle.bx_run_session.specs.declared.session.named.Answer.{Answer}
+use Rattle.bx_run_session.specs.declared.session.task.Task.{Task}
+use Rattle.bx_run_report.specs.declared.report.error.ReportError.{ReportError}
 use Rattle.bx_run.specs.forget.Forgetting.{IsNoTextNamed}
 use Rattle.bx_run.specs.renew.Renewal.{DropsTexts, JudgesOpening, OpensToDrop, Renews, StaysUndropped, TakesSteps}
-use Rattle.bx_run.specs.RunState.{RunState}
+use Rattle.bx_run_model.specs.RunState.{RunState}
 use Rattle.bx_run.proofs.Renewing.{changes_alone, holds_alone, holds_undropped, newest, texts_dropped, texts_refused}
 
 module _ {R : Type 0} (remaining : R → Option (List ℕ)) (names : Names) where

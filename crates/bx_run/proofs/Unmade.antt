@@ -11,18 +11,18 @@ use Rattle.bx_world.specs.declared.files.names.Names.{Names}
 use Rattle.bx_world.specs.declared.files.unopened.OpenError.{OpenError}
 use Rattle.bx_world.specs.declared.files.unopened.FileRole.TheVariants.{Image}
 use Rattle.bx_world.specs.declared.files.unopened.OpenFailure.{OpenFailure}
-use Rattle.bx_run.specs.session.Guarded.{another}
-use Rattle.bx_run.specs.session.Named.{contents_of, is_missing, no_change}
-use Rattle.bx_run.specs.declared.session.named.Answer.{Answer}
-use Rattle.bx_run.specs.declared.session.task.Task.{Task}
-use Rattle.bx_run.specs.preview.Changing.{DoesChange}
+use Rattle.bx_run_session.specs.session.Guarded.{another}
+use Rattle.bx_run_session.specs.session.Named.{contents_of, is_missing, no_change}
+use Rattle.bx_run_session.specs.declared.session.named.Answer.{Answer}
+use Rattle.bx_run_session.specs.declared.session.task.Task.{Task}
+use Rattle.bx_run.specs.run.Changing.{DoesChange}
 use Rattle.bx_run.specs.renew.Renewal.{DoesRenew, KeepsNamed, MayDrop, NothingRenewed, RenewsFiles, SurvivesRenewing, TellsOpening, only_told}
-use Rattle.bx_run.specs.RunState.{RunState}
+use Rattle.bx_run_model.specs.RunState.{RunState}
 use Rattle.bx_run.specs.declared.renew.Renewed.{Renewed}
 use Rattle.bx_run.specs.declared.renew.Renewed.TheVariants.{Kept}
-use Rattle.bx_run.proofs.Begun.{never_another, unopened_judged}
+use Rattle.bx_run_session.proofs.Begun.{never_another, unopened_judged}
 use Rattle.bx_run.proofs.Ending.{leaves_same}
-use Rattle.bx_run.proofs.Files.{none_left}
+use Rattle.bx_run_session.proofs.Files.{none_left}
 use Rattle.bx_run.proofs.Renewing.{keeps_itself, keeps_one}
 
 -- the answer where a file isn't opened
@@ -69,6 +69,7 @@ module _ {R : Type 0} (remaining : R → Option (List ℕ)) (names : Names) (gua
           unopened_judged (only_told guard) true (is_missing names.image old.state) old.note (contents_of names old.state) no_change names
               (old.refusals < new.refusals) old.state u why,
           none_left names old.state new.state (leaves_same old.state new.state same),
+          record { unbegun = note; cleared = λ whole none empty. inl note },
         );
         clears = refl;
         left = refl;

@@ -5,12 +5,12 @@ use Rattle.bx_world.specs.declared.files.names.Names.{Names}
 use Rattle.bx_journal.specs.Images.{Images}
 use Rattle.bx_cli_commands.specs.Standing.{Standing}
 use Rattle.bx_cli_commands.specs.declared.command.Reply.{Reply}
-use Rattle.bx_run.specs.Edit.{IsEditOf, asked}
-use Rattle.bx_run.specs.Input.{Input, InputStep}
-use Rattle.bx_run.specs.declared.edit.Edit.{Edit}
-use Rattle.bx_run.specs.session.Contents.{Holds}
-use Rattle.bx_run.specs.session.Named.{contents_of}
-use Rattle.bx_run.specs.session.Task.{TaskStep}
+use Rattle.bx_run_session.specs.Edit.{IsEditOf, asked}
+use Rattle.bx_run_session.specs.Input.{Input, InputStep}
+use Rattle.bx_run_session.specs.declared.edit.Edit.{Edit}
+use Rattle.bx_run_session.specs.session.Contents.{Holds}
+use Rattle.bx_run_session.specs.session.Named.{contents_of}
+use Rattle.bx_run_session.specs.session.Task.{TaskStep}
 
 -- the images of no change
 abbrev pub unchanged : List ℕ → Images

@@ -1,12 +1,4 @@
-pub mod RunState
-pub mod Failures
-pub mod session
-pub mod Input
-pub mod Edit
-pub mod dump
-pub mod report
 pub mod forget
-pub mod preview
 pub mod renew
 pub mod run
 pub mod Laws

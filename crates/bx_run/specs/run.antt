@@ -1,5 +1,6 @@
 -- The one call.
 pub mod Outcome
 pub mod Answer
+pub mod Changing
 pub mod Edits
 pub mod Commands

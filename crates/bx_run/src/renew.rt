@@ -12,22 +12,22 @@ ghost use Rattle.bx_world.specs.declared.files.unopened.OpenFailure.TheVariants.
 ghost use Rattle.bx_world.specs.files.Files.{AreAllThere, LeavesFiles, MakesImage};
 ghost use Rattle.bx_world.specs.files.Fit.{AreFit};
 ghost use Rattle.bx_world.specs.files.Reasons.{MayRefuseOpening};
-ghost use Rattle.bx_run.specs.session.Changes.{SaysRecovered};
-ghost use Rattle.bx_run.specs.session.Contents.{Holds};
-ghost use Rattle.bx_run.specs.session.Guarded.{WereOpened};
-ghost use Rattle.bx_run.specs.session.Named.{AreNotLeft, KeepsOthers, NothingDone, SurvivesTask, contents_of, no_change};
-ghost use Rattle.bx_run.specs.session.Task.{IsNearTask};
-ghost use Rattle.bx_run.specs.preview.Changing.{DoesChange};
+ghost use Rattle.bx_run_session.specs.session.Changes.{SaysRecovered};
+ghost use Rattle.bx_run_session.specs.session.Contents.{Holds};
+ghost use Rattle.bx_run_session.specs.session.Guarded.{WereOpened};
+ghost use Rattle.bx_run_session.specs.session.Named.{AreNotLeft, ClearsNote, KeepsOthers, NothingDone, SurvivesTask, contents_of, is_missing, no_change};
+ghost use Rattle.bx_run_session.specs.session.Task.{IsNearTask};
+ghost use Rattle.bx_run.specs.run.Changing.{DoesChange};
 ghost use Rattle.bx_run.specs.run.Outcome.{first_unopened};
-ghost use Rattle.bx_run.specs.renew.Renewal.{ClearsImage, DoesRenew, EndsNote, IsDroppable, IsOfAnother, IsRefusedBehind, IsRefusedRenewal, JudgesOpening, KeepsNamed, MayDrop, MayNotOpen, NothingRenewed, OpensToDrop, RenewsFiles, SurvivesRenewal, SurvivesRenewing, TellsOpening, is_renewed_failed, only_told};
-ghost use Rattle.bx_run.specs.Failures.{CountsFailure};
-ghost use Rattle.bx_run.specs.RunState.{run_state_beside};
+ghost use Rattle.bx_run.specs.renew.Renewal.{ClearsImage, DoesRenew, EndsNote, IsDroppable, IsOfAnother, IsRefusedBehind, IsRefusedRenewal, JudgesOpening, KeepsNamed, MayDrop, MayNotOpenToDrop, NothingRenewed, OpensToDrop, RenewsFiles, SurvivesRenewal, SurvivesRenewing, TellsOpening, is_renewed_failed, only_told};
+ghost use Rattle.bx_run_model.specs.Failures.{CountsFailure};
+ghost use Rattle.bx_run_model.specs.RunState.{run_state_beside};
 
 use crate::forget::{forget_files, take_note};
-use crate::report::ReportError;
-use crate::session::{Answer, Task, change_files, is_whole_refusal};
 use bx_cli_commands::{Command, Fault, Reply};
 use bx_journal::SessionFault;
+use bx_run_report::ReportError;
+use bx_run_session::{Answer, Task, change_files, is_whole_refusal};
 use bx_world::{
     FileRole, Guard, Names, OpenError, OpenFailure, Refusal, World, make_missing_image,
     unmake_missing_image,
@@ -129,12 +129,14 @@ fn open_to_drop<W: World, R: Read + Drop>(
     ensures unopened { W.faithful world.old
         → IfSome result.unopened (λ _. NothingDone result.reply result.how (W.state world.old) (W.state world.new)) }
     ensures why_unopened { W.faithful world.old
-        → IfSome result.unopened (MayNotOpen R.remaining guard (W.note world.old) names.now (W.refusals world.old < W.refusals world.new)
+        → IfSome result.unopened (MayNotOpenToDrop R.remaining guard (W.note world.old) names.now (W.refusals world.old < W.refusals world.new)
         (W.state world.old)) }
     ensures fit { W.faithful world.old → WereOpened result.unopened → AreFit names.now guard.mounted (W.state world.old) }
     ensures opened { W.faithful world.old → MayDrop result → WereOpened result.unopened }
     ensures judged { W.faithful world.old → JudgesOpening R.remaining guard (W.note world.old) names.now (W.state world.old) result }
     ensures counted { W.faithful world.old → CountsFailure (is_failure result.reply) (W.refusals world.old) (W.refusals world.new) }
+    ensures note { W.faithful world.old → ClearsNote (IsWholeRefusal result.reply) result.unopened result.how
+        (is_missing names.now.journal (W.state world.old)) (W.refusals world.old < W.refusals world.new) (W.note world.old) (W.note world.new) }
     ensures others { W.faithful world.old → KeepsOthers names.now (W.state world.old) (W.state world.new) }
     ensures texts { W.faithful world.old → AreNotLeft names.now (W.state world.old) (W.state world.new) (W.state world.new) }
     ensures streams { W.faithful world.old → SaysRecovered result.how (W.state world.old) (W.state world.new) }

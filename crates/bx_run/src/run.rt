@@ -6,22 +6,19 @@ mod request;
 
 ghost use Rattle.std.specs.Prelude.{◌≡◌, ◌↔◌, ◌<◌, Option, None, IfSome};
 ghost use Rattle.bx_world.specs.declared.world.Outgrown.{Outgrown};
-ghost use Rattle.bx_run.specs.run.Commands.{Answers, CountsFault, Fulfills, LeavesOthers, MayOpen, HasRun, StandsAs, StopsUnopened, SurvivesLoss, WereJudged, Writes};
+ghost use Rattle.bx_run.specs.run.Commands.{Answers, ClearNotes, CountsFault, Fulfills, LeavesOthers, MayOpen, HasRun, StandsAs, StopsUnopened, SurvivesLoss, WereJudged, Writes};
 ghost use Rattle.bx_run.specs.run.Outcome.{unopened_by};
-ghost use Rattle.bx_run.specs.RunState.{run_state};
+ghost use Rattle.bx_run_model.specs.RunState.{run_state};
 ghost use Rattle.bx_run.specs.declared.run.outcome.Outcome.{Outcome};
 
-use crate::dump::{dump_file, dump_input};
-use crate::edit::task_of;
 use crate::forget::forget_files;
-use crate::preview::{write_diff, write_preview};
 use crate::renew::renew_files;
-use crate::report::write_report;
 use crate::run::answered::answer_of;
 use crate::run::outcome::Outcome;
-use crate::session::{Task, change_files, move_changes};
 pub use answer::{Cause, CommandFile, Done, Failure, Step, Stop};
 use bx_cli_commands::Command;
+use bx_run_report::{dump_file, dump_input, write_report};
+use bx_run_session::{Task, change_files, move_changes, task_of, write_diff, write_preview};
 use bx_world::World;
 pub use request::Request;
 use std::alloc::Global;
@@ -49,6 +46,8 @@ fn run_command<W: World, R: Read + Drop, O: Write>(
     ensures streams { W.faithful world.old → Writes request.entry result
         (run_state W.state W.refusals W.note O.contents world.old out.old) (run_state W.state W.refusals W.note O.contents world.new out.new) }
     ensures failed { W.faithful world.old → CountsFault request.entry result (W.refusals world.old < W.refusals world.new) }
+    ensures notes { W.faithful world.old → ClearNotes request.entry result
+        (run_state W.state W.refusals W.note O.contents world.old out.old) (run_state W.state W.refusals W.note O.contents world.new out.new) }
     ensures free { W.faithful world.old → (W.state world.new).lent ≡ None }
     ensures faith { W.faithful world.new ↔ W.faithful world.old }
 {

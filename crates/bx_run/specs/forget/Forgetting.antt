@@ -8,7 +8,6 @@ use Rattle.bx_journal.specs.Power.{Found}
 use Rattle.bx_journal.specs.Redo.{IsClean, IsRedoOf}
 use Rattle.bx_journal.specs.SessionFault.{SessionFault}
 use Rattle.bx_journal.specs.SessionFault.TheVariants.{Damaged, DeviceFailed, Interrupted, LengthDiffers, RedoDamaged}
-use Rattle.bx_journal_image.specs.Line.{FitsPlaces, image_line}
 use Rattle.bx_journal_image.specs.Ranges.{EndsIn}
 use Rattle.bx_journal_image.specs.Unfinished.{IsOpenJudged, LeavesImage}
 use Rattle.bx_journal_image.specs.declared.judging.judge.Verdict.{Verdict}
@@ -19,10 +18,10 @@ use Rattle.bx_world.specs.World.{IsNoText, NothingNewFound, ReadFiles, SystemSta
 use Rattle.bx_world.specs.files.Reading.{AreReadable, LeadToRead, MayRefuseForgetting}
 use Rattle.bx_world.specs.declared.files.guard.Guard.{Guard}
 use Rattle.bx_world.specs.declared.files.names.Names.{Names}
-use Rattle.bx_run.specs.report.Looks.{HidesChanges, StopsOpening}
-use Rattle.bx_run.specs.declared.report.noted.NoteLine.{NoteLine}
-use Rattle.bx_run.specs.declared.report.error.ReportError.{ReportError}
-use Rattle.bx_run.specs.declared.report.error.ReportError.TheVariants.{Unopened, Unfinished, Another, Stopped}
+use Rattle.bx_run_report.specs.report.Noted.{IsLineIn}
+use Rattle.bx_run_report.specs.report.Looks.{HidesChanges, StopsOpening}
+use Rattle.bx_run_report.specs.declared.report.error.ReportError.{ReportError}
+use Rattle.bx_run_report.specs.declared.report.error.ReportError.TheVariants.{Unopened, Unfinished, Another, Stopped}
 
 -- the texts are an image's, but not those of what it has now, or damaged further on; one whose first line is none of a journal may be any file
 abbrev pub IsOfTexts : SessionFault → Type 0
@@ -30,15 +29,6 @@ IsOfTexts (LengthDiffers expected) = Unit {0}
 IsOfTexts (Damaged line) = 1 < line
 IsOfTexts (RedoDamaged line) = 1 < line
 IsOfTexts fault = ⊥
-
--- the line that a note is; none where it is no such line
-abbrev pub IsLineIn : List ℕ → Option ImageLine → Type 0
-IsLineIn note (Some line) = note ≡ image_line line
-IsLineIn note None = (line : ImageLine) → FitsPlaces line → note ≡ image_line line → ⊥
-
--- what is known is what the note says, if it was read
-abbrev pub IsNoteLine : List ℕ → NoteLine → Type 0
-IsNoteLine note known = known.is_read ≡ true → IsLineIn note known.line
 
 -- A change is unfinished in the journal that recovery takes back, and this is what the image is by the note
 pub record IsNotedAs (note image journal : List ℕ) (verdict : Verdict) : Type 0 where

@@ -17,19 +17,19 @@ use Rattle.bx_world.specs.files.Files.{LeadsToMade, LeavesFiles, MakesImage, Unm
 use Rattle.bx_world.specs.declared.files.guard.Guard.{Guard}
 use Rattle.bx_world.specs.declared.files.names.Names.{Names}
 use Rattle.bx_world.specs.declared.files.unopened.OpenError.{OpenError}
-use Rattle.bx_run.specs.session.Changes.{Changes, InterruptsChange, RefusesChange, SaysRecovered}
-use Rattle.bx_run.specs.session.Contents.{FoundIn, Holds, Survives, recovered_as}
-use Rattle.bx_run.specs.session.Guarded.{WasJudged, another}
-use Rattle.bx_run.specs.session.Named.{AreNotLeft, IsNamedBy, IsUnrecovered, KeepsOthers, LeadTo, MayRefuseTask, SurvivesTask, contents_of, is_missing, no_change}
-use Rattle.bx_run.specs.declared.session.named.Answer.{Answer}
-use Rattle.bx_run.specs.declared.session.task.Task.{Task}
+use Rattle.bx_run_session.specs.session.Changes.{Changes, InterruptsChange, RefusesChange, SaysRecovered}
+use Rattle.bx_run_session.specs.session.Contents.{FoundIn, Holds, Survives, recovered_as}
+use Rattle.bx_run_session.specs.session.Guarded.{WasJudged, another}
+use Rattle.bx_run_session.specs.session.Named.{AreNotLeft, ClearsNote, IsNamedBy, IsUnrecovered, KeepsOthers, LeadTo, MayRefuseTask, SurvivesTask, contents_of, is_missing, no_change}
+use Rattle.bx_run_session.specs.declared.session.named.Answer.{Answer}
+use Rattle.bx_run_session.specs.declared.session.task.Task.{Task}
 use Rattle.bx_run.specs.forget.Forgetting.{DropsNote, Held, IsNoTextNamed, IsOfTexts, LosesPart, held_by_names}
-use Rattle.bx_run.specs.declared.report.error.ReportError.{ReportError}
-use Rattle.bx_run.specs.declared.report.error.ReportError.TheVariants.{Stopped}
-use Rattle.bx_run.specs.report.Looks.{is_look_failed}
-use Rattle.bx_run.specs.preview.Changing.{DoesChange, DoesForget}
+use Rattle.bx_run_report.specs.declared.report.error.ReportError.{ReportError}
+use Rattle.bx_run_report.specs.declared.report.error.ReportError.TheVariants.{Stopped}
+use Rattle.bx_run_report.specs.report.Looks.{is_look_failed}
+use Rattle.bx_run.specs.run.Changing.{DoesChange, DoesForget}
 use Rattle.bx_run.specs.run.Outcome.{renewed_end, unopened_fault}
-use Rattle.bx_run.specs.RunState.{RunState}
+use Rattle.bx_run_model.specs.RunState.{RunState}
 use Rattle.bx_run.specs.declared.renew.Renewed.{Renewed}
 use Rattle.bx_run.specs.declared.renew.Renewed.TheVariants.{Kept, Undropped, Changed}
 
@@ -58,8 +58,8 @@ JudgesOpening {R = R} remaining guard note names w answer =
     WasJudged (only_told guard) (is_missing names.image w) note (contents_of names w) (no_change {R = R}) answer.unopened answer.how
 
 -- why such an opening isn't begun
-abbrev pub MayNotOpen : {R : Type 0} → (R → Option (List ℕ)) → Guard → List ℕ → Names → Type 0 → SystemState → OpenError → Type 0
-MayNotOpen {R = R} remaining guard note names counted w u = MayRefuseTask (only_told guard) true note (no_change {R = R}) names counted w u
+abbrev pub MayNotOpenToDrop : {R : Type 0} → (R → Option (List ℕ)) → Guard → List ℕ → Names → Type 0 → SystemState → OpenError → Type 0
+MayNotOpenToDrop {R = R} remaining guard note names counted w u = MayRefuseTask (only_told guard) true note (no_change {R = R}) names counted w u
 
 -- Files were opened to be changed, and their history may be dropped: they hold the images that they held, and of files in which opening found
 -- images, as after a crash, the image is then the newest of these; whatever they held, an opening that was refused leaves the image
@@ -135,6 +135,8 @@ abbrev pub DoesRenew : {R : Type 0} → (R → Option (List ℕ)) → Names → 
 DoesRenew remaining names guard task (Kept answer) old new =
     (MayDrop answer → ⊥) × DoesChange remaining names no_change answer old.state new.state
     × JudgesOpening remaining guard old.note names old.state answer × AreNotLeft names old.state new.state new.state
+    × ClearsNote (IsWholeRefusal answer.reply) answer.unopened answer.how (is_missing names.journal old.state) (old.refusals < new.refusals)
+    old.note new.note
 DoesRenew remaining names guard task (Undropped unseen) old new = StaysUndropped remaining names guard unseen old new
 DoesRenew remaining names guard task (Changed answer) old new = Renews remaining names guard task answer old new
 

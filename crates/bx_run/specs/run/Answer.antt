@@ -13,10 +13,10 @@ use Rattle.bx_world.specs.declared.files.unopened.OpenError.{OpenError}
 use Rattle.bx_world.specs.declared.files.unopened.FileRole.{FileRole}
 use Rattle.bx_world.specs.declared.files.unopened.FileRole.TheVariants as which
 use Rattle.bx_world.specs.declared.files.unopened.OpenFailure.TheVariants.{System}
-use Rattle.bx_run.specs.declared.dump.error.DumpError.{DumpError}
-use Rattle.bx_run.specs.declared.dump.error.DumpError.TheVariants as dump
-use Rattle.bx_run.specs.declared.report.error.ReportError.{ReportError}
-use Rattle.bx_run.specs.declared.report.error.ReportError.TheVariants as look
+use Rattle.bx_run_report.specs.declared.dump.error.DumpError.{DumpError}
+use Rattle.bx_run_report.specs.declared.dump.error.DumpError.TheVariants as dump
+use Rattle.bx_run_report.specs.declared.report.error.ReportError.{ReportError}
+use Rattle.bx_run_report.specs.declared.report.error.ReportError.TheVariants as look
 use Rattle.bx_run.specs.run.Outcome.{ended_by, grown_fault}
 use Rattle.bx_run.specs.declared.run.answer.Cause.TheVariants as cause
 use Rattle.bx_run.specs.declared.run.answer.Done.{Done}
@@ -26,12 +26,12 @@ use Rattle.bx_run.specs.declared.run.answer.CommandFile.TheVariants.{Image, Jour
 use Rattle.bx_run.specs.declared.run.answer.Step.{Step}
 use Rattle.bx_run.specs.declared.run.answer.Step.TheVariants.{Opening, Dropping, Work}
 use Rattle.bx_run.specs.declared.run.answer.Stop.{Stop}
-use Rattle.bx_run.specs.declared.preview.diff.DiffError.{DiffError}
-use Rattle.bx_run.specs.declared.preview.diff.DiffError.TheVariants as diff
+use Rattle.bx_run_session.specs.declared.preview.diff.DiffError.{DiffError}
+use Rattle.bx_run_session.specs.declared.preview.diff.DiffError.TheVariants as diff
 use Rattle.bx_run.specs.declared.run.outcome.Outcome.{Outcome}
 use Rattle.bx_run.specs.declared.run.outcome.Outcome.TheVariants.{Moved, Changed, Dumped, Compared, Previewed, Looked, Forgotten, Renewed}
-use Rattle.bx_run.specs.declared.preview.error.PreviewError.{PreviewError}
-use Rattle.bx_run.specs.declared.preview.error.PreviewError.TheVariants as preview
+use Rattle.bx_run_session.specs.declared.preview.error.PreviewError.{PreviewError}
+use Rattle.bx_run_session.specs.declared.preview.error.PreviewError.TheVariants as preview
 use Rattle.bx_run.specs.declared.renew.Renewed.{Renewed as Renewal}
 use Rattle.bx_run.specs.declared.renew.Renewed.TheVariants as renewal
 

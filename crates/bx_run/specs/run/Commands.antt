@@ -4,6 +4,7 @@ use Rattle.std.specs.Result.{MatchResult}
 use Rattle.bx_patch.specs.declared.diff.row.Extent.{Extent}
 use Rattle.bx_journal.specs.Images.{Images}
 use Rattle.bx_journal.specs.Direction.{Direction}
+use Rattle.bx_cli_commands.specs.Refusal.{IsWholeRefusal}
 use Rattle.bx_cli_commands.specs.declared.jobs.dump.Done.{Done as DumpDone}
 use Rattle.bx_cli_commands.specs.declared.jobs.dumps.DumpJob.{DumpJob}
 use Rattle.bx_world.specs.World.{NothingNewFound, SystemState, Spares}
@@ -14,30 +15,31 @@ use Rattle.bx_world.specs.files.Reading.{AreReadable, MayRefuseForgetting, MayRe
 use Rattle.bx_world.specs.files.Reasons.{MayRefuseOpening}
 use Rattle.bx_world.specs.declared.files.names.Names.{Names}
 use Rattle.bx_world.specs.declared.files.unopened.OpenError.{OpenError}
-use Rattle.bx_run.specs.session.Changes.{SaysRecovered}
-use Rattle.bx_run.specs.session.Contents.{FoundIn, Holds, TellsUnfinished}
-use Rattle.bx_run.specs.session.Moves.{Moves, MovesFound, MovesRead, SparesMove, StopsMove, SurvivesMoving, TellsRecovered, stepped, task_of}
-use Rattle.bx_run.specs.session.Guarded.{WasJudged}
-use Rattle.bx_run.specs.session.Named.{KeepsOthers, MayRefuseTask, SurvivesTask, contents_of, is_missing, no_change}
-use Rattle.bx_run.specs.Failures.{is_failed}
-use Rattle.bx_run.specs.session.Task.{IsNearTask}
-use Rattle.bx_run.specs.declared.session.moves.Moved.{Moved}
-use Rattle.bx_run.specs.dump.Dumps.{CountsUndumped, DumpsInput, DumpsNamed, IsStopped, StopsInput, StopsNamed}
-use Rattle.bx_run.specs.declared.dump.error.DumpError.{DumpError}
+use Rattle.bx_run_session.specs.session.Changes.{SaysRecovered}
+use Rattle.bx_run_session.specs.session.Contents.{FoundIn, Holds, TellsUnfinished}
+use Rattle.bx_run_session.specs.session.Moves.{HasMoved, Moves, MovesFound, MovesRead, SparesMove, StopsMove, SurvivesMoving, TellsRecovered, stepped, task_of}
+use Rattle.bx_run_session.specs.session.Guarded.{WasJudged}
+use Rattle.bx_run_session.specs.session.Named.{ClearsNote, KeepsOthers, MayRefuseTask, SurvivesTask, contents_of, is_missing, no_change}
+use Rattle.bx_run_model.specs.Failures.{is_failed}
+use Rattle.bx_run_session.specs.session.Task.{IsNearTask}
+use Rattle.bx_run_session.specs.declared.session.moves.Moved.{Moved}
+use Rattle.bx_run_report.specs.dump.Dumps.{CountsUndumped, DumpsInput, DumpsNamed, IsStopped, StopsInput, StopsNamed}
+use Rattle.bx_run_report.specs.declared.dump.error.DumpError.{DumpError}
 use Rattle.bx_run.specs.forget.Forgetting.{IsNoTextNamed, SurvivesForgetting}
-use Rattle.bx_run.specs.preview.Changing.{DoesRecover, ForgetsFiles}
-use Rattle.bx_run.specs.preview.Diffs.{StopsDiff, WritesDiff}
+use Rattle.bx_run.specs.run.Changing.{DoesRecover, ForgetsFiles}
+use Rattle.bx_run_session.specs.preview.Diffs.{StopsDiff, WritesDiff, is_diff_failed}
+use Rattle.bx_run_session.specs.preview.Previews.{is_preview_failed}
 use Rattle.bx_run.specs.run.Answer.{answer_by}
 use Rattle.bx_run.specs.run.Edits.{DoesEdit, PreviewsEdit, RenewsEdit}
 use Rattle.bx_run.specs.run.Outcome.{ended_by, unopened_by, unopened_fault}
 use Rattle.bx_run.specs.renew.Renewal.{KeepsNamed, SurvivesRenewing, TellsOpening, is_renewed_failed}
-use Rattle.bx_run.specs.report.Looks.{is_look_failed}
-use Rattle.bx_run.specs.report.Reports.{CountsStop, Reports}
-use Rattle.bx_run.specs.Edit.{asked}
-use Rattle.bx_run.specs.RunState.{RunState}
+use Rattle.bx_run_report.specs.report.Looks.{is_look_failed}
+use Rattle.bx_run_report.specs.report.Reports.{Reports}
+use Rattle.bx_run_session.specs.Edit.{asked}
+use Rattle.bx_run_model.specs.RunState.{RunState}
 use Rattle.bx_run.specs.declared.run.answer.Done.{Done}
 use Rattle.bx_run.specs.declared.run.answer.Failure.{Failure}
-use Rattle.bx_run.specs.declared.preview.diff.DiffError.{DiffError}
+use Rattle.bx_run_session.specs.declared.preview.diff.DiffError.{DiffError}
 use Rattle.bx_run.specs.declared.run.outcome.Outcome.{Outcome}
 use Rattle.bx_run.specs.declared.run.outcome.Outcome.TheVariants as of
 use Rattle.bx_run.specs.declared.run.request.Request.{Request}
@@ -165,16 +167,32 @@ WereJudged {R = R} (Recover names guard) (of.Changed answer) old = WasJudged gua
     (contents_of names.now old.state) (no_change {R = R}) answer.unopened answer.how
 WereJudged request outcome old = Unit {0}
 
--- an undo, a redo, a change, the dropping of a history and a report end in the fault of a device only where a call was counted that the system or a device
--- refused
+-- Each command ends in the fault of a device only where a call was counted that the system or a device refused; a comparison says only then that a file
+-- which it opened can't be read. A dump ends in none. Where an input can't be read, an output isn't written or memory is short, nothing is said: the
+-- reads of an input and the writes of an output are not counted, and neither is memory that is refused
 abbrev pub CountsFault : {R : Type 0} → Request R → Outcome → Type 0 → Type 0
 CountsFault (Move names guard way count) (of.Moved moved) counted = is_failed (ended_by (of.Moved moved)) ≡ true → counted
 CountsFault (Change names guard edit) (of.Changed answer) counted = is_failed (ended_by (of.Changed answer)) ≡ true → counted
 CountsFault (Recover names guard) (of.Changed answer) counted = is_failed (ended_by (of.Changed answer)) ≡ true → counted
+CountsFault (Dump job name) (of.Dumped outcome) counted = is_failed (ended_by (of.Dumped outcome)) ≡ false
+CountsFault (DumpInput job input) (of.Dumped outcome) counted = is_failed (ended_by (of.Dumped outcome)) ≡ false
+CountsFault (Diff old_name new_name extent) (of.Compared outcome) counted = is_diff_failed outcome ≡ true → counted
+CountsFault (Preview name edit) (of.Previewed outcome) counted = is_preview_failed outcome ≡ true → counted
+CountsFault (Look names report) (of.Looked outcome) counted = is_look_failed outcome ≡ true → counted
 CountsFault (Forget names guard) (of.Forgotten outcome) counted = is_look_failed outcome ≡ true → counted
 CountsFault (Renew names guard edit) (of.Renewed renewed) counted = is_renewed_failed renewed ≡ true → counted
-CountsFault (Look names report) (of.Looked outcome) counted = CountsStop report outcome counted
-CountsFault request outcome counted = Unit {0}
+CountsFault request outcome counted = ⊥
+
+-- an undo, a redo and a change that are refused leave no line of their own in a note that had no bytes, or beside a journal that was missing (what a change
+-- with which the history begins anew leaves of the note, and the dropping of a history, is said with what they do)
+abbrev pub ClearNotes : {R : Type 0} → Request R → Outcome → RunState → RunState → Type 0
+ClearNotes (Move names guard way count) (of.Moved moved) old new = ClearsNote (HasMoved moved.outcome → ⊥) moved.unopened moved.how
+    (is_missing names.now.journal old.state) (old.refusals < new.refusals) old.note new.note
+ClearNotes (Change names guard edit) (of.Changed answer) old new = ClearsNote (IsWholeRefusal answer.reply) answer.unopened answer.how
+    (is_missing names.now.journal old.state) (old.refusals < new.refusals) old.note new.note
+ClearNotes (Recover names guard) (of.Changed answer) old new = ClearsNote (IsWholeRefusal answer.reply) answer.unopened answer.how
+    (is_missing names.now.journal old.state) (old.refusals < new.refusals) old.note new.note
+ClearNotes request outcome old new = Unit {0}
 
 -- A file of an image wasn't opened, or it isn't the image: the fault says so, all files are as they were, nothing is written, and there is a reason
 pub record StopsUnopened {R : Type 0} (request : Request R) (outcome : Outcome) (old new : RunState) (file : OpenError) : Type 0 where
@@ -193,8 +211,8 @@ Writes (Renew names guard edit) (of.Renewed renewed) old new = TellsOpening rene
 Writes request outcome old new = (new.state.output ≡ old.state.output) × (new.state.errors ≡ old.state.errors)
 
 -- What a command did that ended so, on the files as they were before it: it did what it is to do, on an image that was judged, in a way that a loss of
--- power leaves to be found, on files that may be opened; where one wasn't opened all are as they were; what it wrote stands where it is to; and it ended in the
--- fault of a device only where a call was refused that is counted
+-- power leaves to be found, on files that may be opened; where one wasn't opened all are as they were; what it wrote stands where it is to; it ended in the
+-- fault of a device only where a call was refused that is counted; and where it was refused it left no line in the note that it made
 pub record HasRun {R : Type 0} (remaining : R → Option (List ℕ)) (request : Request R) (outcome : Outcome) (old new : RunState)
     (found left : ℕ → List ℕ → Type 0) : Type 0 where
   pub does : Fulfills remaining request outcome old new
@@ -204,6 +222,7 @@ pub record HasRun {R : Type 0} (remaining : R → Option (List ℕ)) (request : 
   pub unopened : IfSome (unopened_by outcome) (StopsUnopened request outcome old new)
   pub streams : Writes request outcome old new
   pub failed : CountsFault request outcome (old.refusals < new.refusals)
+  pub notes : ClearNotes request outcome old new
 
 -- An answer stands for how a command ended: its fault is the one that this ended in
 pub record StandsAs {R : Type 0} (request : Request R) (outcome : Outcome) (outgrown : Option Outgrown) (answer : Result Done Failure) : Type 0 where

@@ -15,19 +15,19 @@ use Rattle.bx_cli_commands.specs.declared.command.Reply.{Reply}
 use Rattle.bx_world.specs.World.{SystemState, held}
 use Rattle.bx_world.specs.declared.files.guard.Guard.{Guard}
 use Rattle.bx_world.specs.declared.files.names.Names.{Names}
-use Rattle.bx_run.specs.Edit.{IsEditOf, IsOfInput, asked}
-use Rattle.bx_run.specs.Input.{Input, InputStep}
-use Rattle.bx_run.specs.RunState.{RunState}
-use Rattle.bx_run.specs.declared.edit.Edit.{Edit}
-use Rattle.bx_run.specs.declared.preview.error.PreviewError.{PreviewError}
+use Rattle.bx_run_session.specs.Edit.{IsEditOf, IsOfInput, asked}
+use Rattle.bx_run_session.specs.Input.{Input, InputStep}
+use Rattle.bx_run_model.specs.RunState.{RunState}
+use Rattle.bx_run_session.specs.declared.edit.Edit.{Edit}
+use Rattle.bx_run_session.specs.declared.preview.error.PreviewError.{PreviewError}
 use Rattle.bx_run.specs.declared.renew.Renewed.{Renewed}
 use Rattle.bx_run.specs.declared.renew.Renewed.TheVariants.{Kept, Undropped, Changed}
-use Rattle.bx_run.specs.declared.session.named.Answer.{Answer}
-use Rattle.bx_run.specs.preview.Changing.{DoesChange}
-use Rattle.bx_run.specs.preview.Previews.{DoesPreview}
+use Rattle.bx_run_session.specs.declared.session.named.Answer.{Answer}
+use Rattle.bx_run.specs.run.Changing.{DoesChange}
+use Rattle.bx_run_session.specs.preview.Previews.{DoesPreview}
 use Rattle.bx_run.specs.renew.Renewal.{RenewsFiles}
-use Rattle.bx_run.specs.session.Contents.{Contents, EndsAt, FoundIn, Holds, ReadAs, StandsIn, recovered_as}
-use Rattle.bx_run.specs.session.Named.{contents_of}
+use Rattle.bx_run_session.specs.session.Contents.{Contents, EndsAt, FoundIn, Holds, ReadAs, StandsIn, recovered_as}
+use Rattle.bx_run_session.specs.session.Named.{contents_of}
 
 module _ (keeps : Bool) (input : Input) where
   -- An input was put onto images: the contents hold those of its step, and the answer is how many changes stand

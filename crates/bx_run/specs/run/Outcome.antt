@@ -7,21 +7,21 @@ use Rattle.bx_journal.specs.SessionFault.TheVariants as session
 use Rattle.bx_cli_commands.specs.Replies.{stands_by}
 use Rattle.bx_cli_commands.specs.declared.fault.Fault.{Fault}
 use Rattle.bx_cli_commands.specs.declared.fault.Fault.TheVariants.{ChangedSince, Io, OpenFailed, Session}
-use Rattle.bx_run.specs.declared.dump.error.DumpError.{DumpError}
-use Rattle.bx_run.specs.declared.dump.error.DumpError.TheVariants as dump
+use Rattle.bx_run_report.specs.declared.dump.error.DumpError.{DumpError}
+use Rattle.bx_run_report.specs.declared.dump.error.DumpError.TheVariants as dump
 use Rattle.bx_world.specs.declared.files.unopened.OpenError.{OpenError}
 use Rattle.bx_world.specs.declared.files.unopened.OpenFailure.{OpenFailure}
 use Rattle.bx_world.specs.declared.files.unopened.OpenFailure.TheVariants.{System, Unfit, Alias, Another}
 use Rattle.bx_world.specs.declared.world.Outgrown.{Outgrown}
-use Rattle.bx_run.specs.report.Looks.{unopened_in}
-use Rattle.bx_run.specs.declared.report.error.ReportError.{ReportError}
-use Rattle.bx_run.specs.declared.report.error.ReportError.TheVariants as look
-use Rattle.bx_run.specs.declared.preview.diff.DiffError.{DiffError}
-use Rattle.bx_run.specs.declared.preview.diff.DiffError.TheVariants as diff
+use Rattle.bx_run_report.specs.report.Looks.{unopened_in}
+use Rattle.bx_run_report.specs.declared.report.error.ReportError.{ReportError}
+use Rattle.bx_run_report.specs.declared.report.error.ReportError.TheVariants as look
+use Rattle.bx_run_session.specs.declared.preview.diff.DiffError.{DiffError}
+use Rattle.bx_run_session.specs.declared.preview.diff.DiffError.TheVariants as diff
 use Rattle.bx_run.specs.declared.run.outcome.Outcome.{Outcome}
 use Rattle.bx_run.specs.declared.run.outcome.Outcome.TheVariants.{Moved, Changed, Dumped, Compared, Previewed, Looked, Forgotten, Renewed}
-use Rattle.bx_run.specs.declared.preview.error.PreviewError.{PreviewError}
-use Rattle.bx_run.specs.declared.preview.error.PreviewError.TheVariants as preview
+use Rattle.bx_run_session.specs.declared.preview.error.PreviewError.{PreviewError}
+use Rattle.bx_run_session.specs.declared.preview.error.PreviewError.TheVariants as preview
 use Rattle.bx_run.specs.declared.renew.Renewed.{Renewed as Renewal}
 use Rattle.bx_run.specs.declared.renew.Renewed.TheVariants as renewal
 

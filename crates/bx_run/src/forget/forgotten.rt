@@ -5,20 +5,17 @@ ghost use Rattle.bx_journal.specs.ThreeDevices.{AreBelow};
 ghost use Rattle.bx_world.specs.World.{AreOwnFiles, ClosesTexts, IsNoText, IsNoneRead, NothingNewFound, NothingNewSpared, ReadFiles, Spares, TextsLeft, bytes_if, failed_calls, number_if};
 ghost use Rattle.bx_world.specs.files.Reading.{AreReadable, LeadToRead, MayRefuseForgetting, MayRefuseReading, StaysSeen, numbers_read, AreLockedAs};
 ghost use Rattle.bx_world.specs.files.Reasons.{IsReason, IsRefusedFor, NoneUnfit};
-ghost use Rattle.bx_run.specs.report.Devices.{HoldFiles, HoldNumbered};
+ghost use Rattle.bx_run_report.specs.report.Devices.{HoldFiles, HoldNumbered};
 ghost use Rattle.bx_run.specs.forget.Forgetting.{AreLent, AreLentTexts, DropsNote, Empties, HasForgotten, LeavesNote, IsAlone, IsFoundOf, IsNoTextNamed, MayForgetNamed, StopsForgetting, SurvivesEmptying, SurvivesForgetting, held_by_names, texts_of};
-ghost use Rattle.bx_run.specs.report.Looks.{is_look_failed, unopened_in};
-ghost use Rattle.bx_run.specs.Failures.{CountsFailure};
+ghost use Rattle.bx_run_report.specs.report.Looks.{is_look_failed, unopened_in};
+ghost use Rattle.bx_run_model.specs.Failures.{CountsFailure};
 
 use crate::forget::judging::judge;
-use crate::report::devices::Seen;
-use crate::report::error::ReportError;
-use crate::report::lent::close;
-use crate::report::noted::read_note_line;
 use bx_cli_commands::Fault;
 use bx_image::Device;
 use bx_journal::{Devices, SessionFault, forget_devices};
 use bx_journal_store::TextStore;
+use bx_run_report::{ReportError, Seen, close, read_note_line};
 use bx_world::{
     FileRole, Guard, Looked, Names, OpenError, Refusal, World, open_redo_to_forget, open_to_forget,
 };

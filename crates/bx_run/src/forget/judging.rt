@@ -5,18 +5,17 @@ ghost use Rattle.bx_journal_format.specs.Shown.{shown};
 ghost use Rattle.bx_journal_model.specs.Looking.{FaultCounts, OnlyReadsText};
 ghost use Rattle.bx_journal_read.specs.scan.Recovery.{FindFault};
 ghost use Rattle.bx_journal.specs.ThreeDevices.{AreBelow};
-ghost use Rattle.bx_run.specs.report.Devices.{HoldBytes, failed_reads};
-ghost use Rattle.bx_run.specs.forget.Forgetting.{EndsWithEntry, IsJudgedOpen, IsOfTexts, IsNoteLine, KeepsHistory, MayForget, drops};
-ghost use Rattle.bx_run.specs.report.Looks.{HidesChanges, is_look_failed};
+ghost use Rattle.bx_run_report.specs.report.Devices.{HoldBytes, failed_reads};
+ghost use Rattle.bx_run.specs.forget.Forgetting.{EndsWithEntry, IsJudgedOpen, IsOfTexts, KeepsHistory, MayForget, drops};
+ghost use Rattle.bx_run_report.specs.report.Noted.{IsNoteLine};
+ghost use Rattle.bx_run_report.specs.report.Looks.{HidesChanges, is_look_failed};
 
-use crate::report::devices::{Seen, closed, is_whole};
-use crate::report::error::{ReportError, reason_of};
-use crate::report::noted::NoteLine;
 use bx_cli_commands::Fault;
 use bx_image::{Device, DeviceFailed};
 use bx_journal::{Devices, Session, SessionFault};
 use bx_journal_image::{END, ImageLine, Verdict, end_of, judge_unfinished};
 use bx_journal_store::TextStore;
+use bx_run_report::{NoteLine, ReportError, Seen, closed, is_whole, reason_of};
 use bx_world::Guard;
 use std::alloc::Global;
 

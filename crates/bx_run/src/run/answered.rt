@@ -3,16 +3,15 @@ ghost use Rattle.std.specs.Prelude.{◌≡◌};
 ghost use Rattle.bx_run.specs.run.Answer.{answer_by, counts_by, diff_stop, dump_stop, dumped_by, how_by, look_stop, outgrown_stop, preview_stop, renewed_stop, role_of, standing_by, step_by, stop_by, task_stop};
 ghost use Rattle.bx_run.specs.run.Outcome.{grown_fault};
 
-use crate::dump::DumpError;
-use crate::preview::{DiffError, PreviewError};
 use crate::renew::Renewed;
-use crate::report::ReportError;
 use crate::run::answer::{Cause, CommandFile, Done, Failure, Step, Stop};
 use crate::run::outcome::Outcome;
 use bx_cli_commands::{Done as Dump, Fault};
 use bx_dd::Counts;
 use bx_journal::{RecoveryOutcome, SessionFault};
 use bx_patch::DiffFault;
+use bx_run_report::{DumpError, ReportError};
+use bx_run_session::{DiffError, PreviewError};
 use bx_world::{FileRole, OpenError, OpenFailure, Outgrown};
 
 /// What opening the image found unfinished.

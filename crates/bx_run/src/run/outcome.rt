@@ -3,15 +3,13 @@ ghost use Rattle.std.specs.Prelude.{◌≡◌};
 ghost use Rattle.bx_cli_commands.specs.Replies.{stands_by};
 ghost use Rattle.bx_run.specs.run.Outcome.{diff_fault, ended_by, ended_with, look_fault, dump_fault, preview_fault, renewed_end, stop_fault, task_fault, unopened_fault};
 
-use crate::dump::DumpError;
-use crate::preview::{DiffError, PreviewError};
 use crate::renew::Renewed;
-use crate::report::ReportError;
-use crate::session::{Answer, Moved};
 use bx_cli_commands::{Done as Dump, Fault};
 use bx_dd::Counts;
 use bx_journal::SessionFault;
 use bx_patch::DiffFault;
+use bx_run_report::{DumpError, ReportError};
+use bx_run_session::{Answer, DiffError, Moved, PreviewError};
 use bx_text::IoFault;
 use bx_world::{OpenError, OpenFailure};
 

@@ -1,9 +1,9 @@
 //! What is asked for: a command on named files.
-use crate::edit::Edit;
-use crate::report::Report;
 use bx_cli_commands::DumpJob;
 use bx_journal::Direction;
 use bx_patch::Extent;
+use bx_run_report::Report;
+use bx_run_session::Edit;
 use bx_world::{Guard, Names};
 use std::io::Empty;
 

@@ -1,9 +1,9 @@
 use Rattle.std.proofs.Common.{refl}
 use Rattle.std.specs.Prelude.{◌<◌}
 use Rattle.bx_journal.specs.Images.{Images}
-use Rattle.bx_run.specs.session.Contents.{Holds}
-use Rattle.bx_run.specs.session.Named.{contents_of, no_change}
-use Rattle.bx_run.specs.preview.Changing.{DoesChange}
+use Rattle.bx_run_session.specs.session.Contents.{Holds}
+use Rattle.bx_run_session.specs.session.Named.{contents_of, no_change}
+use Rattle.bx_run.specs.run.Changing.{DoesChange}
 use Rattle.bx_run.specs.renew.Renewal.{IsOfAnother}
 use Rattle.bx_run.proofs.Renewing.{found, image_spared, made, never_other, same, were_opened, why_told}
 use Rattle.bx_run.proofs.renew.open_to_drop.Goals as goal
@@ -68,3 +68,9 @@ returns-clause-judged g c old = rw (← c.only_told.ensures) (c.change_files.ens
 
 pub returns-clause-fit : goal.returns-clause-fit
 returns-clause-fit g c old opened = let fit = c.change_files.ensures.fit old opened in rw c.only_told.ensures at fit
+
+pub returns-clause-counted : goal.returns-clause-counted
+returns-clause-counted g c old = (c.change_files.ensures.counted old).0
+
+pub returns-clause-note : goal.returns-clause-note
+returns-clause-note g c old = (c.change_files.ensures.counted old).1

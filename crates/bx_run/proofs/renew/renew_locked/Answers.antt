@@ -5,7 +5,7 @@ use Rattle.bx_world.specs.declared.files.unopened.OpenError.{OpenError}
 use Rattle.bx_world.specs.declared.files.unopened.FileRole.TheVariants.{Image}
 use Rattle.bx_world.specs.declared.files.unopened.OpenFailure.TheVariants.{System}
 use Rattle.bx_run.specs.run.Outcome.{first_unopened}
-use Rattle.bx_run.specs.RunState.{RunState, run_state_beside}
+use Rattle.bx_run_model.specs.RunState.{RunState, run_state_beside}
 use Rattle.bx_run.proofs.Cleared.{cleared_image, cleared_kept, cleared_streams, fit_before, kept_leaves, left_contents, made_named, made_number, made_streams, may_before, nothing_cleared, same_contents, tells_before, tells_between}
 use Rattle.bx_run.proofs.RenewalLess.{renewal_less}
 use Rattle.bx_run.proofs.Unmade.{keeps_unmade_files, nothing_unmade, renews_unmade, survives_unmade, tells_unmade}

@@ -4,8 +4,8 @@ use Rattle.bx_journal.specs.Forgotten.{only}
 use Rattle.bx_world.specs.World.{held}
 use Rattle.bx_world.specs.files.Files.{AreAllThere}
 use Rattle.bx_run.specs.forget.Forgetting.{IsNoTextNamed}
-use Rattle.bx_run.specs.session.Named.{contents_of}
-use Rattle.bx_run.specs.RunState.{run_state_beside}
+use Rattle.bx_run_session.specs.session.Named.{contents_of}
+use Rattle.bx_run_model.specs.RunState.{run_state_beside}
 use Rattle.bx_run.proofs.Cleared.{kept_refused}
 use Rattle.bx_run.proofs.Ending.{nothing_kept}
 use Rattle.bx_run.proofs.Renewing.{found_undropped, holds_alone, keeps_itself, keeps_named, keeps_one, newest, recovered_undropped, says_changed, says_dropped}
@@ -18,6 +18,7 @@ returns-then-not-may_drop-clause-does g c old written = (
   c.open_to_drop-opened.ensures.does old,
   c.open_to_drop-opened.ensures.judged old,
   c.open_to_drop-opened.ensures.texts old,
+  c.open_to_drop-opened.ensures.note old,
 )
 
 pub returns-then-not-may_drop-clause-others : goal.returns-then-not-may_drop-clause-others
@@ -159,7 +160,7 @@ returns-in-Ok-clause-failed g c old is =
     let behind = c.forget_files.ensures.faith.1 mid in
     let first = (c.open_to_drop-opened.ensures.counted old).least in
     let second = c.in-Ok.ensures.counted mid in
-    let last = (c.change_files.ensures.counted behind).rise is in
+    let last = (c.change_files.ensures.counted behind).0.rise is in
     omega (arith, first, second, last)
 
 pub returns-in-Err-clause-failed : goal.returns-in-Err-clause-failed

@@ -1,10 +1,12 @@
 use Rattle.std.proofs.Common.{refl}
 use Rattle.bx_cli_commands.specs.Replies.{stands_by}
-use Rattle.bx_run.specs.Edit.{asked}
-use Rattle.bx_run.specs.preview.Changing.{DoesChange}
-use Rattle.bx_run.specs.session.Named.{no_change}
+use Rattle.bx_run_session.specs.Edit.{asked}
+use Rattle.bx_run.specs.run.Changing.{DoesChange}
+use Rattle.bx_run_session.specs.session.Named.{no_change}
 use Rattle.bx_run.proofs.Ending.{leaves_same, stops_forgetting, stops_move, stops_renewal, stops_report, stops_task}
-use Rattle.bx_run.proofs.Failing.{failed_begun, failed_reply}
+use Rattle.bx_run.proofs.Failing.{failed_begun}
+use Rattle.bx_run_session.proofs.Failing.{failed_reply}
+use Rattle.bx_run.proofs.Undumped.{dumped_input, dumped_named}
 use Rattle.bx_run.proofs.Inputs.{does_edit, previews_edit, renews_edit}
 use Rattle.bx_run.proofs.run.run_command.Goals as goal
 
@@ -101,17 +103,17 @@ returns-in-Forget-clause-does g c old =
 
 pub returns-in-Move-clause-failed : goal.returns-in-Move-clause-failed
 returns-in-Move-clause-failed g c old =
-    rw c.in-Move.is (λ is. (c.move_changes.ensures.counted old).rise (failed_begun c.move_changes.result.unopened c.move_changes.result.outcome is))
+    rw c.in-Move.is (λ is. (c.move_changes.ensures.counted old).0.rise (failed_begun c.move_changes.result.unopened c.move_changes.result.outcome is))
 
 pub returns-in-Change-clause-failed : goal.returns-in-Change-clause-failed
 returns-in-Change-clause-failed g c old =
     let answer = c.change_files-answer.result in
-    rw c.in-Change.is (λ is. (c.change_files-answer.ensures.counted old).rise (failed_reply answer.reply (failed_begun answer.unopened (stands_by answer.reply) is)))
+    rw c.in-Change.is (λ is. (c.change_files-answer.ensures.counted old).0.rise (failed_reply answer.reply (failed_begun answer.unopened (stands_by answer.reply) is)))
 
 pub returns-in-Recover-clause-failed : goal.returns-in-Recover-clause-failed
 returns-in-Recover-clause-failed g c old =
     let answer = c.change_files-recovered.result in
-    rw c.in-Recover.is (λ is. (c.change_files-recovered.ensures.counted old).rise (failed_reply answer.reply (failed_begun answer.unopened (stands_by answer.reply) is)))
+    rw c.in-Recover.is (λ is. (c.change_files-recovered.ensures.counted old).0.rise (failed_reply answer.reply (failed_begun answer.unopened (stands_by answer.reply) is)))
 
 pub returns-in-Renew-clause-failed : goal.returns-in-Renew-clause-failed
 returns-in-Renew-clause-failed g c old = rw c.in-Renew.is (c.renew_files.ensures.failed old)
@@ -121,3 +123,26 @@ returns-in-Forget-clause-failed g c old = rw c.in-Forget.is (c.forget_files.ensu
 
 pub returns-in-Look-clause-failed : goal.returns-in-Look-clause-failed
 returns-in-Look-clause-failed g c old = rw c.in-Look.is (c.write_report.ensures.failed old)
+
+pub returns-in-Dump-clause-failed : goal.returns-in-Dump-clause-failed
+returns-in-Dump-clause-failed g c old =
+    rw c.in-Dump.is (dumped_named c.in-Dump.job.now c.in-Dump.name.now (g.W.World.state c.args.world.now) c.dump_file.result _ _ (c.dump_file.ensures.err old))
+
+pub returns-in-DumpInput-clause-failed : goal.returns-in-DumpInput-clause-failed
+returns-in-DumpInput-clause-failed g c old =
+    rw c.in-DumpInput.is (dumped_input c.in-DumpInput.job.now (g.R.Read.remaining c.in-DumpInput.input) c.dump_input.result _ _ c.dump_input.ensures.err)
+
+pub returns-in-Diff-clause-failed : goal.returns-in-Diff-clause-failed
+returns-in-Diff-clause-failed g c old = rw c.in-Diff.is (c.write_diff.ensures.failed old)
+
+pub returns-in-Preview-clause-failed : goal.returns-in-Preview-clause-failed
+returns-in-Preview-clause-failed g c old = rw c.in-Preview.is (c.write_preview.ensures.failed old)
+
+pub returns-in-Move-clause-notes : goal.returns-in-Move-clause-notes
+returns-in-Move-clause-notes g c old = rw c.in-Move.is (c.move_changes.ensures.counted old).1
+
+pub returns-in-Change-clause-notes : goal.returns-in-Change-clause-notes
+returns-in-Change-clause-notes g c old = rw c.in-Change.is (c.change_files-answer.ensures.counted old).1
+
+pub returns-in-Recover-clause-notes : goal.returns-in-Recover-clause-notes
+returns-in-Recover-clause-notes g c old = rw c.in-Recover.is (c.change_files-recovered.ensures.counted old).1

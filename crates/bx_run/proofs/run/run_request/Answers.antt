@@ -16,6 +16,7 @@ returns-clause-runs g c =
           unopened = ran.unopened old;
           streams = ran.streams old;
           failed = ran.failed old;
+          notes = ran.notes old;
         },
       )),
     )

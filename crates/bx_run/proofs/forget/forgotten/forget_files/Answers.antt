@@ -1,6 +1,7 @@
 use Rattle.std.proofs.Common.{◌≡◌, ◌<◌, ◌∙◌, Ok, Err, refl, sym, subst, arith}
 use Rattle.bx_world.specs.World.{Spares}
-use Rattle.bx_run.specs.forget.Forgetting.{Empties, IsNoteLine, SurvivesEmptying, texts_of}
+use Rattle.bx_run.specs.forget.Forgetting.{Empties, SurvivesEmptying, texts_of}
+use Rattle.bx_run_report.specs.report.Noted.{IsNoteLine}
 use Rattle.bx_run.proofs.ByNames.{done, failed, forgotten_named, hidden_stops, hidden_survives, image_held, others_named, stopped_named, survived_all, survived_named}
 use Rattle.bx_run.proofs.Emptied.{IsNeither}
 use Rattle.bx_run.proofs.Failing.{failed_judging, note_least}

@@ -1,8 +1,8 @@
 use Rattle.std.proofs.Common.{◌∙◌, inl, sym}
 use Rattle.std.proofs.lemmas.Bool.{false≢true}
 use Rattle.bx_run.proofs.Judged.{of_texts_found, of_texts_image, of_texts_may, of_texts_unfailed}
-use Rattle.bx_run.proofs.Looking.{opened_refused, opened_unclean, opened_whole}
-use Rattle.bx_run.proofs.Failing.{failed_reason}
+use Rattle.bx_run_report.proofs.Looking.{opened_refused, opened_unclean, opened_whole}
+use Rattle.bx_run_report.proofs.Failing.{failed_reason}
 use Rattle.bx_run.proofs.forget.judging.judge_found.Goals as goal
 
 pub returns-then-is_whole-clause-may : goal.returns-then-is_whole-clause-may

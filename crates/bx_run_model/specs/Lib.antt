@@ -1,0 +1,2 @@
+pub mod RunState
+pub mod Failures

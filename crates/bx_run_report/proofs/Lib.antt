@@ -1,0 +1,12 @@
+pub mod Counted
+pub mod Failing
+pub mod FrontRows
+pub mod Held
+pub mod Looking
+pub mod ReportNotes
+pub mod StepLemmas
+pub mod StepsCut
+pub mod StepsFailed
+pub mod StepsRead
+pub mod Stopping
+pub mod Wholes

@@ -1,0 +1,17 @@
+use Rattle.std.proofs.Common.{inr}
+use Rattle.std.proofs.lemmas.Result.{IfErr-weaker}
+use Rattle.bx_run_report.proofs.Failing.{failed_closed}
+use Rattle.bx_run_report.proofs.report.shown.show_unfinished.Goals as goal
+
+pub returns-clause-shows : goal.returns-clause-shows
+returns-clause-shows g c old = rw c.close.ensures.outcome (c.undos_on-seen.ensures.shows _ _ _ (c.in-Ok.ensures.held old))
+
+pub returns-clause-stops : goal.returns-clause-stops
+returns-clause-stops g c old =
+    rw c.close.ensures.outcome (IfErr-weaker _ _ _ (λ u is. inr is) (c.undos_on-seen.ensures.cut _ _ _ (c.in-Ok.ensures.held old)))
+
+pub returns-clause-failed : goal.returns-clause-failed
+returns-clause-failed g c old =
+    let mid = c.into_devices.ensures.faith.1 old in
+    failed_closed c.undos_on-seen.result.outcome c.close.result _ _ _ _ c.close.ensures.outcome (c.in-Ok.ensures.calm old) (c.close.ensures.counted mid)
+    c.undos_on-seen.ensures.failed

@@ -1,0 +1,17 @@
+pub mod Answered
+pub mod Begun
+pub mod EndLemmas
+pub mod Failing
+pub mod Files
+pub mod Inputs
+pub mod Lines
+pub mod LookLemmas
+pub mod NoteLemmas
+pub mod Obeyed
+pub mod Opened
+pub mod Parts
+pub mod PreviewFailed
+pub mod Previewing
+pub mod Proposing
+pub mod RanLemmas
+pub mod Refused

@@ -1,0 +1,4 @@
+pub mod session
+pub mod Input
+pub mod Edit
+pub mod preview
