@@ -16,10 +16,8 @@ pub(crate) fn instead(name: &str, said: &str) -> &'static str {
     let word = quoted(said);
     if !is_unexpected(said) {
         ""
-    } else if word.starts_with("--") {
-        short(name, word)
     } else if word.starts_with('-') {
-        letter(name, word)
+        option(name, word)
     } else {
         alone(name)
     }
@@ -42,134 +40,86 @@ fn alone(name: &str) -> &'static str {
     }
 }
 
-/// What stands for a letter of other tools, or why there is nothing.
-fn letter(name: &str, word: &str) -> &'static str {
-    match name {
-        "od" => letter_of_od(word),
-        "xxd" => letter_of_xxd(word),
-        "hexdump" => letter_of_hexdump(word),
-        "strings" => letter_of_strings(word),
-        _ => "",
-    }
-}
+/// The options of other tools, by the subcommand, whose name is empty for those on images: what stands for each, or why there is nothing.
+static OPTIONS: [(&str, &str, &str); 65] = [
+    ("od", "-a", "give -c for characters"),
+    ("od", "-e", "numbers are shown as integers alone"),
+    ("od", "-f", "numbers are shown as integers alone"),
+    ("od", "-S", "bx strings shows texts"),
+    ("od", "--address-radix", "give -A RADIX"),
+    ("od", "--skip-bytes", "give -j COUNT"),
+    ("od", "--skip", "give -j COUNT"),
+    ("od", "--read-bytes", "give -N COUNT"),
+    ("od", "--length", "give -N COUNT"),
+    ("od", "--format", "give -t TYPE"),
+    ("od", "--output-duplicates", "give -v"),
+    ("xxd", "-C", "give -n NAME for the name of the array"),
+    ("xxd", "-E", "characters are shown as ASCII alone"),
+    ("xxd", "-R", "a dump has no colors"),
+    ("xxd", "--autoskip", "give -a"),
+    ("xxd", "--len", "give -l COUNT"),
+    ("xxd", "--length", "give -l COUNT"),
+    ("xxd", "--seek", "give -s OFFSET"),
+    ("xxd", "--skip", "give -s OFFSET"),
+    ("xxd", "--offset", "give -o OFFSET"),
+    ("xxd", "--cols", "give -c COLS"),
+    ("xxd", "--group", "give -g BYTES"),
+    ("xxd", "--groupsize", "give -g BYTES"),
+    ("xxd", "--plain", "give -p"),
+    ("xxd", "--postscript", "give -p"),
+    ("xxd", "--revert", "give -r"),
+    ("xxd", "--bits", "give -b"),
+    ("xxd", "--include", "give -i"),
+    ("xxd", "--upper", "give -u"),
+    ("xxd", "--uppercase", "give -u"),
+    ("xxd", "--decimal", "give -d"),
+    ("xxd", "--name", "give -n NAME"),
+    ("hexdump", "-b", "-C is the only form; bx od has others"),
+    ("hexdump", "-c", "-C is the only form; bx od has others"),
+    ("hexdump", "-d", "-C is the only form; bx od has others"),
+    ("hexdump", "-o", "-C is the only form; bx od has others"),
+    ("hexdump", "-x", "-C is the only form; bx od has others"),
+    ("hexdump", "-e", "-C is the only form"),
+    ("hexdump", "-f", "-C is the only form"),
+    ("hexdump", "-L", "-C is the only form"),
+    ("hexdump", "--canonical", "give -C"),
+    ("hexdump", "--length", "give -n COUNT"),
+    ("hexdump", "--skip", "give -s COUNT"),
+    ("hexdump", "--no-squeezing", "give -v"),
+    ("strings", "-o", "give -t o"),
+    ("strings", "--all", "give -a"),
+    ("strings", "--bytes", "give -n COUNT"),
+    ("strings", "--radix", "give -t RADIX"),
+    ("strings", "--encoding", "give -e ENCODING"),
+    ("strings", "--print-file-name", "give -f"),
+    ("patch", "--reverse", "give -R"),
+    ("patch", "--patch", "give -f PATCH"),
+    ("patch", "--input", "give -f PATCH"),
+    ("patch", "--file", "give -f PATCH"),
+    ("", "--count", "give -k COUNT"),
+    ("", "--journal", "give -J JOURNAL"),
+    ("", "--unsynced", "give -U"),
+    ("", "--dump", "give -f DUMP"),
+    ("", "--file", "give -f DUMP"),
+    ("", "--plain", "give -p"),
+    ("", "--offset", "give -s OFFSET"),
+    ("", "--redo", "give -r"),
+    ("", "--difference", "give -d"),
+    ("", "--diff", "give -d"),
+    ("", "--verbose", "give -v"),
+];
 
-fn letter_of_od(word: &str) -> &'static str {
-    match word {
-        "-a" => "give -c for characters",
-        "-e" | "-f" => "numbers are shown as integers alone",
-        "-S" => "bx strings shows texts",
-        _ => "",
+/// What stands for an option of other tools, or for what it does. Of a subcommand that dumps its own are known, of another one those on
+/// images too.
+fn option(name: &str, word: &str) -> &'static str {
+    let is_dump = matches!(name, "od" | "xxd" | "hexdump" | "strings");
+    for (command, other, advice) in &OPTIONS {
+        let is_of = **command == *name || (command.is_empty() && !is_dump);
+        if is_of && **other == *word {
+            return advice;
+        }
     }
-}
-
-fn letter_of_xxd(word: &str) -> &'static str {
-    match word {
-        "-C" => "give -n NAME for the name of the array",
-        "-E" => "characters are shown as ASCII alone",
-        "-R" => "a dump has no colors",
-        _ => "",
-    }
-}
-
-fn letter_of_hexdump(word: &str) -> &'static str {
-    match word {
-        "-b" | "-c" | "-d" | "-o" | "-x" => "-C is the only form; bx od has others",
-        "-e" | "-f" | "-L" => "-C is the only form",
-        _ => "",
-    }
-}
-
-fn letter_of_strings(word: &str) -> &'static str {
-    match word {
-        "-o" => "give -t o",
-        _ => "",
-    }
-}
-
-/// The option that stands for a long one of other tools, or for what it does.
-fn short(name: &str, long: &str) -> &'static str {
-    match name {
-        "od" => short_of_od(long),
-        "xxd" => short_of_xxd(long),
-        "hexdump" => short_of_hexdump(long),
-        "strings" => short_of_strings(long),
-        "patch" => short_of_patch(long),
-        _ => short_of_change(long),
-    }
-}
-
-fn short_of_od(long: &str) -> &'static str {
-    match long {
-        "--address-radix" => "give -A RADIX",
-        "--skip-bytes" | "--skip" => "give -j COUNT",
-        "--read-bytes" | "--length" => "give -N COUNT",
-        "--format" => "give -t TYPE",
-        "--output-duplicates" => "give -v",
-        _ => "",
-    }
-}
-
-fn short_of_xxd(long: &str) -> &'static str {
-    match long {
-        "--autoskip" => "give -a",
-        "--len" | "--length" => "give -l COUNT",
-        "--seek" | "--skip" => "give -s OFFSET",
-        "--offset" => "give -o OFFSET",
-        "--cols" => "give -c COLS",
-        "--group" | "--groupsize" => "give -g BYTES",
-        "--plain" | "--postscript" => "give -p",
-        "--revert" => "give -r",
-        "--bits" => "give -b",
-        "--include" => "give -i",
-        "--upper" | "--uppercase" => "give -u",
-        "--decimal" => "give -d",
-        "--name" => "give -n NAME",
-        _ => "",
-    }
-}
-
-fn short_of_hexdump(long: &str) -> &'static str {
-    match long {
-        "--canonical" => "give -C",
-        "--length" => "give -n COUNT",
-        "--skip" => "give -s COUNT",
-        "--no-squeezing" => "give -v",
-        _ => "",
-    }
-}
-
-fn short_of_strings(long: &str) -> &'static str {
-    match long {
-        "--all" => "give -a",
-        "--bytes" => "give -n COUNT",
-        "--radix" => "give -t RADIX",
-        "--encoding" => "give -e ENCODING",
-        "--print-file-name" => "give -f",
-        _ => "",
-    }
-}
-
-fn short_of_patch(long: &str) -> &'static str {
-    match long {
-        "--reverse" => "give -R",
-        "--patch" | "--input" | "--file" => "give -f PATCH",
-        _ => short_of_change(long),
-    }
-}
-
-fn short_of_change(long: &str) -> &'static str {
-    match long {
-        "--count" => "give -k COUNT",
-        "--journal" => "give -J JOURNAL",
-        "--unsynced" => "give -U",
-        "--dump" | "--file" => "give -f DUMP",
-        "--plain" => "give -p",
-        "--offset" => "give -s OFFSET",
-        "--redo" => "give -r",
-        "--difference" | "--diff" => "give -d",
-        "--verbose" => "give -v",
-        _ => "",
-    }
+    ""
 }
 
 /// The first word that is a negative number and begins as the one that clap quotes; none where that isn't one.

@@ -16,4 +16,5 @@ pub use remarks::audience::{Audience, Terminals, asks_for_hints};
 pub use remarks::beside::unlike_line;
 pub use remarks::cost::{saved_by_dd, saved_by_patch, tell_of_cost};
 pub use remarks::seen::{Seen, Watched};
+pub use text::commands::is_named;
 pub use text::steps::{Standing, Tail};
