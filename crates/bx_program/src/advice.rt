@@ -8,14 +8,11 @@ use bx_journal_image::{
     ImageLine, LINE, Standing, Verdict, is_changed, is_older, is_redo_refused, is_undo_refused,
     judge_unfinished, others_after, read_line, stand,
 };
-use bx_system::{OpenFile, Progress, SystemWorld};
+use bx_system::{OpenFile, Progress, System, SystemWorld};
 use bx_text::{IoFault, emit};
 use bx_world::{Looked, World, open_to_look};
 use std::alloc::Global;
-use std::fs::File;
 use std::io::Write;
-use std::rt::Files;
-use std::time::Clock;
 
 /// What is shown of an image that isn't the one that the last command on it left.
 const OTHER: &str = "# the image was changed since\n";
@@ -23,9 +20,9 @@ const OTHER: &str = "# the image was changed since\n";
 /// What is shown of an image that isn't the one on which what is unfinished was begun.
 pub const ANOTHER: &str = "# the image isn't the one that it was made on\n";
 
-/// What the line says of an image.
+/// What the line says of an image, and what a command finds before its first write.
 #[derive(Clone, Copy)]
-enum Known {
+pub enum Advice {
     /// Nothing.
     Nothing,
     /// What it says, and what is found beside finished texts.
@@ -34,52 +31,34 @@ enum Known {
     Unfinished(Verdict),
 }
 
-/// The line, and what a command finds before its first write.
-#[derive(Clone, Copy)]
-pub struct Advice {
-    known: Known,
-}
-
 impl Advice {
     /// What is known of an image, whose files are only read. The locks on them are given up again.
-    pub fn of<R>(rt: &R, target: &Target) -> Advice
-    where
-        R: Files<File = File> + Print + Eprint + Clock + AllocGlobal,
-    {
-        Advice {
-            known: look_up(rt, target).unwrap_or(Known::Nothing),
-        }
-    }
-
-    /// That nothing is known.
-    pub fn none() -> Advice {
-        Advice {
-            known: Known::Nothing,
-        }
+    pub fn of<R: System>(rt: &R, target: &Target) -> Advice {
+        look_up(rt, target).unwrap_or(Advice::Nothing)
     }
 
     /// Whether an undo or a redo of `count` changes is refused.
     fn refuses(&self, way: Direction, count: u32) -> bool {
-        match (&self.known, way) {
-            (Known::Nothing | Known::Unfinished(_), _) => false,
-            (Known::AtRest(line, now), Direction::Undo) => is_undo_refused(line, now, count),
-            (Known::AtRest(line, now), Direction::Redo) => is_redo_refused(line, now, count),
+        match (self, way) {
+            (Advice::Nothing | Advice::Unfinished(_), _) => false,
+            (Advice::AtRest(line, now), Direction::Undo) => is_undo_refused(line, now, count),
+            (Advice::AtRest(line, now), Direction::Redo) => is_redo_refused(line, now, count),
         }
     }
 
     /// Whether the image isn't the one that the last command left.
     pub fn is_changed(&self) -> bool {
-        match &self.known {
-            Known::AtRest(line, now) => is_changed(line, now),
-            Known::Nothing | Known::Unfinished(_) => false,
+        match self {
+            Advice::AtRest(line, now) => is_changed(line, now),
+            Advice::Nothing | Advice::Unfinished(_) => false,
         }
     }
 
     /// Whether the texts are older than what is known.
     fn is_behind(&self) -> bool {
-        match &self.known {
-            Known::AtRest(line, now) => is_older(line, now),
-            Known::Nothing | Known::Unfinished(_) => false,
+        match self {
+            Advice::AtRest(line, now) => is_older(line, now),
+            Advice::Nothing | Advice::Unfinished(_) => false,
         }
     }
 
@@ -106,26 +85,26 @@ impl Advice {
 
     /// Whether something is unfinished that was begun on another image, or none where nothing is, or nothing tells it.
     pub fn is_another(&self) -> Option<bool> {
-        match &self.known {
-            Known::Unfinished(Verdict::Other) => Some(true),
-            Known::Unfinished(Verdict::Same) => Some(false),
-            Known::Unfinished(Verdict::Untold) | Known::Nothing | Known::AtRest(_, _) => None,
+        match self {
+            Advice::Unfinished(Verdict::Other) => Some(true),
+            Advice::Unfinished(Verdict::Same) => Some(false),
+            Advice::Unfinished(Verdict::Untold) | Advice::Nothing | Advice::AtRest(_, _) => None,
         }
     }
 
     /// Whether nothing is unfinished, and the line says something.
     pub fn is_at_rest(&self) -> bool {
-        match &self.known {
-            Known::AtRest(_, _) => true,
-            Known::Nothing | Known::Unfinished(_) => false,
+        match self {
+            Advice::AtRest(_, _) => true,
+            Advice::Nothing | Advice::Unfinished(_) => false,
         }
     }
 
     /// How many of the oldest changes stand for another image, all where it isn't the one that the last command left.
     fn others(&self) -> u32 {
-        match &self.known {
-            Known::AtRest(line, now) => others_after(line, now),
-            Known::Nothing | Known::Unfinished(_) => 0,
+        match self {
+            Advice::AtRest(line, now) => others_after(line, now),
+            Advice::Nothing | Advice::Unfinished(_) => 0,
         }
     }
 
@@ -146,10 +125,7 @@ impl Advice {
 }
 
 /// What is known of an image; none where a file isn't opened or read.
-fn look_up<R>(rt: &R, target: &Target) -> Option<Known>
-where
-    R: Files<File = File> + Print + Eprint + Clock + AllocGlobal,
-{
+fn look_up<R: System>(rt: &R, target: &Target) -> Option<Advice> {
     let silent = Progress::new(rt, false, None);
     let names = names_of(rt.alloc(), target).ok()?;
     let mut world = world_of(rt, target, &silent).ok()?;
@@ -159,25 +135,19 @@ where
 }
 
 /// The line, where the third text is one.
-fn line_in<R>(world: &mut SystemWorld<'_, '_, R>) -> Option<ImageLine>
-where
-    R: Files<File = File> + Print + Eprint + Clock + AllocGlobal,
-{
+fn line_in<R: System>(world: &mut SystemWorld<'_, '_, R>) -> Option<ImageLine> {
     let mut room = [0u8; LINE + 1];
     let count = world.read_note(&mut room).ok()?;
     read_line(room.get(..count)?)
 }
 
 /// What is known of an image by its line, whose files are open; they are closed behind it.
-fn look_at<'p, 'r, R>(
+fn look_at<'p, 'r, R: System>(
     world: &mut SystemWorld<'p, 'r, R>,
     alloc: Global,
     looked: Looked<OpenFile<'p, 'r, R>>,
     line: ImageLine,
-) -> Option<Known>
-where
-    R: Files<File = File> + Print + Eprint + Clock + AllocGlobal,
-{
+) -> Option<Advice> {
     let mut image = world.lend_image_to_read(looked.image).ok()?;
     let mut journal = world.lend_text_to_read(looked.journal).ok()?;
     let mut redo = match looked.redo {
@@ -185,9 +155,9 @@ where
         None => world.lend_no_text(),
     };
     let known = match judge_unfinished(&alloc, &mut image, &mut journal, Some(line)) {
-        Ok(Some(verdict)) => Some(Known::Unfinished(verdict)),
+        Ok(Some(verdict)) => Some(Advice::Unfinished(verdict)),
         Ok(None) => match stand(&alloc, &mut image, &mut journal, &mut redo) {
-            Ok(Some(found)) => Some(Known::AtRest(line, found.standing)),
+            Ok(Some(found)) => Some(Advice::AtRest(line, found.standing)),
             Ok(None) | Err(_) => None,
         },
         Err(_) => None,

@@ -5,22 +5,19 @@ use crate::files::tail::tail_of;
 use bx_cli::{ChangeJob, Fault, Job, misuse_of};
 use bx_hints::{Stopped, Tail, is_of_words, show_cause, show_misuse};
 use bx_journal::SessionFault;
+use bx_system::System;
 use bx_text::Words;
-use std::fs::File;
-use std::rt::Files;
 
 /// Writes the text of the fault, and behind it where hints are written the hint. A hint that can't be made or written is left
 /// out. Where the reader of standard output has gone nothing is written, as by other programs. The job is none where the words
 /// ask for none.
-pub fn show_fault<R>(
+pub fn show_fault<R: System>(
     rt: &R,
     hints: bool,
     words: &Words,
     job: Option<&Job>,
     stopped: Stopped<'_>,
 ) -> Fault
-where
-    R: Files<File = File> + Eprint + AllocGlobal,
     ensures { result ≡ stopped.entry.fault }
 {
     let fault = stopped.fault;
@@ -36,10 +33,7 @@ where
 }
 
 /// Writes the text of a fault that stops no job, and behind it where hints are written the hint.
-pub fn show_passed<R>(rt: &R, hints: bool, stopped: Stopped<'_>)
-where
-    R: Files<File = File> + Eprint + AllocGlobal,
-{
+pub fn show_passed<R: System>(rt: &R, hints: bool, stopped: Stopped<'_>) {
     let fault = stopped.fault;
     let _ = eprintln!(rt; "bx: {fault}");
     if hints {
@@ -48,10 +42,12 @@ where
 }
 
 /// The hint on a line of its own.
-fn show_hint<R>(rt: &R, words: &Words, job: Option<&Job>, stopped: Stopped<'_>) -> Result<(), Fault>
-where
-    R: Files<File = File> + Eprint + AllocGlobal,
-{
+fn show_hint<R: System>(
+    rt: &R,
+    words: &Words,
+    job: Option<&Job>,
+    stopped: Stopped<'_>,
+) -> Result<(), Fault> {
     let fault = stopped.fault;
     if is_of_words(stopped) {
         let misuse = misuse_of(rt.alloc(), words, fault)?;
@@ -69,10 +65,7 @@ where
 }
 
 /// The change at which an undo or a redo was stopped in the middle, where the journal's end tells it. None of another job.
-fn begun_at<R>(rt: &R, job: Option<&Job>, fault: Fault) -> Option<u32>
-where
-    R: Files<File = File>,
-{
+fn begun_at<R: System>(rt: &R, job: Option<&Job>, fault: Fault) -> Option<u32> {
     if !matches!(fault, Fault::Session(SessionFault::Interrupted)) {
         return None;
     }

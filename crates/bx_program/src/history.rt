@@ -9,26 +9,20 @@ use bx_cli::{Fault, Target};
 use bx_hints::Stopped;
 use bx_journal::{Direction, Steps};
 use bx_run::{Report, Request, run_request};
-use bx_system::Progress;
-use std::fs::File;
+use bx_system::{Progress, System};
 use std::io::{self, Empty};
-use std::rt::Files;
-use std::time::Clock;
 
 /// Recovers what is unfinished of an image, by an undo of no change, where the third text tells that the image is the one, or
 /// it goes on anyway; and says on standard error what it was. A redo text that is missing stays so.
 ///
 /// # Errors
 /// As of an undo; `ChangedSince` unless the note says that the image is the one.
-pub fn recover_image<'a, R>(
+pub fn recover_image<'a, R: System>(
     rt: &R,
     target: &'a Target,
     anyway: bool,
     progress: &Progress<'_, R>,
-) -> Result<(), Stopped<'a>>
-where
-    R: Files<File = File> + Print + Eprint + Clock + AllocGlobal,
-{
+) -> Result<(), Stopped<'a>> {
     let names = names_of(rt.alloc(), target)?;
     let mut world = world_of(rt, target, progress)?;
     let request: Request<'_, Empty> = Request::Recover {
@@ -46,14 +40,11 @@ where
 ///
 /// # Errors
 /// As of an undo.
-pub fn settle_image<'a, R>(
+pub fn settle_image<'a, R: System>(
     rt: &R,
     target: &'a Target,
     progress: &Progress<'_, R>,
-) -> Result<(), Stopped<'a>>
-where
-    R: Files<File = File> + Print + Eprint + Clock + AllocGlobal,
-{
+) -> Result<(), Stopped<'a>> {
     let nothing = Report::Show(Steps {
         way: Direction::Undo,
         count: 0,

@@ -8,24 +8,20 @@ use bx_image::FailedCall;
 use bx_journal::{RecoveryOutcome, SessionFault};
 use bx_patch::Other;
 use bx_run::{Cause, CommandFile, Done, Failure, Stop};
-use bx_system::{Left, SystemWorld, open_to_read};
+use bx_system::{Left, System, SystemWorld, open_to_read};
 use bx_text::IoFault;
 use bx_world::{FileRole, OpenError, Outgrown};
 use std::fs::File;
 use std::io::{self, ErrorKind, Seek, SeekFrom};
 use std::os::unix::fs::FileExt;
-use std::rt::Files;
-use std::time::Clock;
 
 /// What stopped a command on an image, and the file or the stream that did it. The fault is the failure's own.
-pub fn stopped<'a, R>(
+pub fn stopped<'a, R: System>(
     rt: &R,
     target: &'a Target,
     world: &SystemWorld<'_, '_, R>,
     failure: Failure,
 ) -> Stopped<'a>
-where
-    R: Files<File = File> + Print + Eprint + Clock + AllocGlobal,
     ensures { result.fault ≡ failure.fault }
 {
     let fault = failure.fault;
@@ -37,15 +33,12 @@ where
 }
 
 /// The file of an image that stopped a command.
-fn blamed<'a, R>(
+fn blamed<'a, R: System>(
     rt: &R,
     target: &'a Target,
     world: &SystemWorld<'_, '_, R>,
     stop: Stop,
-) -> Blame<'a>
-where
-    R: Files<File = File> + Print + Eprint + Clock + AllocGlobal,
-{
+) -> Blame<'a> {
     let image = target.image.as_str();
     let reason = match stop.cause {
         Cause::Unopened(why) => {
@@ -82,25 +75,21 @@ pub fn reason_of(call: Option<FailedCall>) -> Reason<'static> {
 }
 
 /// What stopped a command, where the fault says all but the file or the stream that did it.
-fn by_fault<'a, R>(
+fn by_fault<'a, R: System>(
     rt: &R,
     target: &'a Target,
     world: &SystemWorld<'_, '_, R>,
     fault: Fault,
-) -> Stopped<'a>
-where
-    R: Files<File = File> + Print + Eprint + Clock + AllocGlobal,
-{
+) -> Stopped<'a> {
     let image = target.image.as_str();
     match fault {
         Fault::Io(IoFault::WriteFailed { .. }) if world.unwritten.is_some() => {
             Stopped::by(fault, STANDARD_OUTPUT, world.unwritten)
         }
-        Fault::Session(SessionFault::LengthDiffers { expected })
-        | Fault::Disagrees(Other::Length { expected }) => {
-            differs_by_name(rt, image, fault, expected)
+        Fault::Session(SessionFault::LengthDiffers { expected }) => {
+            differs_by_name(rt, image, fault, Other::Length { expected })
         }
-        Fault::Disagrees(Other::Bytes { at }) => has_others_by_name(rt, image, fault, at),
+        Fault::Disagrees(other) => differs_by_name(rt, image, fault, other),
         Fault::Grows { .. } => Stopped::from(fault).on_growth(image),
         fault => stopped_by(target, &world.left, fault),
     }
@@ -159,13 +148,15 @@ fn failed<'a>(target: &'a Target, left: &Left, fault: Fault) -> Stopped<'a> {
     }
 }
 
-/// The image of this name, which has not the length that it should have.
-fn differs_by_name<'a, R>(rt: &R, name: &'a str, fault: Fault, expected: u64) -> Stopped<'a>
-where
-    R: Files<File = File>,
-{
+/// What the image of this name has otherwise than a journal or a patch expects.
+fn differs_by_name<'a, R: System>(
+    rt: &R,
+    name: &'a str,
+    fault: Fault,
+    other: Other,
+) -> Stopped<'a> {
     match open_to_read(rt, name) {
-        Ok(file) => differs(name, length_of(&file), fault, expected),
+        Ok(file) => differs(name, &file, fault, other),
         Err(error) if is_of_journal(fault) && error.kind() == ErrorKind::NotFound => {
             Stopped::gone(fault, name)
         }
@@ -178,19 +169,16 @@ fn is_of_journal(fault: Fault) -> bool {
     matches!(fault, Fault::Session(SessionFault::LengthDiffers { .. }))
 }
 
-/// The image of this name, which has other bytes than a patch expects.
-fn has_others_by_name<'a, R>(rt: &R, name: &'a str, fault: Fault, at: u64) -> Stopped<'a>
-where
-    R: Files<File = File>,
-{
-    match open_to_read(rt, name) {
-        Ok(file) => has_others(name, &file, fault, at),
-        Err(error) => Stopped::by(fault, name, error.raw_os_error()),
+/// The same of a file that is open.
+pub fn differs<'a>(name: &'a str, file: &File, fault: Fault, other: Other) -> Stopped<'a> {
+    match other {
+        Other::Length { expected } => has_length(name, length_of(file), fault, expected),
+        Other::Bytes { at } => has_others(name, file, fault, at),
     }
 }
 
-/// The same of a file, by the length that was asked for.
-pub fn differs<'a>(
+/// The image, which has this length, as it was asked for, and not the one that it should have.
+pub fn has_length<'a>(
     name: &'a str,
     length: io::Result<u64>,
     fault: Fault,
@@ -212,7 +200,7 @@ pub fn length_of(mut file: &File) -> io::Result<u64> {
 }
 
 /// The image, which has other bytes than a patch expects.
-pub fn has_others<'a>(name: &'a str, file: &File, fault: Fault, at: u64) -> Stopped<'a> {
+fn has_others<'a>(name: &'a str, file: &File, fault: Fault, at: u64) -> Stopped<'a> {
     let mut bytes = [0u8; 16];
     let room = 16 - (at % 16) as usize;
     match file.read_at(&mut bytes[..room], at) {

@@ -2,13 +2,11 @@
 ghost use Rattle.std.specs.Prelude.{◌≡◌, IfOk};
 
 use bx_cli::{Access, Durability, Fault, Target};
-use bx_system::{Progress, SystemWorld};
+use bx_hints::is_named;
+use bx_system::{Progress, System, SystemWorld};
 use bx_text::Name;
 use bx_world::{Guard, Names};
 use std::alloc::{AllocError, Global};
-use std::fs::File;
-use std::rt::Files;
-use std::time::Clock;
 
 /// A name once more.
 fn copied(alloc: Global, name: &Name) -> Result<Name, AllocError>
@@ -31,14 +29,11 @@ pub fn names_of(alloc: Global, target: &Target) -> Result<Names, Fault>
 }
 
 /// The system as a target's files are used in it.
-pub fn world_of<'p, 'r, R>(
+pub fn world_of<'p, 'r, R: System>(
     rt: &'r R,
     target: &Target,
     progress: &'p Progress<'r, R>,
-) -> Result<SystemWorld<'p, 'r, R>, Fault>
-where
-    R: Files<File = File> + Print + Eprint + Clock + AllocGlobal,
-{
+) -> Result<SystemWorld<'p, 'r, R>, Fault> {
     let waits = target.access.durability == Durability::Synced;
     let texts = &target.texts;
     let (image, journal) = (target.image.as_str(), texts.journal.as_str());
@@ -56,12 +51,7 @@ pub fn guard_of(target: &Target) -> Guard {
         mounted,
         anyway,
         told: false,
-        named: target
-            .texts
-            .journal
-            .as_str()
-            .strip_prefix(target.image.as_str())
-            != Some(".bxj"),
+        named: is_named(target),
     }
 }
 

@@ -2,17 +2,16 @@
 use bx_cli::Target;
 use bx_hints::{Standing, Tail};
 use bx_journal_image::end_of;
-use bx_system::open_to_read;
-use std::fs::{self, File};
+use bx_system::{System, open_to_read};
+use std::fs;
 use std::io::{ErrorKind, Seek, SeekFrom};
 use std::os::unix::fs::FileExt;
-use std::rt::Files;
 
 /// How many bytes are read: an end line, and the `save` line before it.
 const LAST: usize = 128;
 
 /// What stands at the ends of the texts of an image.
-pub fn standing_of<R: Files<File = File>>(rt: &R, target: &Target) -> Standing {
+pub fn standing_of<R: System>(rt: &R, target: &Target) -> Standing {
     Standing {
         journal: tail_of(rt, target.texts.journal.as_str()),
         redo: tail_of(rt, target.texts.redo.as_str()),
@@ -20,7 +19,7 @@ pub fn standing_of<R: Files<File = File>>(rt: &R, target: &Target) -> Standing {
 }
 
 /// What stands at the end of the text of this name.
-pub fn tail_of<R: Files<File = File>>(rt: &R, name: &str) -> Tail {
+pub fn tail_of<R: System>(rt: &R, name: &str) -> Tail {
     match fs::symlink_metadata(rt, name) {
         Ok(found) if found.is_file() && found.len() == 0 => Tail::Finished(0),
         Ok(found) if found.is_file() => read_tail(rt, name).unwrap_or(Tail::Unknown),
@@ -31,7 +30,7 @@ pub fn tail_of<R: Files<File = File>>(rt: &R, name: &str) -> Tail {
 }
 
 /// The same of a regular file that isn't empty; none where it isn't read.
-fn read_tail<R: Files<File = File>>(rt: &R, name: &str) -> Option<Tail> {
+fn read_tail<R: System>(rt: &R, name: &str) -> Option<Tail> {
     let file = open_to_read(rt, name).ok()?;
     let length = (&file).seek(SeekFrom::End(0)).ok()?;
     let mut bytes = [0u8; LAST];

@@ -4,35 +4,13 @@ use bx_world::{Classes, Stat, Unfit};
 use std::fs::Metadata;
 use std::os::unix::fs::MetadataExt;
 
-/// What is said of a file that can't be an image, and of what can't be a text of one.
-const NO_IMAGE: &str = "it is no regular file and no block device";
-
-const NO_TEXT: &str = "it is no regular file";
-
-const IS_LINK: &str =
-    "it is a link, and neither a journal nor a redo file may be one; -J names the journal that lies behind it, or one elsewhere";
-
-const HAS_NAMES: &str =
-    "it has a second name, and neither a journal nor a redo file may have one; -J names a journal elsewhere";
-
-/// What is said of a text that somebody else may have put there.
-const NOT_OF_A_WRITER: &str =
-    "it belongs neither to you, root or the image's owner nor, by its group, to a group that may read and write the image; -J names a journal elsewhere";
-
-/// What is said of a device that is mounted, or counts as one.
-const IS_MOUNTED: &str =
-    "it or a part of it is in use: mounted, as swap, or under an array or a volume; unmount or stop that, or give --mounted";
-
 /// The bits to read and to write of the group and of the others.
 const GROUP_AND_OTHERS: u32 = 0o066;
-
-/// What is said of a device that can't be written.
-const IS_READ_ONLY: &str = "the device is read-only; blockdev --setrw may change that";
 
 /// Why an image may not be opened.
 pub fn unfit_image(unfit: Unfit) -> Reason<'static> {
     if unfit == Unfit::Kind {
-        return Reason::Told(NO_IMAGE);
+        return Reason::Told("it is no regular file and no block device");
     }
     unfit_text(unfit, 0)
 }
@@ -40,13 +18,23 @@ pub fn unfit_image(unfit: Unfit) -> Reason<'static> {
 /// Why a text may not be opened. It may have at most these permission bits.
 pub fn unfit_text(unfit: Unfit, bits: u32) -> Reason<'static> {
     match unfit {
-        Unfit::Link => Reason::Told(IS_LINK),
-        Unfit::Kind => Reason::Told(NO_TEXT),
-        Unfit::Names => Reason::Told(HAS_NAMES),
-        Unfit::Owner => Reason::Told(NOT_OF_A_WRITER),
+        Unfit::Link => Reason::Told(
+            "it is a link, and neither a journal nor a redo file may be one; -J names the journal that lies behind it, or one elsewhere",
+        ),
+        Unfit::Kind => Reason::Told("it is no regular file"),
+        Unfit::Names => Reason::Told(
+            "it has a second name, and neither a journal nor a redo file may have one; -J names a journal elsewhere",
+        ),
+        Unfit::Owner => Reason::Told(
+            "it belongs neither to you, root or the image's owner nor, by its group, to a group that may read and write the image; -J names a journal elsewhere",
+        ),
         Unfit::Readers | Unfit::Writers => Reason::Wide { bits },
-        Unfit::Mounted => Reason::Told(IS_MOUNTED),
-        Unfit::ReadOnly => Reason::Told(IS_READ_ONLY),
+        Unfit::Mounted => Reason::Told(
+            "it or a part of it is in use: mounted, as swap, or under an array or a volume; unmount or stop that, or give --mounted",
+        ),
+        Unfit::ReadOnly => Reason::Told(
+            "the device is read-only; blockdev --setrw may change that",
+        ),
     }
 }
 

@@ -5,38 +5,13 @@ use crate::files::unfit::{bits_left, unfit_image, unfit_text};
 use bx_cli::{Fault, Target};
 use bx_hints::{Reason, Stopped};
 use bx_system::{
-    Misplaced, SystemWorld, Unknown, folder_of, is_among_devices, is_mounted, stat_of,
+    Misplaced, System, SystemWorld, Unknown, folder_of, is_among_devices, is_mounted, stat_of,
 };
 use bx_world::{FileRole, OpenError, OpenFailure, Refusal, Unfit};
-use std::fs::{self, File};
-use std::rt::Files;
-
-/// What is said of a journal that is missing and isn't to be made.
-const NO_JOURNAL: &str =
-    "no journal is here, so no change is known; -J names one that is elsewhere, and bx revert, bx patch and bx dd make one";
-
-/// What is said of a file that is locked.
-const HELD: &str = "another program has it locked, or it is one of the others by another name";
-
-/// What is said of a file whose name leads to another one by now.
-const IS_MOVED: &str = "another file has its name now";
+use std::fs;
 
 /// What is said of a file that has the name of another one too.
 const IS_ALIAS: &str = "it is one of the others by another name";
-
-/// What is said of a link that somebody else made.
-const OF_ANOTHER: &str =
-    "a link of another user leads to a file that is missing, which is not made; name the file itself";
-
-/// What is said of an image that would be made among the devices, and of a text.
-const NO_DEVICE: &str = "there is no such device, and no file is made among the devices";
-
-const NO_TEXT: &str =
-    "no file is made among the devices, where none lasts; -J names a journal elsewhere";
-
-/// What is said of a device where the system doesn't tell what is in use.
-const IS_UNKNOWN: &str =
-    "whether it is in use isn't known, since /proc/self/mountinfo, /proc/swaps or /proc/partitions can't be read; --mounted goes on without";
 
 /// The system's number for a file that is missing, and for one that is there already.
 const MISSING: i32 = 2;
@@ -83,15 +58,12 @@ impl<'a> Blame<'a> {
 }
 
 /// The file of an image that wasn't opened in this world.
-pub fn not_opened<'a, R>(
+pub fn not_opened<'a, R: System>(
     rt: &R,
     target: &'a Target,
     unopened: OpenError,
     world: &SystemWorld<'_, '_, R>,
-) -> Blame<'a>
-where
-    R: Files<File = File> + AllocGlobal,
-{
+) -> Blame<'a> {
     let name = match unopened.which {
         FileRole::Image => target.image.as_str(),
         FileRole::Journal => target.texts.journal.as_str(),
@@ -113,7 +85,7 @@ where
             unopened.which,
             world.misplaced,
         ),
-        OpenFailure::System(refusal) => refused(rt, name, unopened.which, refusal),
+        OpenFailure::System(refusal) => refused(name, unopened.which, refusal),
         OpenFailure::Unfit(unfit) => unfit_file(
             rt,
             target.image.as_str(),
@@ -135,18 +107,15 @@ pub fn another(image: &str) -> Blame<'_> {
 }
 
 /// Whether the file is the image, and changes of it are kept in its journal.
-fn is_gone<R: Files<File = File>>(rt: &R, target: &Target, which: FileRole) -> bool {
+fn is_gone<R: System>(rt: &R, target: &Target, which: FileRole) -> bool {
     let journal = target.texts.journal.as_str();
     which == FileRole::Image && fs::metadata(rt, journal).is_ok_and(|found| found.len() > 0)
 }
 
 /// A file that wasn't opened, which is only read and no file of a session.
-pub fn not_opened_alone<'a, R>(rt: &R, name: &'a str, why: OpenFailure) -> Blame<'a>
-where
-    R: Files<File = File> + AllocGlobal,
-{
+pub fn not_opened_alone(name: &str, why: OpenFailure) -> Blame<'_> {
     match why {
-        OpenFailure::System(refusal) => refused(rt, name, FileRole::Image, refusal),
+        OpenFailure::System(refusal) => refused(name, FileRole::Image, refusal),
         OpenFailure::Unfit(unfit) => Blame {
             file: name,
             reason: unfit_image(unfit),
@@ -167,50 +136,62 @@ pub fn number_of(refusal: Refusal) -> Option<i32> {
 }
 
 /// A file that the system refused, or has none of this name.
-fn refused<'a, R>(rt: &R, name: &'a str, which: FileRole, refusal: Refusal) -> Blame<'a>
-where
-    R: Files<File = File> + AllocGlobal,
-{
+fn refused(name: &str, which: FileRole, refusal: Refusal) -> Blame<'_> {
     match refusal {
-        Refusal::Missing if which == FileRole::Journal => Blame::told(name, NO_JOURNAL),
+        Refusal::Missing if which == FileRole::Journal => Blame::told(
+            name,
+            "no journal is here, so no change is known; -J names one that is elsewhere, and bx revert, bx patch and bx dd make one",
+        ),
         Refusal::Missing => Blame::by(name, Some(MISSING)),
         Refusal::Taken => Blame::by(name, Some(IS_THERE)),
-        Refusal::Locked => Blame::told(name, HELD),
-        Refusal::Moved => Blame::told(name, IS_MOVED),
+        Refusal::Locked => Blame::told(
+            name,
+            "another program has it locked, or it is one of the others by another name",
+        ),
+        Refusal::Moved => Blame::told(name, "another file has its name now"),
         Refusal::Other(code) => Blame::by(name, code),
     }
 }
 
 /// A file that is missing and isn't made, since its place is none for it.
-fn unmade<'a, R>(rt: &R, name: &'a str, which: FileRole, misplaced: Option<Misplaced>) -> Blame<'a>
-where
-    R: Files<File = File> + AllocGlobal,
-{
+fn unmade<'a, R: System>(
+    rt: &R,
+    name: &'a str,
+    which: FileRole,
+    misplaced: Option<Misplaced>,
+) -> Blame<'a> {
     match (which, misplaced) {
-        (FileRole::Image, Some(misplaced)) => Blame::told(name, told(misplaced)),
+        (FileRole::Image, Some(Misplaced::AmongDevices)) => Blame::told(
+            name,
+            "there is no such device, and no file is made among the devices",
+        ),
+        (FileRole::Image, Some(Misplaced::OfAnother)) => Blame::told(
+            name,
+            "a link of another user leads to a file that is missing, which is not made; name the file itself",
+        ),
         (FileRole::Journal | FileRole::Redo, _) if is_among_devices(rt, folder_of(name)) => {
-            Blame::told(name, NO_TEXT)
+            Blame::told(
+                name,
+                "no file is made among the devices, where none lasts; -J names a journal elsewhere",
+            )
         }
         (FileRole::Image | FileRole::Journal | FileRole::Redo, _) => Blame::by(name, None),
     }
 }
 
-/// Why a place is none for an image.
-fn told(misplaced: Misplaced) -> &'static str {
-    match misplaced {
-        Misplaced::AmongDevices => NO_DEVICE,
-        Misplaced::OfAnother => OF_ANOTHER,
-    }
-}
-
 /// A file that may not be opened; `image` is the name of the image.
-fn unfit_file<'a, R>(rt: &R, image: &str, name: &'a str, which: FileRole, unfit: Unfit) -> Blame<'a>
-where
-    R: Files<File = File> + AllocGlobal,
-{
+fn unfit_file<'a, R: System>(
+    rt: &R,
+    image: &str,
+    name: &'a str,
+    which: FileRole,
+    unfit: Unfit,
+) -> Blame<'a> {
     let reason = match which {
         FileRole::Image if unfit == Unfit::Mounted && is_unknown(rt, name) => {
-            Reason::Told(IS_UNKNOWN)
+            Reason::Told(
+                "whether it is in use isn't known, since /proc/self/mountinfo, /proc/swaps or /proc/partitions can't be read; --mounted goes on without",
+            )
         }
         FileRole::Image => unfit_image(unfit),
         FileRole::Journal | FileRole::Redo => unfit_text(unfit, bits_of(rt, image, name)),
@@ -219,10 +200,7 @@ where
 }
 
 /// Whether the system doesn't tell if a device is in use, which then counts as mounted.
-fn is_unknown<R>(rt: &R, name: &str) -> bool
-where
-    R: Files<File = File> + AllocGlobal,
-{
+fn is_unknown<R: System>(rt: &R, name: &str) -> bool {
     match fs::metadata(rt, name) {
         Ok(file) => matches!(is_mounted(rt, &file), Err(Unknown::NoTable)),
         Err(_) => false,
@@ -230,7 +208,7 @@ where
 }
 
 /// The bits that a text may have beside its image, of those that it has.
-fn bits_of<R: Files<File = File>>(rt: &R, image: &str, text: &str) -> u32 {
+fn bits_of<R: System>(rt: &R, image: &str, text: &str) -> u32 {
     match (fs::metadata(rt, image), fs::symlink_metadata(rt, text)) {
         (Ok(image), Ok(text)) => bits_left(&stat_of(&image, false), &text),
         (Err(_), _) | (_, Err(_)) => 0,

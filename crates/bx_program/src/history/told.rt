@@ -6,14 +6,15 @@ use crate::files::look::is_missing;
 use bx_cli::{Fault, Target};
 use bx_hints::{Reason, Remarks, Stopped};
 use bx_journal::Direction;
-use std::fs::File;
-use std::rt::Files;
-use std::time::Clock;
+use bx_system::System;
 
 /// The same of what stopped a command that goes this way, with what is known of the image, where that is another one.
-pub fn told<'a, R>(rt: &R, target: &'a Target, way: Direction, stopped: Stopped<'a>) -> Stopped<'a>
-where
-    R: Files<File = File> + Print + Eprint + Clock + AllocGlobal,
+pub fn told<'a, R: System>(
+    rt: &R,
+    target: &'a Target,
+    way: Direction,
+    stopped: Stopped<'a>,
+) -> Stopped<'a>
     ensures { result.fault ≡ stopped.entry.fault }
 {
     let fault = stopped.fault;
@@ -39,10 +40,7 @@ where
 }
 
 /// Looks, for the hint behind a change that begins no new history, whether the image isn't the one that the last command left.
-pub fn look_for_others<R>(rt: &R, target: &Target, fresh: bool, remarks: &mut Remarks)
-where
-    R: Files<File = File> + Print + Eprint + Clock + AllocGlobal,
-{
+pub fn look_for_others<R: System>(rt: &R, target: &Target, fresh: bool, remarks: &mut Remarks) {
     if !fresh && remarks.are_wanted() {
         remarks.look_at_advice(Advice::of(rt, target).is_changed());
     }

@@ -1,6 +1,4 @@
 //! dd onto an image or a device, and its report.
-ghost use Rattle.bx_cli_commands.specs.jobs.Passing.{CanPass, plan_skip};
-
 mod device;
 
 use crate::history::changes::change_image;
@@ -9,30 +7,23 @@ use crate::jobs::copies::device::{copy_to_device, goes_to_device};
 use crate::jobs::kept::{Manner, put_change};
 use crate::jobs::ready::{Ready, most_of_dd, plan_behind};
 use crate::jobs::states::tell_before_copy;
-use crate::progress::progress_of_copy;
-use crate::streams::input::{Placed, file, standard};
+use crate::progress::progress_of_reading;
+use crate::streams::input::behind_skip;
 use bx_cli::{DdImageJob, Fault};
 use bx_dd::{Counts, report};
 use bx_hints::{Remarks, Stopped};
 use bx_run::Edit;
-use bx_system::Progress;
+use bx_system::{Progress, System};
 use bx_text::IoFault;
-use std::fs::File;
-use std::io::Read;
-use std::rt::Files;
-use std::time::Clock;
 
 /// Puts what the plan makes of the input onto the image, and tells the counts. The input is opened first, and read whole
 /// before the image is written: they may be one file. To a character device it goes as it is read.
-pub fn copy_onto<'a, R>(
+pub fn copy_onto<'a, R: System>(
     rt: &R,
     job: &'a DdImageJob,
     remarks: &mut Remarks,
-) -> Result<(), Stopped<'a>>
-where
-    R: Files<File = File> + Input + Print + Eprint + Clock + AllocGlobal,
-{
-    let progress = progress_of_copy(rt, remarks, &job.plan);
+) -> Result<(), Stopped<'a>> {
+    let progress = progress_of_reading(rt, remarks, &job.plan.input, None);
     let counts = if goes_to_device(rt, job) {
         Some(copy_to_device(rt, job, &progress)?)
     } else {
@@ -50,41 +41,29 @@ where
     Ok(())
 }
 
-/// Opens the input, puts what the plan makes of it onto the image, and answers the counts.
-fn copy_input<'a, R>(
+/// Opens the input, puts what the plan makes of it onto the image, and answers the counts. Where the history begins with this
+/// change, or the image isn't to get longer, that is judged once the input is read.
+fn copy_input<'a, R: System>(
     rt: &R,
     job: &'a DdImageJob,
     progress: &Progress<'_, R>,
     remarks: &mut Remarks,
-) -> Result<Option<Counts>, Stopped<'a>>
-where
-    R: Files<File = File> + Input + Print + Eprint + Clock + AllocGlobal,
-{
-    let skip = job.skip();
-    match &job.plan.input {
-        Some(name) => copy_from(rt, job, file(rt, skip, name)?, progress, remarks),
-        None => copy_from(rt, job, standard(rt, skip), progress, remarks),
-    }
-}
-
-/// Puts what the plan makes of an input onto the image, and answers the counts.
-fn copy_from<'a, R, I: Read + Drop>(
-    rt: &R,
-    job: &'a DdImageJob,
-    input: Placed<'a, I>,
-    progress: &Progress<'_, R>,
-    remarks: &mut Remarks,
-) -> Result<Option<Counts>, Stopped<'a>>
-where
-    R: Files<File = File> + Print + Eprint + Clock + AllocGlobal,
-    requires { CanPass input.passed (plan_skip job.now.plan) }
-{
+) -> Result<Option<Counts>, Stopped<'a>> {
+    let input = behind_skip(rt, job.skip(), &job.plan.input)?;
     tell_before_copy(rt, job, input.most(most_of_dd(&job.plan)), remarks);
-    if job.fresh || job.no_grow {
-        return copy_made(rt, job, input, progress, remarks);
-    }
     let plan = plan_behind(rt, job, input.passed);
     let mut ready = Ready::new(rt, job, input, progress);
+    if job.fresh || job.no_grow {
+        let (edit, counts) = ready.made(rt.alloc(), &plan, job.no_grow)?;
+        let manner = Manner {
+            fresh: job.fresh,
+            no_grow: job.no_grow,
+        };
+        return match put_change(rt, &job.target, manner, edit, progress, remarks) {
+            Ok(_) => Ok(Some(counts)),
+            Err(stopped) => Err(ready.stopped(stopped)),
+        };
+    }
     let edit = Edit::Copy {
         plan,
         input: &mut ready.reader,
@@ -95,34 +74,9 @@ where
     }
 }
 
-/// The same, where the history begins with this change, or the image isn't to get longer: that is judged once the input is read.
-fn copy_made<'a, R, I: Read + Drop>(
-    rt: &R,
-    job: &'a DdImageJob,
-    input: Placed<'a, I>,
-    progress: &Progress<'_, R>,
-    remarks: &mut Remarks,
-) -> Result<Option<Counts>, Stopped<'a>>
-where
-    R: Files<File = File> + Print + Eprint + Clock + AllocGlobal,
-    requires { CanPass input.passed (plan_skip job.now.plan) }
-{
-    let plan = plan_behind(rt, job, input.passed);
-    let mut ready = Ready::new(rt, job, input, progress);
-    let (edit, counts) = ready.made(rt.alloc(), &plan, job.no_grow)?;
-    let manner = Manner {
-        fresh: job.fresh,
-        no_grow: job.no_grow,
-    };
-    match put_change(rt, &job.target, manner, edit, progress, remarks) {
-        Ok(_) => Ok(Some(counts)),
-        Err(stopped) => Err(ready.stopped(stopped)),
-    }
-}
-
 /// dd's report, on standard error. `written` bytes went to standard output before, and a write fault tells them: how much of
 /// the report went out isn't known.
-pub fn tell<R: Eprint + AllocGlobal>(rt: &R, counts: &Counts, written: u64) -> Result<(), Fault> {
+pub fn tell<R: System>(rt: &R, counts: &Counts, written: u64) -> Result<(), Fault> {
     let text = report(rt.alloc(), counts)?;
     match eprint!(rt; "{}", str::from_utf8(text.as_slice()).unwrap_or("")) {
         Ok(()) => Ok(()),

@@ -7,40 +7,26 @@ use bx_hints::{Reason, Remarks, Stopped};
 use bx_image::FailedCall;
 use bx_patch::Extent;
 use bx_run::{Cause, CommandFile, Failure, Request, Stop, run_request};
-use bx_system::SystemWorld;
-use std::fs::File;
+use bx_system::{System, SystemWorld};
 use std::io::{self, Empty, ErrorKind, Write};
-use std::rt::Files;
-use std::time::Clock;
 
 /// What stopped a comparison; a device that failed had this call.
-fn stopped<'a, R>(
-    rt: &R,
-    job: &'a DiffJob,
-    call: Option<FailedCall>,
-    failure: Failure,
-) -> Stopped<'a>
-where
-    R: Files<File = File> + AllocGlobal,
-{
+fn stopped(job: &DiffJob, call: Option<FailedCall>, failure: Failure) -> Stopped<'_> {
     match failure.stop {
-        Some(stop) => blamed(rt, job, call, stop).with(failure.fault),
+        Some(stop) => blamed(job, call, stop).with(failure.fault),
         None => Stopped::from(failure.fault),
     }
 }
 
 /// The file that stopped a comparison.
-fn blamed<'a, R>(rt: &R, job: &'a DiffJob, call: Option<FailedCall>, stop: Stop) -> Blame<'a>
-where
-    R: Files<File = File> + AllocGlobal,
-{
+fn blamed(job: &DiffJob, call: Option<FailedCall>, stop: Stop) -> Blame<'_> {
     let file = if stop.file == CommandFile::New {
         job.new.as_str()
     } else {
         job.old.as_str()
     };
     let reason = match stop.cause {
-        Cause::Unopened(why) => return not_opened_alone(rt, file, why),
+        Cause::Unopened(why) => return not_opened_alone(file, why),
         Cause::Unplaced(refusal) => return Blame::by(file, number_of(refusal)),
         Cause::Failed => reason_of(call),
         Cause::Outgrown(_) | Cause::Unfinished | Cause::Another => Reason::Unknown,
@@ -55,17 +41,6 @@ struct Asked<'o, W> {
     is_quiet: bool,
     // whether a byte of a difference came
     is_differing: bool,
-}
-
-impl<'o, W: Write> Asked<'o, W> {
-    /// An output that had nothing.
-    fn new(out: &'o mut W, is_quiet: bool) -> Asked<'o, W> {
-        Asked {
-            out,
-            is_quiet,
-            is_differing: false,
-        }
-    }
 }
 
 impl<W: Write> Write for Asked<'_, W> {
@@ -87,16 +62,13 @@ impl<W: Write> Write for Asked<'_, W> {
 }
 
 /// Writes the patch from one file to another, or answers whether they are equal.
-pub fn diff<'a, R, W: Write>(
+pub fn diff<'a, R: System, W: Write>(
     rt: &R,
     job: &'a DiffJob,
     out: &mut W,
     remarks: &Remarks,
-) -> Result<(), Stopped<'a>>
-where
-    R: Files<File = File> + Print + Eprint + Clock + AllocGlobal,
-{
-    let progress = progress_of_dump(rt, remarks, None);
+) -> Result<(), Stopped<'a>> {
+    let progress = progress_of_dump(rt, remarks);
     let mut world = SystemWorld::comparing(rt, &progress);
     let extent = if job.rows {
         Extent::Rows
@@ -104,12 +76,16 @@ where
         Extent::Bytes
     };
     let (old, new) = (job.old.as_str(), job.new.as_str());
-    let mut asked = Asked::new(out, job.quiet);
+    let mut asked = Asked {
+        out,
+        is_quiet: job.quiet,
+        is_differing: false,
+    };
     let request: Request<'_, Empty> = Request::Diff { old, new, extent };
     let answer = run_request(&mut world, rt.alloc(), request, &mut asked);
     match answer {
         Ok(_) => Ok(()),
         Err(failure) if asked.is_differing => Err(Stopped::differing(failure.fault)),
-        Err(failure) => Err(stopped(rt, job, world.left.image.call, failure)),
+        Err(failure) => Err(stopped(job, world.left.image.call, failure)),
     }
 }

@@ -1,15 +1,13 @@
 //! A dump of the end of a file.
 use crate::jobs::single::dump_named;
-use crate::streams::input::whole;
+use crate::streams::input::whole_file;
 use bx_cli::{DumpJob, Fault, XxdJob};
 use bx_cli_commands::xxd_from_end;
 use bx_hints::{Reason, Remarks, STANDARD_INPUT, Stopped};
 use bx_run::Done;
+use bx_system::System;
 use bx_text::{IoFault, Name};
-use std::fs::File;
 use std::io::Write;
-use std::rt::Files;
-use std::time::Clock;
 
 /// What is said of an input that has no end to count from before it is read.
 const NO_END: &str =
@@ -42,21 +40,18 @@ fn unplaced<'a>(name: &'a str, why: &'static str) -> Stopped<'a> {
 ///
 /// # Errors
 /// Those of a dump; `ReadFailed` where the file has fewer bytes, or no length, as standard input.
-pub fn dump_end<'a, R, W: Write>(
+pub fn dump_end<'a, R: System, W: Write>(
     rt: &R,
     job: &XxdJob,
     back: u64,
     name: &'a Option<Name>,
     out: &mut W,
     remarks: &Remarks,
-) -> Result<Done, Stopped<'a>>
-where
-    R: Files<File = File> + Input + Print + Eprint + Clock + AllocGlobal,
-{
+) -> Result<Done, Stopped<'a>> {
     let Some(name) = name else {
         return Err(unplaced(STANDARD_INPUT, NO_END));
     };
-    let Some(length) = whole(rt, name)?.left else {
+    let Some(length) = whole_file(rt, name)?.left else {
         return Err(unplaced(name.as_str(), NO_END));
     };
     match xxd_from_end(rt.alloc(), job, back, length)? {

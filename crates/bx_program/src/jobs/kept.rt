@@ -10,11 +10,8 @@ use bx_hints::{Remarks, Stopped};
 use bx_image::MAX_LEN;
 use bx_patch::Patch;
 use bx_run::{Done, Edit, ReadEdit};
-use bx_system::Progress;
-use std::fs::File;
+use bx_system::{Progress, System};
 use std::io::Empty;
-use std::rt::Files;
-use std::time::Clock;
 
 /// How a change is made.
 #[derive(Clone, Copy)]
@@ -27,17 +24,14 @@ pub struct Manner {
 
 /// Makes the change that was read on an image, or refuses it for its text's fault. Nothing is dropped for one that has a fault, or would make the
 /// image longer, once that is recovered.
-pub fn put_change<'a, R>(
+pub fn put_change<'a, R: System>(
     rt: &R,
     target: &'a Target,
     manner: Manner,
     edit: ReadEdit,
     progress: &Progress<'_, R>,
     remarks: &mut Remarks,
-) -> Result<Done, Stopped<'a>>
-where
-    R: Files<File = File> + Print + Eprint + Clock + AllocGlobal,
-{
+) -> Result<Done, Stopped<'a>> {
     let has_change = edit.change().is_some();
     if has_change && manner.fresh && manner.no_grow {
         settle_image(rt, target, progress)?;
@@ -56,17 +50,14 @@ where
 
 /// Makes the change of a patch on an image. Nothing is dropped for a patch with which the image doesn't agree, or which would make it
 /// longer, once it is recovered.
-pub fn put_patch<'a, R>(
+pub fn put_patch<'a, R: System>(
     rt: &R,
     target: &'a Target,
     manner: Manner,
     edit: ReadEdit,
     progress: &Progress<'_, R>,
     remarks: &mut Remarks,
-) -> Result<Done, Stopped<'a>>
-where
-    R: Files<File = File> + Print + Eprint + Clock + AllocGlobal,
-{
+) -> Result<Done, Stopped<'a>> {
     if !manner.fresh {
         let edit: Edit<Empty> = Edit::Read(edit);
         return change_image(rt, target, edit, progress, remarks);
@@ -117,10 +108,7 @@ fn length_behind(patch: &Patch, has: u64) -> u64 {
 }
 
 /// How many bytes the image of this name has; one that is missing has none.
-fn length_named<'a, R>(rt: &R, image: &'a str) -> Result<u64, Stopped<'a>>
-where
-    R: Files<File = File>,
-{
+fn length_named<'a, R: System>(rt: &R, image: &'a str) -> Result<u64, Stopped<'a>> {
     if is_missing(rt, image) {
         return Ok(0);
     }

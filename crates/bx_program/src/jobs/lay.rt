@@ -1,49 +1,31 @@
 //! What a dump makes of nothing, as a stream.
-use crate::progress::{progress_of_input, progress_of_standard};
+use crate::progress::progress_of_reading;
 use crate::streams::input::{Placed, whole};
 use bx_cli::{LayJob, run_lay};
-use bx_hints::{Remarks, STANDARD_INPUT, Stopped};
-use bx_system::{Counted, Noted, Progress};
+use bx_hints::{Remarks, Stopped};
+use bx_system::{Counted, Noted, Progress, System};
 use std::alloc::Global;
-use std::fs::File;
-use std::io::{Read, Write};
-use std::rt::Files;
-use std::time::Clock;
+use std::io::Write;
 
 /// Writes what the dump of a job makes of nothing, as it is read.
-pub fn lay<'a, R, W: Write>(
+pub fn lay<'a, R: System, W: Write>(
     rt: &R,
     job: &'a LayJob,
     out: &mut W,
     remarks: &Remarks,
-) -> Result<(), Stopped<'a>>
-where
-    R: Files<File = File> + Input + Eprint + Clock + AllocGlobal,
-{
-    let alloc = rt.alloc();
-    match &job.dump {
-        Some(name) => {
-            let input = whole(rt, name)?;
-            let progress = progress_of_input(rt, remarks, input.left);
-            let laid = lay_input(alloc, job, input, out, &progress);
-            progress.end();
-            laid
-        }
-        None => {
-            let input = Placed::whole(STANDARD_INPUT, rt.reader(), None);
-            let progress = progress_of_standard(rt, remarks);
-            let laid = lay_input(alloc, job, input, out, &progress);
-            progress.end();
-            laid
-        }
-    }
+) -> Result<(), Stopped<'a>> {
+    let input = whole(rt, &job.dump)?;
+    let progress = progress_of_reading(rt, remarks, &job.dump, input.left);
+    let laid = lay_input(rt.alloc(), job, input, out, &progress);
+    progress.end();
+    laid
 }
 
 /// Writes what the dump makes of nothing that an input gives.
-fn lay_input<'a, R: Eprint + Clock, I: Read + Drop, W: Write>(
+fn lay_input<'a, R: System, W: Write>(
     alloc: Global,
     job: &LayJob,
-    input: Placed<'a, I>,
+    input: Placed<'a, R>,
     out: &mut W,
     progress: &Progress<'_, R>,
 ) -> Result<(), Stopped<'a>> {

@@ -10,25 +10,19 @@ use bx_cli::{Fault, LogJob, LookJob, ShowJob, Target};
 use bx_hints::{Remarks, Stopped};
 use bx_journal::{Direction, SessionFault, Steps};
 use bx_run::{Done, Failure, Report, Request, run_request};
-use bx_system::{Progress, SystemWorld};
+use bx_system::{Progress, System, SystemWorld};
 use bx_text::IoFault;
 use bx_world::Names;
-use std::fs::File;
 use std::io::{Empty, Write};
-use std::rt::Files;
-use std::time::Clock;
 
 /// Shows the changes of an image.
-pub fn look<'a, R, W: Write>(
+pub fn look<'a, R: System, W: Write>(
     rt: &R,
     job: &'a LookJob,
     out: &mut W,
     remarks: &Remarks,
-) -> Result<(), Stopped<'a>>
-where
-    R: Files<File = File> + Print + Eprint + Clock + AllocGlobal,
-{
-    let progress = progress_of_input(rt, remarks, None);
+) -> Result<(), Stopped<'a>> {
+    let progress = progress_of_input(rt, remarks);
     match job {
         LookJob::Log(job) => show_log(rt, job, &progress, out),
         LookJob::Show(job) => show_next(rt, job, &progress, out),
@@ -37,21 +31,18 @@ where
 
 /// Shows the changes that stand, a line each; what is unfinished is recovered before, where the note says that it was begun on this
 /// image, or it goes on anyway. Else that is said, and no file is written.
-fn show_log<'a, R, W: Write>(
+fn show_log<'a, R: System, W: Write>(
     rt: &R,
     job: &'a LogJob,
     progress: &Progress<'_, R>,
     out: &mut W,
-) -> Result<(), Stopped<'a>>
-where
-    R: Files<File = File> + Print + Eprint + Clock + AllocGlobal,
-{
+) -> Result<(), Stopped<'a>> {
     let target = &job.target;
     refuse_without_journal(rt, target)?;
     let advice = if job.verbose {
         Advice::of(rt, target)
     } else {
-        Advice::none()
+        Advice::Nothing
     };
     let names = names_of(rt.alloc(), target)?;
     let mut world = world_of(rt, target, progress)?;
@@ -83,31 +74,25 @@ where
 }
 
 /// Writes a report on a page.
-fn report<R, W: Write>(
+fn report<R: System, W: Write>(
     rt: &R,
     world: &mut SystemWorld<'_, '_, R>,
     names: &Names,
     report: Report,
     page: &mut Paged<'_, W>,
-) -> Result<Done, Failure>
-where
-    R: Files<File = File> + Print + Eprint + Clock + AllocGlobal,
-{
+) -> Result<Done, Failure> {
     let request: Request<'_, Empty> = Request::Look { names, report };
     run_request(world, rt.alloc(), request, page)
 }
 
 /// What stopped a report; or what stopped the page that it is written on, which the call knows as an output alone.
-fn cut_off<'a, R>(
+fn cut_off<'a, R: System>(
     rt: &R,
     target: &'a Target,
     world: &SystemWorld<'_, '_, R>,
     failure: Failure,
     unwritten: Option<IoFault>,
-) -> Stopped<'a>
-where
-    R: Files<File = File> + Print + Eprint + Clock + AllocGlobal,
-{
+) -> Stopped<'a> {
     match unwritten {
         Some(unwritten) if failure.stop.is_none() => Stopped::from(Fault::Io(unwritten)),
         Some(_) | None => stopped(rt, target, world, failure),
@@ -116,10 +101,7 @@ where
 
 /// What stands behind the line on what is unfinished: that the image isn't the one that it was begun on, where it isn't. The line
 /// then doesn't say what the next command does with it, as that is nothing.
-fn another_line<R>(rt: &R, target: &Target) -> &'static str
-where
-    R: Files<File = File> + Print + Eprint + Clock + AllocGlobal,
-{
+fn another_line<R: System>(rt: &R, target: &Target) -> &'static str {
     if Advice::of(rt, target).is_another() == Some(true) {
         ANOTHER
     } else {
@@ -128,15 +110,12 @@ where
 }
 
 /// Shows what an undo or a redo would do, as lines or as one patch.
-fn show_next<'a, R, W: Write>(
+fn show_next<'a, R: System, W: Write>(
     rt: &R,
     job: &'a ShowJob,
     progress: &Progress<'_, R>,
     out: &mut W,
-) -> Result<(), Stopped<'a>>
-where
-    R: Files<File = File> + Print + Eprint + Clock + AllocGlobal,
-{
+) -> Result<(), Stopped<'a>> {
     let target = &job.target;
     refuse_without_journal(rt, target)?;
     let is_other = Advice::of(rt, target).is_shown(job.way, job.count);
@@ -177,16 +156,13 @@ fn steps_of(job: &ShowJob) -> Steps {
 
 /// Shows that something is unfinished, and what an undo would do once it is recovered. Nothing can be made again then. The line
 /// on it is written also where fewer changes stand than are to be shown.
-fn show_begun<'a, R, W: Write>(
+fn show_begun<'a, R: System, W: Write>(
     rt: &R,
     job: &'a ShowJob,
     names: &Names,
     world: &mut SystemWorld<'_, '_, R>,
     page: Paged<'_, W>,
-) -> Result<(), Stopped<'a>>
-where
-    R: Files<File = File> + Print + Eprint + Clock + AllocGlobal,
-{
+) -> Result<(), Stopped<'a>> {
     let mut page = page;
     page.put_behind_line(another_line(rt, &job.target));
     let steps = steps_of(job);
@@ -213,17 +189,14 @@ where
 }
 
 /// Writes on a page that something is unfinished, and what undos would do once it is recovered.
-fn report_begun<'a, R, W: Write>(
+fn report_begun<'a, R: System, W: Write>(
     rt: &R,
     job: &'a ShowJob,
     names: &Names,
     world: &mut SystemWorld<'_, '_, R>,
     steps: Steps,
     page: &mut Paged<'_, W>,
-) -> Result<(), Stopped<'a>>
-where
-    R: Files<File = File> + Print + Eprint + Clock + AllocGlobal,
-{
+) -> Result<(), Stopped<'a>> {
     match report(rt, world, names, Report::ShowUnfinished(steps), page) {
         Ok(_) => Ok(()),
         Err(failure) => Err(cut_off(rt, &job.target, world, failure, page.stopped)),

@@ -3,40 +3,34 @@ use crate::devices::agreement::agree;
 use crate::files::look::is_device;
 use crate::history::told::look_for_others;
 use crate::jobs::kept::{Manner, put_patch};
-use crate::jobs::previews::preview_patch;
+use crate::jobs::previews::preview_read;
 use crate::jobs::states::tell_before_patch;
-use crate::progress::{progress_of_input, progress_of_standard};
+use crate::progress::{progress_of_input, progress_of_reading};
 use crate::streams::input::{MOST_INPUT, Placed, whole};
 use bx_cli::{Fault, PatchJob};
-use bx_hints::{Remarks, STANDARD_INPUT, Stopped};
+use bx_hints::{Remarks, Stopped};
 use bx_patch::{Patch, PatchLengths};
 use bx_run::ReadEdit;
-use bx_system::{Counted, Noted, Progress};
+use bx_system::{Counted, Noted, Progress, System};
 use bx_text::{Bytes, Piece, Source};
 use std::alloc::Global;
-use std::fs::File;
-use std::io::{Read, Write};
-use std::rt::Files;
-use std::time::Clock;
+use std::io::Write;
 
 /// Applies a patch to an image, or writes the patch that this would be. It is read to its end, and found right, before anything is opened.
-pub fn patch<'a, R, W: Write>(
+pub fn patch<'a, R: System, W: Write>(
     rt: &R,
     job: &'a PatchJob,
     out: &mut W,
     remarks: &mut Remarks,
-) -> Result<(), Stopped<'a>>
-where
-    R: Files<File = File> + Input + Print + Eprint + Clock + AllocGlobal,
-{
+) -> Result<(), Stopped<'a>> {
     let edit = read_named(rt, job, remarks)?;
     let image = job.target.image.as_str();
     if changes_length(&edit) && is_device(rt, image) {
         return Err(Stopped::fixed(image));
     }
-    let progress = progress_of_input(rt, remarks, None);
+    let progress = progress_of_input(rt, remarks);
     if job.dry_run {
-        return preview_patch(rt, &job.target, edit, &progress, out);
+        return preview_read(rt, &job.target, edit, &progress, out);
     }
     if let Some(patch) = edit.patch() {
         if patch.changes_nothing() {
@@ -47,30 +41,33 @@ where
     apply(rt, job, edit, &progress, remarks)
 }
 
-/// Applies a patch that was read, and changes something.
-fn apply<'a, R>(
+/// Applies a patch that was read, and changes something. The history may begin anew with that change.
+fn apply<'a, R: System>(
     rt: &R,
     job: &'a PatchJob,
     edit: ReadEdit,
     progress: &Progress<'_, R>,
     remarks: &mut Remarks,
-) -> Result<(), Stopped<'a>>
-where
-    R: Files<File = File> + Print + Eprint + Clock + AllocGlobal,
-{
+) -> Result<(), Stopped<'a>> {
     let image = job.target.image.as_str();
     let is_applied = remarks.are_wanted() && is_applied(rt, image, &edit, progress);
-    match change_by(rt, job, edit, progress, remarks) {
+    if let Some(patch) = edit.patch() {
+        tell_before_patch(rt, &job.target, patch, remarks);
+    }
+    look_for_others(rt, &job.target, job.fresh, remarks);
+    let manner = Manner {
+        fresh: job.fresh,
+        no_grow: job.no_grow,
+    };
+    match put_patch(rt, &job.target, manner, edit, progress, remarks) {
+        Ok(_) => Ok(()),
         Err(stopped) if is_applied => Err(stopped.on_applied(image, job.reverse)),
-        outcome => outcome,
+        Err(stopped) => Err(stopped),
     }
 }
 
 /// Whether an image isn't what a patch expects, and has what it writes.
-fn is_applied<R>(rt: &R, image: &str, edit: &ReadEdit, progress: &Progress<'_, R>) -> bool
-where
-    R: Files<File = File> + Eprint + Clock + AllocGlobal,
-{
+fn is_applied<R: System>(rt: &R, image: &str, edit: &ReadEdit, progress: &Progress<'_, R>) -> bool {
     let Some(patch) = edit.patch() else {
         return false;
     };
@@ -108,29 +105,6 @@ fn written_by(alloc: Global, patch: &Patch) -> Option<Patch> {
     })
 }
 
-/// Applies a patch, with whose change the history may begin anew.
-fn change_by<'a, R>(
-    rt: &R,
-    job: &'a PatchJob,
-    edit: ReadEdit,
-    progress: &Progress<'_, R>,
-    remarks: &mut Remarks,
-) -> Result<(), Stopped<'a>>
-where
-    R: Files<File = File> + Print + Eprint + Clock + AllocGlobal,
-{
-    if let Some(patch) = edit.patch() {
-        tell_before_patch(rt, &job.target, patch, remarks);
-    }
-    look_for_others(rt, &job.target, job.fresh, remarks);
-    let manner = Manner {
-        fresh: job.fresh,
-        no_grow: job.no_grow,
-    };
-    put_patch(rt, &job.target, manner, edit, progress, remarks)?;
-    Ok(())
-}
-
 /// Whether a patch brings the image to another length.
 fn changes_length(edit: &ReadEdit) -> bool {
     let Some(patch) = edit.patch() else {
@@ -142,34 +116,31 @@ fn changes_length(edit: &ReadEdit) -> bool {
     }
 }
 
-/// What the patch asks that a job names, or standard input.
-fn read_named<'a, R>(rt: &R, job: &'a PatchJob, remarks: &Remarks) -> Result<ReadEdit, Stopped<'a>>
-where
-    R: Files<File = File> + Input + Eprint + Clock + AllocGlobal,
-{
-    let alloc = rt.alloc();
-    match &job.patch {
-        Some(name) => {
-            let input = whole(rt, name)?;
-            let progress = progress_of_input(rt, remarks, input.left);
-            let text = text_of(alloc, input, &progress);
-            progress.end();
-            asked_of(alloc, job, name.as_str(), text?)
+/// What the patch asks that a job names, or standard input, in the way of the job.
+fn read_named<'a, R: System>(
+    rt: &R,
+    job: &'a PatchJob,
+    remarks: &Remarks,
+) -> Result<ReadEdit, Stopped<'a>> {
+    let input = whole(rt, &job.patch)?;
+    let name = input.name;
+    let progress = progress_of_reading(rt, remarks, &job.patch, input.left);
+    let text = text_of(rt.alloc(), input, &progress);
+    progress.end();
+    let text = text?;
+    match ReadEdit::of_patch(rt.alloc(), job, text.as_slice()) {
+        Ok(edit) => Ok(edit),
+        Err(fault @ Fault::Patch(_)) if has_returns(text.as_slice()) => {
+            Err(Stopped::from(fault).on_returns(name))
         }
-        None => {
-            let progress = progress_of_standard(rt, remarks);
-            let input = Placed::whole(STANDARD_INPUT, rt.reader(), None);
-            let text = text_of(alloc, input, &progress);
-            progress.end();
-            asked_of(alloc, job, STANDARD_INPUT, text?)
-        }
+        Err(fault) => Err(Stopped::from(fault)),
     }
 }
 
 /// All that an input gives.
-fn text_of<'a, R: Eprint + Clock, I: Read + Drop>(
+fn text_of<'a, R: System>(
     alloc: Global,
-    input: Placed<'a, I>,
+    input: Placed<'a, R>,
     progress: &Progress<'_, R>,
 ) -> Result<Vec<u8>, Stopped<'a>> {
     let name = input.name;
@@ -178,22 +149,6 @@ fn text_of<'a, R: Eprint + Clock, I: Read + Drop>(
     match Source::new(counted, MOST_INPUT).rest(alloc) {
         Ok(text) => Ok(text),
         Err(fault) => Err(Stopped::from(Fault::Io(fault)).on_input(name, reader.error)),
-    }
-}
-
-/// What a text asks, which is a patch, in the way of a job.
-fn asked_of<'a>(
-    alloc: Global,
-    job: &PatchJob,
-    name: &'a str,
-    text: Vec<u8>,
-) -> Result<ReadEdit, Stopped<'a>> {
-    match ReadEdit::of_patch(alloc, job, text.as_slice()) {
-        Ok(edit) => Ok(edit),
-        Err(fault @ Fault::Patch(_)) if has_returns(text.as_slice()) => {
-            Err(Stopped::from(fault).on_returns(name))
-        }
-        Err(fault) => Err(Stopped::from(fault)),
     }
 }
 

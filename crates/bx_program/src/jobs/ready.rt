@@ -3,18 +3,14 @@ ghost use Rattle.bx_cli_commands.specs.jobs.Passing.{CanPass, plan_skip};
 
 use crate::files::look::{device_length, is_device};
 use crate::streams::fitting::Fitting;
-use crate::streams::input::Placed;
+use crate::streams::input::{Placed, Reader};
 use crate::streams::part::Part;
 use bx_cli::{DdImageJob, Fault, plan_rest};
 use bx_dd::{Counts, Plan};
 use bx_hints::Stopped;
 use bx_run::ReadEdit;
-use bx_system::{Noted, Progress};
+use bx_system::{Noted, Progress, System};
 use std::alloc::Global;
-use std::fs::File;
-use std::io::Read;
-use std::rt::Files;
-use std::time::Clock;
 
 /// How many bytes dd reads at most behind those that it skips; none where its operands don't tell.
 pub fn most_of_dd(plan: &Plan) -> Option<u64> {
@@ -23,7 +19,7 @@ pub fn most_of_dd(plan: &Plan) -> Option<u64> {
 
 /// The plan for what stands behind passed bytes. On a block device, whose length stays, it has `conv=notrunc`, as the real dd
 /// takes it.
-pub fn plan_behind<R: Files<File = File>>(rt: &R, job: &DdImageJob, passed: u64) -> Plan
+pub fn plan_behind<R: System>(rt: &R, job: &DdImageJob, passed: u64) -> Plan
     requires { CanPass passed (plan_skip job.now.plan) }
 {
     let mut rest = plan_rest(&job.plan, passed);
@@ -40,17 +36,14 @@ pub struct Ready<'a, I> {
     name: &'a str,
 }
 
-impl<'a, 'p, 'r, I: Read, R: Clock + Eprint> Ready<'a, Part<'p, 'r, I, R>> {
+impl<'a, 'p, 'r, R: System> Ready<'a, Part<'p, 'r, Reader<R::Reader>, R>> {
     /// The input for the image of this job.
     pub fn new(
         rt: &R,
         job: &DdImageJob,
-        input: Placed<'a, I>,
+        input: Placed<'a, R>,
         progress: &'p Progress<'r, R>,
-    ) -> Ready<'a, Part<'p, 'r, I, R>>
-    where
-        R: Files<File = File>,
-    {
+    ) -> Self {
         let length = device_length(rt, job.target.image.as_str());
         let total = input.most(most_of_dd(&job.plan));
         let (name, passed) = (input.name, input.passed);

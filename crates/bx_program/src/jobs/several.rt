@@ -1,18 +1,14 @@
 //! Dumps of several files: of od and hexdump as one input, of strings one by one.
 use crate::faults::show_passed;
-use crate::jobs::single::{cut_off, dump_named, dump_standard, most_of};
-use crate::progress::progress_of_dumped;
+use crate::jobs::single::{cut_off, dump_input, dump_named, dump_standard};
 use crate::streams::chained::Chained;
 use crate::streams::labelled::Labelled;
 use bx_cli::{DumpJob, Fault};
 use bx_hints::{Reason, Remarks, STANDARD_INPUT, Stopped};
-use bx_run::{Done, Failure, Request, run_request};
-use bx_system::{Counted, SystemWorld};
+use bx_run::Done;
+use bx_system::System;
 use bx_text::{IoFault, Words};
-use std::fs::File;
-use std::io::{Read, Write};
-use std::rt::Files;
-use std::time::Clock;
+use std::io::Write;
 
 /// The files of a job behind its first, and how they are read.
 #[derive(Clone, Copy)]
@@ -49,7 +45,7 @@ fn missed<'a>() -> Stopped<'a> {
 }
 
 /// The names of all files of a job, `-` for standard input.
-fn names_of<R: AllocGlobal>(rt: &R, job: &DumpJob, more: &Words) -> Result<Words, Fault> {
+fn names_of<R: System>(rt: &R, job: &DumpJob, more: &Words) -> Result<Words, Fault> {
     let mut names = Words::new(rt.alloc());
     match job.input() {
         Some(name) => names.push(name.as_str())?,
@@ -67,67 +63,36 @@ fn names_of<R: AllocGlobal>(rt: &R, job: &DumpJob, more: &Words) -> Result<Words
 /// # Errors
 /// The dump's fault; where only files were left out `OpenFailed`, and no more is to be said of it. Where none is opened nothing is
 /// written.
-pub fn dump_as_one<'a, R, W: Write>(
+pub fn dump_as_one<'a, R: System, W: Write>(
     rt: &R,
     job: &'a DumpJob,
     more: &Words,
     out: &mut W,
     remarks: &Remarks,
-) -> Result<(), Stopped<'a>>
-where
-    R: Files<File = File> + Input + Print + Eprint + Clock + AllocGlobal,
-{
+) -> Result<(), Stopped<'a>> {
     let names = names_of(rt, job, more)?;
     let mut chain = Chained::new(rt, &names, remarks.audience.hints);
     if !chain.advance() {
         return Err(missed());
     }
-    let answer = dump_chain(rt, job, &mut chain, out, remarks);
-    match answer {
+    match dump_input(rt, job, &mut chain, out, remarks) {
         Ok(_) if chain.missed => Err(missed()),
         Ok(_) => Ok(()),
         Err(failure) => Err(cut_off(STANDARD_INPUT, None, failure)),
     }
 }
 
-/// Dumps what the files give.
-fn dump_chain<R, I: Read, W: Write>(
-    rt: &R,
-    job: &DumpJob,
-    input: I,
-    out: &mut W,
-    remarks: &Remarks,
-) -> Result<Done, Failure>
-where
-    I: Drop,
-    R: Files<File = File> + Input + Print + Eprint + Clock + AllocGlobal,
-{
-    let progress = progress_of_dumped(rt, remarks, most_of(job));
-    let counted = Counted::new(input, &progress);
-    let mut world = SystemWorld::new(rt, &progress, false);
-    let request = Request::DumpInput {
-        job,
-        input: counted,
-    };
-    let answer = run_request(&mut world, rt.alloc(), request, out);
-    progress.end();
-    answer
-}
-
 /// Dumps the files of a job one by one. One that can't be opened or read is said, and the others are dumped.
 ///
 /// # Errors
 /// The first fault but those, which ends the dumps; where only files were left out `OpenFailed`, and no more is to be said of it.
-pub fn dump_each<'a, R, W: Write>(
+pub fn dump_each<'a, R: System, W: Write>(
     rt: &R,
     job: &'a DumpJob,
     more: &'a Words,
     out: &mut W,
     remarks: &Remarks,
-) -> Result<(), Stopped<'a>>
-where
-    R: Files<File = File> + Input + Print + Eprint + Clock + AllocGlobal,
-{
+) -> Result<(), Stopped<'a>> {
     let first = match job.input() {
         Some(name) => name.as_str(),
         None => "-",
@@ -151,7 +116,7 @@ fn is_labelled(job: &DumpJob) -> bool {
 }
 
 /// What stands in front of each line of a file, as GNU strings has it.
-fn label_of<R: AllocGlobal>(rt: &R, name: &str) -> Result<String, Fault> {
+fn label_of<R: System>(rt: &R, name: &str) -> Result<String, Fault> {
     let name = match name {
         "-" => "{standard input}",
         _ => name,
@@ -160,16 +125,13 @@ fn label_of<R: AllocGlobal>(rt: &R, name: &str) -> Result<String, Fault> {
 }
 
 /// Dumps one of several files.
-fn dump_one<'a, R, W: Write>(
+fn dump_one<'a, R: System, W: Write>(
     rt: &R,
     job: &DumpJob,
     name: &'a str,
     out: &mut W,
     remarks: &Remarks,
-) -> Result<Done, Stopped<'a>>
-where
-    R: Files<File = File> + Input + Print + Eprint + Clock + AllocGlobal,
-{
+) -> Result<Done, Stopped<'a>> {
     match name {
         "-" => dump_standard(rt, job, out, remarks),
         _ => dump_named(rt, job, name, out, remarks),
@@ -177,16 +139,13 @@ where
 }
 
 /// Dumps one of several files, and answers whether it was opened and read, which is said where it wasn't.
-fn dump_next<'a, R, W: Write>(
+fn dump_next<'a, R: System, W: Write>(
     rt: &R,
     job: &DumpJob,
     name: &'a str,
     out: &mut W,
     remarks: &Remarks,
-) -> Result<bool, Stopped<'a>>
-where
-    R: Files<File = File> + Input + Print + Eprint + Clock + AllocGlobal,
-{
+) -> Result<bool, Stopped<'a>> {
     let outcome = if is_labelled(job) {
         let mut labelled = Labelled::new(rt.alloc(), out, label_of(rt, name)?);
         dump_one(rt, job, name, &mut labelled, remarks)

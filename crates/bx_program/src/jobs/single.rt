@@ -7,25 +7,19 @@ use crate::progress::{progress_of_dump, progress_of_dumped};
 use bx_cli::DumpJob;
 use bx_hints::{Remarks, STANDARD_INPUT, Stopped};
 use bx_run::{Cause, Done, Failure, Request, run_request};
-use bx_system::{Counted, Noted, SystemWorld};
+use bx_system::{Counted, Noted, System, SystemWorld};
 use bx_world::OpenFailure;
-use std::fs::File;
-use std::io::{Empty, Write};
-use std::rt::Files;
-use std::time::Clock;
+use std::io::{Empty, Read, Write};
 
 /// Dumps or copies a file by its name.
-pub fn dump_named<'a, R, W: Write>(
+pub fn dump_named<'a, R: System, W: Write>(
     rt: &R,
     job: &DumpJob,
     name: &'a str,
     out: &mut W,
     remarks: &Remarks,
-) -> Result<Done, Stopped<'a>>
-where
-    R: Files<File = File> + Print + Eprint + Clock + AllocGlobal,
-{
-    let progress = progress_of_dump(rt, remarks, None);
+) -> Result<Done, Stopped<'a>> {
+    let progress = progress_of_dump(rt, remarks);
     let mut world = SystemWorld::reading(rt, &progress, most_of(job));
     let request: Request<'_, Empty> = Request::Dump { job, name };
     match run_request(&mut world, rt.alloc(), request, out) {
@@ -49,29 +43,36 @@ pub fn cut_off(name: &str, unread: Option<i32>, failure: Failure) -> Stopped<'_>
 }
 
 /// Dumps or copies standard input, which has no seek: what is skipped is read.
-pub fn dump_standard<R, W: Write>(
+pub fn dump_standard<R: System, W: Write>(
     rt: &R,
     job: &DumpJob,
     out: &mut W,
     remarks: &Remarks,
-) -> Result<Done, Stopped<'static>>
-where
-    R: Files<File = File> + Input + Print + Eprint + Clock + AllocGlobal,
-{
-    let progress = progress_of_dumped(rt, remarks, most_of(job));
+) -> Result<Done, Stopped<'static>> {
     let mut reader = Noted::new(rt.reader());
-    let counted = Counted::new(&mut reader, &progress);
-    let mut world = SystemWorld::new(rt, &progress, false);
-    let request = Request::DumpInput {
-        job,
-        input: counted,
-    };
-    let answer = run_request(&mut world, rt.alloc(), request, out);
-    progress.end();
-    match answer {
+    match dump_input(rt, job, &mut reader, out, remarks) {
         Ok(done) => Ok(done),
         Err(failure) => Err(cut_off(STANDARD_INPUT, reader.error, failure)),
     }
+}
+
+/// Dumps or copies what an input gives.
+pub fn dump_input<R: System, I: Read + Drop, W: Write>(
+    rt: &R,
+    job: &DumpJob,
+    input: I,
+    out: &mut W,
+    remarks: &Remarks,
+) -> Result<Done, Failure> {
+    let progress = progress_of_dumped(rt, remarks, most_of(job));
+    let mut world = SystemWorld::new(rt, &progress, false);
+    let request = Request::DumpInput {
+        job,
+        input: Counted::new(input, &progress),
+    };
+    let answer = run_request(&mut world, rt.alloc(), request, out);
+    progress.end();
+    answer
 }
 
 /// How many bytes a job reads at most behind those that it skips; none where its options don't tell.

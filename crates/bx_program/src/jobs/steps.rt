@@ -8,26 +8,21 @@ use bx_cli::StepsJob;
 use bx_hints::{Remarks, Stopped};
 use bx_journal::Direction;
 use bx_run::{Request, run_request};
-use std::fs::File;
+use bx_system::System;
 use std::io::{self, Empty};
-use std::rt::Files;
-use std::time::Clock;
 
 /// Takes changes back or makes undone ones again, and shows how many changes then stand.
-pub fn take_steps<'a, R>(
+pub fn take_steps<'a, R: System>(
     rt: &R,
     way: Direction,
     job: &'a StepsJob,
     remarks: &mut Remarks,
-) -> Result<(), Stopped<'a>>
-where
-    R: Files<File = File> + Print + Eprint + Clock + AllocGlobal,
-{
+) -> Result<(), Stopped<'a>> {
     let target = &job.target;
     refuse_without_journal(rt, target)?;
     remarks.look_at_times(rt, target);
     let names = names_of(rt.alloc(), target)?;
-    let progress = progress_of_input(rt, remarks, None);
+    let progress = progress_of_input(rt, remarks);
     let mut world = world_of(rt, target, &progress)?;
     let request: Request<'_, Empty> = Request::Move {
         names: &names,

@@ -1,38 +1,28 @@
 //! Several files as one input.
 use crate::faults::show_passed;
+use crate::streams::input::Reader;
 use bx_cli::Fault;
 use bx_hints::{STANDARD_INPUT, Stopped};
+use bx_system::System;
 use bx_text::{IoFault, Words};
 use std::fs::File;
 use std::io::{self, ErrorKind, Read};
-use std::rt::Files;
-
-/// The file that is read.
-#[derive(Drop)]
-enum Open<S: Drop> {
-    /// None: the next one is opened first.
-    Between,
-    File(File),
-    Standard(S),
-}
 
 /// Files that are read one after another, each to its end. One that isn't opened or read is said, and left out.
 #[derive(Drop)]
-pub struct Chained<'a, R: Input> {
+pub struct Chained<'a, R: System> {
     rt: &'a R,
     names: &'a Words,
     hints: bool,
     // the place of the next one
     next: usize,
-    open: Open<R::Reader>,
+    // none where the next one is opened first
+    open: Option<Reader<R::Reader>>,
     /// Whether one was left out.
     pub missed: bool,
 }
 
-impl<'a, R> Chained<'a, R>
-where
-    R: Files<File = File> + Input + Eprint + AllocGlobal,
-{
+impl<'a, R: System> Chained<'a, R> {
     /// Files of these names, none of them read yet; `-` is standard input. Hints on those that are left out are written where `hints`.
     pub fn new(rt: &'a R, names: &'a Words, hints: bool) -> Chained<'a, R> {
         Chained {
@@ -40,7 +30,7 @@ where
             names,
             hints,
             next: 0,
-            open: Open::Between,
+            open: None,
             missed: false,
         }
     }
@@ -60,12 +50,12 @@ where
     /// Opens a file, and answers whether it can be opened, which is said where it can't.
     fn open_named(&mut self, name: &str) -> bool {
         if name == "-" {
-            self.open = Open::Standard(self.rt.reader());
+            self.open = Some(Reader::Standard(self.rt.reader()));
             return true;
         }
         match File::open(self.rt, name) {
             Ok(file) => {
-                self.open = Open::File(file);
+                self.open = Some(Reader::File(file));
                 true
             }
             Err(error) => {
@@ -78,7 +68,7 @@ where
     /// Says what stopped a file, which is left out from there on.
     fn miss(&mut self, stopped: Stopped<'_>) {
         self.missed = true;
-        self.open = Open::Between;
+        self.open = None;
         show_passed(self.rt, self.hints, stopped);
     }
 
@@ -93,17 +83,13 @@ where
     /// What the open file gives; 0 where it is at its end, or none is open.
     fn read_open(&mut self, buf: &mut [u8]) -> io::Result<usize> {
         match &mut self.open {
-            Open::Between => Ok(0),
-            Open::File(file) => file.read(buf),
-            Open::Standard(reader) => reader.read(buf),
+            Some(reader) => reader.read(buf),
+            None => Ok(0),
         }
     }
 }
 
-impl<R> Read for Chained<'_, R>
-where
-    R: Files<File = File> + Input + Eprint + AllocGlobal,
-{
+impl<R: System> Read for Chained<'_, R> {
     fn read(&mut self, buf: &mut [u8]) -> io::Result<usize> {
         if buf.is_empty() {
             return Ok(0);
@@ -120,7 +106,7 @@ where
                 }
             }
             if !self.advance() {
-                self.open = Open::Between;
+                self.open = None;
                 return Ok(0);
             }
         }

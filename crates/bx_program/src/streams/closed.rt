@@ -1,8 +1,8 @@
 //! The standard streams that were closed.
 use bx_cli::Fault;
+use bx_system::System;
 use std::fs::File;
 use std::os::fd::AsRawFd;
-use std::rt::Files;
 
 /// The highest number of a standard stream.
 const LAST: i32 = 2;
@@ -18,7 +18,7 @@ pub struct Held {
 }
 
 /// The null device, where it takes this number. A file that is opened takes the least number that is free.
-fn hold<R: Files<File = File>>(rt: &R, number: i32) -> Result<Option<File>, Fault> {
+fn hold<R: System>(rt: &R, number: i32) -> Result<Option<File>, Fault> {
     let mut how = File::options();
     if number == 0 {
         how.write(true);
@@ -32,7 +32,7 @@ fn hold<R: Files<File = File>>(rt: &R, number: i32) -> Result<Option<File>, Faul
 }
 
 /// Whether all three are open, asked by another file.
-fn are_open<R: Files<File = File>>(rt: &R) -> bool {
+fn are_open<R: System>(rt: &R) -> bool {
     // A file that is opened takes the least number that is free, so one call tells of all three; a folder is always there.
     File::open(rt, "/").is_ok_and(|file| file.as_raw_fd() > LAST)
 }
@@ -42,7 +42,7 @@ impl Held {
     ///
     /// # Errors
     /// `OpenFailed` where one is closed and the null device can't be opened.
-    pub fn new<R: Files<File = File>>(rt: &R) -> Result<Held, Fault> {
+    pub fn new<R: System>(rt: &R) -> Result<Held, Fault> {
         if are_open(rt) {
             return Ok(Held {
                 input: None,

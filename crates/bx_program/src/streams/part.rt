@@ -1,7 +1,6 @@
 //! An input whose reading is a part of long work.
-use bx_system::{Counted, Progress};
+use bx_system::{Counted, Progress, System};
 use std::io::{self, Read};
-use std::time::Clock;
 
 /// A reader whose bytes are counted, in a part of the work that begins with its first read.
 #[derive(Drop)]
@@ -12,7 +11,7 @@ pub struct Part<'p, 'r, I, R> {
     has_begun: bool,
 }
 
-impl<'p, 'r, I: Read, R: Clock + Eprint> Part<'p, 'r, I, R> {
+impl<'p, 'r, I: Read, R: System> Part<'p, 'r, I, R> {
     /// A reader of an input that gives `total` bytes at most, where that is known.
     pub fn new(input: I, total: Option<u64>, progress: &'p Progress<'r, R>) -> Part<'p, 'r, I, R> {
         Part {
@@ -24,7 +23,7 @@ impl<'p, 'r, I: Read, R: Clock + Eprint> Part<'p, 'r, I, R> {
     }
 }
 
-impl<I: Read, R: Clock + Eprint> Read for Part<'_, '_, I, R> {
+impl<I: Read, R: System> Read for Part<'_, '_, I, R> {
     fn read(&mut self, buf: &mut [u8]) -> io::Result<usize> {
         if !self.has_begun {
             self.has_begun = true;

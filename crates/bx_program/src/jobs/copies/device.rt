@@ -1,19 +1,14 @@
 //! dd onto a character device, which keeps nothing that an undo could restore: its output goes there as to standard output.
-ghost use Rattle.bx_cli_commands.specs.jobs.Passing.{CanPass, plan_skip};
-
 use crate::jobs::ready::most_of_dd;
-use crate::streams::input::{Placed, file, standard};
+use crate::streams::input::behind_skip;
 use crate::streams::part::Part;
 use bx_cli::{DdImageJob, Fault, plan_rest};
 use bx_dd::{Counts, copy_out};
-use bx_hints::Stopped;
-use bx_system::{Noted, Progress, Tally};
+use bx_hints::{Stopped, is_named};
+use bx_system::{Noted, Progress, System, Tally};
 use bx_text::IoFault;
 use std::fs::{self, File};
-use std::io::Read;
 use std::os::unix::fs::FileTypeExt;
-use std::rt::Files;
-use std::time::Clock;
 
 /// What is said of a device where the plan seeks.
 const NO_PLACE: &str = "a character device is written in order, and has no place to seek to";
@@ -23,45 +18,24 @@ const NO_DEVICE: &str = "it was a character device, and is none any longer";
 
 /// Whether the output goes to a character device as it is made. A job that asks for a history, or for the patch of a change, is
 /// refused there, as on any file that can't be an image.
-pub fn goes_to_device<R: Files<File = File>>(rt: &R, job: &DdImageJob) -> bool {
+pub fn goes_to_device<R: System>(rt: &R, job: &DdImageJob) -> bool {
     let name = job.target.image.as_str();
-    let has_own_journal = job.target.texts.journal.as_str().strip_prefix(name) != Some(".bxj");
-    let asks_for_image = job.dry_run || job.fresh || job.no_grow || has_own_journal;
+    let asks_for_image = job.dry_run || job.fresh || job.no_grow || is_named(&job.target);
     !asks_for_image && is_character_device(rt, name)
 }
 
 /// Whether a character device has this name, behind whatever links lead to it.
-fn is_character_device<R: Files<File = File>>(rt: &R, name: &str) -> bool {
+fn is_character_device<R: System>(rt: &R, name: &str) -> bool {
     fs::metadata(rt, name).is_ok_and(|found| found.file_type().is_char_device())
 }
 
 /// Writes what the plan makes of the input to the device as it is read, and answers the counts. The input is opened first.
-pub fn copy_to_device<'a, R>(
+pub fn copy_to_device<'a, R: System>(
     rt: &R,
     job: &'a DdImageJob,
     progress: &Progress<'_, R>,
-) -> Result<Counts, Stopped<'a>>
-where
-    R: Files<File = File> + Input + Eprint + Clock + AllocGlobal,
-{
-    let skip = job.skip();
-    match &job.plan.input {
-        Some(name) => copy_from(rt, job, file(rt, skip, name)?, progress),
-        None => copy_from(rt, job, standard(rt, skip), progress),
-    }
-}
-
-/// Writes what the plan makes of an input to the device, and answers the counts.
-fn copy_from<'a, R, I: Read + Drop>(
-    rt: &R,
-    job: &'a DdImageJob,
-    input: Placed<'a, I>,
-    progress: &Progress<'_, R>,
-) -> Result<Counts, Stopped<'a>>
-where
-    R: Files<File = File> + Eprint + Clock + AllocGlobal,
-    requires { CanPass input.passed (plan_skip job.now.plan) }
-{
+) -> Result<Counts, Stopped<'a>> {
+    let input = behind_skip(rt, job.skip(), &job.plan.input)?;
     let device = job.target.image.as_str();
     let mut out = Tally::new(open_device(rt, job)?);
     let total = input.most(most_of_dd(&job.plan));
@@ -80,10 +54,7 @@ where
 }
 
 /// The device, opened to be written. A plan that seeks is refused before that.
-fn open_device<'a, R: Files<File = File>>(
-    rt: &R,
-    job: &'a DdImageJob,
-) -> Result<File, Stopped<'a>> {
+fn open_device<'a, R: System>(rt: &R, job: &'a DdImageJob) -> Result<File, Stopped<'a>> {
     let name = job.target.image.as_str();
     if let Err(fault) = job.plan.for_stream() {
         let fault = Fault::Dd(fault);
