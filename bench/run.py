@@ -119,7 +119,9 @@ def told_of(options, big, mid, stream):
     yield (f"inputs of {big} MiB, of {mid} MiB for od, hexdump, busybox and changes, and of {stream} MiB for copies to "
            f"a stream; the least of {options.rounds}")
     for tool in (options.bx, "xxd", "od", "hexdump", "strings", "rg", "busybox"):
-        said = shell(f"{tool} --version 2>&1", subprocess.PIPE) if shutil.which(tool) else ""
+        # busybox takes a first word for an applet, and tells its version without one
+        words = tool if tool == "busybox" else f"{tool} --version"
+        said = shell(f"{words} 2>&1", subprocess.PIPE) if shutil.which(tool) else ""
         yield from said.splitlines()[:1]
 
 

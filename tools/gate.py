@@ -2,10 +2,12 @@
 """Runs the gate, or of the crates that are named what `rt ci NAME ..` runs, and says where its processor seconds go.
 
 Usage: tools/gate.py [--write] [NAME ..]
+       tools/gate.py --dearest NAME ..
 
 A table of crates: the lines of their code, and the seconds that their proofs, their tests and programs, and their edits took.
-What an earlier run passed on this machine costs nothing in this one: `rt ci --anew` first, or a new machine, for the whole.
-With --write the table also goes into docs/generated/GATE.md. It ends with the status of `rt ci`."""
+What an earlier run passed on this machine costs nothing in this one: with --write the table goes into docs/generated/GATE.md,
+where seconds of work that this run did not do stay as they are. It ends with the status of `rt ci`. With --dearest it runs
+nothing, and lists the ten functions of each crate whose proofs are largest, by what `rt check` left in the crate's out/."""
 import collections
 import os
 import pathlib
@@ -19,7 +21,8 @@ import sources
 PAGE = "docs/generated/GATE.md"
 TOP = """# Where the gate's seconds go
 
-Processor seconds of one run of `rt ci`, by crate. `tools/gate.py --write` measures and writes this page; PROOF-NOTES says what costs.
+Processor seconds of `rt ci`, by crate, as each was measured last. `tools/gate.py --write` measures and writes this page, `--dearest NAME` lists a
+crate's dearest functions, and PROOF-NOTES says what costs.
 
 """
 KINDS = ("proof", "tests", "edits")
@@ -74,16 +77,37 @@ def table(total):
     return "\n".join(lines) + "\n"
 
 
+def known():
+    """The seconds that the page has."""
+    page, found = shared.ROOT / PAGE, collections.Counter()
+    for line in page.read_text(encoding="utf-8").splitlines() if page.is_file() else []:
+        cells = [cell.strip().replace(",", "") for cell in line.strip("|").split("|")]
+        if len(cells) == 6 and cells[1].isdigit() and cells[0] != "all":
+            found.update({(cells[0], kind): int(cells[at]) for at, kind in enumerate(KINDS, 2)})
+    return found
+
+
+def dearest(name, most=10):
+    """The functions of a crate whose proofs are largest, with the megabytes that a check keeps of each."""
+    kept = (shared.ROOT / "crates" / name / "out/incremental").rglob("*-proofs.*.Lts.oantt")
+    sizes = sorted(((path.stat().st_size, path.name) for path in kept), reverse=True)[:most]
+    return [f"{size / 1e6:5.1f}  {file.split('-proofs.')[1].removesuffix('.Lts.oantt').replace('.', '::')}" for size, file in sizes]
+
+
 def main():
     words = sys.argv[1:]
     if "-h" in words or "--help" in words:
         sys.exit(__doc__)
-    names = [word for word in words if word != "--write"]
+    names = [word for word in words if word not in ("--write", "--dearest")]
+    if "--dearest" in words:
+        for name in names:
+            print(name, *(dearest(name) or ["nothing is kept: run rt check there first"]), sep="\n")
+        return
     gate = subprocess.Popen(["rt", "ci", *names], cwd=shared.ROOT, start_new_session=True)
-    made = table(watch(gate))
-    print(made, end="")
+    total = watch(gate)
+    print(table(total), end="")
     if "--write" in words:
-        (shared.ROOT / PAGE).write_text(TOP + made, encoding="utf-8")
+        (shared.ROOT / PAGE).write_text(TOP + table(collections.Counter({**known(), **total})), encoding="utf-8")
     sys.exit(gate.returncode)
 
 
