@@ -7,6 +7,7 @@ pub mod Ending
 pub mod Failing
 pub mod Inputs
 pub mod Judged
+pub mod LossLemmas
 pub mod Placed
 pub mod RenewalLess
 pub mod Renewing

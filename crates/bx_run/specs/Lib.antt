@@ -2,3 +2,4 @@ pub mod forget
 pub mod renew
 pub mod run
 pub mod Laws
+pub mod Loss
