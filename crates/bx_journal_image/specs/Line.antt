@@ -1,6 +1,6 @@
 -- The line that a journal's third text has.
-use Rattle.std.specs.Prelude.{ℕ, ◌≡◌, ◌^◌, ◌<◌, ◌==◌, ◌||◌, ◌&&◌, not, nat_le, Bool, Option, None, Some, IfSome, List, [], ◌++◌, length, drop, slice_index_or, codes, replicate}
-use Rattle.std.specs.List.{flat_map, list_all, starts_with}
+use Rattle.std.specs.Prelude.{ℕ, ◌≡◌, ◌^◌, ◌<◌, Option, None, Some, IfSome, List, [], ◌++◌, length, slice_index_or, codes}
+use Rattle.std.specs.List.{flat_map}
 use Rattle.bx_journal_format.specs.Hex.{hex_digits}
 use Rattle.bx_journal_image.specs.declared.line.form.ImageLine.{ImageLine}
 
@@ -46,19 +46,3 @@ pub record FitsPlaces (l : ImageLine) : Type 0 where
   pub least : l.least < 16 ^ 16
   pub most : l.most < 16 ^ 16
   pub marks : AreFitMarks l.marks
-
--- a byte that stands in a line: a digit, a space, a dash or the newline, or the zero that a loss of power may leave in its place
-abbrev pub is_line_byte : ℕ → Bool
-is_line_byte b = (nat_le 48 b && nat_le b 57) || (nat_le 97 b && nat_le b 102) || b == 32 || b == 45 || b == 10 || b == 0
-
--- a text that begins with a word, behind which all are such bytes
-abbrev pub is_front_behind : List ℕ → List ℕ → Bool
-is_front_behind word text = starts_with (λ a b. a == b) text word && list_all is_line_byte (drop (length word) text)
-
--- zeros, at least one and no more than a line has
-abbrev pub is_zeros : List ℕ → Bool
-is_zeros text = not (length text == 0) && starts_with (λ a b. a == b) (replicate 439 0) text
-
--- a text whose place the line may take: one that has the whole first word of a line, of an older one too, and behind it bytes of one, or zeros
-abbrev pub is_replaceable : List ℕ → Bool
-is_replaceable text = is_front_behind (codes "image3 ") text || is_front_behind (codes "image2 ") text || is_front_behind (codes "image1 ") text || is_zeros text

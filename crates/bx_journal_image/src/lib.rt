@@ -22,7 +22,7 @@ pub use finding::rest::{AtRest, stand};
 pub use judging::judge::{Blocks, Verdict, judge_blocks, judge_image, mark_image};
 pub use judging::unfinished::judge_unfinished;
 pub use line::digest::{Digest, digest_of, is_same};
-pub use line::form::{ImageLine, LINE, LineText, is_replaceable, read_line, write_line};
+pub use line::form::{ImageLine, LINE, LineText, read_line, write_line};
 pub use line::marks::{BLOCK, BLOCKS, Marks};
 pub use line::ranges::{END, Range, end_of};
 pub use sealing::resealing::seal_unfinished;

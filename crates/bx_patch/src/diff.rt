@@ -7,7 +7,6 @@ ghost use Rattle.bx_patch.specs.Diff.{AreShort, IsFaultFor, OnlyReads, WritesPre
 pub mod alike;
 mod compare;
 mod device;
-pub mod equal;
 pub mod fault;
 mod lines;
 mod memory;

@@ -10,7 +10,6 @@ mod preview;
 mod read;
 
 pub use diff::alike::{Alike, Unknown};
-pub use diff::equal::are_equal;
 pub use diff::fault::DiffFault;
 pub use diff::row::Extent;
 pub use diff::write_patch;

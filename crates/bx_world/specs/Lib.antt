@@ -1,3 +1,4 @@
+pub mod Note
 pub mod Persons
 pub mod Rule
 pub mod World

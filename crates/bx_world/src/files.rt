@@ -10,7 +10,7 @@ mod reading;
 mod ready;
 mod unopened;
 
-pub use alone::{close_alone, lend_alone, look_alone};
+pub use alone::{lend_alone, look_alone};
 pub use guard::Guard;
 pub use made::{Files, Made, make_missing_image, unmake_all, unmake_missing_image, unmake_texts};
 pub use names::Names;

@@ -1,8 +1,7 @@
 //! The line that a journal's third text has.
 ghost use Rattle.std.specs.Prelude.{◌≡◌, ◌+◌, ◌<◌, ◌≤◌, ◌^◌, ◌++◌, ℕ, List, length, Option, IfSome, IfNone};
-ghost use Rattle.std.specs.List.{list_all};
 ghost use Rattle.bx_journal_format.specs.Hex.{hex_digits, hex_nibble, number_after};
-ghost use Rattle.bx_journal_image.specs.Line.{AreFitMarks, FitsMark, FitsPlaces, field, image_line, is_front_behind, is_line_byte, is_replaceable, is_zeros, mark_text, marks_text};
+ghost use Rattle.bx_journal_image.specs.Line.{AreFitMarks, FitsMark, FitsPlaces, field, image_line, mark_text, marks_text};
 
 use crate::line::digest::Digest;
 use crate::line::marks::{BLOCKS, Marks};
@@ -237,53 +236,4 @@ pub fn read_line(text: &[u8]) -> Option<ImageLine>
     } else {
         None
     }
-}
-
-/// Whether a byte stands in a line, or is the zero that a loss of power may leave there.
-fn is_line_byte(b: u8) -> bool
-    ensures { result ≡ is_line_byte b }
-{
-    matches!(b, b'0'..=b'9' | b'a'..=b'f' | b' ' | b'-' | b'\n' | 0)
-}
-
-/// Whether all bytes of a text are such.
-fn are_line_bytes(text: &[u8]) -> bool
-    ensures { result ≡ list_all is_line_byte text.now }
-{
-    for b in text {
-        if !is_line_byte(*b) {
-            return false;
-        }
-    }
-    true
-}
-
-/// Whether a text begins with a word, behind which all are such bytes.
-fn is_front_behind(word: &[u8], text: &[u8]) -> bool
-    ensures { result ≡ is_front_behind word.now text.now }
-{
-    if !text.starts_with(word) {
-        return false;
-    }
-    let (_, rest) = text.split_at(word.len());
-    are_line_bytes(rest)
-}
-
-/// Whether a text is zeros, which a loss of power may leave.
-fn is_zeros(text: &[u8]) -> bool
-    ensures { result ≡ is_zeros text.now }
-{
-    let zeros = [0u8; LINE];
-    !text.is_empty() && zeros.starts_with(text)
-}
-
-/// Whether a text is one whose place the line may take: one that has the whole first word of the line or of an older one, and behind
-/// it bytes that such a line has, or zeros. Of the empty text it says no: its caller knows whether that is one of its own.
-pub fn is_replaceable(text: &[u8]) -> bool
-    ensures { result ≡ is_replaceable text.now }
-{
-    is_front_behind(b"image3 ", text)
-        || is_front_behind(b"image2 ", text)
-        || is_front_behind(b"image1 ", text)
-        || is_zeros(text)
 }

@@ -34,7 +34,7 @@ pub struct Walk<'a, 'b, S: Alike> {
 
 /// Where a comparison goes on that has come to the start of a window: there, or at the first window behind it that isn't known to be the
 /// same, or at the end where there is none.
-pub fn next_window<S: Alike>(alike: &S, at: u64, end: u64) -> u64
+fn next_window<S: Alike>(alike: &S, at: u64, end: u64) -> u64
     requires within { at ≤ end }
     requires whole { at < end → at % 32768 ≡ 0 }
     ensures least { at ≤ result }
@@ -50,7 +50,7 @@ pub fn next_window<S: Alike>(alike: &S, at: u64, end: u64) -> u64
 }
 
 /// The first bytes of a window.
-pub fn front(window: &[u8], count: usize) -> &[u8]
+fn front(window: &[u8], count: usize) -> &[u8]
     requires { count ≤ length window.now }
     ensures bytes { result.now ≡ take count window.now }
     ensures most { length result.now ≤ length window.now }

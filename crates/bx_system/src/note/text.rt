@@ -1,63 +1,14 @@
 //! What a note has: whether a text is one whose place a note may take.
+use bx_world::{MOST_NOTE, is_note};
 use std::fs::File;
 use std::io;
 use std::os::unix::fs::FileExt;
 
-/// How many bytes a note has at most.
-pub const MOST: usize = 439;
-
 /// How many bytes the first word of a note has, with its blank. A text of no more says nothing.
 pub const WORD: usize = 7;
 
-/// The first words of notes, of all versions.
-const WORDS: [&[u8]; 3] = [b"image1 ", b"image2 ", b"image3 "];
-
 /// What the name of a note ends with that stands beside the journal of an image's own name.
 const OWN: &str = ".bxj.image";
-
-/// Whether a text begins with the first word of a note.
-fn has_word(text: &[u8]) -> bool {
-    for word in WORDS {
-        if text.starts_with(word) {
-            return true;
-        }
-    }
-    false
-}
-
-/// Whether a byte may stand behind the first word: digits, blanks, dashes and the end of a line, and zeros, which a loss of power
-/// may leave.
-fn is_of_line(byte: u8) -> bool {
-    matches!(byte, b'0'..=b'9' | b'a'..=b'f' | b' ' | b'-' | b'\n' | 0)
-}
-
-/// Whether each byte of a text may stand in a note.
-fn are_of_line(text: &[u8]) -> bool {
-    for byte in text {
-        if !is_of_line(*byte) {
-            return false;
-        }
-    }
-    true
-}
-
-/// Whether a text is nothing but zeros.
-fn are_zeros(text: &[u8]) -> bool {
-    for byte in text {
-        if *byte != 0 {
-            return false;
-        }
-    }
-    true
-}
-
-/// Whether a text is a note, a front of one with its first word, or the zeros that a loss of power may leave of one.
-pub fn is_note(text: &[u8]) -> bool {
-    if text.is_empty() || text.len() > MOST {
-        return false;
-    }
-    are_zeros(text) || (has_word(text) && text.get(WORD..).is_some_and(|rest| are_of_line(rest)))
-}
 
 /// Reads the first bytes of a file into a buffer, up to its end, and says how many.
 pub fn read_front(file: &File, buf: &mut [u8]) -> io::Result<usize> {
@@ -83,7 +34,7 @@ pub fn has_own_name(name: &str) -> bool {
 /// Whether a file of this name is one whose place a note may take. One without bytes may be anybody's, as an empty `disk.image`
 /// beside a journal `disk`; beside the journal of an image's own name it is what a run left that was killed as it made one.
 pub fn is_own(file: &File, name: &str) -> io::Result<bool> {
-    let mut room = [0u8; MOST + 1];
+    let mut room = [0u8; MOST_NOTE + 1];
     let count = read_front(file, &mut room)?;
     if count == 0 {
         return Ok(has_own_name(name));

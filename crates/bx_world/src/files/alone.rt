@@ -74,14 +74,3 @@ pub fn lend_alone<W: World>(world: &mut W, name: &str) -> Result<W::Image, OpenF
         Err(refusal) => Err(OpenFailure::System(refusal)),
     }
 }
-
-/// Takes a file back that was lent so, and closes it.
-pub fn close_alone<W: World>(world: &mut W, image: W::Image)
-    ensures seen { W.faithful world.old → StaysSeen W.state W.survives world.old world.new }
-    ensures note { W.faithful world.old → W.note world.new ≡ W.note world.old }
-    ensures faith { W.faithful world.new ↔ W.faithful world.old }
-{
-    let journal = world.lend_no_text();
-    let redo = world.lend_no_text();
-    world.close_read(image, journal, redo);
-}
