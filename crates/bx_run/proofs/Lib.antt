@@ -5,6 +5,7 @@ pub mod Cleared
 pub mod Emptied
 pub mod Ending
 pub mod Failing
+pub mod HistoryLemmas
 pub mod Inputs
 pub mod Judged
 pub mod LossLemmas

@@ -1,5 +1,6 @@
-//! Laws of files, of edits and of a history that is dropped, over their definitions alone.
+//! Laws of files, of edits, of changes and their undo, and of a history that is dropped, over their definitions alone.
 ghost use Rattle.bx_journal.specs.ThreeDevices.{AreBelow};
+ghost use Rattle.bx_run.specs.History.{AddsOne, AsksChange, ChangeAddsOne, IsDone, RedoGivesBackByNames, UndoGivesBackByNames, UndoGivesBackRenewed};
 ghost use Rattle.bx_run.specs.Laws.{EditIsPut, MissingIsEmpty, MissingIsUnchanged};
 ghost use Rattle.bx_run.specs.Loss.{ForgetsDevices, LossInForgetting, LossInRenewal};
 
@@ -48,4 +49,26 @@ fn forget_as_promised<D: Device, T: TextStore>(
 /// of.
 pub fn edit_is_put<R: Read>()
     ensures { EditIsPut R.remaining }
+{}
+
+/// **Undo is exact, by names.** On files that hold images: behind k changes by `run_request`, each answered as done, an undo of k that is answered as done
+/// gives back the image of the name, its bytes and its length, and the stack of images before them. The changes are reverts, patches and transfers of dd, in
+/// any order. Each call opens the files anew, so they may be of one process or of many, and between two of them anything may be done that leaves the three
+/// files as they are. A change that is done puts one image on the stack, so changes whose inputs are of other types may stand among them.
+pub fn undo_gives_back_by_names<R: Read, S: Read>()
+    ensures back { UndoGivesBackByNames (λ names. IsDone R.remaining (AsksChange names)) S.remaining }
+    ensures adds { ChangeAddsOne R.remaining }
+    ensures mixed { UndoGivesBackByNames AddsOne S.remaining }
+{}
+
+/// Redo is exact, by names: on files that hold images, an undo of k and a redo of k behind it that are both answered as done give back the image, its bytes
+/// and its length, and all images, those that stand and those that were undone before.
+pub fn redo_gives_back_by_names<R: Read>()
+    ensures { RedoGivesBackByNames R.remaining }
+{}
+
+/// A change with which the history begins anew can be undone: behind it an undo of 1, both answered as done, gives back the newest of the images that the files
+/// held before, and it then stands alone.
+pub fn undo_gives_back_renewed<R: Read, S: Read>()
+    ensures { UndoGivesBackRenewed R.remaining S.remaining }
 {}

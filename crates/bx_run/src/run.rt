@@ -6,6 +6,7 @@ mod request;
 
 ghost use Rattle.std.specs.Prelude.{◌≡◌, ◌↔◌, ◌<◌, Option, None, IfSome};
 ghost use Rattle.bx_world.specs.declared.world.Outgrown.{Outgrown};
+ghost use Rattle.bx_run.specs.History.{HasAnswered};
 ghost use Rattle.bx_run.specs.run.Commands.{Answers, ClearNotes, CountsFault, Fulfills, LeavesOthers, MayOpen, HasRun, StandsAs, StopsUnopened, SurvivesLoss, WereJudged, Writes};
 ghost use Rattle.bx_run.specs.run.Outcome.{unopened_by};
 ghost use Rattle.bx_run_model.specs.RunState.{run_state};
@@ -116,4 +117,18 @@ pub fn run_request<W: World, R: Read + Drop, O: Write>(
 {
     let outcome = run_command(world, alloc, request, out);
     answer_of(&outcome, world.outgrown())
+}
+
+/// The premise of the laws on changes by names, and on their undo, is what the one call promises.
+fn run_as_promised<W: World, R: Read + Drop, O: Write>(
+    world: &mut W,
+    alloc: Global,
+    request: Request<'_, R>,
+    out: &mut O,
+) -> Result<Done, Failure>
+    requires free { W.faithful world.old → (W.state world.old).lent ≡ None }
+    ensures { W.faithful world.old → HasAnswered R.remaining request.entry result
+        (run_state W.state W.refusals W.note O.contents world.old out.old) (run_state W.state W.refusals W.note O.contents world.new out.new) }
+{
+    run_request(world, alloc, request, out)
 }
