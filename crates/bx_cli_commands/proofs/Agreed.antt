@@ -65,11 +65,11 @@ module _ {D T : Type 0} (d : DeviceViews D) (t : StoreViews T) where
   look_redo_same old new looks = record { text_same = ap t.text looks.redo; undone = looks.undone }
 
   -- three devices are as faithful as before
-  abbrev pub AsHonest : SessionView D T → SessionView D T → Type 0
-  AsHonest old new = (d.faithful new.image ↔ d.faithful old.image) × (t.faithful new.journal ↔ t.faithful old.journal) × (t.faithful new.redo ↔ t.faithful old.redo)
+  abbrev pub AsFaithful : SessionView D T → SessionView D T → Type 0
+  AsFaithful old new = (d.faithful new.image ↔ d.faithful old.image) × (t.faithful new.journal ↔ t.faithful old.journal) × (t.faithful new.redo ↔ t.faithful old.redo)
 
   -- the session stands where it stood
-  pub look_holds : (old new : SessionView D T) (s : Standing) → AsHonest old new → OnlyLooks d t old new → HoldsAt d t old s → HoldsAt d t new s
+  pub look_holds : (old new : SessionView D T) (s : Standing) → AsFaithful old new → OnlyLooks d t old new → HoldsAt d t old s → HoldsAt d t new s
   look_holds old new (Standing.Up images) faith looks h =
       holds_same d t old new (Standing.Up images) faith.0 faith.1 faith.2 (look_same old new looks h.0) (look_redo_same old new looks) h
   look_holds old new (Standing.Down images) faith looks h =
@@ -87,7 +87,7 @@ module _ {D T : Type 0} (d : DeviceViews D) (t : StoreViews T) where
 
   -- a refusal behind a comparison
   pub look_refused : (Step : Standing → Reply → Standing → Type 0) (old new : SessionView D T) (reply : Reply)
-      → AsHonest old new → OnlyLooks d t old new → NothingNew d t old new → IsWholeRefusal reply → (IsOwnRefusal reply → ⊥)
+      → AsFaithful old new → OnlyLooks d t old new → NothingNew d t old new → IsWholeRefusal reply → (IsOwnRefusal reply → ⊥)
       → CountsBy d t old new (cond (is_failure reply) 1 0)
       → ((before : Standing) → HoldsAt d t old before → Step before reply before)
       → (d.faithful old.image → (images : Images) → Shows d.image t.text old images → Step (Standing.Up images) reply (Standing.Up images))

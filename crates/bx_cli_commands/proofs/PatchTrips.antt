@@ -74,11 +74,11 @@ module _ {D T : Type 0} (d : DeviceViews D) (t : StoreViews T) where
       }
 
   -- three devices are as faithful as before
-  abbrev AreAsHonest : SessionView D T → SessionView D T → Type 0
-  AreAsHonest old new = (d.faithful new.image ↔ d.faithful old.image) × (t.faithful new.journal ↔ t.faithful old.journal) × (t.faithful new.redo ↔ t.faithful old.redo)
+  abbrev AreAsFaithful : SessionView D T → SessionView D T → Type 0
+  AreAsFaithful old new = (d.faithful new.image ↔ d.faithful old.image) × (t.faithful new.journal ↔ t.faithful old.journal) × (t.faithful new.redo ↔ t.faithful old.redo)
 
   -- a session that was looked at shows the same images
-  pub look_rests : (old new : SessionView D T) (i : Images) → OnlyLooks d t old new → AreAsHonest old new → RestsIn d t old i → RestsIn d t new i
+  pub look_rests : (old new : SessionView D T) (i : Images) → OnlyLooks d t old new → AreAsFaithful old new → RestsIn d t old i → RestsIn d t new i
   look_rests old new i looks faith rests = record {
     image = faith.0.1 rests.image;
     journal = faith.1.1 rests.journal;

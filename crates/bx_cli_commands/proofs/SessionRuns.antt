@@ -76,8 +76,8 @@ module _ {S C : Type 0} (Step : S → C → C → Reply → S → Type 0) where
   run_induction P none more old new (c ∷ list) (d ∷ left) [] run = absurd run
 
 -- the three devices are faithful
-abbrev AreHonest : {D T : Type 0} → DeviceViews D → StoreViews T → SessionView D T → Type 0
-AreHonest d t s = d.faithful s.image × t.faithful s.journal × t.faithful s.redo
+abbrev AreFaithful : {D T : Type 0} → DeviceViews D → StoreViews T → SessionView D T → Type 0
+AreFaithful d t s = d.faithful s.image × t.faithful s.journal × t.faithful s.redo
 
 -- P holds of the first element
 all_head : {X : Type 0} (P : X → Type 0) (x : X) (xs : List X) → All P (x ∷ xs) → P x
@@ -138,7 +138,7 @@ module _ {D T : Type 0} (d : DeviceViews D) (t : StoreViews T) where
   abbrev Refuses : SessionView D T → List Reply → SessionView D T → Type 0
   Refuses old replies new = All IsWholeRefusal replies → NothingNew d t old new
 
-  holds_faithful : (s : SessionView D T) (standing : Standing) → HoldsAt d t s standing → AreHonest d t s
+  holds_faithful : (s : SessionView D T) (standing : Standing) → HoldsAt d t s standing → AreFaithful d t s
   holds_faithful s (Standing.Up images) h = (h.0, h.1, h.2)
   holds_faithful s (Standing.Down images) h = (h.0, h.1, h.2)
 
@@ -197,9 +197,9 @@ module _ {D T R A : Type 0} (d : DeviceViews D) (t : StoreViews T) (remaining : 
 
   -- from the images that faithful devices stand for, where no reply tells of a failure
   pub stacks_of : (old new : SessionView D T) (list left : List (Command R A)) (replies : List Reply) → Runs old list left replies new
-      → AreHonest d t old → All Unfailed replies → LeadsOn (Shows d.image t.text) (λ start. StackRun remaining start list replies) old new
+      → AreFaithful d t old → All Unfailed replies → LeadsOn (Shows d.image t.text) (λ start. StackRun remaining start list replies) old new
   stacks_of = run_induction Step
-      (λ old list replies new. AreHonest d t old → All Unfailed replies → LeadsOn (Shows d.image t.text) (λ start. StackRun remaining start list replies) old new)
+      (λ old list replies new. AreFaithful d t old → All Unfailed replies → LeadsOn (Shows d.image t.text) (λ start. StackRun remaining start list replies) old new)
       (λ s faithful all start shows. (start, shows, refl))
       (λ old now new c left list p replies step later faithful all start shows.
       let obeys = obeys_command old now c left p step in

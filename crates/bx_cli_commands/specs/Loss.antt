@@ -5,13 +5,12 @@ use Rattle.bx_image.specs.declared.change.Change.{Change}
 use Rattle.bx_image.specs.declared.device.Device.{Ghosts as DeviceViews}
 use Rattle.bx_journal_store.specs.declared.store.TextStore.{Ghosts as StoreViews}
 use Rattle.bx_journal.specs.Devices.{Devices}
-use Rattle.bx_journal.specs.RecoveryOutcome.{RecoveryOutcome}
 use Rattle.bx_journal.specs.Images.{Images}
 use Rattle.bx_journal.specs.Losses.{AllFound, AreLeft, emptied}
 use Rattle.bx_journal.specs.Opened.{Opening, OpensDevices}
 use Rattle.bx_journal.specs.Power.{Found}
 use Rattle.bx_journal.specs.Recovered.{Recovered}
-use Rattle.bx_journal.specs.Redo.{found_undone}
+use Rattle.bx_journal.specs.Redo.{recovered_as}
 use Rattle.bx_journal.specs.SessionView.{SessionView, devices_of}
 use Rattle.bx_read.specs.declared.fault.ReadFault.{ReadFault}
 use Rattle.bx_cli_commands.specs.declared.command.Command.{Command}
@@ -27,10 +26,6 @@ use Rattle.bx_cli_commands.specs.Standing.{Standing}
 -- the three devices below their fuses
 abbrev pub unfused : {D T : Type 0} → Devices (Fused D) (Fused T) → Devices D T
 unfused x = record { image = x.image.within; journal = x.journal.within; redo = x.redo.within }
-
--- the images at which a session opens that finds these: where something was unfinished nothing is undone any more
-abbrev pub opened_as : RecoveryOutcome → Images → Images
-opened_as how s = record { stack = s.stack; undone = found_undone how s.undone }
 
 -- Of three devices.
 module _ {D T : Type 0} (d : DeviceViews D) (t : StoreViews T) where
@@ -55,9 +50,9 @@ module _ {D T : Type 0} (d : DeviceViews D) (t : StoreViews T) where
   LossAtAnyCall image text R A remaining = (x : Devices (Fused D) (Fused T)) (opened : Opening (Fused D) (Fused T)) (s : Images)
       → AreOnDisk (unfused x) s → OpensDevices image text x opened
       → MatchResult opened
-      (λ o. AllFound d t (unfused (devices_of o.0)) (opened_as o.1.how s)
+      (λ o. AllFound d t (unfused (devices_of o.0)) (recovered_as o.1.how s)
       × ((list : List (Command R A)) (replies : List Reply) (new : SessionView (Fused D) (Fused T)) → RunFinds image text remaining o.0 list replies new
-      → AllFoundInPart remaining (unfused (devices_of new)) (opened_as o.1.how s) list replies))
+      → AllFoundInPart remaining (unfused (devices_of new)) (recovered_as o.1.how s) list replies))
       (λ e. AllFound d t (unfused e.0) s ⊎ AllFound d t (unfused e.0) (emptied s))
 
   -- whatever is found of them after a loss of power, opening finds the images of an end of the step
@@ -71,8 +66,8 @@ module _ {D T : Type 0} (d : DeviceViews D) (t : StoreViews T) where
   LossInOneCall image text Step = (x : Devices (Fused D) (Fused T)) (o : SessionView (Fused D) (Fused T) × Recovered) (s : Images)
       → AreOnDisk (unfused x) s → OpensDevices image text x (Ok o)
       → (reply : Reply) (new : SessionView (Fused D) (Fused T)) → Obeys image text o.0 new reply Step
-      → (IsWholeRefusal reply → AllFound d t (unfused (devices_of new)) (opened_as o.1.how s))
-      × ((IsWholeRefusal reply → ⊥) → AllFoundBehind (unfused (devices_of new)) (opened_as o.1.how s) reply Step)
+      → (IsWholeRefusal reply → AllFound d t (unfused (devices_of new)) (recovered_as o.1.how s))
+      × ((IsWholeRefusal reply → ⊥) → AllFoundBehind (unfused (devices_of new)) (recovered_as o.1.how s) reply Step)
 
   -- that of each call that changes an image: of a command, of a change that was read, and of one that isn't to make the image longer
   pub record LossInEachCall (image : DeviceViews (Fused D)) (text : StoreViews (Fused T)) (R A : Type 0) (remaining : R → Option (List ℕ)) : Type 0 where

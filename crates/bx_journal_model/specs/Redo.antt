@@ -95,6 +95,10 @@ found_undone Clean undone = undone
 found_undone Dropped undone = []
 found_undone (Restored number) undone = []
 
+-- the images that opening makes of those that it finds: where something is unfinished nothing is undone any more
+abbrev pub recovered_as : RecoveryOutcome → Images → Images
+recovered_as how s = record { stack = s.stack; undone = found_undone how s.undone }
+
 -- opening finds this stack, and the text isn't finished entries alone
 abbrev pub RecoversOpen : List ℕ → List ℕ → List (List ℕ) → Type 0
 RecoversOpen text x stack = Recovers text x stack × (IsClean text → ⊥)

@@ -19,7 +19,7 @@ use Rattle.bx_journal.specs.Machine.{changes_of, top}
 use Rattle.bx_journal.specs.Opened.{Opening, OpensDevices}
 use Rattle.bx_journal.specs.Phase.{IsAtRest}
 use Rattle.bx_journal.specs.Power.{Found}
-use Rattle.bx_journal.specs.Redo.{IsClean, IsRedoOf, found_undone}
+use Rattle.bx_journal.specs.Redo.{IsClean, IsRedoOf, found_undone, recovered_as}
 use Rattle.bx_journal.specs.Recovered.{Recovered}
 use Rattle.bx_journal.specs.RecoveryOutcome.{RecoveryOutcome}
 use Rattle.bx_journal.specs.RecoveryOutcome.TheVariants.{Clean, Dropped, Restored}
@@ -29,13 +29,13 @@ use Rattle.bx_journal.specs.SessionView.{SessionView, devices_of}
 use Rattle.bx_journal.specs.Stack.{Recovers, recovered}
 use Rattle.bx_journal.specs.Text.{Between, Entry, Reading}
 use Rattle.bx_cli_commands.specs.declared.command.Reply.{Reply}
-use Rattle.bx_cli_commands.specs.Loss.{AllFoundBehind, AreOnDisk, opened_as}
+use Rattle.bx_cli_commands.specs.Loss.{AllFoundBehind, AreOnDisk}
 use Rattle.bx_cli_commands.specs.Obeys.{Obeys}
 use Rattle.bx_cli_commands.specs.Power.{images_of}
 use Rattle.bx_cli_commands.specs.Refusal.{IsWholeRefusal}
 use Rattle.bx_cli_commands.specs.Standing.{Standing}
 use Rattle.bx_cli_commands.proofs.LossParts.{one_in_part, opened_found}
-use Rattle.bx_run_session.specs.session.Contents.{AreHonest}
+use Rattle.bx_run_session.specs.session.Contents.{AreFaithful}
 use Rattle.bx_run.specs.Loss.{AllFoundDropped, DropsImages, ForgetsDevices, KeepsImageAlone}
 
 -- opening finds images that stand
@@ -80,19 +80,19 @@ done_weaker (Ok done) f a = f a
 done_weaker (Err e) f a = tt
 
 -- an image alone is opened so, whatever was found
-only_opened : (how : RecoveryOutcome) (x : List ℕ) → opened_as how (only x) ≡ only x
+only_opened : (how : RecoveryOutcome) (x : List ℕ) → recovered_as how (only x) ≡ only x
 only_opened Clean x = refl
 only_opened Dropped x = refl
 only_opened (Restored n) x = refl
 
 module _ {D T : Type 0} (d : DeviceViews D) (t : StoreViews T) where
   -- images that are found in devices that lose nothing are on the disk
-  settled_on_disk : (y : Devices D T) (s : Images) → AreHonest d t y → Only (d.image y.image) (d.survives y.image) → Only (t.text y.journal) (t.survives y.journal)
+  settled_on_disk : (y : Devices D T) (s : Images) → AreFaithful d t y → Only (d.image y.image) (d.survives y.image) → Only (t.text y.journal) (t.survives y.journal)
       → Only (t.text y.redo) (t.survives y.redo) → Found (t.text y.journal) (d.image y.image) (t.text y.redo) s → AreOnDisk d t y s
-  settled_on_disk y s honest image journal redo found = record {
-    image = honest.0;
-    journal = honest.1;
-    redo = honest.2;
+  settled_on_disk y s are_faithful image journal redo found = record {
+    image = are_faithful.0;
+    journal = are_faithful.1;
+    redo = are_faithful.2;
     found = found;
     all = λ z text r image_there there redo_there.
         subst (λ v. Found text z v s) (sym (redo r redo_there))
@@ -105,10 +105,10 @@ module _ {D T : Type 0} (d : DeviceViews D) (t : StoreViews T) where
       settled_on_disk y s (left.image_faithful, left.journal_faithful, left.redo_faithful) left.settled.image left.settled.journal left.settled.redo found
 
   -- the dropping was done
-  pub done_alone : (x new : Devices D T) → AreHonest d t x → ForgetsDevices d t x new (Ok tt) → AreOnDisk d t new (only (d.image x.image))
-  done_alone x new honest forgets =
-      let alone = forgets.alone honest.0 honest.1 honest.2 in
-      settled_on_disk new (only (d.image x.image)) (forgets.image_faith.1 honest.0, forgets.journal_faith.1 honest.1, forgets.redo_faith.1 honest.2)
+  pub done_alone : (x new : Devices D T) → AreFaithful d t x → ForgetsDevices d t x new (Ok tt) → AreOnDisk d t new (only (d.image x.image))
+  done_alone x new are_faithful forgets =
+      let alone = forgets.alone are_faithful.0 are_faithful.1 are_faithful.2 in
+      settled_on_disk new (only (d.image x.image)) (forgets.image_faith.1 are_faithful.0, forgets.journal_faith.1 are_faithful.1, forgets.redo_faith.1 are_faithful.2)
       alone.settled.image alone.settled.journal alone.settled.redo
       (rest_found (t.text new.journal) (d.image new.image) (t.text new.redo) (only (d.image x.image)) alone.rest alone.undone)
 
@@ -121,24 +121,24 @@ module _ {D T : Type 0} (d : DeviceViews D) (t : StoreViews T) where
     bytes = λ i below. absurd (omega (arith, below));
   })
 
-  pub kept_alone : (x new : Devices D T) (r : Result (Unit {0}) SessionFault) → AreHonest d t x → ForgetsDevices d t x new r → KeepsImageAlone d t x new r
-  kept_alone x new (Ok done) honest forgets =
-      let alone = forgets.alone honest.0 honest.1 honest.2 in
+  pub kept_alone : (x new : Devices D T) (r : Result (Unit {0}) SessionFault) → AreFaithful d t x → ForgetsDevices d t x new r → KeepsImageAlone d t x new r
+  kept_alone x new (Ok done) are_faithful forgets =
+      let alone = forgets.alone are_faithful.0 are_faithful.1 are_faithful.2 in
       record {
         before = tt;
-        image = λ y there. alone.settled.image y there ∙ forgets.image honest.0;
+        image = λ y there. alone.settled.image y there ∙ forgets.image are_faithful.0;
         texts = record {
           journal_part = λ c there. none_left (t.text x.journal) c (alone.settled.journal c there ∙ alone.journal);
           redo_part = λ c there. none_left (t.text x.redo) c (alone.settled.redo c there ∙ alone.redo);
           redo_first = inr (λ c there. alone.settled.redo c there ∙ alone.redo);
         };
-        done = done_alone x new honest forgets;
+        done = done_alone x new are_faithful forgets;
       }
-  kept_alone x new (Err Interrupted) honest forgets =
-      let keeps = forgets.survives honest.0 honest.1 honest.2 in
+  kept_alone x new (Err Interrupted) are_faithful forgets =
+      let keeps = forgets.survives are_faithful.0 are_faithful.1 are_faithful.2 in
       record { before = tt; image = keeps.image; texts = keeps.texts; done = tt }
-  kept_alone x new (Err DeviceFailed) honest forgets = record { before = forgets.found_before; image = tt; texts = tt; done = tt }
-  kept_alone x new (Err e) honest forgets = absurd forgets.fault
+  kept_alone x new (Err DeviceFailed) are_faithful forgets = record { before = forgets.found_before; image = tt; texts = tt; done = tt }
+  kept_alone x new (Err e) are_faithful forgets = absurd forgets.fault
 
   -- what is found, whatever it answered
   found_dropped : (x new : Devices D T) (r : Result (Unit {0}) SessionFault) (s : Images) → AreOnDisk d t x s → ForgetsDevices d t x new r
@@ -216,7 +216,7 @@ module _ {D T : Type 0} (d : DeviceViews D) (t : StoreViews T) where
 
   -- what opening leaves
   pub opened_on_disk : (x : Devices D T) (o : SessionView D T × Recovered) (s : Images) → AreOnDisk d t x s → OpensDevices d t x (Ok o)
-      → AreOnDisk d t (devices_of o.0) (opened_as o.1.how s) × (d.image o.0.image ≡ top s.stack)
+      → AreOnDisk d t (devices_of o.0) (recovered_as o.1.how s) × (d.image o.0.image ≡ top s.stack)
   opened_on_disk x o s on opens =
       let ready = opens.keeps on.image on.journal s.stack on.found.recovers in
       let undone = opens.redo.keeps_undone on.image on.journal on.redo s on.found in
@@ -225,7 +225,7 @@ module _ {D T : Type 0} (d : DeviceViews D) (t : StoreViews T) where
           image = opens.devices.image_faith.1 on.image;
           journal = opens.devices.journal_faith.1 on.journal;
           redo = opens.devices.redo_faith.1 on.redo;
-          found = rest_found (t.text o.0.journal) (d.image o.0.image) (t.text o.0.redo) (opened_as o.1.how s) ready.rest
+          found = rest_found (t.text o.0.journal) (d.image o.0.image) (t.text o.0.redo) (recovered_as o.1.how s) ready.rest
               (subst (λ n. IsRedoOf (t.text o.0.redo) (d.image o.0.image) n (found_undone o.1.how s.undone)) count undone.redo);
           all = opened_found d t x o s on opens;
         },

@@ -5,10 +5,10 @@ use Rattle.bx_image.specs.Power.{NoMore}
 use Rattle.bx_journal.specs.RecoveryOutcome.{RecoveryOutcome}
 use Rattle.bx_journal.specs.Images.{Images}
 use Rattle.bx_journal.specs.SessionFault.TheVariants.{Interrupted}
+use Rattle.bx_journal.specs.Redo.{recovered_as}
 use Rattle.bx_cli_commands.specs.declared.fault.Fault.TheVariants.{Session}
 use Rattle.bx_world.specs.World.{NothingNewBelow, NothingNewFound, SystemState}
 use Rattle.bx_world.specs.declared.files.names.Names.{Names}
-use Rattle.bx_run_session.specs.session.Contents.{recovered_as}
 use Rattle.bx_run_session.specs.session.Named.{no_change}
 use Rattle.bx_run_session.specs.declared.session.task.Task.{Task}
 use Rattle.bx_run.specs.forget.Forgetting.{Held}

@@ -12,6 +12,7 @@ use Rattle.bx_journal.specs.Stack.{stack_of}
 use Rattle.bx_journal.specs.Text.{Entry}
 use Rattle.bx_journal.specs.SessionFault.{SessionFault}
 use Rattle.bx_journal.specs.SessionFault.TheVariants.{DeviceFailed, Damaged, Interrupted, LengthDiffers, RedoDamaged}
+use Rattle.bx_journal.specs.Redo.{recovered_as}
 use Rattle.bx_cli_commands.specs.Power.{images_of}
 use Rattle.bx_cli_commands.specs.Refusal.{IsWholeRefusal}
 use Rattle.bx_cli_commands.specs.Replies.{stands_by}
@@ -27,7 +28,7 @@ use Rattle.bx_world.specs.declared.files.guard.Guard.{Guard}
 use Rattle.bx_world.specs.declared.files.names.Names.{Names}
 use Rattle.bx_world.specs.declared.files.unopened.OpenError.{OpenError}
 use Rattle.bx_run_session.specs.session.Changes.{Changes, SaysRecovered}
-use Rattle.bx_run_session.specs.session.Contents.{Contents, DoesFound, EndsAt, FoundIn, Holds, Survives, SurvivesFound, recovered_as}
+use Rattle.bx_run_session.specs.session.Contents.{Contents, DoesFound, EndsAt, FoundIn, Holds, Survives, SurvivesFound}
 use Rattle.bx_run_session.specs.session.Moves.{TellsRecovered, recovered_line}
 use Rattle.bx_run_session.specs.session.Guarded.{WereOpened, another}
 use Rattle.bx_run_session.specs.session.Named.{AreNotLeft, IsNamedBy, IsUnrecovered, KeepsOthers, LeadTo, MayRefuse, MayRefuseTask, NothingDone, contents_of, no_change}

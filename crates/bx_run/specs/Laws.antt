@@ -1,8 +1,8 @@
 -- What files that are missing stand for, and what an edit's step puts onto an image.
-use Rattle.std.specs.Prelude.{◌≡◌, ℕ, Bool, Option, None, List, [], ◌∷◌}
+use Rattle.std.specs.Prelude.{◌≡◌, ℕ, Bool, Option, None, List, []}
 use Rattle.bx_world.specs.World.{SystemState, held}
 use Rattle.bx_world.specs.declared.files.names.Names.{Names}
-use Rattle.bx_journal.specs.Images.{Images}
+use Rattle.bx_journal.specs.Forgotten.{only}
 use Rattle.bx_cli_commands.specs.Standing.{Standing}
 use Rattle.bx_cli_commands.specs.declared.command.Reply.{Reply}
 use Rattle.bx_run_session.specs.Edit.{IsEditOf, asked}
@@ -12,19 +12,15 @@ use Rattle.bx_run_session.specs.session.Contents.{Holds}
 use Rattle.bx_run_session.specs.session.Named.{contents_of}
 use Rattle.bx_run_session.specs.session.Task.{TaskStep}
 
--- the images of no change
-abbrev pub unchanged : List ℕ → Images
-unchanged x = record { stack = x ∷ []; undone = [] }
-
 -- where journal and redo text are missing, the files hold the images of no change of the image that is there
 abbrev pub MissingIsUnchanged : Type 0
 MissingIsUnchanged = (names : Names) (w : SystemState) → w.named names.journal ≡ None → w.named names.redo ≡ None
-    → Holds (contents_of names w) (unchanged (held w names.image))
+    → Holds (contents_of names w) (only (held w names.image))
 
 -- where all three are missing, they hold the images of no change of an empty image
 abbrev pub MissingIsEmpty : Type 0
 MissingIsEmpty = (names : Names) (w : SystemState) → w.named names.image ≡ None → w.named names.journal ≡ None → w.named names.redo ≡ None
-    → Holds (contents_of names w) (unchanged [])
+    → Holds (contents_of names w) (only [])
 
 -- The bytes of an input are what is written onto the image: where an edit is made of an input, each step of the edit's task is the one that puts this input onto
 -- the image

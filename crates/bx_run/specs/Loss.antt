@@ -15,7 +15,7 @@ use Rattle.bx_journal.specs.Machine.{top}
 use Rattle.bx_journal.specs.Opened.{OfAll, Opening, OpensDevices}
 use Rattle.bx_journal.specs.Power.{Found, FoundBefore}
 use Rattle.bx_journal.specs.Recovered.{Recovered}
-use Rattle.bx_journal.specs.Redo.{IsClean}
+use Rattle.bx_journal.specs.Redo.{IsClean, recovered_as}
 use Rattle.bx_journal.specs.SessionFault.{SessionFault}
 use Rattle.bx_journal.specs.SessionView.{SessionView, devices_of}
 use Rattle.bx_journal.specs.ThreeDevices.{AreCounted, AreUnfailed}
@@ -24,13 +24,13 @@ use Rattle.bx_cli_commands.specs.declared.command.Command.{Command}
 use Rattle.bx_cli_commands.specs.declared.command.Kept.{Kept}
 use Rattle.bx_cli_commands.specs.declared.command.Reply.{Reply}
 use Rattle.bx_cli_commands.specs.Growth.{KeptStep}
-use Rattle.bx_cli_commands.specs.Loss.{AllFoundBehind, AreOnDisk, opened_as, unfused}
+use Rattle.bx_cli_commands.specs.Loss.{AllFoundBehind, AreOnDisk, unfused}
 use Rattle.bx_cli_commands.specs.Obeys.{Obeys}
 use Rattle.bx_cli_commands.specs.Power.{images_of}
 use Rattle.bx_cli_commands.specs.Refusal.{IsWholeRefusal}
 use Rattle.bx_cli_commands.specs.Run.{CommandStep, ReadStep}
 use Rattle.bx_cli_commands.specs.Standing.{Standing}
-use Rattle.bx_run_session.specs.session.Contents.{AreHonest}
+use Rattle.bx_run_session.specs.session.Contents.{AreFaithful}
 
 -- unless a call was refused before it wrote anything this holds
 abbrev pub UnlessRefused : {V : Type 0} → Result V SessionFault → Type 0 → Type 0
@@ -76,7 +76,7 @@ module _ {D T : Type 0} (d : DeviceViews D) (t : StoreViews T) where
   -- The history of three devices is dropped, each behind fuses: they pass calls that read and calls that write, as many as they will, and fail those that
   -- follow. This is then found below the fuses. What a loss leaves, neither text cut in part, has images on the disk again, for the next process.
   pub record LossInForgetting (image : DeviceViews (Fused D)) (text : StoreViews (Fused T)) : Type 0 where
-    pub kept : (x new : Devices (Fused D) (Fused T)) (result : Result (Unit {0}) SessionFault) → AreHonest d t (unfused x)
+    pub kept : (x new : Devices (Fused D) (Fused T)) (result : Result (Unit {0}) SessionFault) → AreFaithful d t (unfused x)
         → ForgetsDevices image text x new result → KeepsImageAlone (unfused x) (unfused new) result
     pub drops : (x new : Devices (Fused D) (Fused T)) (result : Result (Unit {0}) SessionFault) (s : Images) → AreOnDisk d t (unfused x) s
         → ForgetsDevices image text x new result → DropsImages (unfused x) (unfused new) result s
@@ -86,7 +86,7 @@ module _ {D T : Type 0} (d : DeviceViews D) (t : StoreViews T) where
   -- Behind a dropping that was done the devices are opened, and one call is made that obeys a step, all behind such fuses: what is then found below them is the
   -- image alone, where the opening failed or the call was refused in whole, else an end of the step from there, which a loss leaves on the disk again
   pub record LossBehindDropping (image : DeviceViews (Fused D)) (text : StoreViews (Fused T)) (Step : Standing → Reply → Standing → Type 0) : Type 0 where
-    pub found : (x dropped : Devices (Fused D) (Fused T)) (opened : Opening (Fused D) (Fused T)) → AreHonest d t (unfused x)
+    pub found : (x dropped : Devices (Fused D) (Fused T)) (opened : Opening (Fused D) (Fused T)) → AreFaithful d t (unfused x)
         → ForgetsDevices image text x dropped (Ok tt) → OpensDevices image text dropped opened
         → MatchResult opened
         (λ o. (reply : Reply) (new : SessionView (Fused D) (Fused T)) → Obeys image text o.0 new reply Step
@@ -100,7 +100,7 @@ module _ {D T : Type 0} (d : DeviceViews D) (t : StoreViews T) where
   -- as `LossInForgetting` says; and behind that comes a command, a change that was read, or one that isn't to make the image longer
   pub record LossInRenewal (image : DeviceViews (Fused D)) (text : StoreViews (Fused T)) (R A : Type 0) (remaining : R → Option (List ℕ)) : Type 0 where
     pub opened : (x : Devices (Fused D) (Fused T)) (o : SessionView (Fused D) (Fused T) × Recovered) (s : Images) → AreOnDisk d t (unfused x) s
-        → OpensDevices image text x (Ok o) → AreOnDisk d t (unfused (devices_of o.0)) (opened_as o.1.how s) × (d.image o.0.image.within ≡ top s.stack)
+        → OpensDevices image text x (Ok o) → AreOnDisk d t (unfused (devices_of o.0)) (recovered_as o.1.how s) × (d.image o.0.image.within ≡ top s.stack)
     pub command : (command : Command R A) → LossBehindDropping image text (λ before. CommandStep remaining before command)
     pub change : (read : Result (Change A) ReadFault) → LossBehindDropping image text (λ before. ReadStep before (λ c. c) read)
     pub kept : (kept : Kept A) → LossBehindDropping image text (λ before. KeptStep before kept)

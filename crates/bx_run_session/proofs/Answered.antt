@@ -11,6 +11,7 @@ use Rattle.bx_journal.specs.Direction.{Direction}
 use Rattle.bx_journal.specs.Direction.TheVariants.{Redo as Onward, Undo as Backward}
 use Rattle.bx_journal.specs.SessionFault.{SessionFault}
 use Rattle.bx_journal.specs.SessionFault.TheVariants.{NoMemory, TooLarge, DeviceFailed, Damaged, TooFew, JournalFull, Interrupted, Broken, LengthDiffers, NothingToRedo, RedoDamaged}
+use Rattle.bx_journal.specs.Redo.{recovered_as}
 use Rattle.bx_world.specs.World.{SystemState}
 use Rattle.bx_world.specs.files.Files.{LeavesFiles}
 use Rattle.bx_world.specs.declared.files.names.Names.{Names}
@@ -24,7 +25,7 @@ use Rattle.bx_cli_commands.specs.declared.command.Reply.{Reply}
 use Rattle.bx_cli_commands.specs.declared.command.Reply.TheVariants.{Changed, Copied, Redone, Refused, Undone}
 use Rattle.bx_cli_commands.specs.declared.fault.Fault.{Fault}
 use Rattle.bx_cli_commands.specs.declared.fault.Fault.TheVariants.{Io, OpenFailed, Session}
-use Rattle.bx_run_session.specs.session.Contents.{Contents, DoesFound, EndsAt, FindsIn, Holds, IsUnopened, StandsIn, StepsRead, StepsTo, Survives, SurvivesFound, recovered_as}
+use Rattle.bx_run_session.specs.session.Contents.{Contents, DoesFound, EndsAt, FindsIn, Holds, IsUnopened, StandsIn, StepsRead, StepsTo, Survives, SurvivesFound}
 use Rattle.bx_run_session.specs.session.Moves.{Course, HasMoved, IsMidway, IsMoved, MayNotMove, MovedFound, MovedRead, RefusesRecovered, RefusesMove, SparesMove, SurvivesMove, SurvivesMoved, again, back, command_by, stepped}
 use Rattle.bx_run_session.specs.session.Named.{LeavesRefused, MayRefuse, NothingDone, contents_of}
 use Rattle.bx_run_session.specs.session.Task.{TaskStep}

@@ -13,10 +13,11 @@ use Rattle.bx_journal.specs.RecoveryOutcome.{RecoveryOutcome}
 use Rattle.bx_journal.specs.Images.{Images}
 use Rattle.bx_journal.specs.Direction.{Direction}
 use Rattle.bx_journal.specs.SessionFault.TheVariants.{Interrupted}
+use Rattle.bx_journal.specs.Redo.{recovered_as}
 use Rattle.bx_cli_commands.specs.declared.command.Reply.{Reply}
 use Rattle.bx_cli_commands.specs.declared.fault.Fault.{Fault}
 use Rattle.bx_cli_commands.specs.declared.fault.Fault.TheVariants.{OpenFailed, Session}
-use Rattle.bx_run_session.specs.session.Contents.{StayOnDisk, Contents, FindsIn, FoundIn, Holds, Spared, StandsIn, TellsUnfinished, recovered_as}
+use Rattle.bx_run_session.specs.session.Contents.{StayOnDisk, Contents, FindsIn, FoundIn, Holds, Spared, StandsIn, TellsUnfinished}
 use Rattle.bx_run_session.specs.session.Moves.{Course, HasMoved, IsMidway, IsMoved, IsUnwritten, LosesLine, MovedFound, MovedRead, Moves, MovesFound, MovesRead, RefusesRecovered, RefusesMove, SparesMove, StopsRecovered, StopsLine, StopsMove, StopsPart, SurvivesMoved, TellsRecovered, number_line, recovered_line, stepped}
 use Rattle.bx_run_session.specs.session.Named.{AreNotLeft, IsNamedBy, IsUnrecovered, KeepsOthers, LeadTo, LeavesRefused, NothingDone, contents_of}
 

@@ -18,7 +18,7 @@ use Rattle.bx_journal.specs.Devices.{Devices}
 use Rattle.bx_journal.specs.SessionFault.{SessionFault}
 use Rattle.bx_journal.specs.SessionFault.TheVariants.{NoMemory, DeviceFailed, Damaged, Interrupted}
 use Rattle.bx_cli_commands.specs.declared.fault.Fault.TheVariants.{Session}
-use Rattle.bx_run_session.specs.session.Contents.{AreHonest, Contents}
+use Rattle.bx_run_session.specs.session.Contents.{AreFaithful, Contents}
 use Rattle.bx_journal.specs.Direction.{Direction}
 use Rattle.bx_journal_image.specs.declared.advice.Standing.{Standing}
 use Rattle.bx_journal_image.specs.declared.finding.rest.AtRest.{AtRest}
@@ -75,7 +75,7 @@ module _ {D T : Type 0} (d : DeviceViews D) (t : StoreViews T) where
     faith = ((λ h. h, λ h. h), (λ h. h, λ h. h), (λ h. h, λ h. h));
   }
 
-  pub faithful_on : (old new : Devices D T) → LookAt d t old new → AreHonest d t old → AreHonest d t new
+  pub faithful_on : (old new : Devices D T) → LookAt d t old new → AreFaithful d t old → AreFaithful d t new
   faithful_on old new looks faithful = (looks.faith.0.1 faithful.0, looks.faith.1.1 faithful.1, looks.faith.2.1 faithful.2)
 
 -- the line before one step

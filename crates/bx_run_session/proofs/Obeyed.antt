@@ -22,7 +22,7 @@ use Rattle.bx_run_session.specs.session.Task.{TaskStep}
 use Rattle.bx_run_session.specs.session.Guarded.{AreFew, RiseByOne, failed_by}
 use Rattle.bx_world.specs.World.{failed_calls}
 use Rattle.bx_journal.specs.Devices.{Devices}
-use Rattle.bx_run_session.specs.session.Contents.{AreFresh, AreHonest, AreInPlace, EndsAt, StandsIn, StepsTo, Survives, held_by}
+use Rattle.bx_run_session.specs.session.Contents.{AreFresh, AreFaithful, AreInPlace, EndsAt, StandsIn, StepsTo, Survives, held_by}
 
 -- counts that rose by no more than one stand where they began
 placed : (b : Bool) (t_new u_new d_new d t u : ℕ) → d ≤ d_new → t ≤ t_new → u ≤ u_new → d_new + t_new + u_new ≡ d + t + u + cond b 1 0
@@ -101,21 +101,21 @@ module _ {D T : Type 0} (d : DeviceViews D) (t : StoreViews T) where
 
 module _ {D T R : Type 0} (d : DeviceViews D) (t : StoreViews T) (remaining : R → Option (List ℕ)) where
   pub steps_of : (old new : SessionView D T) (c : Task R) (reply : Reply) → Obeys d t old new reply (λ before. TaskStep remaining before c)
-      → AreHonest d t (devices_of old) → (s : Images) → IsReady d.image t.text old s.stack → HasUndone d.image t.text old s.undone
+      → AreFaithful d t (devices_of old) → (s : Images) → IsReady d.image t.text old s.stack → HasUndone d.image t.text old s.undone
       → StepsTo remaining s c reply (held_by d t (devices_of new))
   steps_of old new c reply obeys faithful s ready undone =
       let made = obeys.step (Standing.Up s) (faithful.0, faithful.1, faithful.2, (ready, undone)) in
       (made.0, made.2, ends_at d t new made.0 made.1)
 
   pub survives_of : (old new : SessionView D T) (c : Task R) (reply : Reply) → Obeys d t old new reply (λ before. TaskStep remaining before c)
-      → AreHonest d t (devices_of old) → (s : Images) → IsReady d.image t.text old s.stack → HasUndone d.image t.text old s.undone
+      → AreFaithful d t (devices_of old) → (s : Images) → IsReady d.image t.text old s.stack → HasUndone d.image t.text old s.undone
       → (IsWholeRefusal reply → ⊥) → Survives remaining s c reply (d.survives new.image) (t.survives new.journal) (t.survives new.redo)
   survives_of old new c reply obeys faithful s ready undone stopped x text redo_text there text_there redo_there =
       let found = obeys.finds stopped (Standing.Up s) (faithful.0, faithful.1, faithful.2, (ready, undone)) x text redo_text there text_there redo_there in
       (found.0, found.1, found.2)
 
   pub stands_of : (old new : SessionView D T) (c : Task R) (reply : Reply) → Obeys d t old new reply (λ before. TaskStep remaining before c)
-      → AreHonest d t (devices_of old) → Unfailed reply → (s : Images) → Shows d.image t.text old s
+      → AreFaithful d t (devices_of old) → Unfailed reply → (s : Images) → Shows d.image t.text old s
       → (next : Images) × TaskStep remaining (Standing.Up s) c reply (Standing.Up next) × StandsIn (held_by d t (devices_of new)) next
   stands_of old new c reply obeys faithful unfailed s shows =
       let made = obeys.stands faithful.0 faithful.1 faithful.2 unfailed s shows in

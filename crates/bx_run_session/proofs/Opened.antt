@@ -16,7 +16,7 @@ use Rattle.bx_journal.specs.Recovered.{Recovered}
 use Rattle.bx_journal.specs.SessionView.{SessionView, devices_of}
 use Rattle.bx_cli_commands.specs.Standing.{Shows}
 use Rattle.bx_cli_commands.specs.declared.fault.Fault.{Fault}
-use Rattle.bx_run_session.specs.session.Contents.{AreHonest, Contents, IsRecovered, ReadAs, Spared, SparesDisk, TellsUnfinished, held_by}
+use Rattle.bx_run_session.specs.session.Contents.{AreFaithful, Contents, IsRecovered, ReadAs, Spared, SparesDisk, TellsUnfinished, held_by}
 
 empty_list : (xs : List (List ℕ)) → length xs ≡ 0 → xs ≡ []
 empty_list [] is = refl
@@ -26,7 +26,7 @@ on_ok : {V : Type 0} (outcome : Result V Fault) (P : Type 0) → P → OnOk outc
 on_ok (Ok v) P p = p
 on_ok (Err e) P p = tt
 
-module _ {D T : Type 0} (d : DeviceViews D) (t : StoreViews T) (old : Devices D T) (o : SessionView D T) (r : Recovered) (faithful : AreHonest d t old)
+module _ {D T : Type 0} (d : DeviceViews D) (t : StoreViews T) (old : Devices D T) (o : SessionView D T) (r : Recovered) (faithful : AreFaithful d t old)
     (opens : OpensDevices d t old (Ok (o, r))) where
   clean_same : r.how ≡ Clean → held_by d t (devices_of o) ≡ held_by d t old
   clean_same is =
@@ -65,7 +65,7 @@ module _ {D T : Type 0} (d : DeviceViews D) (t : StoreViews T) (old : Devices D 
   }
 
   -- after a loss of power
-  pub spares_opened : (new : Devices D T) → AreHonest d t (devices_of o) → FoundBefore d t (devices_of o) new
+  pub spares_opened : (new : Devices D T) → AreFaithful d t (devices_of o) → FoundBefore d t (devices_of o) new
       → held_by d t new ≡ held_by d t (devices_of o) → SparesDisk d t (Some r.how) old new
   spares_opened new behind before same = record {
     before = λ is.

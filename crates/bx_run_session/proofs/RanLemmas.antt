@@ -21,7 +21,7 @@ use Rattle.bx_run_session.specs.declared.session.looked.Looked.{Looked}
 use Rattle.bx_run_session.specs.declared.session.looked.Looked.TheVariants.{Another, Goes}
 use Rattle.bx_run_session.specs.declared.session.terms.Terms.{Terms}
 use Rattle.bx_run_session.specs.declared.session.task.Task.{Task}
-use Rattle.bx_run_session.specs.session.Contents.{AreHonest, Contents, Does, DoesFound, FoundIn, Holds, KeepHonesty, Spared, TellsUnfinished, held_by}
+use Rattle.bx_run_session.specs.session.Contents.{AreFaithful, Contents, Does, DoesFound, FoundIn, Holds, StayFaithful, Spared, TellsUnfinished, held_by}
 use Rattle.bx_run_session.specs.session.Guarded.{AreTermsOf, IsLookedAt, IsSure, LookAt, WasJudged, another}
 use Rattle.bx_run_session.specs.session.Ran.{EndsAs, RunsTask}
 use Rattle.bx_run_session.proofs.LookLemmas.{after_finding, finds_device, finds_whole, faithful_on, rest_accepted}
@@ -73,7 +73,7 @@ module _ {D T R : Type 0} (d : DeviceViews D) (t : StoreViews T) (remaining : R 
   pub ran_behind : (old mid : Devices D T) (task : Task R) (ended : Ended D T) → LookAt d t old mid → RunsTask d t remaining mid task ended
       → RunsTask d t remaining old task ended
   ran_behind old mid task ended first ran =
-      let begun : AreHonest d t old → AreHonest d t mid = faithful_on d t old mid first in
+      let begun : AreFaithful d t old → AreFaithful d t mid = faithful_on d t old mid first in
       record {
         accepted = λ faithful. subst (λ (c : Contents). IfSome ended.how (λ _. IsAccepted (shown c.journal))) (first.same faithful) (ran.accepted (begun faithful));
         how_is = λ faithful. subst (λ c. TellsUnfinished c ended.how (stands_by ended.reply)) (first.same faithful) (ran.how_is (begun faithful));
@@ -96,11 +96,11 @@ module _ {D T R : Type 0} (d : DeviceViews D) (t : StoreViews T) (remaining : R 
       }
 
   -- and before one
-  pub ran_before : (old last : Devices D T) (task : Task R) (ended : Ended D T) → KeepHonesty d t old ended.devices
+  pub ran_before : (old last : Devices D T) (task : Task R) (ended : Ended D T) → StayFaithful d t old ended.devices
       → RunsTask d t remaining old task ended → LookAt d t ended.devices last
       → RunsTask d t remaining old task (record { devices = last; reply = ended.reply; how = ended.how; unopened = ended.unopened })
   ran_before old last task ended keeps ran second =
-      let done : AreHonest d t old → AreHonest d t ended.devices = λ faithful. (keeps.0.1 faithful.0, keeps.1.1 faithful.1, keeps.2.1 faithful.2) in
+      let done : AreFaithful d t old → AreFaithful d t ended.devices = λ faithful. (keeps.0.1 faithful.0, keeps.1.1 faithful.1, keeps.2.1 faithful.2) in
       record {
         accepted = ran.accepted;
         how_is = ran.how_is;

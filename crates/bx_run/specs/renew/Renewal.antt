@@ -6,6 +6,7 @@ use Rattle.bx_journal.specs.Machine.{top}
 use Rattle.bx_journal.specs.RecoveryOutcome.{RecoveryOutcome}
 use Rattle.bx_journal.specs.Power.{Found}
 use Rattle.bx_journal.specs.SessionFault.TheVariants.{Interrupted}
+use Rattle.bx_journal.specs.Redo.{recovered_as}
 use Rattle.bx_cli_commands.specs.Refusal.{IsWholeRefusal}
 use Rattle.bx_cli_commands.specs.Replies.{stands_by}
 use Rattle.bx_cli_commands.specs.Run.{is_failure}
@@ -18,7 +19,7 @@ use Rattle.bx_world.specs.declared.files.guard.Guard.{Guard}
 use Rattle.bx_world.specs.declared.files.names.Names.{Names}
 use Rattle.bx_world.specs.declared.files.unopened.OpenError.{OpenError}
 use Rattle.bx_run_session.specs.session.Changes.{Changes, InterruptsChange, RefusesChange, SaysRecovered}
-use Rattle.bx_run_session.specs.session.Contents.{FoundIn, Holds, Survives, recovered_as}
+use Rattle.bx_run_session.specs.session.Contents.{FoundIn, Holds, Survives}
 use Rattle.bx_run_session.specs.session.Guarded.{WasJudged, another}
 use Rattle.bx_run_session.specs.session.Named.{AreNotLeft, ClearsNote, IsNamedBy, IsUnrecovered, KeepsOthers, LeadTo, MayRefuseTask, SurvivesTask, contents_of, is_missing, no_change}
 use Rattle.bx_run_session.specs.declared.session.named.Answer.{Answer}

@@ -8,6 +8,7 @@ use Rattle.bx_journal.specs.Forgotten.{only}
 use Rattle.bx_journal.specs.Images.{Images}
 use Rattle.bx_journal.specs.Machine.{changes_of, top}
 use Rattle.bx_journal.specs.RecoveryOutcome.{RecoveryOutcome}
+use Rattle.bx_journal.specs.Redo.{recovered_as}
 use Rattle.bx_cli_commands.specs.Replies.{stands_by}
 use Rattle.bx_cli_commands.specs.Run.{Unfailed}
 use Rattle.bx_cli_commands.specs.Standing.{Standing}
@@ -26,7 +27,7 @@ use Rattle.bx_run_session.specs.declared.session.named.Answer.{Answer}
 use Rattle.bx_run.specs.run.Changing.{DoesChange}
 use Rattle.bx_run_session.specs.preview.Previews.{DoesPreview}
 use Rattle.bx_run.specs.renew.Renewal.{RenewsFiles}
-use Rattle.bx_run_session.specs.session.Contents.{Contents, EndsAt, FoundIn, Holds, ReadAs, StandsIn, recovered_as}
+use Rattle.bx_run_session.specs.session.Contents.{Contents, EndsAt, FoundIn, Holds, ReadAs, StandsIn}
 use Rattle.bx_run_session.specs.session.Named.{contents_of}
 
 module _ (keeps : Bool) (input : Input) where

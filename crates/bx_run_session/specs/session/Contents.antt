@@ -12,7 +12,7 @@ use Rattle.bx_journal.specs.Opening.{IsOpened, left_over}
 use Rattle.bx_journal.specs.Stack.{StandsFor, recovered}
 use Rattle.bx_journal.specs.Phase.{IsAtRest}
 use Rattle.bx_journal.specs.Power.{Found, FoundBefore}
-use Rattle.bx_journal.specs.Redo.{Finds, IsRedoOf, found_undone}
+use Rattle.bx_journal.specs.Redo.{Finds, IsRedoOf, recovered_as}
 use Rattle.bx_journal.specs.Text.{Reading, Reads}
 use Rattle.bx_journal.specs.RecoveryOutcome.{RecoveryOutcome}
 use Rattle.bx_journal.specs.RecoveryOutcome.TheVariants.{Clean}
@@ -61,10 +61,6 @@ IsUnopened reply = (e : SessionFault) × (reply ≡ Refused (Session e)) × Devi
 -- A task on three contents that hold images: its opening was refused, or it made the machine's step
 abbrev pub Does : {R : Type 0} → (R → Option (List ℕ)) → Images → Task R → Reply → Contents → Type 0
 Does remaining s task reply new = (IsUnopened reply × Holds new s) ⊎ StepsTo remaining s task reply new
-
--- the images that opening makes of those that it finds: where something is unfinished nothing is undone any more
-abbrev pub recovered_as : RecoveryOutcome → Images → Images
-recovered_as how s = record { stack = s.stack; undone = found_undone how s.undone }
 
 -- A task on three contents in which opening finds images: it made the machine's step from what was recovered, or opening was refused, and
 -- finds them again, behind an interruption without those that were undone
@@ -138,12 +134,12 @@ abbrev pub held_by : {D T : Type 0} → DeviceViews D → StoreViews T → Devic
 held_by d t x = record { image = d.image x.image; journal = t.text x.journal; redo = t.text x.redo }
 
 -- the three devices are faithful
-abbrev pub AreHonest : {D T : Type 0} → DeviceViews D → StoreViews T → Devices D T → Type 0
-AreHonest d t x = d.faithful x.image × t.faithful x.journal × t.faithful x.redo
+abbrev pub AreFaithful : {D T : Type 0} → DeviceViews D → StoreViews T → Devices D T → Type 0
+AreFaithful d t x = d.faithful x.image × t.faithful x.journal × t.faithful x.redo
 
 -- each device is faithful if it was
-abbrev pub KeepHonesty : {D T : Type 0} → DeviceViews D → StoreViews T → Devices D T → Devices D T → Type 0
-KeepHonesty d t old new = (d.faithful new.image ↔ d.faithful old.image) × (t.faithful new.journal ↔ t.faithful old.journal) × (t.faithful new.redo ↔ t.faithful old.redo)
+abbrev pub StayFaithful : {D T : Type 0} → DeviceViews D → StoreViews T → Devices D T → Devices D T → Type 0
+StayFaithful d t old new = (d.faithful new.image ↔ d.faithful old.image) × (t.faithful new.journal ↔ t.faithful old.journal) × (t.faithful new.redo ↔ t.faithful old.redo)
 
 -- no call of the three failed: failures count from 0, those of the redo text from 2 ^ 32
 abbrev pub AreFresh : {D T : Type 0} → DeviceViews D → StoreViews T → Devices D T → Type 0

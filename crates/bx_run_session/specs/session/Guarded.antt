@@ -39,7 +39,7 @@ use Rattle.bx_run_session.specs.declared.session.looked.Seal.TheVariants.{Kept, 
 use Rattle.bx_run_session.specs.declared.session.task.Task.{Task}
 use Rattle.bx_run_session.specs.declared.session.task.Task.TheVariants.{Run, Put, Keep}
 use Rattle.bx_run_session.specs.declared.session.terms.Terms.{Terms}
-use Rattle.bx_run_session.specs.session.Contents.{AreHonest, Contents, KeepHonesty, held_by}
+use Rattle.bx_run_session.specs.session.Contents.{AreFaithful, Contents, StayFaithful, held_by}
 
 -- whether an image isn't written to that was judged so: it is another one, or was missing; or nothing is known of it, where something has to be
 abbrev pub keeps_off : Bool → Bool → Verdict → Bool
@@ -181,10 +181,10 @@ pub record MayBeAnother {R : Type 0} (guard : Guard) (missing : Bool) (note : Li
 
 -- Calls that only look at three devices: each has what it had, a loss of power finds no more than before, and each is faithful if it was
 pub record LookAt {D T : Type 0} (d : DeviceViews D) (t : StoreViews T) (old new : Devices D T) : Type 0 where
-  pub same : AreHonest d t old → held_by d t new ≡ held_by d t old
+  pub same : AreFaithful d t old → held_by d t new ≡ held_by d t old
   pub journal_same : t.faithful old.journal → t.text new.journal ≡ t.text old.journal
   pub before : FoundBefore d t old new
-  pub faith : KeepHonesty d t old new
+  pub faith : StayFaithful d t old new
 
 -- how their failed calls count: one of the three counts one more where one of them failed, and else none does
 abbrev pub CountLooks : {D T V : Type 0} → DeviceViews D → StoreViews T → Result V SessionFault → Devices D T → Devices D T → Type 0

@@ -17,11 +17,12 @@ use Rattle.bx_journal.specs.Direction.{Direction}
 use Rattle.bx_journal.specs.Direction.TheVariants.{Redo as Onward, Undo as Backward}
 use Rattle.bx_journal.specs.SessionFault.{SessionFault}
 use Rattle.bx_journal.specs.SessionFault.TheVariants.{DeviceFailed, Interrupted, NoMemory, NothingToRedo, TooFew}
+use Rattle.bx_journal.specs.Redo.{recovered_as}
 use Rattle.bx_cli_commands.specs.declared.command.Command.{Command}
 use Rattle.bx_cli_commands.specs.declared.command.Command.TheVariants.{Redo, Undo}
 use Rattle.bx_cli_commands.specs.declared.fault.Fault.{Fault}
 use Rattle.bx_cli_commands.specs.declared.fault.Fault.TheVariants.{Io, OpenFailed, Session}
-use Rattle.bx_run_session.specs.session.Contents.{StayOnDisk, Contents, FindsIn, FoundIn, Holds, LosesUndone, ReadAs, StandsIn, recovered_as}
+use Rattle.bx_run_session.specs.session.Contents.{StayOnDisk, Contents, FindsIn, FoundIn, Holds, LosesUndone, ReadAs, StandsIn}
 use Rattle.bx_run_session.specs.session.Named.{IsUnrecovered, LeadTo, LeavesRefused, contents_of}
 use Rattle.bx_run_session.specs.declared.session.moves.Moved.{Moved}
 use Rattle.bx_run_session.specs.declared.session.task.Task.{Task}

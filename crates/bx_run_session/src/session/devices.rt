@@ -10,7 +10,7 @@ ghost use Rattle.bx_cli_commands.specs.Refusal.{IsWholeRefusal};
 ghost use Rattle.bx_cli_commands.specs.Replies.{stands_by};
 ghost use Rattle.bx_cli_commands.specs.Run.{Unfailed, is_failure};
 ghost use Rattle.bx_cli_commands.specs.Standing.{Shows, Standing};
-ghost use Rattle.bx_run_session.specs.session.Contents.{AreFresh, AreHonest, AreInPlace, Does, DoesFound, FoundIn, Holds, KeepHonesty, Spared, SparesDisk, StandsIn, StepsRead, StepsTo, Survives, SurvivesFound, TellsUnfinished, held_by};
+ghost use Rattle.bx_run_session.specs.session.Contents.{AreFresh, AreFaithful, AreInPlace, Does, DoesFound, FoundIn, Holds, StayFaithful, Spared, SparesDisk, StandsIn, StepsRead, StepsTo, Survives, SurvivesFound, TellsUnfinished, held_by};
 ghost use Rattle.bx_run_session.specs.session.Guarded.{AreFew, failed_by};
 ghost use Rattle.bx_run_session.specs.session.Task.{IsNearTask, TaskStep};
 
@@ -44,18 +44,18 @@ fn run_and_close<D: Device, T: TextStore, R: Read + Drop>(
     ensures order { AreInPlace D.Device T.TextStore result.devices }
     ensures few { AreFew D.Device T.TextStore result.devices }
     ensures failed { is_failure result.reply ≡ true → 0 < failed_by D.Device T.TextStore result.devices }
-    ensures faith { KeepHonesty D.Device T.TextStore (devices_of session) result.devices }
+    ensures faith { StayFaithful D.Device T.TextStore (devices_of session) result.devices }
     ensures how { result.how ≡ Some how }
-    ensures does { AreHonest D.Device T.TextStore (devices_of session) → (s : Images)
+    ensures does { AreFaithful D.Device T.TextStore (devices_of session) → (s : Images)
         → IsReady D.image T.text session s.stack → HasUndone D.image T.text session s.undone
         → StepsTo R.remaining s task result.reply (held_by D.Device T.TextStore result.devices) }
-    ensures whole { AreHonest D.Device T.TextStore (devices_of session) → IsWholeRefusal result.reply
+    ensures whole { AreFaithful D.Device T.TextStore (devices_of session) → IsWholeRefusal result.reply
         → held_by D.Device T.TextStore result.devices ≡ held_by D.Device T.TextStore (devices_of session) }
-    ensures survives { AreHonest D.Device T.TextStore (devices_of session) → (s : Images)
+    ensures survives { AreFaithful D.Device T.TextStore (devices_of session) → (s : Images)
         → IsReady D.image T.text session s.stack → HasUndone D.image T.text session s.undone → (IsWholeRefusal result.reply → ⊥)
         → Survives R.remaining s task result.reply
         (D.survives result.devices.image) (T.survives result.devices.journal) (T.survives result.devices.redo) }
-    ensures stands { AreHonest D.Device T.TextStore (devices_of session) → Unfailed result.reply → (s : Images) → Shows D.image T.text session s
+    ensures stands { AreFaithful D.Device T.TextStore (devices_of session) → Unfailed result.reply → (s : Images) → Shows D.image T.text session s
         → (next : Images) × TaskStep R.remaining (Standing.Up s) task result.reply (Standing.Up next)
         × StandsIn (held_by D.Device T.TextStore result.devices) next }
     ensures before { IsWholeRefusal result.reply → FoundBefore D.Device T.TextStore (devices_of session) result.devices }
@@ -84,44 +84,44 @@ pub fn open_and_run<D: Device, T: TextStore, R: Read + Drop>(
     requires fresh { AreFresh D.Device T.TextStore devices }
     ensures order { AreInPlace D.Device T.TextStore result.devices }
     ensures few { AreFew D.Device T.TextStore result.devices }
-    ensures faith { KeepHonesty D.Device T.TextStore devices result.devices }
+    ensures faith { StayFaithful D.Device T.TextStore devices result.devices }
 
     // The fault of a device is answered only where a call of one failed.
     ensures failed { is_failure result.reply ≡ true → 0 < failed_by D.Device T.TextStore result.devices }
 
     // Only a journal that is accepted is opened.
-    ensures accepted { AreHonest D.Device T.TextStore devices
+    ensures accepted { AreFaithful D.Device T.TextStore devices
         → IfSome result.how (λ _. IsAccepted (shown (T.text devices.journal))) }
 
     // What was unfinished is said. On devices that hold images nothing was, and the task makes the machine's step, unless its opening
     // was refused.
-    ensures how { AreHonest D.Device T.TextStore devices → TellsUnfinished (held_by D.Device T.TextStore devices) result.how (stands_by result.reply) }
-    ensures does { AreHonest D.Device T.TextStore devices → (s : Images) → Holds (held_by D.Device T.TextStore devices) s
+    ensures how { AreFaithful D.Device T.TextStore devices → TellsUnfinished (held_by D.Device T.TextStore devices) result.how (stands_by result.reply) }
+    ensures does { AreFaithful D.Device T.TextStore devices → (s : Images) → Holds (held_by D.Device T.TextStore devices) s
         → Does R.remaining s task result.reply (held_by D.Device T.TextStore result.devices) }
 
     // On devices in which opening finds images it is done on what is recovered.
-    ensures found { AreHonest D.Device T.TextStore devices → (s : Images) → FoundIn (held_by D.Device T.TextStore devices) s
+    ensures found { AreFaithful D.Device T.TextStore devices → (s : Images) → FoundIn (held_by D.Device T.TextStore devices) s
         → DoesFound R.remaining s task result.how result.reply (held_by D.Device T.TextStore result.devices) }
 
     // On all others that opening takes it makes the machine's step on the images for which they stand.
-    ensures stands { AreHonest D.Device T.TextStore devices → Unfailed result.reply
+    ensures stands { AreFaithful D.Device T.TextStore devices → Unfailed result.reply
         → IfSome result.how (λ how. StepsRead R.remaining task how result.reply
         (held_by D.Device T.TextStore devices) (held_by D.Device T.TextStore result.devices)) }
 
     // One that is refused leaves what was held, byte for byte, whatever that is, or what was recovered.
-    ensures whole { AreHonest D.Device T.TextStore devices → IsWholeRefusal result.reply
+    ensures whole { AreFaithful D.Device T.TextStore devices → IsWholeRefusal result.reply
         → Spared result.how (held_by D.Device T.TextStore devices) (held_by D.Device T.TextStore result.devices) }
 
     // Behind a loss of power opening finds an end of the task.
-    ensures survives { AreHonest D.Device T.TextStore devices → (s : Images) → Holds (held_by D.Device T.TextStore devices) s
+    ensures survives { AreFaithful D.Device T.TextStore devices → (s : Images) → Holds (held_by D.Device T.TextStore devices) s
         → (IsWholeRefusal result.reply → ⊥)
         → Survives R.remaining s task result.reply
         (D.survives result.devices.image) (T.survives result.devices.journal) (T.survives result.devices.redo) }
-    ensures endures { AreHonest D.Device T.TextStore devices → (s : Images) → FoundIn (held_by D.Device T.TextStore devices) s
+    ensures endures { AreFaithful D.Device T.TextStore devices → (s : Images) → FoundIn (held_by D.Device T.TextStore devices) s
         → (IsWholeRefusal result.reply → ⊥)
         → SurvivesFound R.remaining s task result.how result.reply
         (D.survives result.devices.image) (T.survives result.devices.journal) (T.survives result.devices.redo) }
-    ensures spares { AreHonest D.Device T.TextStore devices → IsWholeRefusal result.reply
+    ensures spares { AreFaithful D.Device T.TextStore devices → IsWholeRefusal result.reply
         → SparesDisk D.Device T.TextStore result.how devices result.devices }
 {
     match Session::open_devices(alloc, devices) {

@@ -8,7 +8,7 @@ ghost use Rattle.bx_cli_commands.specs.declared.command.Reply.TheVariants.{Refus
 ghost use Rattle.bx_cli_commands.specs.declared.fault.Fault.TheVariants.{OpenFailed, Session};
 ghost use Rattle.bx_world.specs.declared.world.Noted.TheVariants.{Stands};
 ghost use Rattle.bx_world.specs.World.{NothingNewFound};
-ghost use Rattle.bx_run_session.specs.session.Contents.{AreFresh, AreHonest, AreInPlace, KeepHonesty, held_by};
+ghost use Rattle.bx_run_session.specs.session.Contents.{AreFresh, AreFaithful, AreInPlace, StayFaithful, held_by};
 ghost use Rattle.bx_run_session.specs.session.Guarded.{AreFew, IsSealed, LookAt, RiseByOne, WasJudged, another, failed_by, line_to_put};
 ghost use Rattle.bx_run_session.specs.declared.session.looked.Seal.TheVariants.{Kept};
 ghost use Rattle.bx_run_session.specs.session.Named.{ClearsNote, IsNoteCleared, IsUnrecovered};
@@ -211,7 +211,7 @@ fn run_sealed<W: World, R: Read + Drop>(
     requires near { IsNearTask task }
     requires fresh { AreFresh W.Image.Device W.Text.TextStore devices }
     ensures order { AreInPlace W.Image.Device W.Text.TextStore result.devices }
-    ensures faithful { KeepHonesty W.Image.Device W.Text.TextStore devices result.devices }
+    ensures faithful { StayFaithful W.Image.Device W.Text.TextStore devices result.devices }
     ensures runs { RunsTask W.Image.Device W.Text.TextStore R.remaining devices task result }
     ensures failed { is_failure result.reply ≡ true → 0 < failed_by W.Image.Device W.Text.TextStore result.devices }
     ensures counted { W.faithful world.old → W.refusals world.old ≤ W.refusals world.new }
@@ -252,7 +252,7 @@ fn run_looked<W: World, R: Read + Drop>(
     requires near { IsNearTask task }
     requires fresh { AreFresh W.Image.Device W.Text.TextStore devices }
     ensures order { AreInPlace W.Image.Device W.Text.TextStore result.devices }
-    ensures faithful { KeepHonesty W.Image.Device W.Text.TextStore devices result.devices }
+    ensures faithful { StayFaithful W.Image.Device W.Text.TextStore devices result.devices }
     ensures runs { RunsTask W.Image.Device W.Text.TextStore R.remaining devices task result }
     ensures failed { W.faithful world.old → is_failure result.reply ≡ true
         → W.refusals world.old < W.refusals world.new + failed_by W.Image.Device W.Text.TextStore result.devices }
@@ -293,7 +293,7 @@ pub fn run_guarded<W: World, R: Read + Drop>(
     requires near { IsNearTask task }
     requires fresh { AreFresh W.Image.Device W.Text.TextStore devices }
     ensures order { AreInPlace W.Image.Device W.Text.TextStore result.devices }
-    ensures faithful { KeepHonesty W.Image.Device W.Text.TextStore devices result.devices }
+    ensures faithful { StayFaithful W.Image.Device W.Text.TextStore devices result.devices }
     ensures runs { RunsTask W.Image.Device W.Text.TextStore R.remaining devices task result }
 
     // The fault of a device is answered only where a call of one failed, or the note couldn't be put.
@@ -305,7 +305,7 @@ pub fn run_guarded<W: World, R: Read + Drop>(
     ensures left { IfSome result.unopened (IsUnbegun W.Image.Device W.Text.TextStore devices result) }
 
     // The image was judged before, by the line that the note had.
-    ensures judged { W.faithful world.old → AreHonest W.Image.Device W.Text.TextStore devices
+    ensures judged { W.faithful world.old → AreFaithful W.Image.Device W.Text.TextStore devices
         → WasJudged guard made.image (W.note world.old) (held_by W.Image.Device W.Text.TextStore devices) task result.unopened result.how }
 
     // A line that was put for a task which is refused goes again, where the note had no bytes, or no journal stood beside it.

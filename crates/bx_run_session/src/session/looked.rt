@@ -8,7 +8,7 @@ ghost use Rattle.bx_journal_image.specs.Seal.{IsOpenSeal, IsSealOf, IsStepsSealO
 ghost use Rattle.bx_journal_model.specs.Looking.{OnlyReadsText};
 ghost use Rattle.bx_journal_model.specs.Fault.{DeviceFault};
 ghost use Rattle.bx_journal_read.specs.scan.Recovery.{FindFault};
-ghost use Rattle.bx_run_session.specs.session.Contents.{AreHonest, held_by};
+ghost use Rattle.bx_run_session.specs.session.Contents.{AreFaithful, held_by};
 ghost use Rattle.bx_run_session.specs.session.Guarded.{AreFew, CountLooks, EndsLine, EndsWhole, IsFoundAtRest, IsJudgedBeside, IsLineBehind, IsLineOn, IsLookedAt, IsReadyBehind, IsSealAtRest, LookAt, RiseByOne, Spans, is_other, is_too_many, is_writing, known_by, others_of, standing_before, standing_of, steps_of};
 
 use crate::session::task::Task;
@@ -234,7 +234,7 @@ fn find<D: Device, T: TextStore>(
     devices: &mut Devices<D, T>,
 ) -> Result<Option<AtRest>, SessionFault>
     requires few { AreFew D.Device T.TextStore devices.old }
-    ensures found { AreHonest D.Device T.TextStore devices.old
+    ensures found { AreFaithful D.Device T.TextStore devices.old
         → IfOk result (IsStandOf (D.image devices.old.image) (T.text devices.old.journal) (T.text devices.old.redo)) }
     ensures fault { IfErr result DeviceFault }
     ensures looks { LookAt D.Device T.TextStore devices.old devices.new }
@@ -285,7 +285,7 @@ fn judge<D: Device, T: TextStore>(
     line: Option<ImageLine>,
 ) -> Result<Option<Verdict>, SessionFault>
     requires few { AreFew D.Device T.TextStore devices.old }
-    ensures verdict { AreHonest D.Device T.TextStore devices.old
+    ensures verdict { AreFaithful D.Device T.TextStore devices.old
         → IfOk result (IsJudgedBeside line (T.text devices.old.journal) (D.image devices.old.image)) }
     ensures fault { IfErr result (FindFault (T.faithful devices.old.journal) (shown (T.text devices.old.journal))) }
     ensures looks { LookAt D.Device T.TextStore devices.old devices.new }
@@ -310,7 +310,7 @@ fn seal_one<D: Device, T: TextStore>(
     span: Span,
 ) -> Result<ImageLine, SessionFault>
     requires few { AreFew D.Device T.TextStore devices.old }
-    ensures line { AreHonest D.Device T.TextStore devices.old → IfOk result (IsSealOf (D.image devices.old.image) now others span) }
+    ensures line { AreFaithful D.Device T.TextStore devices.old → IfOk result (IsSealOf (D.image devices.old.image) now others span) }
     ensures fault { IfErr result DeviceFault }
     ensures looks { LookAt D.Device T.TextStore devices.old devices.new }
     ensures counts { CountLooks D.Device T.TextStore result devices.old devices.new }
@@ -326,7 +326,7 @@ fn seal_back<D: Device, T: TextStore>(
     others: u32,
 ) -> Result<ImageLine, SessionFault>
     requires few { AreFew D.Device T.TextStore devices.old }
-    ensures line { AreHonest D.Device T.TextStore devices.old
+    ensures line { AreFaithful D.Device T.TextStore devices.old
         → IfOk result (IsStepsSealOf (D.image devices.old.image) (T.text devices.old.journal) now others) }
     ensures fault { IfErr result DeviceFault }
     ensures looks { LookAt D.Device T.TextStore devices.old devices.new }
@@ -343,7 +343,7 @@ fn seal_again<D: Device, T: TextStore>(
     others: u32,
 ) -> Result<ImageLine, SessionFault>
     requires few { AreFew D.Device T.TextStore devices.old }
-    ensures line { AreHonest D.Device T.TextStore devices.old
+    ensures line { AreFaithful D.Device T.TextStore devices.old
         → IfOk result (IsStepsSealOf (D.image devices.old.image) (T.text devices.old.redo) now others) }
     ensures fault { IfErr result DeviceFault }
     ensures looks { LookAt D.Device T.TextStore devices.old devices.new }
@@ -361,7 +361,7 @@ fn line_on<D: Device, T: TextStore, R: Read>(
     others: u32,
 ) -> Result<ImageLine, SessionFault>
     requires few { AreFew D.Device T.TextStore devices.old }
-    ensures line { AreHonest D.Device T.TextStore devices.old
+    ensures line { AreFaithful D.Device T.TextStore devices.old
         → IfOk result (IsLineOn (steps_of task.now) (held_by D.Device T.TextStore devices.old) found.now
         (standing_before task.now found.now) others) }
     ensures fault { IfErr result DeviceFault }
@@ -385,7 +385,7 @@ fn seal_at_rest<D: Device, T: TextStore, R: Read>(
     others: u32,
 ) -> Result<Seal, SessionFault>
     requires few { AreFew D.Device T.TextStore devices.old }
-    ensures seal { AreHonest D.Device T.TextStore devices.old
+    ensures seal { AreFaithful D.Device T.TextStore devices.old
         → IfOk result (IsSealAtRest (held_by D.Device T.TextStore devices.old) task.now found.now others) }
     ensures fault { IfErr result DeviceFault }
     ensures looks { LookAt D.Device T.TextStore devices.old devices.new }
@@ -408,7 +408,7 @@ fn look_at_rest<D: Device, T: TextStore, R: Read>(
     task: &Task<R>,
 ) -> Result<Looked, SessionFault>
     requires few { AreFew D.Device T.TextStore devices.old }
-    ensures looked { AreHonest D.Device T.TextStore devices.old
+    ensures looked { AreFaithful D.Device T.TextStore devices.old
         → IfOk result (IsFoundAtRest terms.now (held_by D.Device T.TextStore devices.old) task.now) }
     ensures fault { IfErr result DeviceFault }
     ensures looks { LookAt D.Device T.TextStore devices.old devices.new }
@@ -453,7 +453,7 @@ fn seal_behind<D: Device, T: TextStore>(
     line: Option<ImageLine>,
 ) -> Result<ImageLine, SessionFault>
     requires few { AreFew D.Device T.TextStore devices.old }
-    ensures line { AreHonest D.Device T.TextStore devices.old → IfOk result (IsOpenSeal line (T.text devices.old.journal)) }
+    ensures line { AreFaithful D.Device T.TextStore devices.old → IfOk result (IsOpenSeal line (T.text devices.old.journal)) }
     ensures fault { IfErr result (FindFault (T.faithful devices.old.journal) (shown (T.text devices.old.journal))) }
     ensures looks { LookAt D.Device T.TextStore devices.old devices.new }
     ensures counts { CountLooks D.Device T.TextStore result devices.old devices.new }
@@ -471,7 +471,7 @@ fn look_behind<D: Device, T: TextStore, R: Read>(
     task: &Task<R>,
 ) -> Result<Ready, SessionFault>
     requires few { AreFew D.Device T.TextStore devices.old }
-    ensures ready { AreHonest D.Device T.TextStore devices.old
+    ensures ready { AreFaithful D.Device T.TextStore devices.old
         → IfOk result (IsReadyBehind terms.now (held_by D.Device T.TextStore devices.old) task.now verdict) }
     ensures fault { IfErr result (FindFault (T.faithful devices.old.journal) (shown (T.text devices.old.journal))) }
     ensures looks { LookAt D.Device T.TextStore devices.old devices.new }
@@ -502,7 +502,7 @@ pub fn look_at<D: Device, T: TextStore, R: Read>(
     task: &Task<R>,
 ) -> Result<Looked, SessionFault>
     requires few { AreFew D.Device T.TextStore devices.old }
-    ensures looked { AreHonest D.Device T.TextStore devices.old
+    ensures looked { AreFaithful D.Device T.TextStore devices.old
         → IfOk result (IsLookedAt terms.now (held_by D.Device T.TextStore devices.old) task.now) }
     ensures fault { IfErr result (FindFault (T.faithful devices.old.journal) (shown (T.text devices.old.journal))) }
     ensures looks { LookAt D.Device T.TextStore devices.old devices.new }
@@ -533,7 +533,7 @@ pub fn line_behind<D: Device, T: TextStore>(
     others: u32,
 ) -> Option<ImageLine>
     requires few { AreFew D.Device T.TextStore devices.old }
-    ensures line { AreHonest D.Device T.TextStore devices.old
+    ensures line { AreFaithful D.Device T.TextStore devices.old
         → IfSome result (IsLineBehind (held_by D.Device T.TextStore devices.old) others) }
     ensures looks { LookAt D.Device T.TextStore devices.old devices.new }
     ensures counts { RiseByOne D.Device T.TextStore devices.old devices.new }

@@ -3,8 +3,8 @@ use Rattle.bx_run.proofs.laws.loss_in_forgetting.Goals as goal
 
 pub returns : goal.returns
 returns g c = record {
-  kept = λ x new result honest forgets.
-      let keeps = kept_alone _ _ x new result honest forgets in
+  kept = λ x new result are_faithful forgets.
+      let keeps = kept_alone _ _ x new result are_faithful forgets in
       record {
         before = refused_weaker result (λ before. record {
           image_before = before.image_before;

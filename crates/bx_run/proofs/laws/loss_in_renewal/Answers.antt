@@ -11,15 +11,15 @@ returns g c = record {
         opened.1,
       );
   command = λ command. record {
-    found = λ x dropped opened honest forgets opens. one_behind _ _ _ dropped opened _ (done_alone _ _ x dropped honest forgets) opens;
+    found = λ x dropped opened are_faithful forgets opens. one_behind _ _ _ dropped opened _ (done_alone _ _ x dropped are_faithful forgets) opens;
     goes_on = λ x y start reply behind left. end_on_disk g.D.Device g.T.TextStore x y start reply (λ before. CommandStep g.R.Read.remaining before command) behind left;
   };
   change = λ change. record {
-    found = λ x dropped opened honest forgets opens. one_behind _ _ _ dropped opened _ (done_alone _ _ x dropped honest forgets) opens;
+    found = λ x dropped opened are_faithful forgets opens. one_behind _ _ _ dropped opened _ (done_alone _ _ x dropped are_faithful forgets) opens;
     goes_on = λ x y start reply behind left. end_on_disk g.D.Device g.T.TextStore x y start reply (λ before. ReadStep before (λ c. c) change) behind left;
   };
   kept = λ kept. record {
-    found = λ x dropped opened honest forgets opens. one_behind _ _ _ dropped opened _ (done_alone _ _ x dropped honest forgets) opens;
+    found = λ x dropped opened are_faithful forgets opens. one_behind _ _ _ dropped opened _ (done_alone _ _ x dropped are_faithful forgets) opens;
     goes_on = λ x y start reply behind left. end_on_disk g.D.Device g.T.TextStore x y start reply (λ before. KeptStep before kept) behind left;
   };
 }

@@ -1,6 +1,7 @@
 use Rattle.std.proofs.Common.{refl, inl, inr}
 use Rattle.bx_journal.specs.SessionView.{devices_of}
-use Rattle.bx_run_session.specs.session.Contents.{AreHonest, StepsRead, held_by, recovered_as}
+use Rattle.bx_journal.specs.Redo.{recovered_as}
+use Rattle.bx_run_session.specs.session.Contents.{AreFaithful, StepsRead, held_by}
 use Rattle.bx_run_session.proofs.Obeyed.{failed_refused, few_refused, placed_refused}
 use Rattle.bx_run_session.proofs.Opened.{read_opened, spared_opened, spares_opened, tells_opened}
 use Rattle.bx_run_session.proofs.Refused.{spared, spared_whole, stopped_amid}
@@ -78,7 +79,7 @@ returns-in-Err-clause-endures g c faithful s found stopped =
 pub returns-in-Ok-clause-spares : goal.returns-in-Ok-clause-spares
 returns-in-Ok-clause-spares g c faithful whole =
     let counts = c.in-Ok.ensures.devices in
-    let behind : AreHonest g.D.Device g.T.TextStore (devices_of c.in-Ok.session) =
+    let behind : AreFaithful g.D.Device g.T.TextStore (devices_of c.in-Ok.session) =
     (counts.image_faith.1 faithful.0, counts.journal_faith.1 faithful.1, counts.redo_faith.1 faithful.2) in
     rw c.run_and_close.ensures.how
     (spares_opened g.D.Device g.T.TextStore c.args.devices c.in-Ok.session c.in-Ok.found faithful c.in-Ok.ensures c.run_and_close.result.devices behind
@@ -93,7 +94,7 @@ returns-in-Err-clause-spares g c faithful whole = record {
 pub returns-in-Ok-clause-stands : goal.returns-in-Ok-clause-stands
 returns-in-Ok-clause-stands g c faithful unfailed =
     let counts = c.in-Ok.ensures.devices in
-    let behind : AreHonest g.D.Device g.T.TextStore (devices_of c.in-Ok.session) =
+    let behind : AreFaithful g.D.Device g.T.TextStore (devices_of c.in-Ok.session) =
     (counts.image_faith.1 faithful.0, counts.journal_faith.1 faithful.1, counts.redo_faith.1 faithful.2) in
     let read = read_opened g.D.Device g.T.TextStore c.args.devices c.in-Ok.session c.in-Ok.found faithful c.in-Ok.ensures in
     let made = c.run_and_close.ensures.stands behind unfailed read.0 read.2 in
