@@ -14,7 +14,7 @@ use Rattle.bx_run_session.specs.declared.session.task.Task.{Task}
 use Rattle.bx_run.specs.forget.Forgetting.{Held}
 use Rattle.bx_run_report.specs.declared.report.error.ReportError.{ReportError}
 use Rattle.bx_run_report.specs.declared.report.error.ReportError.TheVariants.{Stopped}
-use Rattle.bx_run.specs.renew.Renewal.{LosesUndropped, SurvivesRenewal, SurvivesRenewing, found_there}
+use Rattle.bx_run.specs.renew.Renewal.{LosesUndropped, SurvivesRenewal, found_there}
 use Rattle.bx_run.specs.declared.renew.Renewed.{Renewed}
 use Rattle.bx_run.specs.declared.renew.Renewed.TheVariants.{Kept, Undropped, Changed}
 use Rattle.bx_run_session.proofs.Refused.{endures_less}
@@ -79,18 +79,4 @@ renewal_less remaining names task (Changed answer) there begun ended found first
   newest = is.newest;
   found = λ stopped t led x text redo image_there text_there redo_there.
       is.found stopped t led x text redo (behind t.image x image_there) (behind t.journal text text_there) (behind t.redo redo redo_there);
-}
-
--- the same of a change whose image is made where it is missing
-pub renewing_less : {R : Type 0} (remaining : R → Option (List ℕ)) (names : Names) (task : Task R) (renewed : Renewed) (old new : SystemState)
-    (found first last left : ℕ → List ℕ → Type 0) → NothingNewFound found first → NothingNewFound last left
-    → SurvivesRenewing remaining names task renewed old new first last → SurvivesRenewing remaining names task renewed old new found left
-renewing_less remaining names task renewed old new found first last left before behind is = record {
-  made = is.made;
-  begun = is.begun;
-  ended = is.ended;
-  makes = is.makes;
-  clears = is.clears;
-  survives = renewal_less remaining names task renewed old.there is.begun is.ended found (found_there old.there first) last left
-      (λ n low x there. before n x (there low)) behind is.survives;
 }

@@ -279,51 +279,6 @@ fn finish<W: World>(world: &mut W, names: &Names, made: Option<W::File>, renewed
     clear_image(world, names, made, renewed);
 }
 
-/// Makes an image that is missing, takes the steps, and ends the change.
-fn renew_locked<W: World, R: Read + Drop>(
-    world: &mut W,
-    alloc: Global,
-    names: &Names,
-    guard: Guard,
-    task: Task<R>,
-) -> Renewed
-    requires near { IsNearTask task }
-    requires free { W.faithful world.old → (W.state world.old).lent ≡ None }
-
-    // The change is done on the image alone, so that the history is this change; or the step that was refused leaves all as it was, and an
-    // image that was missing is missing again.
-    ensures does { W.faithful world.old → (written : Option (List ℕ)) → RenewsFiles R.remaining names.now guard task result
-        (run_state_beside W.state W.refusals W.note written world.old) (run_state_beside W.state W.refusals W.note written world.new) }
-
-    // So it is behind a loss of power.
-    ensures survives { W.faithful world.old
-        → SurvivesRenewing R.remaining names.now task result (W.state world.old) (W.state world.new)
-        (W.survives world.old) (W.survives world.new) }
-
-    // Files that are not opened are as they were, and why they are not; others may be changed.
-    ensures unopened { W.faithful world.old → IfSome (first_unopened result) (NothingRenewed result (W.state world.old) (W.state world.new)) }
-    ensures why_unopened { W.faithful world.old → IfSome (first_unopened result)
-        (MayRefuseOpening names.now guard.mounted true (W.refusals world.old < W.refusals world.new) (W.state world.old)) }
-    ensures fit { W.faithful world.old → first_unopened result ≡ None → AreFit names.now guard.mounted (W.state world.old) }
-
-    // The fault of a device is answered only where a call was refused that is counted.
-    ensures failed { W.faithful world.old → is_renewed_failed result ≡ true → W.refusals world.old < W.refusals world.new }
-
-    // No other file is changed, and nothing is written but what was recovered.
-    ensures others { W.faithful world.old → KeepsNamed names.now (W.state world.old) (W.state world.new) }
-    ensures streams { W.faithful world.old → TellsOpening result (W.state world.old) (W.state world.new) }
-    ensures free { W.faithful world.old → (W.state world.new).lent ≡ None }
-    ensures faith { W.faithful world.new ↔ W.faithful world.old }
-{
-    let made = match make_missing_image(world, names) {
-        Ok(made) => made,
-        Err(refusal) => return Renewed::Kept(unmade(refusal)),
-    };
-    let renewed = take_steps(world, alloc, names, guard, task);
-    finish(world, names, made, &renewed);
-    renewed
-}
-
 /// Changes an image with whose change the history begins anew. One that is missing is made first, so that its texts are judged beside it,
 /// and taken away again where the change is refused. Then the files are opened, the history is dropped, and the change is made on the
 /// image alone; what is unfinished is recovered only onto an image that the note tells to be the one. The files stay
@@ -365,7 +320,15 @@ pub fn renew_files<W: World, R: Read + Drop>(
 {
     // So that nobody comes between the drop of the history and the change.
     world.keep_locks();
-    let renewed = renew_locked(world, alloc, names, guard, task);
+    let made = match make_missing_image(world, names) {
+        Ok(made) => made,
+        Err(refusal) => {
+            world.pass_locks();
+            return Renewed::Kept(unmade(refusal));
+        }
+    };
+    let renewed = take_steps(world, alloc, names, guard, task);
+    finish(world, names, made, &renewed);
     world.pass_locks();
     renewed
 }
