@@ -1,4 +1,6 @@
 //! The program's start, and its exit status.
+//!
+//! `man/bx.1` has the statuses (EXIT STATUS); `docs/ARCHITECTURE.md` says what `main` starts.
 #![tactic(auto)]
 
 ghost use Rattle.std.specs.Prelude.{◌≡◌};

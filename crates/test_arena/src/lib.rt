@@ -1,4 +1,6 @@
 //! An arena whose memory runs out at a byte that a test chooses.
+//!
+//! `docs/CASES.md` has the tests in which each growth is refused; they use it.
 #![tactic(auto)]
 
 use bumpalo::Bump;

@@ -1,6 +1,8 @@
 //! Plays commands, looks, forgettings, dumps and comparisons on named files in a world in memory, over cases of the kinds `commands`, `looks`,
 //! `words` and `patches`.
 //!
+//! `docs/CASES.md` says what a case is, and how each kind is played.
+//!
 //! The lines of a case of commands are one undo or redo of as many changes; or the last one is a change, a revert, dd or a patch. A first
 //! `undo: 0` tells what opening recovers.
 //!
