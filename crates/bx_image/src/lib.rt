@@ -12,12 +12,14 @@
 //! `docs/DECISIONS.md` argues for devices and changes ("Devices and files"), and `docs/PROMISES.md` has what they promise.
 #![tactic(auto)]
 
+mod cached;
 mod change;
 mod device;
 pub mod laws;
 mod record;
 
 pub use bx_text::NoMemory;
+pub use cached::{Cached, keep_cached};
 pub use change::{Change, MAX_LEN, apply, check};
 pub use device::access::{RandomAccess, Stop};
 pub use device::file::{FileImage, counted, read_full, resize_to, size_of, sync_full, write_full};

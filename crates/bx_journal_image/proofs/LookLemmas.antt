@@ -1,11 +1,11 @@
 -- Calls that only look at an image and texts, one behind another.
 use Rattle.std.proofs.Common.{◌≡◌, ◌∙◌, ℕ, ◌+◌, Bool, true, false, List, refl, arith, if◌then◌else◌}
+use Rattle.bx_image.specs.Cached.{OnlyReadsImage}
 use Rattle.bx_image.specs.declared.device.Device.{Ghosts as DeviceViews}
 use Rattle.bx_image.proofs.Devices.{GoesOn_refl, GoesOn_then}
 use Rattle.bx_image.proofs.Survivors.{NoMore_then}
 use Rattle.bx_journal_store.specs.declared.store.TextStore.{Ghosts as StoreViews}
 use Rattle.bx_journal_model.specs.Looking.{OnlyReadsText}
-use Rattle.bx_journal_image.specs.Blocks.{OnlyReadsImage}
 use Rattle.bx_journal_image.specs.Looks.{BothCount, LooksAtBoth, LeavesDevice}
 
 -- no call yet

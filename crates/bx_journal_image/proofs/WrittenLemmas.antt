@@ -1,10 +1,12 @@
 -- What is digested of an image where lines say, a line and a window more.
 use Rattle.std.proofs.Common.{◌≡◌, ◌⊎◌, inl, inr, ℕ, ◌+◌, ◌-◌, ◌<◌, ◌≤◌, min, List, [], ◌++◌, length, take, drop, flat_map, None, Some, refl, ap, sym, ◌∙◌, subst, arith, append_assoc, append-nil, length-append, length-drop}
-use Rattle.std.proofs.Math.Nat.{eq-or-lt_of_le}
 use Rattle.std.proofs.Math.Seq.{take-append-add}
 use Rattle.std.proofs.lemmas.Bool.{cases_lt}
 use Rattle.std.proofs.lemmas.Grind.{flat_map-append}
-use Rattle.std.proofs.lemmas.List.{drop-drop, drop-take, drop_all, take-append-le, take-take, take_all, take_min}
+use Rattle.std.proofs.lemmas.List.{drop_all, take-append-le, take-take, take_all, take_min}
+use Rattle.bx_image.proofs.CacheLemmas.{same_bytes, take_least}
+use Rattle.bx_image.specs.Cached.{HasCached}
+use Rattle.bx_image.specs.declared.cached.Cached.{Cached}
 use Rattle.bx_image.specs.declared.change.TheConstants.{MAX_LEN}
 use Rattle.bx_journal_format.specs.Kept.{Run}
 use Rattle.bx_journal_format.specs.Line.{saved_in}
@@ -13,9 +15,8 @@ use Rattle.bx_journal_format.proofs.Splits.{split-append}
 use Rattle.bx_journal_format.proofs.TallyLemmas.{IsFirstLine}
 use Rattle.bx_journal_read.specs.scan.Windows.{rest_to}
 use Rattle.bx_journal_read.proofs.AddedLemmas.{added_next}
-use Rattle.bx_journal_image.specs.declared.finding.near.Near.{Near}
 use Rattle.bx_journal_image.specs.declared.finding.summed.Sum.{Sum}
-use Rattle.bx_journal_image.specs.Written.{HasNear, HasSummed, IsInPage, Sums, at_line, at_lines, at_run}
+use Rattle.bx_journal_image.specs.Written.{HasSummed, Sums, at_line, at_lines, at_run}
 use Rattle.bx_journal_image.proofs.BlockLemmas.{nothing_to, seam}
 
 -- the first of some bytes and of more
@@ -57,43 +58,15 @@ pub line_behind : (x line : List ℕ) (sum : Sum) (run : Run) → saved_in MAX_L
 line_behind x line sum run some behind =
     sums_same sum sum [] (at_line x line) (sym (ap (at_run x) some ∙ ap (take (length run.bytes)) (drop_all run.at x behind) ∙ take_all (length run.bytes) [] (omega arith))) (sums_none sum)
 
--- bytes within others that are the image's
-same_bytes : (x page : List ℕ) (start size at count : ℕ) → take size page ≡ take size (drop start x) → start ≤ at → at + count ≤ start + size → take count (drop (at - start) page) ≡ take count (drop at x)
-same_bytes x page start size at count are behind inside =
-    let m : ℕ = size - (at - start) in
-    let parts : (at - start) + m ≡ size = omega (arith, behind, inside) in
-    let fits : count ≤ m = omega (arith, behind, inside) in
-    let place : start + (at - start) ≡ at = omega (arith, behind) in
-    let more : take m (drop (at - start) page) ≡ take m (drop at x) =
-    sym (drop-take (at - start) m page) ∙ ap (λ n. drop (at - start) (take n page)) parts ∙ ap (drop (at - start)) are ∙ ap (λ n. drop (at - start) (take n (drop start x))) (sym parts)
-    ∙ drop-take (at - start) m (drop start x) ∙ ap (take m) (drop-drop (at - start) start x ∙ ap (λ n. drop n x) place) in
-    sym (take-take count m (drop (at - start) page) fits) ∙ ap (take count) more ∙ take-take count m (drop at x) fits
-
--- a front of a list that is shorter only where the list is
-take_least : (n m : ℕ) (xs : List ℕ) → m ≤ n → (m < n → length xs ≤ m) → take n xs ≡ take m xs
-take_least n m xs less short = elim (eq-or-lt_of_le less) [
-  | inl e ↦ ap (λ k. take k xs) (sym e)
-  | inr lt ↦ take_all n xs (omega (arith, lt, short lt)) ∙ sym (take_all m xs (short lt))
-]
-
 -- it is one of bytes that a page has
-pub line_near : (x page line : List ℕ) (near : Near) (old new : Sum) (run : Run) (count : ℕ) (bytes : List ℕ) → saved_in MAX_LEN line ≡ Some run → take near.count page ≡ take near.count (drop near.at x)
-    → HasNear near run.at count → count ≡ min (length run.bytes) (length x - run.at) → bytes ≡ take count (drop (run.at - near.at) page) → Sums old new bytes → Sums old new (at_line x line)
-line_near x page line near old new run count bytes some are has least is sums =
+pub line_near : (x page line : List ℕ) (k : Cached) (old new : Sum) (run : Run) (count : ℕ) (bytes : List ℕ) → saved_in MAX_LEN line ≡ Some run → take k.count page ≡ take k.count (drop k.at x)
+    → HasCached k run.at count → count ≡ min (length run.bytes) (length x - run.at) → bytes ≡ take count (drop (run.at - k.at) page) → Sums old new bytes → Sums old new (at_line x line)
+line_near x page line k old new run count bytes some are has least is sums =
     sums_same old new bytes (at_line x line) (
-    is ∙ same_bytes x page near.at near.count run.at count are has.0 has.1
+    is ∙ same_bytes x page k.at k.count run.at count are has.0 has.1
     ∙ sym (take_least (length run.bytes) count (drop run.at x) (omega (arith, least)) (λ lt. omega (arith, least, lt, length-drop run.at x)))
     ∙ sym (ap (at_run x) some)
     ) sums
-
--- what a page has of an image that is the same as before
-pub near_again : (faithful now_faithful : Type 0) (x now page : List ℕ) (near : Near) → (now_faithful → faithful) → (now_faithful → now ≡ x) → IsInPage faithful x page near → IsInPage now_faithful now page near
-near_again faithful now_faithful x now page near still same is = record {
-  long = λ h. is.long (still h) ∙ sym (ap length (same h));
-  are = λ h. is.are (still h) ∙ ap (λ im. take near.count (drop near.at im)) (sym (same h));
-  inside = is.inside;
-  room = is.room;
-}
 
 -- a line more
 pub lines_next : (x text rest : List ℕ) (taken i : ℕ) (a b c : Sum) → (split (take taken text)).rest ≡ [] → rest ≡ drop taken text → IsFirstLine rest i → Sums a b (at_lines x (take taken text))

@@ -7,9 +7,6 @@ use Rattle.bx_journal_image.specs.declared.line.form.ImageLine.{ImageLine}
 use Rattle.bx_journal_image.specs.declared.judging.judge.Verdict.{Verdict}
 use Rattle.bx_journal_image.specs.declared.judging.judge.Verdict.TheVariants.{Same, Other, Untold}
 use Rattle.bx_image.specs.declared.change.TheConstants.{MAX_LEN}
-use Rattle.bx_image.specs.declared.device.Device.{Ghosts as DeviceViews}
-use Rattle.bx_image.specs.Device.{GoesOn}
-use Rattle.bx_image.specs.Power.{NoMore}
 use Rattle.bx_journal_format.specs.Kept.{Run}
 use Rattle.bx_journal_format.specs.Line.{saved_in}
 use Rattle.bx_journal_format.specs.Text.{split}
@@ -114,12 +111,6 @@ abbrev pub IsJudged : ImageLine → List (Option ℕ) → List ℕ → Verdict �
 IsJudged line marks x Other = (length x < line.least) ⊎ (line.most < length x) ⊎ AreRead 32 line.length marks x Other
 IsJudged line marks x Same = (line.least ≤ length x) × (length x ≤ line.most) × AreRead 32 line.length marks x Same
 IsJudged line marks x Untold = (line.least ≤ length x) × (length x ≤ line.most) × AreRead 32 line.length marks x Untold
-
--- calls that only read an image, the last of them failed or not: it stays, and a loss of power finds no more than before
-pub record OnlyReadsImage {D : Type 0} (d : DeviceViews D) (failed : Bool) (old new : D) : Type 0 where
-  pub image : d.faithful old → d.image new ≡ d.image old
-  pub survives : d.faithful old → NoMore (d.survives old) (d.survives new)
-  pub goes_on : GoesOn d.faithful d.room d.failures failed old new
 
 -- the range has an address
 abbrev pub is_in : Range → ℕ → Bool

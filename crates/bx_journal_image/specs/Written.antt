@@ -1,11 +1,10 @@
 -- What an image has where the last entry of a text wrote.
-use Rattle.std.specs.Prelude.{ℕ, ◌≡◌, ◌+◌, ◌-◌, ◌≤◌, Option, None, Some, List, [], ◌++◌, length, take, drop, flat_map}
+use Rattle.std.specs.Prelude.{ℕ, ◌≡◌, ◌-◌, Option, None, Some, List, [], ◌++◌, length, take, drop, flat_map}
 use Rattle.md5.specs.Md5.{Holds}
 use Rattle.bx_image.specs.declared.change.TheConstants.{MAX_LEN}
 use Rattle.bx_journal_format.specs.Kept.{Run}
 use Rattle.bx_journal_format.specs.Line.{saved_in}
 use Rattle.bx_journal_format.specs.Text.{split}
-use Rattle.bx_journal_image.specs.declared.finding.near.Near.{Near}
 use Rattle.bx_journal_image.specs.declared.finding.summed.Sum.{Sum}
 
 -- the bytes of a run's addresses, as far as the image x has these; none without a run
@@ -29,17 +28,6 @@ saved_bytes x entry = take 1048576 (at_lines x (take 4456448 entry))
 abbrev pub appended_bytes : List ℕ → Option ℕ → List ℕ
 appended_bytes x None = []
 appended_bytes x (Some before) = take 65536 (drop before x)
-
--- some of an image's bytes are in a page, which has room for those of a line
-pub record IsInPage (faithful : Type 0) (x page : List ℕ) (near : Near) : Type 0 where
-  pub long : faithful → near.length ≡ length x
-  pub are : faithful → take near.count page ≡ take near.count (drop near.at x)
-  pub inside : near.count ≤ length page
-  pub room : 16 ≤ length page
-
--- among them are those at an address
-abbrev pub HasNear : Near → ℕ → ℕ → Type 0
-HasNear near at count = (near.at ≤ at) × (at + count ≤ near.at + near.count)
 
 -- the first 1,048,576 of these bytes were digested, and as many more count as are said
 pub record HasSummed (sum : Sum) (all : List ℕ) : Type 0 where

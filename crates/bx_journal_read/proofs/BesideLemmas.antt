@@ -1,46 +1,14 @@
 -- What is kept of an image, and its lines beside saved ones.
-use Rattle.std.proofs.Common.{◌≡◌, ℕ, ◌+◌, ◌-◌, ◌<◌, ◌≤◌, List, [], ◌∷◌, ◌++◌, length, length-drop, take, drop, refl, inl, inr, ap, sym, ◌∙◌, subst, arith, append_assoc, append-nil, Option, Result}
-use Rattle.std.proofs.Math.Nat.{eq-or-lt_of_le}
-use Rattle.std.proofs.lemmas.List.{drop-take, take_all}
+use Rattle.std.proofs.Common.{◌≡◌, ℕ, ◌+◌, ◌-◌, ◌<◌, ◌≤◌, List, ◌++◌, length, length-drop, take, drop, refl, ap, sym, ◌∙◌, subst, arith, Result}
 use Rattle.std.specs.Prelude.{◌↔◌, IfErr, OnOk, codes}
+use Rattle.bx_image.specs.Cached.{HasCached}
+use Rattle.bx_image.specs.declared.cached.Cached.{Cached}
 use Rattle.bx_image.specs.Power.{NoMore}
+use Rattle.bx_image.proofs.CacheLemmas.{same_bytes, take_least}
 use Rattle.bx_image.proofs.Survivors.{NoMore_then}
-use Rattle.bx_journal_format.proofs.ReadLoop.{drop_twice}
-use Rattle.bx_journal_format.proofs.TallyLemmas.{take_less}
-use Rattle.bx_journal_read.specs.show.Differences.{signed_line, HasCached, IsCache}
-use Rattle.bx_journal_read.specs.declared.show.cache.Cached.{Cached}
+use Rattle.bx_journal_read.specs.show.Differences.{signed_line}
 use Rattle.bx_journal_read.specs.declared.show.fault.ShowFault.{ShowFault}
 use Rattle.bx_journal_read.specs.show.Showing.{LookCounts, Stays}
-
--- a cache of an image that is the same as before
-pub cache_again : (faithful now_faithful : Type 0) (image now page : List ℕ) (c : Cached) → (now_faithful → faithful) → (now_faithful → now ≡ image) → IsCache faithful image page c → IsCache now_faithful now page c
-cache_again faithful now_faithful image now page c still same cache = record {
-  long = λ h. cache.long (still h) ∙ sym (ap length (same h));
-  are = λ h. cache.are (still h) ∙ ap (λ im. take c.count (drop c.at im)) (sym (same h));
-  inside = cache.inside;
-  room = cache.room;
-}
-
--- bytes within others that are the image's
-same_bytes : (image page : List ℕ) (start size at count : ℕ) → take size page ≡ take size (drop start image) → start ≤ at → at + count ≤ start + size → take count (drop (at - start) page) ≡ take count (drop at image)
-same_bytes image page start size at count are behind inside =
-    let m : ℕ = size - (at - start) in
-    let r : ℕ = size - (at - start) - count in
-    let parts : (at - start) + m ≡ size = omega (arith, behind, inside) in
-    let rest : count + r ≡ m = omega (arith, behind, inside) in
-    let place : start + (at - start) ≡ at = omega (arith, behind) in
-    let more : take m (drop (at - start) page) ≡ take m (drop at image) =
-    sym (drop-take (at - start) m page) ∙ ap (λ n. drop (at - start) (take n page)) parts ∙ ap (drop (at - start)) are ∙ ap (λ n. drop (at - start) (take n (drop start image))) (sym parts)
-    ∙ drop-take (at - start) m (drop start image) ∙ ap (take m) (drop_twice start (at - start) image) ∙ ap (λ n. take m (drop n image)) place in
-    sym (take_less count r (drop (at - start) page)) ∙ ap (λ n. take count (take n (drop (at - start) page))) rest ∙ ap (take count) more
-    ∙ ap (λ n. take count (take n (drop at image))) (sym rest) ∙ take_less count r (drop at image)
-
--- a front of a list that is shorter only where the list is
-take_least : (n m : ℕ) (xs : List ℕ) → m ≤ n → (m < n → length xs ≤ m) → take n xs ≡ take m xs
-take_least n m xs less short = elim (eq-or-lt_of_le less) [
-  | inl e ↦ ap (λ k. take k xs) (sym e)
-  | inr lt ↦ take_all n xs (omega (arith, lt, short lt)) ∙ sym (take_all m xs (short lt))
-]
 
 -- the line of the bytes at an address that a page gives, as far as the image has these
 pub now_added : (image page old new : List ℕ) (k : Cached) (at most there : ℕ) → take k.count page ≡ take k.count (drop k.at image) → HasCached k at there → there ≤ most → (there < most → length image ≤ at + there)

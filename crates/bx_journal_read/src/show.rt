@@ -1,5 +1,4 @@
 //! What is written of a journal's text, and of an image beside it, without a session.
-pub(crate) mod cache;
 pub(crate) mod differences;
 pub(crate) mod fault;
 pub(crate) mod heading;

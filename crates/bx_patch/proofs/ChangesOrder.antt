@@ -9,8 +9,8 @@ use Rattle.std.proofs.lemmas.List.Sorted.{IsNonDecreasingBy-take}
 use Rattle.bx_text.specs.declared.owned.pieces.Piece.{Piece}
 use Rattle.bx_image.specs.Change.{placed}
 use Rattle.bx_image.specs.Image.{is_within, place}
+use Rattle.bx_image.specs.private.Change.{is_covered}
 use Rattle.bx_patch.specs.private.preview.Order.{AreByPlace}
-use Rattle.bx_patch.specs.private.preview.Untouched.{is_overwritten}
 use Rattle.bx_patch.specs.private.preview.Window.{IsWindow}
 use Rattle.bx_patch.proofs.ChangedWindow.{piece_before, piece_behind}
 
@@ -68,14 +68,14 @@ outside at bytes j out = elim (cases_Bool (is_within at bytes j)) [
 ]
 
 -- an address behind the end of all pieces
-pub none_behind : {A : Type 0} (ps : List (Piece A)) (n at j : ℕ) → length ps ≤ n → AllWithin (λ p. p.at + length p.bytes ≤ at) ps 0 n → at ≤ j → is_overwritten ps j ≡ false
+pub none_behind : {A : Type 0} (ps : List (Piece A)) (n at j : ℕ) → length ps ≤ n → AllWithin (λ p. p.at + length p.bytes ≤ at) ps 0 n → at ≤ j → is_covered ps j ≡ false
 none_behind {A = A} ps n at j all ended above = list_any_none (λ p. is_within p.at p.bytes j) ps (λ k d h.
     let end = ended k d (omega arith) (omega (arith, h, all)) in
     outside (get_or ps k d).at (get_or ps k d).bytes j (inr (omega (arith, end, above))))
 
 -- and one before the next piece
 pub none_before : {A : Type 0} (ps : List (Piece A)) (n : ℕ) (p : Piece A) (at j : ℕ) → AreByPlace ps → n < length ps → p ≡ get_or ps n p
-    → AllWithin (λ p. p.at + length p.bytes ≤ at) ps 0 n → at ≤ j → j < p.at → is_overwritten ps j ≡ false
+    → AllWithin (λ p. p.at + length p.bytes ≤ at) ps 0 n → at ≤ j → j < p.at → is_covered ps j ≡ false
 none_before {A = A} ps n p at j order within read ended above below = list_any_none (λ p. is_within p.at p.bytes j) ps (λ k d h. elim (cases_lt k n) [
   | inl front ↦
       let end = ended k d (omega arith) front in

@@ -8,9 +8,9 @@ use Rattle.std.proofs.lemmas.List.Folds.{list_any_none}
 use Rattle.bx_text.specs.declared.owned.pieces.Piece.{Piece}
 use Rattle.bx_image.specs.Change.{placed}
 use Rattle.bx_image.specs.Image.{is_within, place}
+use Rattle.bx_image.specs.private.Change.{is_covered}
 use Rattle.bx_image.proofs.Changes.{placed_more, placed_all}
 use Rattle.bx_patch.specs.preview.Index.{IsIndexOf, key_of}
-use Rattle.bx_patch.specs.private.preview.Untouched.{is_overwritten}
 use Rattle.bx_patch.specs.private.preview.Window.{AreFoundFor, IsOutside, IsWindow}
 use Rattle.bx_patch.proofs.ChangedWindow.{piece_before, piece_behind}
 use Rattle.bx_patch.proofs.ChangesOrder.{outside}
@@ -143,7 +143,7 @@ found_for {A = A} keys found ps window at n index least most all i d inside = el
 pub none_met : {A : Type 0} (keys : List ℕ) (ps : List (Piece A)) (at count j stop : ℕ) → IsIndexOf keys ps → at ≤ j
     → AllWithin (λ x. x < at / 32768 * 1073741824) keys 0 count
     → ((q : ℕ) (d : ℕ) → count ≤ q → q < length keys → stop ≤ get_or keys q d) → (j / 32768 * 1073741824 + 1073741824 ≤ stop)
-    → is_overwritten ps j ≡ false
+    → is_covered ps j ≡ false
 none_met {A = A} keys ps at count j stop index above below least before = list_any_none (λ p. is_within p.at p.bytes j) ps (λ i d inside.
     elim (cases_lt j (get_or ps i d).at) [
       | inl less ↦ outside (get_or ps i d).at (get_or ps i d).bytes j (inl less)

@@ -8,15 +8,16 @@ use Rattle.std.proofs.lemmas.Bool.{cases_lt}
 use Rattle.std.proofs.lemmas.List.{drop_all, drop_more, length-take, length-drop}
 use Rattle.std.proofs.lemmas.List.Elements.{All-cons, All-nil}
 use Rattle.std.proofs.lemmas.Slice.Eq.{bytes_eq-Decides}
+use Rattle.bx_image.specs.Cached.{HasCached}
+use Rattle.bx_image.specs.declared.cached.Cached.{Cached}
 use Rattle.bx_text.specs.declared.owned.pieces.Piece.{Piece}
 use Rattle.bx_read.specs.Text.{contents}
 use Rattle.bx_patch.specs.declared.other.Other.TheVariants.{Length, Bytes}
-use Rattle.bx_patch.specs.declared.other.window.Cached.{Cached}
 use Rattle.bx_patch.specs.declared.read.lengths.PatchLengths.{PatchLengths}
 use Rattle.bx_patch.specs.Other.{DiffersFirst, HasFirstBytes, IsFirstOther, OtherDisagrees, has_other}
 use Rattle.bx_patch.specs.Patch.{HasPiece, Pieces}
 use Rattle.bx_patch.specs.Text.{differs}
-use Rattle.bx_patch.specs.private.Other.{FindsAmong, HasPage, IsImagePage}
+use Rattle.bx_patch.specs.private.Other.{FindsAmong}
 use Rattle.bx_patch.proofs.RowLemmas.{nested_take}
 
 pub drop_twice : (n m : ℕ) (xs : List ℕ) → drop m (drop n xs) ≡ drop (n + m) xs
@@ -31,7 +32,7 @@ drop_twice (suc n) m (x ∷ xs) =
     drop_twice n m xs ∙ ap (λ k. drop k (x ∷ xs)) (sym count)
 
 -- a byte of a page is one of the image
-page_place : (x page : List ℕ) (k : Cached) (at n j : ℕ) → take k.count page ≡ take k.count (drop k.at x) → HasPage k at n → j < n
+page_place : (x page : List ℕ) (k : Cached) (at n j : ℕ) → take k.count page ≡ take k.count (drop k.at x) → HasCached k at n → j < n
     → take 1 (drop j (take n (drop (at - k.at) page))) ≡ take 1 (drop (at + j) x)
 page_place x page k at n j are has small =
     let m : ℕ = (at - k.at) + j in
@@ -45,7 +46,7 @@ page_place x page k at n j are has small =
     ∙ nested_take x k.at k.count m 1 (omega arith) ∙ ap (λ i. take 1 (drop i x)) there
 
 -- the bytes of a page at an address, beside those of a piece
-module _ (x page bytes : List ℕ) (k : Cached) (at n : ℕ) (are : take k.count page ≡ take k.count (drop k.at x)) (has : HasPage k at n) where
+module _ (x page bytes : List ℕ) (k : Cached) (at n : ℕ) (are : take k.count page ≡ take k.count (drop k.at x)) (has : HasCached k at n) where
   abbrev seen : List ℕ
   seen = take ((at - k.at) + n - (at - k.at)) (drop (at - k.at) page)
 
@@ -96,15 +97,6 @@ has_more x now bytes rest at done same is behind before more j below = elim (cas
       let Q : List ℕ → Type 0 = λ r. has_other x (at + done, r) (j - done) ≡ false in
       ap (has_other x (at, bytes)) (sym place) ∙ sym (rest_is x bytes at done (j - done)) ∙ subst Q behind (subst P is (more (j - done) (omega arith)))
 ]
-
--- a cache of an image that is the same as before
-pub cache_again : (faithful now_faithful : Type 0) (image now page : List ℕ) (c : Cached) → (now_faithful → faithful) → (now_faithful → now ≡ image) → IsImagePage faithful image page c → IsImagePage now_faithful now page c
-cache_again faithful now_faithful image now page c still same cache = record {
-  long = λ h. cache.long (still h) ∙ sym (ap length (same h));
-  are = λ h. cache.are (still h) ∙ ap (λ im. take c.count (drop c.at im)) (sym (same h));
-  inside = cache.inside;
-  room = cache.room;
-}
 
 is_equal : (a b : List ℕ) → not (bytes_eq a b) ≡ false → a ≡ b
 is_equal a b e = (bytes_eq-Decides a b).0 (back (bytes_eq a b) e)

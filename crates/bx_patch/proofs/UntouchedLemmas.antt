@@ -6,21 +6,22 @@ use Rattle.bx_text.specs.declared.owned.pieces.Piece.{Piece}
 use Rattle.bx_image.specs.declared.change.Change.{Change}
 use Rattle.bx_image.specs.Change.{effect, touches}
 use Rattle.bx_image.specs.Image.{is_within}
+use Rattle.bx_image.specs.private.Change.{is_covered, is_cut_off}
 use Rattle.bx_image.proofs.Records.{KeepsUntouched-effect}
 use Rattle.bx_patch.specs.Text.{differs}
 use Rattle.bx_patch.proofs.SameLemmas.{same_at}
 use Rattle.bx_patch.specs.preview.Changed.{AreBeforeAndBehind, effects}
-use Rattle.bx_patch.specs.private.preview.Untouched.{AreUntouched, is_overwritten, is_past_base}
+use Rattle.bx_patch.specs.private.preview.Untouched.{AreUntouched}
 
 -- one more piece
 pub written_more : {A : Type 0} (ps : List (Piece A)) (i : ℕ) (p : Piece A) (j : ℕ) → i < length ps → p ≡ get_or ps i p → is_within p.at p.bytes j ≡ false
-    → is_overwritten (drop i ps) j ≡ is_overwritten (drop (i + 1) ps) j
+    → is_covered (drop i ps) j ≡ is_covered (drop (i + 1) ps) j
 written_more {A = A} ps i p j h read out =
-    at_drop_more (λ rest. is_overwritten rest j) ps i p h
-    ∙ ap (λ b. b || is_overwritten (drop (i + 1) ps) j) (ap (λ (q : Piece A). is_within q.at q.bytes j) (sym read) ∙ out)
+    at_drop_more (λ rest. is_covered rest j) ps i p h
+    ∙ ap (λ b. b || is_covered (drop (i + 1) ps) j) (ap (λ (q : Piece A). is_within q.at q.bytes j) (sym read) ∙ out)
 
 -- no more pieces
-pub written_all : {A : Type 0} (ps : List (Piece A)) (i j : ℕ) → length ps ≤ i → is_overwritten (drop i ps) j ≡ false
+pub written_all : {A : Type 0} (ps : List (Piece A)) (i j : ℕ) → length ps ≤ i → is_covered (drop i ps) j ≡ false
 written_all ps i j h = rw (drop_all i ps h) refl
 
 -- one more change
@@ -36,7 +37,7 @@ unfolding AreUntouched
 untouched_all {A = A} cs i j h = subst (λ (rest : List (Change A)). AreUntouched rest j) (sym (drop_all i cs h)) tt
 
 -- whether a change touches an address
-pub touches_none : {A : Type 0} (c : Change A) (j : ℕ) → is_past_base c.base j ≡ false → is_overwritten c.writes j ≡ false → touches c j ≡ false
+pub touches_none : {A : Type 0} (c : Change A) (j : ℕ) → is_cut_off c.base j ≡ false → is_covered c.writes j ≡ false → touches c j ≡ false
 unfolding touches
 touches_none c j below out = rw (below, out) refl
 

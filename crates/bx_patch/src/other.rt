@@ -7,15 +7,13 @@ ghost use Rattle.bx_patch.specs.Read.{asked_of};
 ghost use Rattle.bx_patch.specs.private.Other.{FindsAmong};
 
 mod piece;
-mod window;
 
 use crate::{Patch, PatchLengths};
-use bx_image::{Device, DeviceFailed};
+use bx_image::{Cached, Device, DeviceFailed};
 use bx_text::Piece;
-use piece::count_in_piece;
+use piece::{PAGE, count_in_piece};
 use std::alloc::Allocator;
 use thiserror::Error;
-use window::{Cached, PAGE};
 
 /// What an image has otherwise than a patch expects.
 #[derive(Clone, Copy, Debug, PartialEq, Eq, Error)]

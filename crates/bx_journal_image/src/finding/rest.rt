@@ -1,8 +1,8 @@
 //! What a command finds of an image beside two finished texts.
 ghost use Rattle.std.specs.Prelude.{◌≡◌, ◌+◌, ◌<◌, ◌≤◌, length, take, drop, is_err, IfOk, IfErr, OnOk};
+ghost use Rattle.bx_image.specs.Cached.{OnlyReadsImage};
 ghost use Rattle.bx_journal_model.specs.Fault.{LacksOrFails};
 ghost use Rattle.bx_journal_model.specs.Opening.{ThreeCounts};
-ghost use Rattle.bx_journal_image.specs.Blocks.{OnlyReadsImage};
 ghost use Rattle.bx_journal_image.specs.Looks.{ThreeCount, LooksAtBoth, LeavesDevice};
 ghost use Rattle.bx_journal_image.specs.Stand.{IsDigested, IsLastRead, IsStandOf};
 ghost use Rattle.bx_journal_image.specs.Written.{appended_bytes};

@@ -1,6 +1,7 @@
 //! Whether an image is the one that a line has the digests of.
 ghost use Rattle.std.specs.Prelude.{◌≡◌, ◌+◌, ◌/◌, ◌^◌, ◌<◌, ◌≤◌, length, is_err, IfOk};
-ghost use Rattle.bx_journal_image.specs.Blocks.{AreWholeMarks, AreRead, IsBlockRead, IsJudged, OnlyReadsImage, block_at, block_digest, block_len, short_digest};
+ghost use Rattle.bx_image.specs.Cached.{OnlyReadsImage};
+ghost use Rattle.bx_journal_image.specs.Blocks.{AreWholeMarks, AreRead, IsBlockRead, IsJudged, block_at, block_digest, block_len, short_digest};
 
 use crate::blocks::places::{block_at, block_len};
 use crate::line::digest::digest_of;

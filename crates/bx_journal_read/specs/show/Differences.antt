@@ -1,11 +1,10 @@
 -- What a look at a change writes of its saved lines: each made from the bytes that it gives, and beside an image what that has there now before it.
-use Rattle.std.specs.Prelude.{ℕ, Option, None, Some, List, [], ◌∷◌, ◌++◌, length, take, drop, flat_map, codes, ◌≡◌, ◌+◌, ◌-◌, ◌<◌, ◌≤◌}
+use Rattle.std.specs.Prelude.{ℕ, Option, None, Some, List, [], ◌∷◌, ◌++◌, length, take, drop, flat_map, codes, ◌≡◌, ◌-◌, ◌<◌, ◌≤◌}
 use Rattle.bx_journal_format.specs.DumpLine.{saved_run_line}
 use Rattle.bx_journal_format.specs.Kept.{Run}
 use Rattle.bx_journal_format.specs.Line.{saved_in}
 use Rattle.bx_journal_format.specs.Text.{ended, split}
 use Rattle.std.specs.Io.KnownBytes.{Appends}
-use Rattle.bx_journal_read.specs.declared.show.cache.Cached.{Cached}
 use Rattle.bx_journal_read.specs.declared.show.differences.Compared.{Compared}
 
 -- xxd's default line for bytes at an address behind a sign; nothing where there are no bytes
@@ -39,17 +38,6 @@ diff_line image len line = lines_beside image (saved_in len line)
 -- saved lines beside the image
 abbrev pub diff_text : List ℕ → ℕ → List (List ℕ) → List ℕ
 diff_text image len lines = flat_map (diff_line image len) lines
-
--- a page has room for a line's bytes, and those of it that count are the image's, which is of this length, where that is faithful
-pub record IsCache (faithful : Type 0) (image page : List ℕ) (c : Cached) : Type 0 where
-  pub long : faithful → c.len ≡ length image
-  pub are : faithful → take c.count page ≡ take c.count (drop c.at image)
-  pub inside : c.count ≤ length page
-  pub room : 16 ≤ length page
-
--- the page has the bytes at an address
-abbrev pub HasCached : Cached → ℕ → ℕ → Type 0
-HasCached c at count = (c.at ≤ at) × (at + count ≤ c.at + c.count)
 
 -- the first bytes of a window are whole lines, and what is shown of each was added
 pub record AreAdded (show : List ℕ → List ℕ) (window : List ℕ) (taken : ℕ) (old new : List ℕ) : Type 0 where

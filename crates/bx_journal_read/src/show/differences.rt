@@ -2,16 +2,16 @@
 //! addresses, behind a `-`.
 ghost use Rattle.std.specs.Prelude.{◌≡◌, ◌+◌, ◌<◌, ◌≤◌, ◌++◌, length, take, drop, codes, OnOk, IfOk, IfErr};
 ghost use Rattle.std.specs.Io.KnownBytes.{Appends};
+ghost use Rattle.bx_image.specs.Cached.{IsCache};
 ghost use Rattle.bx_journal_format.specs.Text.{split};
-ghost use Rattle.bx_journal_read.specs.show.Differences.{diff_line, diff_text, shown_between, signed_line, AreAdded, AreWritten, HasGoneOn, IsCache};
+ghost use Rattle.bx_journal_read.specs.show.Differences.{diff_line, diff_text, shown_between, signed_line, AreAdded, AreWritten, HasGoneOn};
 ghost use Rattle.bx_journal_read.specs.show.Showing.{WritesBeside, WritesFrom, lines_at};
 ghost use Rattle.bx_journal_read.specs.show.Stopping.{CountsBytes, IsOfReading, StopsPrefix};
 
-use crate::show::cache::{Cached, keep};
 use crate::show::fault::ShowFault;
 use crate::show::lines::{GATHERED, push_signed};
 use crate::show::writing::{Writing, put};
-use bx_image::Device;
+use bx_image::{Cached, Device, keep_cached};
 use bx_journal_format::{Mark, line_end, saved_in};
 use bx_journal_model::{SessionFault, passed, read_cut};
 use bx_journal_store::TextStore;
@@ -53,10 +53,12 @@ fn push_now<D: Device, A: Allocator>(
 ) -> Result<Cached, ShowFault>
     requires countable { D.failures device.old < u64.MAX }
     requires cache { IsCache (D.faithful device.old) (D.image device.old) page.old cached }
+    requires room { 16 ≤ length page.old }
     requires few { count ≤ 16 }
     ensures added { D.faithful device.old → OnOk result
         (text.new.items ≡ text.old.items ++ signed_line (codes "-") at (take count (drop at (D.image device.old)))) }
     ensures cache { IfOk result (IsCache (D.faithful device.old) (D.image device.old) page.new) }
+    ensures room { length page.new ≡ length page.old }
     ensures puts { WritesFrom D.faithful D.image D.survives D.failures result device.old device.new }
     ensures read { IfErr result IsOfReading }
 {
@@ -64,7 +66,7 @@ fn push_now<D: Device, A: Allocator>(
         return Ok(cached);
     }
     let there = (count as u64).min(cached.len - at) as usize;
-    let kept = keep(device, cached, page, at, there)?;
+    let kept = keep_cached(device, cached, page, at, there)?;
     let from = (at - kept.at) as usize;
     push_signed(text, b"-", at, &page[from..from + there])?;
     Ok(kept)
@@ -82,8 +84,10 @@ fn push_beside<D: Device, A: Allocator>(
 ) -> Result<Cached, ShowFault>
     requires countable { D.failures device.old < u64.MAX }
     requires cache { IsCache (D.faithful device.old) (D.image device.old) page.old cached }
+    requires room { 16 ≤ length page.old }
     ensures added { D.faithful device.old → OnOk result (text.new.items ≡ text.old.items ++ diff_line (D.image device.old) before line.now) }
     ensures cache { IfOk result (IsCache (D.faithful device.old) (D.image device.old) page.new) }
+    ensures room { length page.new ≡ length page.old }
     ensures puts { WritesFrom D.faithful D.image D.survives D.failures result device.old device.new }
     ensures read { IfErr result IsOfReading }
 {
@@ -107,10 +111,12 @@ fn push_lines<D: Device, A: Allocator>(
 ) -> Result<Taken, ShowFault>
     requires countable { D.failures device.old < u64.MAX }
     requires cache { IsCache (D.faithful device.old) (D.image device.old) page.old cached }
+    requires room { 16 ≤ length page.old }
     ensures within { IfOk result (λ lines. lines.taken ≤ length window.now) }
     ensures added { D.faithful device.old → IfOk result (λ lines. AreAdded (diff_line (D.image device.old) before)
         window.now lines.taken text.old.items text.new.items) }
     ensures cache { IfOk result (λ lines. IsCache (D.faithful device.old) (D.image device.old) page.new lines.cached) }
+    ensures room { length page.new ≡ length page.old }
     ensures puts { WritesFrom D.faithful D.image D.survives D.failures result device.old device.new }
     ensures read { IfErr result IsOfReading }
 {
@@ -141,6 +147,7 @@ fn put_window<D: Device, T: TextStore, A: Allocator, W: Write>(
     requires countable { D.failures device.old < u64.MAX }
     requires also_countable { T.failures store.old < u64.MAX }
     requires cache { IsCache (D.faithful device.old) (D.image device.old) page.old now.done.cached }
+    requires room { 16 ≤ length page.old }
     requires within { T.faithful store.old → now.mark.to ≤ length (T.text store.old) }
     requires at { now.done.at ≤ now.mark.to }
     ensures put { D.faithful device.old → T.faithful store.old → IfOk result (λ next. AreWritten (diff_line (D.image device.old) now.mark.len)
@@ -152,6 +159,7 @@ fn put_window<D: Device, T: TextStore, A: Allocator, W: Write>(
         (W.contents out.old) (W.contents out.new)) }
     ensures on { IfOk result (HasGoneOn now.mark.to now.done) }
     ensures cache { IfOk result (λ next. IsCache (D.faithful device.old) (D.image device.old) page.new next.cached) }
+    ensures room { length page.new ≡ length page.old }
     ensures puts { WritesBeside D.Device T.TextStore result device.old device.new store.old store.new }
 {
     let window = writing.window.as_mut_slice();
@@ -182,6 +190,7 @@ fn put_windows<D: Device, T: TextStore, A: Allocator, W: Write>(
     requires countable { D.failures device.old < u64.MAX }
     requires also_countable { T.failures store.old < u64.MAX }
     requires cache { IsCache (D.faithful device.old) (D.image device.old) page.old from.done.cached }
+    requires room { 16 ≤ length page.old }
     requires within { T.faithful store.old → from.mark.to ≤ length (T.text store.old) }
     requires at { from.done.at ≤ from.mark.to }
     ensures put { D.faithful device.old → T.faithful store.old → OnOk result (AreWritten (diff_line (D.image device.old) from.mark.len)

@@ -1,13 +1,15 @@
 //! How much of a piece an image has.
 ghost use Rattle.std.specs.Prelude.{◌≡◌, ◌+◌, ◌<◌, ◌≤◌, ◌^◌, ℕ, min, true, false, length, IfOk, is_err};
+ghost use Rattle.bx_image.specs.Cached.{IsCache};
 ghost use Rattle.bx_patch.specs.Diff.{OnlyReads};
 ghost use Rattle.bx_patch.specs.Other.{HasFirstBytes, has_other};
 ghost use Rattle.bx_patch.specs.Text.{differs};
-ghost use Rattle.bx_patch.specs.private.Other.{IsImagePage};
 
 use crate::diff::row::is_other;
-use crate::other::window::{Cached, PAGE, keep};
-use bx_image::{Device, DeviceFailed};
+use bx_image::{Cached, Device, DeviceFailed, keep_cached};
+
+/// The count of bytes of the image that are read at a time.
+pub const PAGE: usize = 4096;
 
 /// What is kept of the image, and how many bytes of a piece it has, up to the first one that it hasn't.
 #[derive(Clone, Copy)]
@@ -39,20 +41,22 @@ fn count_in_page<D: Device>(
     bytes: &[u8],
 ) -> Result<Looked, DeviceFailed>
     requires countable { D.failures device.old < u64.MAX }
-    requires cache { IsImagePage (D.faithful device.old) (D.image device.old) page.old cached }
+    requires cache { IsCache (D.faithful device.old) (D.image device.old) page.old cached }
+    requires room { length page.old ≡ 4096 }
     ensures most { IfOk result (λ looked. looked.same ≤ length bytes.now) }
     ensures has { D.faithful device.old → IfOk result (λ looked. HasFirstBytes (D.image device.old) (at, bytes.now) looked.same) }
     ensures other { D.faithful device.old
         → IfOk result (λ looked. looked.same ≡ 0 → 0 < length bytes.now → has_other (D.image device.old) (at, bytes.now) 0 ≡ true) }
     ensures below { IfOk result (λ looked. at + looked.same < 2 ^ 64) }
-    ensures cache { IfOk result (λ looked. IsImagePage (D.faithful device.old) (D.image device.old) page.new looked.cached) }
+    ensures cache { IfOk result (λ looked. IsCache (D.faithful device.old) (D.image device.old) page.new looked.cached) }
+    ensures room { length page.new ≡ length page.old }
     ensures reads { OnlyReads D.faithful D.image D.room D.failures D.survives (is_err result) device.old device.new }
 {
     if cached.len <= at {
         return Ok(Looked { cached, same: 0 });
     }
     let most = (PAGE.min(bytes.len()) as u64).min(cached.len - at) as usize;
-    match keep(device, cached, page, at, most) {
+    match keep_cached(device, cached, page, at, most) {
         Ok(kept) => {
             let from = (at - kept.at) as usize;
             let same = count_same(&page[from..from + most], bytes);
@@ -71,13 +75,15 @@ pub fn count_in_piece<D: Device>(
     bytes: &[u8],
 ) -> Result<Looked, DeviceFailed>
     requires countable { D.failures device.old < u64.MAX }
-    requires cache { IsImagePage (D.faithful device.old) (D.image device.old) page.old cached }
+    requires cache { IsCache (D.faithful device.old) (D.image device.old) page.old cached }
+    requires room { length page.old ≡ 4096 }
     ensures most { IfOk result (λ looked. looked.same ≤ length bytes.now) }
     ensures has { D.faithful device.old → IfOk result (λ looked. HasFirstBytes (D.image device.old) (at, bytes.now) looked.same) }
     ensures other { D.faithful device.old
         → IfOk result (λ looked. looked.same < length bytes.now → has_other (D.image device.old) (at, bytes.now) looked.same ≡ true) }
     ensures below { IfOk result (λ looked. at + looked.same < 2 ^ 64) }
-    ensures cache { IfOk result (λ looked. IsImagePage (D.faithful device.old) (D.image device.old) page.new looked.cached) }
+    ensures cache { IfOk result (λ looked. IsCache (D.faithful device.old) (D.image device.old) page.new looked.cached) }
+    ensures room { length page.new ≡ length page.old }
     ensures reads { OnlyReads D.faithful D.image D.room D.failures D.survives (is_err result) device.old device.new }
 {
     let mut kept = cached;

@@ -3,10 +3,11 @@ ghost use Rattle.std.specs.Prelude.{◌≡◌, ◌⊎◌, ◌^◌, ◌<◌, ◌�
 ghost use Rattle.std.proofs.Props.{props};
 ghost use Rattle.bx_image.specs.Change.{touches};
 ghost use Rattle.bx_image.specs.Image.{is_within};
+ghost use Rattle.bx_image.specs.private.Change.{is_covered, is_cut_off};
 ghost use Rattle.bx_patch.specs.preview.Changed.{AreBeforeAndBehind};
 ghost use Rattle.bx_patch.specs.preview.Index.{IsIndexFor, IsIndexOf};
 ghost use Rattle.bx_patch.specs.private.preview.Order.{AreByPlace};
-ghost use Rattle.bx_patch.specs.private.preview.Untouched.{AreUntouched, is_overwritten, is_past_base};
+ghost use Rattle.bx_patch.specs.private.preview.Untouched.{AreUntouched};
 
 use crate::Alike;
 use crate::preview::index::{MOST, PieceIndex, SPAN, count_below, may_search};
@@ -74,7 +75,7 @@ impl<A: Allocator> Alike for Untouched<'_, A> {
 /// A place, `end` at most, below which a base cuts off nothing.
 fn until_base(base: Option<u64>, end: u64) -> u64
     ensures most { result ≤ end }
-    ensures untouched { (j : ℕ) → j < result → is_past_base base j ≡ false }
+    ensures untouched { (j : ℕ) → j < result → is_cut_off base j ≡ false }
 {
     match base {
         Some(base) => end.min(base),
@@ -103,7 +104,7 @@ fn until_piece<A: Allocator>(piece: &Piece<A>, at: u64, end: u64) -> u64
 /// The same of pieces.
 fn until_pieces<A: Allocator>(pieces: &[Piece<A>], at: u64, end: u64) -> u64
     ensures most { result ≤ end }
-    ensures untouched { (j : ℕ) → at ≤ j → j < result → is_overwritten pieces.now j ≡ false }
+    ensures untouched { (j : ℕ) → at ≤ j → j < result → is_covered pieces.now j ≡ false }
 {
     let mut until = end;
     for piece in pieces {
@@ -116,7 +117,7 @@ fn until_pieces<A: Allocator>(pieces: &[Piece<A>], at: u64, end: u64) -> u64
 fn until_next<A: Allocator>(pieces: &[Piece<A>], at: u64, end: u64) -> u64
     requires ordered { AreByPlace pieces.now }
     ensures most { result ≤ end }
-    ensures untouched { (j : ℕ) → at ≤ j → j < result → is_overwritten pieces.now j ≡ false }
+    ensures untouched { (j : ℕ) → at ≤ j → j < result → is_covered pieces.now j ≡ false }
 {
     match pieces.get(count_ended(pieces, at)) {
         Some(piece) => end.min(at.max(piece.at)),
@@ -129,7 +130,7 @@ fn until_found<A: Allocator>(pieces: &[Piece<A>], keys: &[u64], at: u64, end: u6
     requires index { IsIndexOf keys.now pieces.now }
     requires small { at ≤ 2 ^ 48 }
     ensures most { result ≤ end }
-    ensures untouched { (j : ℕ) → at ≤ j → j < result → is_overwritten pieces.now j ≡ false }
+    ensures untouched { (j : ℕ) → at ≤ j → j < result → is_covered pieces.now j ≡ false }
 {
     match keys.get(count_below(keys, at / SPAN * MOST)) {
         Some(key) => end.min(at.max(*key / MOST * SPAN)),
@@ -147,7 +148,7 @@ fn until_any<A: Allocator>(
 ) -> u64
     requires index { IsTrue indexed → IsIndexOf keys.now pieces.now }
     ensures most { result ≤ end }
-    ensures untouched { (j : ℕ) → at ≤ j → j < result → is_overwritten pieces.now j ≡ false }
+    ensures untouched { (j : ℕ) → at ≤ j → j < result → is_covered pieces.now j ≡ false }
 {
     if may_search(indexed, at, 0) {
         until_found(pieces, keys, at, end)

@@ -1,6 +1,7 @@
-use Rattle.std.proofs.Common.{false, true, sym, arith}
+use Rattle.std.proofs.Common.{false, true, sym, ◌∙◌, arith}
+use Rattle.bx_image.proofs.CacheLemmas.{cache_again}
 use Rattle.bx_patch.proofs.DiffLemmas.{reads_on}
-use Rattle.bx_patch.proofs.OtherLemmas.{among_here, among_next, among_none, cache_again}
+use Rattle.bx_patch.proofs.OtherLemmas.{among_here, among_next, among_none}
 use Rattle.bx_patch.proofs.other.other_among.Goals as goal
 
 pub returns-then-looked-bytes-clause-found : goal.returns-then-looked-bytes-clause-found
@@ -33,6 +34,7 @@ loop-i-preserved g c =
           (on.has (inv.reads.goes_on.faith.1 h));
       cache = cache_again (g.D.Device.faithful c.loop-i.device) (g.D.Device.faithful c.args.device.now) (image c.loop-i.device) (image c.args.device.now) c.count_in_piece.new.page
           c.in-Ok.looked.cached (λ h. inv.reads.goes_on.faith.1 h) (λ h. sym (inv.reads.stays h)) on.cache;
+      room = on.room ∙ inv.room;
       reads = reads_on g.D.Device.faithful image g.D.Device.room g.D.Device.failures g.D.Device.survives false c.args.device.now c.loop-i.device c.count_in_piece.new.device inv.reads on.reads;
     }
 

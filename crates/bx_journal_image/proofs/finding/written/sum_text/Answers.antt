@@ -1,11 +1,12 @@
 use Rattle.std.proofs.Common.{◌≡◌, ◌-◌, ◌+◌, ◌<◌, ◌≤◌, ◌∙◌, ◌++◌, [], ℕ, length, length-append, take, drop, min, ap, refl, subst, sym, arith}
 use Rattle.std.proofs.lemmas.Bool.{ltb-true}
+use Rattle.bx_image.proofs.CacheLemmas.{cache_again}
 use Rattle.bx_journal_format.specs.Text.{split}
 use Rattle.bx_journal_read.specs.scan.Windows.{rest_to}
 use Rattle.bx_journal_image.specs.Written.{Sums, at_lines}
 use Rattle.bx_journal_image.proofs.BlockLemmas.{none_taken, nothing_to, window_ends}
 use Rattle.bx_journal_image.proofs.LookLemmas.{both_none, then_image, then_text}
-use Rattle.bx_journal_image.proofs.WrittenLemmas.{last_lines, near_again, nothing_lines, sums_same, sums_then, window_lines}
+use Rattle.bx_journal_image.proofs.WrittenLemmas.{last_lines, nothing_lines, sums_same, sums_then, window_lines}
 use Rattle.bx_journal_image.proofs.finding.written.sum_text.Goals as goal
 
 pub loop-at-init : goal.loop-at-init
@@ -15,7 +16,7 @@ loop-at-init g c = record {
   below = c.requires.order;
   sums = λ hi hs. nothing_lines (g.D.Device.image c.args.image.now) (g.T.TextStore.text c.args.store.now) c.args.part.from c.args.sum.now;
   whole = λ h. ap (λ t. (split t).rest) (nothing_to c.args.part.from (g.T.TextStore.text c.args.store.now));
-  near = record { long = c.requires.long; are = λ h. refl; inside = omega arith; room = omega (arith, c.requires.page) };
+  cache = record { long = c.requires.long; are = λ h. refl; inside = omega arith };
   page = c.requires.page;
   window = c.requires.window;
   looks = both_none g.D.Device g.T.TextStore c.args.image.now c.args.store.now;
@@ -41,8 +42,8 @@ loop-at-preserved g c =
           (sums_then c.args.sum.now c.loop-at.sum c.sum_lines.new.sum _ _ (inv.sums hi hs)
           (subst (λ y. Sums c.loop-at.sum c.sum_lines.new.sum (at_lines y c.read_at.new.buf)) (inv.looks.image.same hi) (lines.sums (inv.looks.image.faith.1 hi))));
       whole = λ h. window_ends 0 c.args.part.from c.loop-at.at n c.in_ok-lines.lines.taken text c.read_at.new.buf [] [] [] inv.low (read h) few (inv.whole h) lines.whole;
-      near = near_again (g.D.Device.faithful c.loop-at.image) (g.D.Device.faithful c.args.image.now) (g.D.Device.image c.loop-at.image) x c.sum_lines.new.page c.in_ok-lines.lines.near
-          inv.looks.image.faith.1 (λ h. sym (inv.looks.image.same h)) lines.near;
+      cache = cache_again (g.D.Device.faithful c.loop-at.image) (g.D.Device.faithful c.args.image.now) (g.D.Device.image c.loop-at.image) x c.sum_lines.new.page c.in_ok-lines.lines.cached
+          inv.looks.image.faith.1 (λ h. sym (inv.looks.image.same h)) lines.cache;
       page = lines.room ∙ inv.page;
       window = omega (arith, inv.window, c.read_at.auto.buf);
       looks = then_image g.D.Device g.T.TextStore (then_text g.D.Device g.T.TextStore inv.looks (record { text = now.text; survives = now.survives; goes_on = now.goes_on })) lines.reads;

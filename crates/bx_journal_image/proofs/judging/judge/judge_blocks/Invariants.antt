@@ -1,5 +1,6 @@
 use Rattle.std.proofs.Common.{◌≡◌, ◌≢◌, length, false}
-use Rattle.bx_journal_image.specs.Blocks.{AreRead, OnlyReadsImage}
+use Rattle.bx_image.specs.Cached.{OnlyReadsImage}
+use Rattle.bx_journal_image.specs.Blocks.{AreRead}
 use Rattle.bx_journal_image.specs.declared.judging.judge.Verdict.TheVariants.{Other}
 use Rattle.bx_journal_image.proofs.judging.judge.judge_blocks.Given as goal
 

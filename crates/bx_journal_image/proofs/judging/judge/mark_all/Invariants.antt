@@ -1,5 +1,6 @@
 use Rattle.std.proofs.Common.{◌≡◌, ◌<◌, ℕ, length, false, Some}
-use Rattle.bx_journal_image.specs.Blocks.{OnlyReadsImage, block_digest, mark_at}
+use Rattle.bx_image.specs.Cached.{OnlyReadsImage}
+use Rattle.bx_journal_image.specs.Blocks.{block_digest, mark_at}
 use Rattle.bx_journal_image.proofs.judging.judge.mark_all.Given as goal
 
 -- the digests of the blocks so far

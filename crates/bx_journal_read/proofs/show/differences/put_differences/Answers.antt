@@ -19,8 +19,10 @@ put_windows-requires-clause-cache g c =
       long = λ h. c.in_ok-len.ensures.len (faith.0 h) ∙ sym (ap length (c.len.ensures.image (faith.0 h)));
       are = λ h. refl;
       inside = omega arith;
-      room = omega (arith, ap length c.as_mut_slice.ensures.value, c.in_ok-page.ensures.len);
     }
+
+pub put_windows-requires-clause-room : goal.put_windows-requires-clause-room
+put_windows-requires-clause-room g c = omega (arith, ap length c.as_mut_slice.ensures.value, c.in_ok-page.ensures.len)
 
 pub returns-clause-put : goal.returns-clause-put
 returns-clause-put g c h k =

@@ -1,9 +1,10 @@
-use Rattle.std.proofs.Common.{◌≡◌, length, ap, sym, subst, arith}
+use Rattle.std.proofs.Common.{◌≡◌, length, refl, ap, sym, ◌∙◌, subst, arith}
+use Rattle.bx_image.proofs.CacheLemmas.{cache_again}
 use Rattle.bx_journal_read.specs.show.Differences.{diff_line, shown_between, AreWritten}
 use Rattle.bx_journal_read.specs.show.Stopping.{CountsBytes, StopsPrefix}
 use Rattle.bx_journal_read.proofs.AddedLemmas.{counted_more, counted_none, stopped_more, written_from, written_more, written_none}
 use Rattle.bx_journal_read.proofs.StopLemmas.{handed_on}
-use Rattle.bx_journal_read.proofs.BesideLemmas.{cache_again, stayed_none, stayed_on}
+use Rattle.bx_journal_read.proofs.BesideLemmas.{stayed_none, stayed_on}
 use Rattle.bx_journal_read.proofs.show.differences.put_windows.Goals as goal
 
 pub loop-done-init : goal.loop-done-init
@@ -11,6 +12,7 @@ loop-done-init g c = record {
   written = λ h k. written_none (diff_line (g.D.Device.image c.args.device.now) c.args.from.mark.len) (g.T.TextStore.text c.args.store.now) c.args.from.done.at (g.W.Write.contents c.args.out.now);
   counted = λ h k. counted_none (diff_line (g.D.Device.image c.args.device.now) c.args.from.mark.len) (g.T.TextStore.text c.args.store.now) c.args.from.done.at _;
   cache = c.requires.cache;
+  room = refl;
   behind = omega arith;
   within = c.requires.at;
   image = stayed_none g.D.Device.faithful g.D.Device.image g.D.Device.survives g.D.Device.failures c.args.device.now;
@@ -47,6 +49,7 @@ loop-done-preserved g c =
           (inv.image.same h) (now.counted (inv.image.faith.1 h) (inv.text.faith.1 k)));
       cache = cache_again (g.D.Device.faithful c.loop-done.device) (g.D.Device.faithful c.args.device.now) (g.D.Device.image c.loop-done.device) (g.D.Device.image c.args.device.now) c.put_window.new.page
           c.in_ok-done.done.cached inv.image.faith.1 (λ h. sym (inv.image.same h)) now.cache;
+      room = now.room ∙ inv.room;
       behind = omega (arith, inv.behind, now.on.0);
       within = now.on.1;
       image = stayed_on inv.image now.puts.image.same now.puts.image_survives now.puts.image.faith now.puts.image.no_failure;

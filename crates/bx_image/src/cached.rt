@@ -1,10 +1,8 @@
-//! Bytes of an image that are kept in a page: lines that lie near one another take one read.
-ghost use Rattle.std.specs.Prelude.{◌≡◌, ◌+◌, ◌<◌, ◌≤◌, length, IfOk, IsTrue, OnErr};
-ghost use Rattle.bx_image.specs.Power.{NoMore};
-ghost use Rattle.bx_journal_read.specs.show.Differences.{HasCached, IsCache};
-ghost use Rattle.bx_journal_read.specs.show.Showing.{Stays};
+//! Bytes of an image that are kept in a page: calls that ask for bytes near one another take one read.
+ghost use Rattle.std.specs.Prelude.{◌≡◌, ◌+◌, ◌<◌, ◌≤◌, length, is_err, IfOk, IsTrue};
+ghost use Rattle.bx_image.specs.Cached.{HasCached, IsCache, OnlyReadsImage};
 
-use bx_image::{Device, DeviceFailed};
+use crate::{Device, DeviceFailed};
 
 /// How long the image is, and which of its bytes the page has: `count` from an address on.
 #[derive(Clone, Copy)]
@@ -28,8 +26,11 @@ fn has_bytes(cached: Cached, at: u64, count: usize) -> bool
     count as u64 <= cached.count as u64 - from
 }
 
-/// Has these bytes of the image in the page: where it hasn't yet, they are read, and more behind them.
-pub fn keep<D: Device>(
+/// Has these bytes of the image in the page: where it hasn't yet, they are read, and more behind them. The image is only read.
+///
+/// # Errors
+/// `DeviceFailed` where the device fails. What the page has then isn't said.
+pub fn keep_cached<D: Device>(
     device: &mut D,
     cached: Cached,
     page: &mut [u8],
@@ -42,9 +43,9 @@ pub fn keep<D: Device>(
     requires there { at + count ≤ cached.len }
     ensures cache { IfOk result (IsCache (D.faithful device.old) (D.image device.old) page.new) }
     ensures has { IfOk result (λ now. HasCached now at count) }
-    ensures stays { Stays D.faithful D.image D.failures result device.old device.new }
-    ensures survives { D.faithful device.old → NoMore (D.survives device.old) (D.survives device.new) }
-    ensures counts { OnErr result (D.failures device.new ≡ D.failures device.old + 1) }
+    ensures len { IfOk result (λ now. now.len ≡ cached.len) }
+    ensures room { length page.new ≡ length page.old }
+    ensures reads { OnlyReadsImage D.Device (is_err result) device.old device.new }
 {
     if has_bytes(cached, at, count) {
         return Ok(cached);
