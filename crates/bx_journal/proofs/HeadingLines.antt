@@ -8,7 +8,8 @@ use Rattle.bx_journal_format.specs.Ranges.{range_text, ranges_text}
 use Rattle.bx_journal_format.specs.Text.{Entry}
 use Rattle.bx_journal_read.specs.declared.show.way.Direction.{Direction}
 use Rattle.bx_journal_read.specs.declared.show.way.Direction.TheVariants.{Undo, Redo}
-use Rattle.bx_journal_read.specs.show.Showing.{after_text, bytes_of}
+use Rattle.bx_journal_format.specs.count.Rows.{saved_length}
+use Rattle.bx_journal_read.specs.show.Showing.{after_text}
 use Rattle.bx_journal_read.specs.show.ShownSteps.{bytes_text, keeps_length, length_words, way_word, writes_text}
 
 -- no newline is in a text
@@ -74,9 +75,9 @@ bytes_in n = either (n == 1) (codes "1 byte") (decimal n ++ codes " bytes") (loo
 
 writes : (s : Kept) → IsOneLine (writes_text s)
 writes s =
-    let count = bytes_text (bytes_of s) in
-    either (bytes_of s == 0) (codes "no bytes") (count ++ codes " at " ++ ranges_text s.runs) (looked (codes "no bytes") refl)
-    (joined (count ++ codes " at ") (ranges_text s.runs) (joined count (codes " at ") (bytes_in (bytes_of s)) (looked (codes " at ") refl))
+    let count = bytes_text (saved_length s) in
+    either (saved_length s == 0) (codes "no bytes") (count ++ codes " at " ++ ranges_text s.runs) (looked (codes "no bytes") refl)
+    (joined (count ++ codes " at ") (ranges_text s.runs) (joined count (codes " at ") (bytes_in (saved_length s)) (looked (codes " at ") refl))
     (All-drop (λ c. c ≢ 10) 1 (flat_map range_text s.runs) (ranges s.runs)))
 
 after_in : (after : Option ℕ) → IsOneLine (after_text after)

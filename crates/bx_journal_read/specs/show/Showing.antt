@@ -1,5 +1,5 @@
 -- What a look at the changes of a text writes.
-use Rattle.std.specs.Prelude.{ℕ, suc, ◌==◌, None, Some, Option, List, [], ◌∷◌, ◌++◌, length, map, sum, if◌then◌else◌, codes, decimal, ◌≡◌, ◌↔◌, ◌<◌, ◌≤◌, ◌+◌, ◌-◌, Vec, Result, IfOk, IfErr, OnOk, take, drop}
+use Rattle.std.specs.Prelude.{ℕ, suc, ◌==◌, None, Some, Option, List, [], ◌∷◌, ◌++◌, length, if◌then◌else◌, codes, decimal, ◌≡◌, ◌↔◌, ◌<◌, ◌≤◌, ◌+◌, ◌-◌, Vec, Result, IfOk, IfErr, OnOk, take, drop}
 use Rattle.std.specs.Io.KnownBytes.{Appends}
 use Rattle.bx_image.specs.Power.{NoMore}
 use Rattle.bx_image.specs.declared.device.Device.{Ghosts as DeviceViews}
@@ -17,16 +17,13 @@ use Rattle.bx_journal_model.specs.Redo.{IsClean}
 use Rattle.bx_journal_format.specs.declared.read.marks.Mark.{Mark}
 use Rattle.bx_journal_format.specs.Spelled.{EntryLines, IsSpelled, runs_behind}
 use Rattle.bx_journal_format.specs.count.Marks.{marks_of}
+use Rattle.bx_journal_format.specs.count.Rows.{saved_length}
 use Rattle.bx_journal_model.specs.declared.fault.SessionFault.{SessionFault}
 use Rattle.bx_journal_model.specs.Looking.{FaultCounts, LooksAt}
 use Rattle.bx_text.specs.declared.fault.IoFault.TheVariants.{WriteFailed}
 use Rattle.bx_journal_read.specs.scan.Recovery.{FindFault}
 use Rattle.bx_journal_read.specs.declared.show.ranges.Done.{Done}
 use Rattle.bx_journal_read.specs.show.Stopping.{CountsBytes, StopsPrefix}
-
--- how many bytes a record has
-abbrev pub bytes_of : Kept → ℕ
-bytes_of s = sum (map (λ (run : Run). length run.bytes) s.runs)
 
 -- the length after a change, or `-` where the entry tells none
 abbrev pub after_text : Option ℕ → List ℕ
@@ -35,11 +32,11 @@ after_text (Some after) = decimal after
 
 -- the ranges of a record, or `-` where it has no bytes
 abbrev pub places_text : Kept → List ℕ
-places_text s = if bytes_of s == 0 then codes "-" else ranges_text s.runs
+places_text s = if saved_length s == 0 then codes "-" else ranges_text s.runs
 
 -- the row of entry n: its number, the lengths before and after the change, how many bytes were saved, and at which ranges
 abbrev pub ranges_row : ℕ → Entry → List ℕ
-ranges_row n e = decimal n ++ codes " " ++ decimal e.saved.len ++ codes " " ++ after_text e.after ++ codes " " ++ decimal (bytes_of e.saved) ++ codes " "
+ranges_row n e = decimal n ++ codes " " ++ decimal e.saved.len ++ codes " " ++ after_text e.after ++ codes " " ++ decimal (saved_length e.saved) ++ codes " "
     ++ places_text e.saved ++ codes "\n"
 
 -- the rows of entries, the oldest first

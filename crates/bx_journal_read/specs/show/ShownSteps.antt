@@ -10,7 +10,8 @@ use Rattle.bx_journal_read.specs.show.Differences.{diff_text, made_text}
 use Rattle.bx_image.specs.Power.{NoMore}
 use Rattle.bx_journal_model.specs.Fault.{DeviceFault, redo_fault}
 use Rattle.bx_journal_model.specs.Redo.{BeginsAt, IsClean}
-use Rattle.bx_journal_read.specs.show.Showing.{after_text, bytes_of, PutFault, lines_at, ranges_at}
+use Rattle.bx_journal_format.specs.count.Rows.{saved_length}
+use Rattle.bx_journal_read.specs.show.Showing.{after_text, PutFault, lines_at, ranges_at}
 use Rattle.bx_journal_read.specs.declared.show.fault.ShowFault.{ShowFault}
 use Rattle.bx_journal_read.specs.declared.show.fault.ShowFault.TheVariants.{Text, Io}
 use Rattle.bx_journal_read.specs.show.Stopping.{StopsPrefix}
@@ -39,7 +40,7 @@ bytes_text n = if n == 1 then codes "1 byte" else decimal n ++ codes " bytes"
 
 -- how many bytes a step writes, and where
 abbrev pub writes_text : Kept → List ℕ
-writes_text s = if bytes_of s == 0 then codes "no bytes" else bytes_text (bytes_of s) ++ codes " at " ++ ranges_text s.runs
+writes_text s = if saved_length s == 0 then codes "no bytes" else bytes_text (saved_length s) ++ codes " at " ++ ranges_text s.runs
 
 -- whether the length after a change is known, and is that before it
 abbrev pub keeps_length : Option ℕ → ℕ → Bool
