@@ -1,14 +1,15 @@
--- Files one of whose texts may be missing, once they are lent.
-use Rattle.std.proofs.Common.{◌≡◌, ◌∙◌, ◌<◌, ℕ, true, false, List, Option, Some, None, refl, sym, subst, arith}
+-- Files one of whose texts may be missing, once they are open, and once they are lent.
+use Rattle.std.proofs.Common.{◌≡◌, ◌∙◌, ◌<◌, ℕ, Bool, true, false, List, Option, Some, None, refl, sym}
 use Rattle.bx_image.specs.Power.{NoMore}
 use Rattle.bx_image.specs.declared.device.Device.{Ghosts as DeviceViews}
 use Rattle.bx_journal_store.specs.declared.store.TextStore.{Ghosts as StoreViews}
 use Rattle.bx_journal.specs.Devices.{Devices}
+use Rattle.bx_journal.specs.ThreeDevices.{AreBelow}
 use Rattle.bx_world.specs.World.{AreOwnFiles, NothingNewFound, ReadFiles, SystemState, stat_named}
 use Rattle.bx_world.specs.declared.stat.Stat.{Stat}
 use Rattle.bx_world.specs.declared.world.Refusal.{Refusal}
 use Rattle.bx_world.specs.declared.world.Refusal.TheVariants.{Locked, Missing, Moved, Other, Taken}
-use Rattle.bx_world.specs.files.Reading.{AreOpenAlone, IsPair, LeadToRead, MayRefuseForgetting, MayRefuseReading, MayRefuseToForget, MayRefuseToRead}
+use Rattle.bx_world.specs.files.Reading.{AreOpenAlone, AreOpenToRead, MayRefuseForgetting, MayRefuseReading, MayRefuseToForget, MayRefuseToRead}
 use Rattle.bx_world.specs.files.Reasons.{IsReason, IsRefusedFor, NoneUnfit}
 use Rattle.bx_world.specs.declared.files.names.Names.{Names}
 use Rattle.bx_world.specs.declared.files.unopened.OpenError.{OpenError}
@@ -17,12 +18,10 @@ use Rattle.bx_world.specs.declared.files.unopened.FileRole.TheVariants.{Image, J
 use Rattle.bx_world.specs.declared.files.unopened.OpenFailure.{OpenFailure}
 use Rattle.bx_world.specs.declared.files.unopened.OpenFailure.TheVariants.{System, Unfit as NotFit, Alias, Another}
 use Rattle.bx_world.proofs.Readable.{unlent}
-use Rattle.bx_run_report.specs.report.Devices.{HoldFiles, HoldNumbered}
-use Rattle.bx_run.specs.forget.Forgetting.{AreLent, AreLentTexts, IsFoundOf}
-use Rattle.bx_run.proofs.Apart.{is_alone}
-
-some_is : {X : Type 0} {x y : X} → Some x ≡ Some y → x ≡ y
-some_is e = grind (arith, e)
+use Rattle.bx_run_report.specs.report.Devices.{HoldNumbered}
+use Rattle.bx_run.specs.forget.Forgetting.{AreOpenTexts, LendsTexts, in_places}
+use Rattle.bx_run.proofs.Apart.{apart, is_alone}
+use Rattle.bx_run.proofs.Placed.{holds_placed}
 
 -- each of an image and a redo text that stands in the place of the journal is there, and a file of its own
 pub apart_alone : (names : Names) (f : ReadFiles) (w : SystemState) → AreOpenAlone names f w
@@ -35,49 +34,45 @@ apart_alone names f w opens within = record {
   redo_apart = λ n is. absurd (let wrong : None ≡ Some n = sym opens.named.alone ∙ is in cc);
 }
 
--- in their own places the devices hold what the files do
-pub held_back : {D T : Type 0} (d : DeviceViews D) (t : StoreViews T) (names : Names) (f : ReadFiles) (w : SystemState) (x : Devices D T)
-    → IsPair names f w → w.named names.journal ≡ None → HoldNumbered d t f w x
-    → HoldFiles d t names w (record { image = x.image; journal = x.redo; redo = x.journal })
-held_back d t names f w x pair missing holds = record {
-  image_faithful = holds.image_faithful;
-  journal_faithful = holds.redo_faithful;
-  redo_faithful = holds.journal_faithful;
-  image_is = rw pair.image holds.image_is;
-  journal_is = rw missing (rw pair.alone at holds.redo_is);
-  redo_is = rw pair.redo holds.journal_is;
-}
-
-pub lent_back : (names : Names) (f : ReadFiles) (w : SystemState) (beside : Option ReadFiles) → AreOpenAlone names f w → w.named names.journal ≡ None
-    → AreOwnFiles w.there f → beside ≡ Some f → AreLentTexts names true beside w
-lent_back names f w beside opens missing own is = record {
-  files = f;
-  lent = is;
-  named = record { image = opens.named.image; journal = missing ∙ sym opens.named.alone; redo = opens.named.redo };
-  alone = is_alone w.there f own;
+-- files that are open are files whose texts are emptied
+pub opens_own : (names : Names) (f : ReadFiles) (w : SystemState) → AreOpenToRead names f w
+    → ((name : List ℕ) (n : ℕ) → w.named name ≡ Some n → n < w.there) → AreOpenTexts names false f w
+opens_own names f w opens within = record {
+  named = record { image = opens.named.image; journal = opens.named.journal; redo = opens.named.redo };
+  own = apart names f w opens within;
   fit = opens.fit;
 }
 
--- no more is found of the device than of the image
-pub found_back : (names : Names) (image : ℕ) (w : SystemState) (first mid : ℕ → List ℕ → Type 0) (device : List ℕ → Type 0) → w.named names.image ≡ Some image
-    → NothingNewFound first mid → NoMore (mid image) device → IsFoundOf names.image w first device
-found_back names image w first mid device named nothing_new more n is c there =
-    subst (λ k. first k c) (some_is (sym named ∙ is)) (nothing_new image c (more c there))
-
-pub lent_own : (names : Names) (w : SystemState) (beside : Option ReadFiles) → AreLent names w → ((f : ReadFiles) → LeadToRead names f w → beside ≡ Some f)
-    → AreLentTexts names false beside w
-lent_own names w beside lent is = record {
-  files = lent.files;
-  lent = is lent.files lent.named;
-  named = record { image = lent.named.image; journal = lent.named.journal; redo = lent.named.redo };
-  alone = lent.alone;
-  fit = lent.fit;
+pub opens_alone : (names : Names) (f : ReadFiles) (w : SystemState) → AreOpenAlone names f w → w.named names.journal ≡ None
+    → ((name : List ℕ) (n : ℕ) → w.named name ≡ Some n → n < w.there) → AreOpenTexts names true f w
+opens_alone names f w opens missing within = record {
+  named = record { image = opens.named.image; journal = missing ∙ sym opens.named.alone; redo = opens.named.redo };
+  own = apart_alone names f w opens within;
+  fit = opens.fit;
 }
 
-pub found_own : (names : Names) (w : SystemState) (found : ℕ → List ℕ → Type 0) (device : List ℕ → Type 0) → AreLent names w
-    → ((f : ReadFiles) → LeadToRead names f w → NoMore (found f.image) device) → IsFoundOf names.image w found device
-found_own names w found device lent more n is =
-    subst (λ k. NoMore (found k) device) (some_is (sym lent.named.image ∙ is)) (more lent.files lent.named)
+-- Of files that are open, and their devices, which are put in their own places.
+module _ {D T : Type 0} (d : DeviceViews D) (t : StoreViews T) (exchanged : Bool) (x : Devices D T) where
+  pub below_placed : (limit : ℕ) → AreBelow d t limit x → AreBelow d t limit (in_places exchanged x)
+  below_placed limit below = by exchanged
+    where
+      by : (e : Bool) → AreBelow d t limit (in_places e x)
+      by false = below
+      by true = (below.0, below.2, below.1)
+
+  pub lends_placed : (names : Names) (f : ReadFiles) (beside : Option ReadFiles) (found mid : ℕ → List ℕ → Type 0) (w : SystemState)
+      → beside ≡ Some f → AreOpenTexts names exchanged f w → HoldNumbered d t f w x → NothingNewFound found mid
+      → NoMore (mid f.image) (d.survives x.image)
+      → LendsTexts d t names (record { devices = in_places exchanged x; exchanged = exchanged }) beside found w
+  lends_placed names f beside found mid w lent opened holds nothing_new more = record {
+    files = f;
+    lent = lent;
+    opened = opened;
+    alone = is_alone w.there f opened.own;
+    held = rw (opened.named.image, opened.named.journal, opened.named.redo) (holds_placed exchanged f (in_places exchanged x) x.image x.journal x.redo refl
+        d t w holds.image_faithful holds.image_is (holds.journal_faithful, holds.journal_is) (holds.redo_faithful, holds.redo_is));
+    found_before = λ c there. nothing_new f.image c (more c there);
+  }
 
 -- the system tells of a file that a name leads to, and of none where it leads to none
 pub told_missing : (w : SystemState) (name : List ℕ) (found : Option Stat) → found ≡ stat_named w name → found ≡ None → w.named name ≡ None

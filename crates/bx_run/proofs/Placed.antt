@@ -1,10 +1,15 @@
 -- Files that are lent, as the texts that are emptied: where the redo text stands in the place of the journal, the two change places.
+use Rattle.std.specs.Prelude.{if◌then◌else◌}
 use Rattle.std.proofs.Common.{◌≡◌, ◌∙◌, ℕ, Bool, true, false, List, Option, Some, refl, sym, ap, subst, arith}
 use Rattle.bx_image.specs.Power.{NoMore}
-use Rattle.bx_world.specs.World.{ClosesTexts, IsNoText, IsNoneRead, NothingNewSpared, ReadFiles, SystemState, Spares}
+use Rattle.bx_image.specs.declared.device.Device.{Ghosts as DeviceViews}
+use Rattle.bx_journal_store.specs.declared.store.TextStore.{Ghosts as StoreViews}
+use Rattle.bx_journal.specs.Devices.{Devices}
+use Rattle.bx_world.specs.World.{ClosesTexts, IsNoText, IsNoneRead, NothingNewSpared, ReadFiles, SystemState, Spares, bytes_if}
 use Rattle.bx_world.specs.files.Reading.{LeadToRead}
 use Rattle.bx_world.specs.declared.files.names.Names.{Names}
-use Rattle.bx_run.specs.forget.Forgetting.{LeadToTexts, TextFiles, texts_of}
+use Rattle.bx_run_report.specs.report.Devices.{HoldBytes}
+use Rattle.bx_run.specs.forget.Forgetting.{LeadToTexts, TextFiles, in_places, texts_of}
 use Rattle.bx_run.proofs.Emptied.{IsNeither, spares_bytes}
 
 some_is : {X : Type 0} {x y : X} → Some x ≡ Some y → x ≡ y
@@ -49,6 +54,33 @@ module _ (exchanged : Bool) (f : ReadFiles) where
   pub others_texts : (found left : ℕ → List ℕ → Type 0) → NothingNewSpared (IsNoneRead f) found left
       → NothingNewSpared (λ n. (n ≡ f.image → ⊥) × IsNeither (texts_of exchanged f) n) found left
   others_texts found left p n (other, q) = p n (other, no_text n q)
+
+-- Of devices that are put from the places of the files into their own.
+module _ {D T : Type 0} (exchanged : Bool) (f : ReadFiles) (y : Devices D T) (i : D) (j r : T)
+    (is : y ≡ in_places exchanged (record { image = i; journal = j; redo = r })) where
+  -- what is said of each text and of its file
+  pub to_places : (P : Option ℕ → T → Type 0) → P (Some f.journal) j → P f.redo r
+      → P (texts_of exchanged f).journal y.journal × P (texts_of exchanged f).redo y.redo
+  to_places P journal redo = rw is (by exchanged)
+    where
+      by : (e : Bool) → P (texts_of e f).journal (if e then r else j) × P (texts_of e f).redo (if e then j else r)
+      by false = (journal, redo)
+      by true = (redo, journal)
+
+  -- and what they hold
+  pub holds_placed : (d : DeviceViews D) (t : StoreViews T) (w : SystemState) → d.faithful i → d.image i ≡ w.bytes f.image
+      → t.faithful j × (t.text j ≡ w.bytes f.journal) → t.faithful r × (t.text r ≡ bytes_if w f.redo)
+      → HoldBytes d t (w.bytes f.image) (bytes_if w (texts_of exchanged f).journal) (bytes_if w (texts_of exchanged f).redo) y
+  holds_placed d t w faithful image journal redo =
+      let texts = to_places (λ o x. t.faithful x × (t.text x ≡ bytes_if w o)) journal redo in
+      record {
+        image_faithful = rw is faithful;
+        journal_faithful = texts.0.0;
+        redo_faithful = texts.1.0;
+        image_is = rw is image;
+        journal_is = texts.0.1;
+        redo_is = texts.1.1;
+      }
 
 -- The text in the place of the journal.
 module _ (f : ReadFiles) where

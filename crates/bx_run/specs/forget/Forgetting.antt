@@ -1,6 +1,9 @@
 -- Forgetting the changes of an image, by the names of its files.
 use Rattle.std.specs.Prelude.{◌≡◌, ◌⊎◌, ◌<◌, ℕ, Bool, true, false, not, ◌||◌, List, [], ◌∷◌, Option, None, Some, Result, Ok, Err, if◌then◌else◌}
 use Rattle.bx_image.specs.Power.{NoMore, Only}
+use Rattle.bx_image.specs.declared.device.Device.{Ghosts as DeviceViews}
+use Rattle.bx_journal_store.specs.declared.store.TextStore.{Ghosts as StoreViews}
+use Rattle.bx_journal.specs.Devices.{Devices}
 use Rattle.bx_journal.specs.Forgotten.{FadesInOrder, IsWhole, LeavesTexts, OfSome, only}
 use Rattle.bx_journal.specs.Images.{Images}
 use Rattle.bx_journal.specs.Phase.{IsAtRest}
@@ -14,12 +17,14 @@ use Rattle.bx_journal_image.specs.declared.judging.judge.Verdict.{Verdict}
 use Rattle.bx_journal_image.specs.declared.judging.judge.Verdict.TheVariants.{Same, Other, Untold}
 use Rattle.bx_journal_image.specs.declared.line.form.ImageLine.{ImageLine}
 use Rattle.bx_cli_commands.specs.declared.fault.Fault.TheVariants.{Session}
-use Rattle.bx_world.specs.World.{IsNoText, NothingNewFound, ReadFiles, SystemState, Spares, bytes_if, held}
-use Rattle.bx_world.specs.files.Reading.{AreReadable, LeadToRead, MayRefuseForgetting}
+use Rattle.bx_world.specs.World.{AreOwnFiles, IsNoText, NothingNewFound, ReadFiles, SystemState, Spares, bytes_if, held}
+use Rattle.bx_world.specs.files.Reading.{AreReadable, MayRefuseForgetting}
 use Rattle.bx_world.specs.declared.files.guard.Guard.{Guard}
 use Rattle.bx_world.specs.declared.files.names.Names.{Names}
+use Rattle.bx_run_report.specs.report.Devices.{HoldFiles}
 use Rattle.bx_run_report.specs.report.Noted.{IsLineIn}
 use Rattle.bx_run_report.specs.report.Looks.{HidesChanges, StopsOpening}
+use Rattle.bx_run.specs.declared.forget.forgotten.Lent.{Lent}
 use Rattle.bx_run_report.specs.declared.report.error.ReportError.{ReportError}
 use Rattle.bx_run_report.specs.declared.report.error.ReportError.TheVariants.{Unopened, Unfinished, Another, Stopped}
 
@@ -106,6 +111,14 @@ texts_of exchanged f = record {
   redo = if exchanged then Some f.journal else f.redo;
 }
 
+-- their devices, put from the places of the files into their own, or back: there the two change places too
+abbrev pub in_places : {D T : Type 0} → Bool → Devices D T → Devices D T
+in_places exchanged x = record {
+  image = x.image;
+  journal = if exchanged then x.redo else x.journal;
+  redo = if exchanged then x.journal else x.redo;
+}
+
 -- what the files of these numbers hold
 abbrev pub held_by_numbers : TextFiles → SystemState → Held
 held_by_numbers f w = record { image = w.bytes f.image; journal = bytes_if w f.journal; redo = bytes_if w f.redo }
@@ -173,24 +186,22 @@ SurvivesForgetting names (Err unseen) old found left = NothingNewFound found lef
 abbrev pub IsAlone : ReadFiles → Type 0
 IsAlone f = IsNoText f f.image
 
--- the names lead to files that may be read, and the image is neither of its texts
-pub record AreLent (names : Names) (w : SystemState) : Type 0 where
-  pub files : ReadFiles
-  pub named : LeadToRead names files w
-  pub alone : IsAlone files
+-- Files of these names are open, so that their texts are emptied: where the journal is missing the redo text stands in its place. Each is there, and a
+-- file of its own, and they may be read
+pub record AreOpenTexts (names : Names) (exchanged : Bool) (f : ReadFiles) (w : SystemState) : Type 0 where
+  pub named : LeadToTexts names (texts_of exchanged f) w
+  pub own : AreOwnFiles w.there f
   pub fit : AreReadable names w
 
--- The files that are lent, where the redo text stands in the place of a journal that is missing or not, and the names lead to them; they may be read
-pub record AreLentTexts (names : Names) (exchanged : Bool) (beside : Option ReadFiles) (w : SystemState) : Type 0 where
+-- They are lent to be read: the devices, in their own places, hold what the files do, and no more is found of the image's than of the image
+pub record LendsTexts {D T : Type 0} (d : DeviceViews D) (t : StoreViews T) (names : Names) (l : Lent D T) (beside : Option ReadFiles)
+    (found : ℕ → List ℕ → Type 0) (w : SystemState) : Type 0 where
   pub files : ReadFiles
   pub lent : beside ≡ Some files
-  pub named : LeadToTexts names (texts_of exchanged files) w
+  pub opened : AreOpenTexts names l.exchanged files w
   pub alone : IsAlone files
-  pub fit : AreReadable names w
-
--- what may be found of a device is what may be found of the image to which the name leads
-abbrev pub IsFoundOf : List ℕ → SystemState → (ℕ → List ℕ → Type 0) → (List ℕ → Type 0) → Type 0
-IsFoundOf name w found device = (n : ℕ) → w.named name ≡ Some n → NoMore (found n) device
+  pub held : HoldFiles d t names w l.devices
+  pub found_before : NoMore (found files.image) (d.survives l.devices.image)
 
 -- What emptying the texts of files that are lent leaves: empty texts; fronts of them, where it was stopped in the middle; or all as it was
 abbrev pub Empties : TextFiles → Result (Unit {0}) SessionFault → SystemState → SystemState → Type 0

@@ -3,10 +3,10 @@ ghost use Rattle.std.specs.Prelude.{◌≡◌, ◌↔◌, ◌<◌, ◌≤◌, �
 ghost use Rattle.bx_image.specs.Power.{NoMore};
 ghost use Rattle.bx_journal.specs.ThreeDevices.{AreBelow};
 ghost use Rattle.bx_world.specs.World.{AreOwnFiles, ClosesTexts, IsNoText, IsNoneRead, NothingNewFound, NothingNewSpared, ReadFiles, Spares, TextsLeft, bytes_if, failed_calls, number_if};
-ghost use Rattle.bx_world.specs.files.Reading.{AreReadable, LeadToRead, MayRefuseForgetting, MayRefuseReading, StaysSeen, numbers_read, AreLockedAs};
-ghost use Rattle.bx_world.specs.files.Reasons.{IsReason, IsRefusedFor, NoneUnfit};
-ghost use Rattle.bx_run_report.specs.report.Devices.{HoldFiles, HoldNumbered};
-ghost use Rattle.bx_run.specs.forget.Forgetting.{AreLent, AreLentTexts, DropsNote, Empties, HasForgotten, LeavesNote, IsAlone, IsFoundOf, IsNoTextNamed, MayForgetNamed, StopsForgetting, SurvivesEmptying, SurvivesForgetting, held_by_names, texts_of};
+ghost use Rattle.bx_world.specs.files.Reading.{AreReadable, MayRefuseForgetting, StaysSeen, numbers_read, AreLockedAs};
+ghost use Rattle.bx_world.specs.files.Reasons.{IsReason, NoneUnfit};
+ghost use Rattle.bx_run_report.specs.report.Devices.{HoldNumbered};
+ghost use Rattle.bx_run.specs.forget.Forgetting.{AreOpenTexts, DropsNote, Empties, HasForgotten, LeavesNote, LendsTexts, IsAlone, IsNoTextNamed, MayForgetNamed, StopsForgetting, SurvivesEmptying, SurvivesForgetting, held_by_names, in_places, texts_of};
 ghost use Rattle.bx_run_report.specs.report.Looks.{is_look_failed, unopened_in};
 ghost use Rattle.bx_run_model.specs.Failures.{CountsFailure};
 
@@ -17,7 +17,7 @@ use bx_journal::{Devices, SessionFault, forget_devices};
 use bx_journal_store::TextStore;
 use bx_run_report::{ReportError, Seen, close, read_note_line};
 use bx_world::{
-    FileRole, Guard, Looked, Names, OpenError, Refusal, World, open_redo_to_forget, open_to_forget,
+    FileRole, Guard, Looked, Names, OpenError, World, open_redo_to_forget, open_to_forget,
 };
 use std::alloc::Global;
 
@@ -92,56 +92,17 @@ fn lend_files<W: World>(
     }
 }
 
-/// Opens the files of these names, the texts to change them, and lends them to be read.
-fn lend_named<W: World>(
+/// Opens the files of these names, the texts to change them. A redo text whose journal is missing is opened in the journal's place.
+fn open_texts<W: World>(
     world: &mut W,
     names: &Names,
-) -> Result<Devices<W::Image, W::Text>, OpenError>
-    ensures below { IfOk result (AreBelow W.Image.Device W.Text.TextStore u64.MAX) }
-    ensures unfailed { IfOk result (λ d. W.Image.failures d.image ≡ 0) }
-    ensures held { W.faithful world.old → IfOk result (HoldFiles W.Image.Device W.Text.TextStore names.now (W.state world.old)) }
-    ensures beside { W.faithful world.old
-        → OnOk result ((f : ReadFiles) → LeadToRead names.now f (W.state world.old) → W.beside world.new ≡ Some f) }
-    ensures opened { W.faithful world.old → OnOk result (AreLent names.now (W.state world.old)) }
-    ensures found { W.faithful world.old → IfOk result (λ d. (f : ReadFiles) → LeadToRead names.now f (W.state world.old)
-        → NoMore (W.survives world.old f.image) (W.Image.survives d.image)) }
-    ensures why { W.faithful world.old
-        → IfErr result (MayRefuseReading names.now (W.refusals world.old < W.refusals world.new) (W.state world.old)) }
-    ensures calm { W.faithful world.old → OnOk result (W.refusals world.new ≡ W.refusals world.old) }
-    ensures seen { W.faithful world.old → StaysSeen W.state W.survives world.old world.new }
-    ensures note { W.faithful world.old → W.note world.new ≡ W.note world.old }
-    ensures faith { W.faithful world.new ↔ W.faithful world.old }
-{
-    let looked = match open_to_forget(world, names) {
-        Ok(looked) => looked,
-        Err(unopened) => return Err(unopened),
-    };
-    lend_files(world, looked)
-}
-
-/// A text was opened in the place of a journal that is missing: the devices, in their own places.
-fn put_back<D: Device, T: TextStore>(devices: Devices<D, T>) -> Lent<D, T>
-    ensures { result ≡ record { devices = record { image = devices.image; journal = devices.redo; redo = devices.journal }; exchanged = true } }
-{
-    Lent {
-        devices: Devices {
-            image: devices.image,
-            journal: devices.redo,
-            redo: devices.journal,
-        },
-        exchanged: true,
-    }
-}
-
-/// The same of files whose journal is missing: the redo text is opened, and lent in the place of the journal.
-fn lend_alone<W: World>(world: &mut W, names: &Names) -> Result<Lent<W::Image, W::Text>, OpenError>
-    requires missing { W.faithful world.old → (W.state world.old).named names.now.journal ≡ None }
-    ensures below { IfOk result (λ l. AreBelow W.Image.Device W.Text.TextStore u64.MAX l.devices) }
-    ensures unfailed { IfOk result (λ l. W.Image.failures l.devices.image ≡ 0) }
-    ensures held { W.faithful world.old → IfOk result (λ l. HoldFiles W.Image.Device W.Text.TextStore names.now (W.state world.old) l.devices) }
-    ensures opened { W.faithful world.old → IfOk result (λ l. AreLentTexts names.now l.exchanged (W.beside world.new) (W.state world.old)) }
-    ensures found { W.faithful world.old → IfOk result (λ l. IsFoundOf names.now.image (W.state world.old)
-        (W.survives world.old) (W.Image.survives l.devices.image)) }
+    exchanged: bool,
+) -> Result<Looked<W::File>, OpenError>
+    requires missing { W.faithful world.old → exchanged ≡ true → (W.state world.old).named names.now.journal ≡ None }
+    requires there { W.faithful world.old → exchanged ≡ false → (W.state world.old).named names.now.journal ≡ None → ⊥ }
+    ensures opens { W.faithful world.old
+        → IfOk result (λ l. AreOpenTexts names.now exchanged (numbers_read W.number l) (W.state world.old)) }
+    ensures locked { W.faithful world.old → IfOk result (AreLockedAs true W.is_locked W.is_shared) }
     ensures why { W.faithful world.old
         → IfErr result (MayRefuseForgetting names.now (W.refusals world.old < W.refusals world.new) (W.state world.old)) }
     ensures calm { W.faithful world.old → OnOk result (W.refusals world.new ≡ W.refusals world.old) }
@@ -149,76 +110,57 @@ fn lend_alone<W: World>(world: &mut W, names: &Names) -> Result<Lent<W::Image, W
     ensures note { W.faithful world.old → W.note world.new ≡ W.note world.old }
     ensures faith { W.faithful world.new ↔ W.faithful world.old }
 {
-    let looked = match open_redo_to_forget(world, names) {
+    if exchanged {
+        open_redo_to_forget(world, names)
+    } else {
+        open_to_forget(world, names)
+    }
+}
+
+/// Puts the devices of files that are lent from the places of the files into their own, or back.
+fn in_places<D: Device, T: TextStore>(devices: Devices<D, T>, exchanged: bool) -> Devices<D, T>
+    ensures { result ≡ in_places exchanged devices }
+{
+    if exchanged {
+        Devices {
+            image: devices.image,
+            journal: devices.redo,
+            redo: devices.journal,
+        }
+    } else {
+        devices
+    }
+}
+
+/// Opens the files of these names, the texts to change them, and lends them to be read. One of the texts may be missing; where it is the
+/// journal, the redo text is opened in its place, and stands in its own among the devices.
+fn lend_texts<W: World>(world: &mut W, names: &Names) -> Result<Lent<W::Image, W::Text>, OpenError>
+    ensures below { IfOk result (λ l. AreBelow W.Image.Device W.Text.TextStore u64.MAX l.devices) }
+    ensures unfailed { IfOk result (λ l. W.Image.failures l.devices.image ≡ 0) }
+    ensures lends { W.faithful world.old → IfOk result (λ l. LendsTexts W.Image.Device W.Text.TextStore names.now l
+        (W.beside world.new) (W.survives world.old) (W.state world.old)) }
+    ensures why { W.faithful world.old
+        → IfErr result (MayRefuseForgetting names.now (W.refusals world.old < W.refusals world.new) (W.state world.old)) }
+    ensures calm { W.faithful world.old → OnOk result (W.refusals world.new ≡ W.refusals world.old) }
+    ensures seen { W.faithful world.old → StaysSeen W.state W.survives world.old world.new }
+    ensures note { W.faithful world.old → W.note world.new ≡ W.note world.old }
+    ensures faith { W.faithful world.new ↔ W.faithful world.old }
+{
+    let look = match world.look(names.journal.as_str()) {
+        Ok(look) => look,
+        Err(refusal) => return Err(FileRole::Journal.refused(refusal)),
+    };
+    let exchanged = look.found.is_none();
+    let looked = match open_texts(world, names, exchanged) {
         Ok(looked) => looked,
         Err(unopened) => return Err(unopened),
     };
     match lend_files(world, looked) {
-        Ok(devices) => Ok(put_back(devices)),
-        Err(unopened) => Err(unopened),
-    }
-}
-
-/// The same of files whose journal is there.
-fn lend_own<W: World>(world: &mut W, names: &Names) -> Result<Lent<W::Image, W::Text>, OpenError>
-    requires there { W.faithful world.old → (W.state world.old).named names.now.journal ≡ None → ⊥ }
-    ensures below { IfOk result (λ l. AreBelow W.Image.Device W.Text.TextStore u64.MAX l.devices) }
-    ensures unfailed { IfOk result (λ l. W.Image.failures l.devices.image ≡ 0) }
-    ensures held { W.faithful world.old → IfOk result (λ l. HoldFiles W.Image.Device W.Text.TextStore names.now (W.state world.old) l.devices) }
-    ensures opened { W.faithful world.old → IfOk result (λ l. AreLentTexts names.now l.exchanged (W.beside world.new) (W.state world.old)) }
-    ensures found { W.faithful world.old → IfOk result (λ l. IsFoundOf names.now.image (W.state world.old)
-        (W.survives world.old) (W.Image.survives l.devices.image)) }
-    ensures why { W.faithful world.old
-        → IfErr result (MayRefuseForgetting names.now (W.refusals world.old < W.refusals world.new) (W.state world.old)) }
-    ensures calm { W.faithful world.old → OnOk result (W.refusals world.new ≡ W.refusals world.old) }
-    ensures seen { W.faithful world.old → StaysSeen W.state W.survives world.old world.new }
-    ensures note { W.faithful world.old → W.note world.new ≡ W.note world.old }
-    ensures faith { W.faithful world.new ↔ W.faithful world.old }
-{
-    match lend_named(world, names) {
         Ok(devices) => Ok(Lent {
-            devices,
-            exchanged: false,
+            devices: in_places(devices, exchanged),
+            exchanged,
         }),
         Err(unopened) => Err(unopened),
-    }
-}
-
-/// Whether a name leads to no file.
-fn is_missing<W: World>(world: &mut W, name: &str) -> Result<bool, Refusal>
-    ensures missing { W.faithful world.old → IfOk result (λ is. is ≡ true → (W.state world.old).named name.now ≡ None) }
-    ensures there { W.faithful world.old → IfOk result (λ is. is ≡ false → (W.state world.old).named name.now ≡ None → ⊥) }
-    ensures why { W.faithful world.old → IfErr result (IsRefusedFor ⊥ (W.refusals world.old < W.refusals world.new)) }
-    ensures calm { W.faithful world.old → OnOk result (W.refusals world.new ≡ W.refusals world.old) }
-    ensures seen { W.faithful world.old → StaysSeen W.state W.survives world.old world.new }
-    ensures note { W.faithful world.old → W.note world.new ≡ W.note world.old }
-    ensures faith { W.faithful world.new ↔ W.faithful world.old }
-{
-    match world.look(name) {
-        Ok(look) => Ok(look.found.is_none()),
-        Err(refusal) => Err(refusal),
-    }
-}
-
-/// Opens the files of these names, the texts to change them, and lends them to be read. One of the texts may be missing.
-fn lend_texts<W: World>(world: &mut W, names: &Names) -> Result<Lent<W::Image, W::Text>, OpenError>
-    ensures below { IfOk result (λ l. AreBelow W.Image.Device W.Text.TextStore u64.MAX l.devices) }
-    ensures unfailed { IfOk result (λ l. W.Image.failures l.devices.image ≡ 0) }
-    ensures held { W.faithful world.old → IfOk result (λ l. HoldFiles W.Image.Device W.Text.TextStore names.now (W.state world.old) l.devices) }
-    ensures opened { W.faithful world.old → IfOk result (λ l. AreLentTexts names.now l.exchanged (W.beside world.new) (W.state world.old)) }
-    ensures found { W.faithful world.old → IfOk result (λ l. IsFoundOf names.now.image (W.state world.old)
-        (W.survives world.old) (W.Image.survives l.devices.image)) }
-    ensures why { W.faithful world.old
-        → IfErr result (MayRefuseForgetting names.now (W.refusals world.old < W.refusals world.new) (W.state world.old)) }
-    ensures calm { W.faithful world.old → OnOk result (W.refusals world.new ≡ W.refusals world.old) }
-    ensures seen { W.faithful world.old → StaysSeen W.state W.survives world.old world.new }
-    ensures note { W.faithful world.old → W.note world.new ≡ W.note world.old }
-    ensures faith { W.faithful world.new ↔ W.faithful world.old }
-{
-    match is_missing(world, names.journal.as_str()) {
-        Ok(true) => lend_alone(world, names),
-        Ok(false) => lend_own(world, names),
-        Err(refusal) => Err(FileRole::Journal.refused(refusal)),
     }
 }
 

@@ -10,15 +10,15 @@ use Rattle.bx_run.proofs.forget.forgotten.forget_files.Goals as goal
 
 pub empty_texts-requires-clause-image : goal.empty_texts-requires-clause-image
 empty_texts-requires-clause-image g c mid =
-    (done _ _ _ c.in-Ok-outcome.is (c.judge-devices.ensures.image _ _ _ (c.in-Ok.ensures.held (c.lend_texts.ensures.faith.0 (c.read_note_line-known.ensures.faith.0 mid))))).0
+    (done _ _ _ c.in-Ok-outcome.is (c.judge-devices.ensures.image _ _ _ (c.in-Ok.ensures.lends (c.lend_texts.ensures.faith.0 (c.read_note_line-known.ensures.faith.0 mid))).held)).0
 
 pub returns-in-Ok-empty_texts-clause-may : goal.returns-in-Ok-empty_texts-clause-may
-returns-in-Ok-empty_texts-clause-may g c old = done _ _ _ c.in-Ok-outcome.is (c.judge-devices.ensures.may _ _ _ _ (c.in-Ok.ensures.held old) (subst (λ note. IsNoteLine note c.read_note_line-known.result) (c.lend_texts.ensures.note old)
+returns-in-Ok-empty_texts-clause-may g c old = done _ _ _ c.in-Ok-outcome.is (c.judge-devices.ensures.may _ _ _ _ (c.in-Ok.ensures.lends old).held (subst (λ note. IsNoteLine note c.read_note_line-known.result) (c.lend_texts.ensures.note old)
     (c.read_note_line-known.ensures.told (c.lend_texts.ensures.faith.1 old))))
 
 pub returns-in-Ok-empty_texts-clause-done : goal.returns-in-Ok-empty_texts-clause-done
 returns-in-Ok-empty_texts-clause-done g c old =
-    let lent = c.in-Ok.ensures.opened old in
+    let lent = c.in-Ok.ensures.lends old in
     let lent_then = c.lend_texts.ensures.faith.1 old in
     let mid = c.read_note_line-known.ensures.faith.1 lent_then in
     let beside = c.read_note_line-known.ensures.beside lent_then ∙ lent.lent in
@@ -26,15 +26,15 @@ returns-in-Ok-empty_texts-clause-done g c old =
     let texts = texts_of c.in-Ok.lent.exchanged lent.files in
     let only = subst (λ w. Spares (IsNeither texts) w (g.W.World.state c.empty_texts.new.world)) same
     (as_texts c.in-Ok.lent.exchanged lent.files _ _ (c.empty_texts.ensures.only mid lent.files beside)) in
-    let image : g.W.Image.Device.image c.judge-devices.result.devices.image ≡ (g.W.World.state c.read_note_line-known.new.world).bytes lent.files.image = rw same ((done _ _ _ c.in-Ok-outcome.is (c.judge-devices.ensures.image _ _ _ (c.in-Ok.ensures.held old))).1
-    ∙ image_held c.args.names.now texts (g.W.World.state c.args.world.now) lent.named) in
-    forgotten_named c.args.names.now texts (g.W.World.state c.args.world.now) (g.W.World.state c.empty_texts.new.world) lent.named only
+    let image : g.W.Image.Device.image c.judge-devices.result.devices.image ≡ (g.W.World.state c.read_note_line-known.new.world).bytes lent.files.image = rw same ((done _ _ _ c.in-Ok-outcome.is (c.judge-devices.ensures.image _ _ _ lent.held)).1
+    ∙ image_held c.args.names.now texts (g.W.World.state c.args.world.now) lent.opened.named) in
+    forgotten_named c.args.names.now texts (g.W.World.state c.args.world.now) (g.W.World.state c.empty_texts.new.world) lent.opened.named only
     (subst (λ w. Empties texts (Ok tt) w (g.W.World.state c.empty_texts.new.world)) same
     (c.in-Ok-empty_texts.ensures.empties mid lent.files beside lent.alone image))
 
 pub returns-in-Ok-empty_texts-clause-survives : goal.returns-in-Ok-empty_texts-clause-survives
 returns-in-Ok-empty_texts-clause-survives g c old =
-    let lent = c.in-Ok.ensures.opened old in
+    let lent = c.in-Ok.ensures.lends old in
     let lent_then = c.lend_texts.ensures.faith.1 old in
     let mid = c.read_note_line-known.ensures.faith.1 lent_then in
     let beside = c.read_note_line-known.ensures.beside lent_then ∙ lent.lent in
@@ -42,20 +42,20 @@ returns-in-Ok-empty_texts-clause-survives g c old =
     let texts = texts_of c.in-Ok.lent.exchanged lent.files in
     let only = subst (λ w. Spares (IsNeither texts) w (g.W.World.state c.empty_texts.new.world)) same
     (as_texts c.in-Ok.lent.exchanged lent.files _ _ (c.empty_texts.ensures.only mid lent.files beside)) in
-    let image : g.W.Image.Device.image c.judge-devices.result.devices.image ≡ (g.W.World.state c.read_note_line-known.new.world).bytes lent.files.image = rw same ((done _ _ _ c.in-Ok-outcome.is (c.judge-devices.ensures.image _ _ _ (c.in-Ok.ensures.held old))).1
-    ∙ image_held c.args.names.now texts (g.W.World.state c.args.world.now) lent.named) in
-    let found = done _ _ _ c.in-Ok-outcome.is (c.judge-devices.ensures.found_before _ _ _ (c.in-Ok.ensures.held old)) in
-    survived_all c.args.names.now texts (g.W.World.state c.args.world.now) (g.W.World.state c.empty_texts.new.world) lent.named only
+    let image : g.W.Image.Device.image c.judge-devices.result.devices.image ≡ (g.W.World.state c.read_note_line-known.new.world).bytes lent.files.image = rw same ((done _ _ _ c.in-Ok-outcome.is (c.judge-devices.ensures.image _ _ _ lent.held)).1
+    ∙ image_held c.args.names.now texts (g.W.World.state c.args.world.now) lent.opened.named) in
+    let found = done _ _ _ c.in-Ok-outcome.is (c.judge-devices.ensures.found_before _ _ _ lent.held) in
+    survived_all c.args.names.now texts (g.W.World.state c.args.world.now) (g.W.World.state c.empty_texts.new.world) lent.opened.named only
     (g.W.Image.Device.survives c.judge-devices.result.devices.image) (g.W.World.survives c.args.world.now)
     (g.W.World.survives c.read_note_line-known.new.world) (g.W.World.survives c.empty_texts.new.world)
-    (λ x is. c.in-Ok.ensures.found old lent.files.image lent.named.image x (found x is)) (λ n x is. (c.lend_texts.ensures.seen old).nothing_new n x ((c.read_note_line-known.ensures.seen lent_then).nothing_new n x is))
+    (λ x is. lent.found_before x (found x is)) (λ n x is. (c.lend_texts.ensures.seen old).nothing_new n x ((c.read_note_line-known.ensures.seen lent_then).nothing_new n x is))
     (subst (λ w. SurvivesEmptying texts (Ok tt) w (g.W.Image.Device.survives c.judge-devices.result.devices.image)
     (g.W.World.survives c.read_note_line-known.new.world) (g.W.World.survives c.empty_texts.new.world)) same
     (c.in-Ok-empty_texts.ensures.survives mid lent.files beside lent.alone image))
 
 pub returns-in-Ok-empty_texts-clause-others : goal.returns-in-Ok-empty_texts-clause-others
 returns-in-Ok-empty_texts-clause-others g c old =
-    let lent = c.in-Ok.ensures.opened old in
+    let lent = c.in-Ok.ensures.lends old in
     let lent_then = c.lend_texts.ensures.faith.1 old in
     let mid = c.read_note_line-known.ensures.faith.1 lent_then in
     let beside = c.read_note_line-known.ensures.beside lent_then ∙ lent.lent in
@@ -63,11 +63,11 @@ returns-in-Ok-empty_texts-clause-others g c old =
     let texts = texts_of c.in-Ok.lent.exchanged lent.files in
     let only = subst (λ w. Spares (IsNeither texts) w (g.W.World.state c.empty_texts.new.world)) same
     (as_texts c.in-Ok.lent.exchanged lent.files _ _ (c.empty_texts.ensures.only mid lent.files beside)) in
-    others_named c.args.names.now texts (g.W.World.state c.args.world.now) (g.W.World.state c.empty_texts.new.world) lent.named only
+    others_named c.args.names.now texts (g.W.World.state c.args.world.now) (g.W.World.state c.empty_texts.new.world) lent.opened.named only
 
 pub returns-in-Err-empty_texts-clause-stopped : goal.returns-in-Err-empty_texts-clause-stopped
 returns-in-Err-empty_texts-clause-stopped g c old =
-    let lent = c.in-Ok.ensures.opened old in
+    let lent = c.in-Ok.ensures.lends old in
     let lent_then = c.lend_texts.ensures.faith.1 old in
     let mid = c.read_note_line-known.ensures.faith.1 lent_then in
     let beside = c.read_note_line-known.ensures.beside lent_then ∙ lent.lent in
@@ -75,18 +75,18 @@ returns-in-Err-empty_texts-clause-stopped g c old =
     let texts = texts_of c.in-Ok.lent.exchanged lent.files in
     let only = subst (λ w. Spares (IsNeither texts) w (g.W.World.state c.empty_texts.new.world)) same
     (as_texts c.in-Ok.lent.exchanged lent.files _ _ (c.empty_texts.ensures.only mid lent.files beside)) in
-    let image : g.W.Image.Device.image c.judge-devices.result.devices.image ≡ (g.W.World.state c.read_note_line-known.new.world).bytes lent.files.image = rw same ((done _ _ _ c.in-Ok-outcome.is (c.judge-devices.ensures.image _ _ _ (c.in-Ok.ensures.held old))).1
-    ∙ image_held c.args.names.now texts (g.W.World.state c.args.world.now) lent.named) in
-    stopped_named c.args.names.now texts (g.W.World.state c.args.world.now) (g.W.World.state c.empty_texts.new.world) lent.named only
+    let image : g.W.Image.Device.image c.judge-devices.result.devices.image ≡ (g.W.World.state c.read_note_line-known.new.world).bytes lent.files.image = rw same ((done _ _ _ c.in-Ok-outcome.is (c.judge-devices.ensures.image _ _ _ lent.held)).1
+    ∙ image_held c.args.names.now texts (g.W.World.state c.args.world.now) lent.opened.named) in
+    stopped_named c.args.names.now texts (g.W.World.state c.args.world.now) (g.W.World.state c.empty_texts.new.world) lent.opened.named only
     c.args.guard (g.W.World.note c.args.world.now) (g.W.World.refusals c.args.world.now < g.W.World.refusals c.empty_texts.new.world)
-    c.in-Err-empty_texts.fault (done _ _ _ c.in-Ok-outcome.is (c.judge-devices.ensures.may _ _ _ _ (c.in-Ok.ensures.held old) (subst (λ note. IsNoteLine note c.read_note_line-known.result) (c.lend_texts.ensures.note old)
+    c.in-Err-empty_texts.fault (done _ _ _ c.in-Ok-outcome.is (c.judge-devices.ensures.may _ _ _ _ lent.held (subst (λ note. IsNoteLine note c.read_note_line-known.result) (c.lend_texts.ensures.note old)
     (c.read_note_line-known.ensures.told (c.lend_texts.ensures.faith.1 old)))))
     (subst (λ w. Empties texts (Err c.in-Err-empty_texts.fault) w (g.W.World.state c.empty_texts.new.world)) same
     (c.in-Err-empty_texts.ensures.empties mid lent.files beside lent.alone image))
 
 pub returns-in-Err-empty_texts-clause-survives : goal.returns-in-Err-empty_texts-clause-survives
 returns-in-Err-empty_texts-clause-survives g c old =
-    let lent = c.in-Ok.ensures.opened old in
+    let lent = c.in-Ok.ensures.lends old in
     let lent_then = c.lend_texts.ensures.faith.1 old in
     let mid = c.read_note_line-known.ensures.faith.1 lent_then in
     let beside = c.read_note_line-known.ensures.beside lent_then ∙ lent.lent in
@@ -94,20 +94,20 @@ returns-in-Err-empty_texts-clause-survives g c old =
     let texts = texts_of c.in-Ok.lent.exchanged lent.files in
     let only = subst (λ w. Spares (IsNeither texts) w (g.W.World.state c.empty_texts.new.world)) same
     (as_texts c.in-Ok.lent.exchanged lent.files _ _ (c.empty_texts.ensures.only mid lent.files beside)) in
-    let image : g.W.Image.Device.image c.judge-devices.result.devices.image ≡ (g.W.World.state c.read_note_line-known.new.world).bytes lent.files.image = rw same ((done _ _ _ c.in-Ok-outcome.is (c.judge-devices.ensures.image _ _ _ (c.in-Ok.ensures.held old))).1
-    ∙ image_held c.args.names.now texts (g.W.World.state c.args.world.now) lent.named) in
-    let found = done _ _ _ c.in-Ok-outcome.is (c.judge-devices.ensures.found_before _ _ _ (c.in-Ok.ensures.held old)) in
-    survived_named c.args.names.now texts (g.W.World.state c.args.world.now) (g.W.World.state c.empty_texts.new.world) lent.named only
+    let image : g.W.Image.Device.image c.judge-devices.result.devices.image ≡ (g.W.World.state c.read_note_line-known.new.world).bytes lent.files.image = rw same ((done _ _ _ c.in-Ok-outcome.is (c.judge-devices.ensures.image _ _ _ lent.held)).1
+    ∙ image_held c.args.names.now texts (g.W.World.state c.args.world.now) lent.opened.named) in
+    let found = done _ _ _ c.in-Ok-outcome.is (c.judge-devices.ensures.found_before _ _ _ lent.held) in
+    survived_named c.args.names.now texts (g.W.World.state c.args.world.now) (g.W.World.state c.empty_texts.new.world) lent.opened.named only
     (g.W.Image.Device.survives c.judge-devices.result.devices.image) (g.W.World.survives c.args.world.now)
     (g.W.World.survives c.read_note_line-known.new.world) (g.W.World.survives c.empty_texts.new.world)
-    (λ x is. c.in-Ok.ensures.found old lent.files.image lent.named.image x (found x is)) (λ n x is. (c.lend_texts.ensures.seen old).nothing_new n x ((c.read_note_line-known.ensures.seen lent_then).nothing_new n x is)) c.in-Err-empty_texts.fault
+    (λ x is. lent.found_before x (found x is)) (λ n x is. (c.lend_texts.ensures.seen old).nothing_new n x ((c.read_note_line-known.ensures.seen lent_then).nothing_new n x is)) c.in-Err-empty_texts.fault
     (subst (λ w. SurvivesEmptying texts (Err c.in-Err-empty_texts.fault) w (g.W.Image.Device.survives c.judge-devices.result.devices.image)
     (g.W.World.survives c.read_note_line-known.new.world) (g.W.World.survives c.empty_texts.new.world)) same
     (c.in-Err-empty_texts.ensures.survives mid lent.files beside lent.alone image))
 
 pub returns-in-Err-empty_texts-clause-others : goal.returns-in-Err-empty_texts-clause-others
 returns-in-Err-empty_texts-clause-others g c old =
-    let lent = c.in-Ok.ensures.opened old in
+    let lent = c.in-Ok.ensures.lends old in
     let lent_then = c.lend_texts.ensures.faith.1 old in
     let mid = c.read_note_line-known.ensures.faith.1 lent_then in
     let beside = c.read_note_line-known.ensures.beside lent_then ∙ lent.lent in
@@ -115,13 +115,13 @@ returns-in-Err-empty_texts-clause-others g c old =
     let texts = texts_of c.in-Ok.lent.exchanged lent.files in
     let only = subst (λ w. Spares (IsNeither texts) w (g.W.World.state c.empty_texts.new.world)) same
     (as_texts c.in-Ok.lent.exchanged lent.files _ _ (c.empty_texts.ensures.only mid lent.files beside)) in
-    others_named c.args.names.now texts (g.W.World.state c.args.world.now) (g.W.World.state c.empty_texts.new.world) lent.named only
+    others_named c.args.names.now texts (g.W.World.state c.args.world.now) (g.W.World.state c.empty_texts.new.world) lent.opened.named only
 
 pub returns-in-Err-outcome-clause-stopped : goal.returns-in-Err-outcome-clause-stopped
 returns-in-Err-outcome-clause-stopped g c old =
     let lent_then = c.lend_texts.ensures.faith.1 old in
     let mid = c.read_note_line-known.ensures.faith.1 lent_then in
-    let hides = failed _ _ _ c.in-Err-outcome.is (c.judge-devices.ensures.hides _ _ _ _ (c.in-Ok.ensures.held old) (subst (λ note. IsNoteLine note c.read_note_line-known.result) (c.lend_texts.ensures.note old)
+    let hides = failed _ _ _ c.in-Err-outcome.is (c.judge-devices.ensures.hides _ _ _ _ (c.in-Ok.ensures.lends old).held (subst (λ note. IsNoteLine note c.read_note_line-known.result) (c.lend_texts.ensures.note old)
     (c.read_note_line-known.ensures.told (c.lend_texts.ensures.faith.1 old)))) in
     rw c.close.ensures.outcome (hidden_stops c.args.guard (g.W.World.note c.args.world.now) c.args.names.now _ (g.W.World.state c.args.world.now) (g.W.World.state c.close.new.world)
     c.in-Err-outcome.unseen (c.close.ensures.same mid ∙ (c.read_note_line-known.ensures.seen lent_then).same ∙ (c.lend_texts.ensures.seen old).same) hides)
@@ -130,7 +130,7 @@ pub returns-in-Err-outcome-clause-survives : goal.returns-in-Err-outcome-clause-
 returns-in-Err-outcome-clause-survives g c old =
     let lent_then = c.lend_texts.ensures.faith.1 old in
     let mid = c.read_note_line-known.ensures.faith.1 lent_then in
-    let hides = failed _ _ _ c.in-Err-outcome.is (c.judge-devices.ensures.hides _ _ _ _ (c.in-Ok.ensures.held old) (subst (λ note. IsNoteLine note c.read_note_line-known.result) (c.lend_texts.ensures.note old)
+    let hides = failed _ _ _ c.in-Err-outcome.is (c.judge-devices.ensures.hides _ _ _ _ (c.in-Ok.ensures.lends old).held (subst (λ note. IsNoteLine note c.read_note_line-known.result) (c.lend_texts.ensures.note old)
     (c.read_note_line-known.ensures.told (c.lend_texts.ensures.faith.1 old)))) in
     rw c.close.ensures.outcome (hidden_survives c.args.names.now (g.W.World.state c.args.world.now) (g.W.World.survives c.args.world.now)
     (g.W.World.survives c.close.new.world) c.in-Err-outcome.unseen c.args.guard _ _ _ _ hides
