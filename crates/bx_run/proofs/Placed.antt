@@ -67,6 +67,16 @@ module _ {D T : Type 0} (exchanged : Bool) (f : ReadFiles) (y : Devices D T) (i 
       by false = (journal, redo)
       by true = (redo, journal)
 
+  -- and of devices in their own places
+  pub from_places : (P : Option ℕ → T → Type 0) → P (Some f.journal) y.journal → P f.redo y.redo
+      → P (texts_of exchanged f).journal j × P (texts_of exchanged f).redo r
+  from_places P journal redo = by exchanged (rw is at journal) (rw is at redo)
+    where
+      by : (e : Bool) → P (Some f.journal) (if e then r else j) → P f.redo (if e then j else r)
+          → P (texts_of e f).journal j × P (texts_of e f).redo r
+      by false journal redo = (journal, redo)
+      by true journal redo = (redo, journal)
+
   -- and what they hold
   pub holds_placed : (d : DeviceViews D) (t : StoreViews T) (w : SystemState) → d.faithful i → d.image i ≡ w.bytes f.image
       → t.faithful j × (t.text j ≡ w.bytes f.journal) → t.faithful r × (t.text r ≡ bytes_if w f.redo)

@@ -183,31 +183,25 @@ pub fn take_note<W: World>(world: &mut W, goes: bool)
 
 /// Closes an image and its texts, which may have been changed. Where the note goes it is dropped before: the files are locked up to then,
 /// so that no line of a later command is taken.
-fn close_texts<W: World>(
-    world: &mut W,
-    image: W::Image,
-    journal: W::Text,
-    redo: W::Text,
-    goes: bool,
-)
-    requires order { (W.Text.failures journal < 2 ^ 32) × (2 ^ 32 ≤ W.Text.failures redo) }
-    requires devices { W.faithful world.old → W.Image.faithful image × W.Text.faithful journal × W.Text.faithful redo }
+fn close_texts<W: World>(world: &mut W, devices: Devices<W::Image, W::Text>, goes: bool)
+    requires order { (W.Text.failures devices.journal < 2 ^ 32) × (2 ^ 32 ≤ W.Text.failures devices.redo) }
+    requires devices { W.faithful world.old → W.Image.faithful devices.image × W.Text.faithful devices.journal × W.Text.faithful devices.redo }
     ensures closed { W.faithful world.old → (f : ReadFiles) → W.beside world.old ≡ Some f
-        → ClosesTexts f (W.Text.text journal) (W.Text.text redo) (W.state world.old) (W.state world.new) }
+        → ClosesTexts f (W.Text.text devices.journal) (W.Text.text devices.redo) (W.state world.old) (W.state world.new) }
     ensures texts_survive { W.faithful world.old → (f : ReadFiles) → W.beside world.old ≡ Some f
-        → TextsLeft f (W.Text.survives journal) (W.Text.survives redo) (W.survives world.new) }
+        → TextsLeft f (W.Text.survives devices.journal) (W.Text.survives devices.redo) (W.survives world.new) }
     ensures image_survives { W.faithful world.old → (f : ReadFiles) → W.beside world.old ≡ Some f
-        → W.Image.image image ≡ (W.state world.old).bytes f.image → NoMore (W.Image.survives image) (W.survives world.new f.image) }
+        → W.Image.image devices.image ≡ (W.state world.old).bytes f.image → NoMore (W.Image.survives devices.image) (W.survives world.new f.image) }
     ensures others { W.faithful world.old → (f : ReadFiles) → W.beside world.old ≡ Some f
         → NothingNewSpared (IsNoneRead f) (W.survives world.old) (W.survives world.new) }
     ensures dropped { W.faithful world.old → goes ≡ true → DropsNote (0 < W.refusals world.new) (W.note world.old) (W.note world.new) }
     ensures stays { W.faithful world.old → goes ≡ false → W.note world.new ≡ W.note world.old }
-    ensures counted { W.faithful world.old
-        → W.refusals world.old + failed_calls (W.Image.failures image) (W.Text.failures journal) (W.Text.failures redo) ≤ W.refusals world.new }
+    ensures counted { W.faithful world.old → W.refusals world.old
+        + failed_calls (W.Image.failures devices.image) (W.Text.failures devices.journal) (W.Text.failures devices.redo) ≤ W.refusals world.new }
     ensures faith { W.faithful world.new ↔ W.faithful world.old }
 {
     take_note(world, goes);
-    world.close_beside(image, journal, redo);
+    world.close_beside(devices.image, devices.journal, devices.redo);
 }
 
 /// Whether the note goes behind an emptying that ended so.
@@ -221,91 +215,7 @@ fn goes_behind(outcome: &Result<(), SessionFault>, goes: bool) -> bool
     }
 }
 
-/// Lends the texts to be changed, empties them, and closes the files; the note is dropped with them where it `goes`.
-fn empty_lent<W: World>(
-    world: &mut W,
-    devices: Devices<W::Image, W::Text>,
-    goes: bool,
-) -> Result<(), SessionFault>
-    requires unfailed { W.Image.failures devices.image ≡ 0 }
-    requires image { W.faithful world.old → W.Image.faithful devices.image }
-    requires beside { W.faithful world.old → (f : ReadFiles) × (W.beside world.old ≡ Some f) }
-    ensures empties { W.faithful world.old → (f : ReadFiles) → W.beside world.old ≡ Some f → IsAlone f
-        → W.Image.image devices.image ≡ (W.state world.old).bytes f.image → Empties (texts_of false f) result (W.state world.old) (W.state world.new) }
-    ensures only { W.faithful world.old → (f : ReadFiles) → W.beside world.old ≡ Some f → Spares (IsNoText f) (W.state world.old) (W.state world.new) }
-    ensures survives { W.faithful world.old → (f : ReadFiles) → W.beside world.old ≡ Some f → IsAlone f
-        → W.Image.image devices.image ≡ (W.state world.old).bytes f.image
-        → SurvivesEmptying (texts_of false f) result (W.state world.old) (W.Image.survives devices.image) (W.survives world.old) (W.survives world.new) }
-    ensures note { W.faithful world.old → LeavesNote result goes (0 < W.refusals world.new) (W.note world.old) (W.note world.new) }
-    ensures counted { W.faithful world.old → CountsFailure (is_err result) (W.refusals world.old) (W.refusals world.new) }
-    ensures faith { W.faithful world.new ↔ W.faithful world.old }
-{
-    let Devices {
-        image,
-        journal,
-        redo,
-    } = devices;
-    // The files that were looked at, under the locks of that look: nobody comes between.
-    let (journal, redo) = world.let_change(journal, redo);
-    let mut devices = Devices {
-        image,
-        journal,
-        redo,
-    };
-    let outcome = forget_devices(&mut devices);
-    let Devices {
-        image,
-        journal,
-        redo,
-    } = devices;
-    let with_note = goes_behind(&outcome, goes);
-    close_texts(world, image, journal, redo, with_note);
-    outcome
-}
-
-/// The same of a redo text that was lent in the place of the journal.
-fn empty_alone<W: World>(
-    world: &mut W,
-    devices: Devices<W::Image, W::Text>,
-    goes: bool,
-) -> Result<(), SessionFault>
-    requires unfailed { W.Image.failures devices.image ≡ 0 }
-    requires image { W.faithful world.old → W.Image.faithful devices.image }
-    requires beside { W.faithful world.old → (f : ReadFiles) × (W.beside world.old ≡ Some f) }
-    ensures empties { W.faithful world.old → (f : ReadFiles) → W.beside world.old ≡ Some f → IsAlone f
-        → W.Image.image devices.image ≡ (W.state world.old).bytes f.image → Empties (texts_of true f) result (W.state world.old) (W.state world.new) }
-    ensures only { W.faithful world.old → (f : ReadFiles) → W.beside world.old ≡ Some f → Spares (IsNoText f) (W.state world.old) (W.state world.new) }
-    ensures survives { W.faithful world.old → (f : ReadFiles) → W.beside world.old ≡ Some f → IsAlone f
-        → W.Image.image devices.image ≡ (W.state world.old).bytes f.image
-        → SurvivesEmptying (texts_of true f) result (W.state world.old) (W.Image.survives devices.image) (W.survives world.old) (W.survives world.new) }
-    ensures note { W.faithful world.old → LeavesNote result goes (0 < W.refusals world.new) (W.note world.old) (W.note world.new) }
-    ensures counted { W.faithful world.old → CountsFailure (is_err result) (W.refusals world.old) (W.refusals world.new) }
-    ensures faith { W.faithful world.new ↔ W.faithful world.old }
-{
-    let Devices {
-        image,
-        journal,
-        redo,
-    } = devices;
-    // In the world the redo text has the journal's place, and the journal, which is missing, that of a redo text.
-    let (redo, journal) = world.let_change(redo, journal);
-    let mut devices = Devices {
-        image,
-        journal,
-        redo,
-    };
-    let outcome = forget_devices(&mut devices);
-    let Devices {
-        image,
-        journal,
-        redo,
-    } = devices;
-    let with_note = goes_behind(&outcome, goes);
-    close_texts(world, image, redo, journal, with_note);
-    outcome
-}
-
-/// Empties the texts that are lent, where they are.
+/// Lends the texts to be changed, empties them where they are, and closes the files; the note is dropped with them where it `goes`.
 fn empty_texts<W: World>(
     world: &mut W,
     devices: Devices<W::Image, W::Text>,
@@ -325,11 +235,21 @@ fn empty_texts<W: World>(
     ensures counted { W.faithful world.old → CountsFailure (is_err result) (W.refusals world.old) (W.refusals world.new) }
     ensures faith { W.faithful world.new ↔ W.faithful world.old }
 {
-    if exchanged {
-        empty_alone(world, devices, goes)
-    } else {
-        empty_lent(world, devices, goes)
-    }
+    // In the world a redo text whose journal is missing has the journal's place.
+    let lent = in_places(devices, exchanged);
+    // The files that were looked at, under the locks of that look: nobody comes between.
+    let (journal, redo) = world.let_change(lent.journal, lent.redo);
+    let changed = Devices {
+        image: lent.image,
+        journal,
+        redo,
+    };
+    let mut devices = in_places(changed, exchanged);
+    let outcome = forget_devices(&mut devices);
+    let with_note = goes_behind(&outcome, goes);
+    let closed = in_places(devices, exchanged);
+    close_texts(world, closed, with_note);
+    outcome
 }
 
 /// Drops the history of an image: its journal and its redo text are empty then, whatever they were. The image is only read, and stays as
