@@ -1,5 +1,5 @@
 //! What is known of an image before a task writes to it. The three devices are only looked at.
-ghost use Rattle.std.specs.Prelude.{◌≡◌, ◌≤◌, ◌<◌, ℕ, List, true, length, is_err, IfOk, IfErr, IfSome};
+ghost use Rattle.std.specs.Prelude.{◌≡◌, ◌≤◌, ◌<◌, ℕ, List, true, length, min, max, is_err, IfOk, IfErr, IfSome};
 ghost use Rattle.bx_image.specs.Change.{Fits, effect};
 ghost use Rattle.bx_image.specs.declared.change.TheConstants.{MAX_LEN};
 ghost use Rattle.bx_journal_format.specs.Shown.{shown};
@@ -21,6 +21,8 @@ use bx_journal_image::{
     seal, seal_steps, seal_unfinished, stand,
 };
 use bx_journal_store::TextStore;
+use bx_patch::Patch;
+use bx_text::Piece;
 use std::alloc::Global;
 use std::io::Read;
 
@@ -139,6 +141,30 @@ fn span_to(len: u64, told: Option<u64>) -> Span
     }
 }
 
+/// The greatest length that an image of `len` bytes has while pieces are written to it.
+fn longest_with(pieces: &[Piece], len: u64) -> u64
+    ensures { len ≤ result }
+{
+    let mut longest = len;
+    for piece in pieces {
+        let count = piece.bytes.as_slice().len() as u64;
+        longest = longest.max(piece.at.saturating_add(count));
+    }
+    longest
+}
+
+/// The lengths between which the change of a patch leaves an image of `len` bytes that agrees with it: behind a length that the patch tells
+/// it writes nothing.
+fn span_of_patch(patch: &Patch, len: u64) -> Span
+    ensures spans { Spans len result }
+    ensures told { IfSome patch.now.lengths (λ l. result ≡ record { least = min len l.new; most = max len l.new }) }
+{
+    match patch.lengths {
+        Some(lengths) => Span::between(len, lengths.new),
+        None => Span::between(len, longest_with(patch.written.as_slice(), len)),
+    }
+}
+
 /// The lengths between which a task of one step leaves an image, by what is found of it.
 fn span_of<R: Read>(task: &Task<R>, found: &AtRest) -> Span
     ensures { Spans found.now.standing.length result }
@@ -148,14 +174,16 @@ fn span_of<R: Read>(task: &Task<R>, found: &AtRest) -> Span
         Task::Run(Command::Undo { .. }) => span_to(len, found.before),
         Task::Run(Command::Redo { .. }) => span_to(len, found.after),
         Task::Put(Ok(change)) | Task::Keep(Kept::Change(change)) => span_of_change(change, len),
+        Task::Keep(Kept::Patch(patch)) | Task::Run(Command::Patch { patch }) => {
+            span_of_patch(patch, len)
+        }
+        // What these ask isn't read before the task. The program asks for none of them: it reads first.
         Task::Put(Err(_))
-        | Task::Keep(Kept::Patch(_))
         | Task::Run(
             Command::Revert { .. }
             | Command::RevertPlain { .. }
             | Command::Dd { .. }
-            | Command::Copy { .. }
-            | Command::Patch { .. },
+            | Command::Copy { .. },
         ) => Span::any(),
     }
 }
