@@ -727,11 +727,11 @@ What is unfinished, and nothing tells on which image it was begun:
 
   $ bx forget begun
   bx: the image was changed since
-  hint: begun: begun.bxj has a change that is unfinished, and nothing tells whether it was begun on this image; bx undo -k 0 begun takes it back first, and --anyway drops it without
+  hint: begun: begun.bxj has a change that is unfinished, and nothing tells whether it was begun on this image: if it was, bx undo -k 0 begun takes it back first; if not, --anyway drops it and leaves the image
   [1]
   $ bx revert --fresh begun <<< '0: 41'
   bx: the image was changed since
-  hint: begun: begun.bxj has a change that is unfinished, and nothing tells whether it was begun on this image; bx undo -k 0 begun takes it back first, and --anyway drops it without
+  hint: begun: begun.bxj has a change that is unfinished, and nothing tells whether it was begun on this image: if it was, bx undo -k 0 begun takes it back first; if not, --anyway drops it and leaves the image
   [1]
 
 ## After a success

@@ -267,7 +267,7 @@ fn another_text(alloc: Global, job: Option<&Job>, is_told: bool) -> Result<Strin
         );
     }
     format!(in alloc;
-        "{journal} has a change that is unfinished, and nothing tells whether it was begun on this image; bx undo -k 0{operands} takes it back first, and --anyway drops it without"
+        "{journal} has a change that is unfinished, and nothing tells whether it was begun on this image: if it was, bx undo -k 0{operands} takes it back first; if not, --anyway drops it and leaves the image"
     )
 }
 
