@@ -14,6 +14,9 @@ another: the image is built anew, in the same length, longer or shorter, or is m
 another one but what the next command was asked for, or all files are as they were; and once the right image is put back it is
 recovered. A command that was done, and killed before it put its line, leaves nothing that tells an undo of the other image.
 
+lengths: the command touches all blocks, and the image is built anew in a length that it can't have left: the same holds; and on the right
+image the next command is never 48.
+
 texts: the third text is of an older form, cut, zeros, of another length, out of order, a link, or another's: nothing is lost, and
 what isn't bx's stays.
 
@@ -88,21 +91,28 @@ def dump(*pieces):
     return "".join(f"{at:x}: {piece.hex()}\n" for at, piece in pieces).encode()
 
 
+def whole_dump(content):
+    """The text of a dump of all of it, in lines of 256 bytes."""
+    return dump(*((at, content[at:at + 256]) for at in range(0, len(content), 256)))
+
+
 class Setting:
     """An image with a history, and a command on it: what it reads, and the images that may be found when it was stopped."""
 
-    def __init__(self, room, rng, length, words):
-        self.words, self.rng, self.length = words, rng, length
+    def __init__(self, room, rng, length, words, whole=False):
+        self.words, self.rng, self.length, self.whole = words, rng, length, whole
         self.given = b""
         room.put({"img": rng.randbytes(length)})
         for at, count in ((0, 3), (length // 2, 5), (length // 3, 2)):
-            room.run("revert img", dump((at, rng.randbytes(count))))
+            room.run("revert img", whole_dump(rng.randbytes(length + 20 * count)) if whole else dump((at, rng.randbytes(count))))
         if words.startswith("redo"):
             room.run("undo -k 3 img")
         if words.startswith("revert"):
             self.given = dump((length // 4, rng.randbytes(2)), (length // 5, rng.randbytes(3)))
+        if words.startswith("revert") and whole:
+            self.given = whole_dump(rng.randbytes(length + 190))
         if words.startswith("dd"):
-            self.given = rng.randbytes(min(40, length // 4 + 1))
+            self.given = rng.randbytes(length + 190 if whole else min(40, length // 4 + 1))
         if words.startswith("patch"):
             self.given = self.patch(room)
         self.before = room.held()
@@ -110,9 +120,10 @@ class Setting:
         self.counts = room.calls(words, self.given)
 
     def patch(self, room):
-        """A patch that makes the image two bytes longer."""
+        """A patch that makes the image two bytes longer, or 190 where it writes all of it."""
         old = room.held()["img"]
-        room.put({**room.held(), "old": old, "new": old[:5] + b"xy" + old[7:] + b"zz"})
+        new = self.rng.randbytes(len(old) + 190) if self.whole else old[:5] + b"xy" + old[7:] + b"zz"
+        room.put({**room.held(), "old": old, "new": new})
         text = room.run("diff old new")[1].encode()
         room.put(room.held())
         return text
@@ -286,6 +297,26 @@ def on_other_disk(room, left, words, image):
         yield f"{told}, though something is unfinished"
 
 
+def lengths(room, setting, left):
+    """What goes wrong on the right image, and on one of a length that the command can't have left."""
+    yield from right(room, setting, left)
+    if not is_unfinished(left):
+        return
+    made = [len(image) for image in setting.images]
+    for name, count in (("longer", max(made) + 100), ("shorter", min(made) - 7)):
+        image = setting.rng.randbytes(count)
+        for words in NEXT:
+            files = {**left, "img": image}
+            room.put(files)
+            status, _, said = room.run(words, given_to(words))
+            after = room.held()
+            goes_on = words.startswith(("forget", "log")) or "--fresh" in words
+            if after["img"] != (image if status else asked_of(words, image)) or status and texts_of(after) != texts_of(files):
+                yield f"{name}, {words}: status {status}, {said!r}, other files"
+            elif not status and not goes_on:
+                yield f"{name}, {words}: it is done, though something is unfinished"
+
+
 def lines(left):
     """Third texts that aren't the line that a command left."""
     line = left.get("img.bxj.image", b"")
@@ -319,22 +350,24 @@ def texts(room, setting, left):
             yield f"{name}: it is gone"
 
 
-def commands(length):
+def commands(length, check):
     """The commands that are killed, on an image of this length."""
+    if check == "lengths":
+        return ["revert img", "dd of=img", "dd of=img conv=notrunc", "patch img", "undo img", "undo -k 3 img", "redo img", "redo -k 3 img"]
     front = "dd of=img obs=1 seek="
     return ["revert img", f"{front}{length * 3 // 4} conv=notrunc", f"{front}{length - length // 40 - 1}", f"{front}{length * 3 // 4}",
             "patch img", "undo img", "undo -k 3 img", "redo img", "redo -k 3 img", "revert --fresh img"]
 
 
-CHECKS = {"right": right, "another": another, "texts": texts}
-LENGTHS = {"right": (33, 400, 131071, 131072), "another": (400, 131072), "texts": (400,)}
+CHECKS = {"right": right, "another": another, "lengths": lengths, "texts": texts}
+LENGTHS = {"right": (33, 400, 131071, 131072), "another": (400, 131072), "lengths": (400,), "texts": (400,)}
 
 
 def played(options, check, words, length):
     """The lines of what goes wrong behind each stop of a command, and how many stops there are."""
     rng, wrong, count = random.Random(f"{options.seed} {words} {length}"), [], 0
     with Room(options.bx) as room, Room(options.bx) as other:
-        setting = Setting(room, rng, length, words)
+        setting = Setting(room, rng, length, words, check == "lengths")
         for stop, left in setting.stops(room):
             count += 1
             wrong += [f"killed at {stop}: {line}" for line in CHECKS[check](other, setting, left)]
@@ -347,7 +380,7 @@ def main():
         left_out("stops (strace is not installed)")
         finish()
     with concurrent.futures.ThreadPoolExecutor(options.jobs) as pool:
-        rows = [(check, words, length) for check in options.names for length in LENGTHS[check] for words in commands(length)]
+        rows = [(check, words, length) for check in options.names for length in LENGTHS[check] for words in commands(length, check)]
         for row, (wrong, count) in zip(rows, pool.map(lambda row: played(options, *row), rows)):
             say(not wrong, "{}: {} of {} bytes".format(*row), "\n".join([f"{count} stops", *wrong[:12]]))
     finish()

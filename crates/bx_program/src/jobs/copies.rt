@@ -1,7 +1,6 @@
 //! dd onto an image or a device, and its report.
 mod device;
 
-use crate::history::changes::change_image;
 use crate::history::told::look_for_others;
 use crate::jobs::copies::device::{copy_to_device, goes_to_device};
 use crate::jobs::kept::{Manner, put_change};
@@ -12,12 +11,11 @@ use crate::streams::input::behind_skip;
 use bx_cli::{DdImageJob, Fault};
 use bx_dd::{Counts, report};
 use bx_hints::{Remarks, Stopped};
-use bx_run::Edit;
 use bx_system::{Progress, System};
 use bx_text::IoFault;
 
-/// Puts what the plan makes of the input onto the image, and tells the counts. The input is opened first, and read whole
-/// before the image is written: they may be one file. To a character device it goes as it is read.
+/// Puts what the plan makes of the input onto the image, and tells the counts. The input is read whole before the image is opened: they may
+/// be one file. To a character device it goes as it is read.
 pub fn copy_onto<'a, R: System>(
     rt: &R,
     job: &'a DdImageJob,
@@ -25,51 +23,38 @@ pub fn copy_onto<'a, R: System>(
 ) -> Result<(), Stopped<'a>> {
     let progress = progress_of_reading(rt, remarks, &job.plan.input, None);
     let counts = if goes_to_device(rt, job) {
-        Some(copy_to_device(rt, job, &progress)?)
+        copy_to_device(rt, job, &progress)?
     } else {
         look_for_others(rt, &job.target, job.fresh, remarks);
         copy_input(rt, job, &progress, remarks)?
     };
-    if let Some(counts) = counts {
-        remarks.look_at_counts(&counts);
-        if job.plan.quiet {
-            return Ok(());
-        }
+    remarks.look_at_counts(&counts);
+    if !job.plan.quiet {
         // One that can't be made or written is no fault: what it tells of is done.
         let _ = tell(rt, &counts, 0);
     }
     Ok(())
 }
 
-/// Opens the input, puts what the plan makes of it onto the image, and answers the counts. Where the history begins with this
-/// change, or the image isn't to get longer, that is judged once the input is read.
+/// Reads the input, puts what the plan makes of it onto the image, and answers the counts. The image is opened once the input is read:
+/// so the lengths that the change leaves are known before its first write, and behind a stop an image of another length is refused.
 fn copy_input<'a, R: System>(
     rt: &R,
     job: &'a DdImageJob,
     progress: &Progress<'_, R>,
     remarks: &mut Remarks,
-) -> Result<Option<Counts>, Stopped<'a>> {
+) -> Result<Counts, Stopped<'a>> {
     let input = behind_skip(rt, job.skip(), &job.plan.input)?;
     tell_before_copy(rt, job, input.most(most_of_dd(&job.plan)), remarks);
     let plan = plan_behind(rt, job, input.passed);
     let mut ready = Ready::new(rt, job, input, progress);
-    if job.fresh || job.no_grow {
-        let (edit, counts) = ready.made(rt.alloc(), &plan, job.no_grow)?;
-        let manner = Manner {
-            fresh: job.fresh,
-            no_grow: job.no_grow,
-        };
-        return match put_change(rt, &job.target, manner, edit, progress, remarks) {
-            Ok(_) => Ok(Some(counts)),
-            Err(stopped) => Err(ready.stopped(stopped)),
-        };
-    }
-    let edit = Edit::Copy {
-        plan,
-        input: &mut ready.reader,
+    let (edit, counts) = ready.made(rt.alloc(), &plan, job.no_grow)?;
+    let manner = Manner {
+        fresh: job.fresh,
+        no_grow: job.no_grow,
     };
-    match change_image(rt, &job.target, edit, progress, remarks) {
-        Ok(done) => Ok(done.counts),
+    match put_change(rt, &job.target, manner, edit, progress, remarks) {
+        Ok(_) => Ok(counts),
         Err(stopped) => Err(ready.stopped(stopped)),
     }
 }
