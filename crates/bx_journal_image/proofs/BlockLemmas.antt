@@ -58,7 +58,7 @@ struck_on n p old new rest behind i plain is left struck block =
     (sym (ap ranges_in (lines_behind rest behind i plain is left) ∙ one_line (take i rest) (split behind).lines))
 
 -- a line with its newline
-line_taken : (rest : List ℕ) (i : ℕ) → i < length rest → rest ≡ take i rest ++ 10 ∷ drop (i + 1) rest → take (i + 1) rest ≡ take i rest ++ 10 ∷ []
+pub line_taken : (rest : List ℕ) (i : ℕ) → i < length rest → rest ≡ take i rest ++ 10 ∷ drop (i + 1) rest → take (i + 1) rest ≡ take i rest ++ 10 ∷ []
 line_taken rest i below is =
     let long : length (take i rest ++ 10 ∷ []) ≡ i + 1 = omega (arith, length-append (take i rest) (10 ∷ []), length-take i rest, below) in
     ap (take (i + 1)) (is ∙ sym (append_assoc (take i rest) (10 ∷ []) (drop (i + 1) rest))) ∙ take_at (take i rest ++ 10 ∷ []) (drop (i + 1) rest) (i + 1) long

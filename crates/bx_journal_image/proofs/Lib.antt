@@ -6,6 +6,7 @@ pub mod LookLemmas
 pub mod WrittenLemmas
 pub mod EntryLemmas
 pub mod SealLemmas
+pub mod SpanLemmas
 pub mod BlockLaws
 pub mod MarkLemmas
 pub mod NamedLemmas

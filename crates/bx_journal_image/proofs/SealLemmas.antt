@@ -11,7 +11,7 @@ pub all_right : (x : List ℕ) (marks : List (Option ℕ)) → AreWholeMarks x m
 all_right x marks all i block = subst (IsMarkOf x i) (sym (all i block)) refl
 
 -- all of a text
-whole_text : (text : List ℕ) (to : ℕ) → to ≡ length text → rest_to to 0 text ≡ text
+pub whole_text : (text : List ℕ) (to : ℕ) → to ≡ length text → rest_to to 0 text ≡ text
 whole_text text to is = take_all (to - 0) text (omega (arith, is))
 
 -- blocks that were struck by the lines of all of a text

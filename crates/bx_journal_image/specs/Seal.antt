@@ -1,5 +1,5 @@
 -- The line of an image before a command's first write.
-use Rattle.std.specs.Prelude.{ℕ, ◌≡◌, ◌⊎◌, ◌-◌, ◌^◌, ◌<◌, Option, None, Some, List, length, replicate}
+use Rattle.std.specs.Prelude.{ℕ, ◌≡◌, ◌⊎◌, ◌-◌, ◌^◌, ◌<◌, ◌≤◌, Option, None, Some, List, length, replicate}
 use Rattle.bx_journal_format.specs.Text.{split}
 use Rattle.bx_journal_model.specs.declared.mark.Mark.{Mark}
 use Rattle.bx_journal_read.specs.declared.scan.torn.Torn.{Torn}
@@ -8,6 +8,7 @@ use Rattle.bx_journal_image.specs.declared.advice.Standing.{Standing}
 use Rattle.bx_journal_image.specs.declared.line.form.ImageLine.{ImageLine}
 use Rattle.bx_journal_image.specs.declared.sealing.seal.Span.{Span}
 use Rattle.bx_journal_image.specs.Blocks.{AreStruck, AreTrueMarks, AreWholeMarks, HasLongLine, mark_at, ranges_in}
+use Rattle.bx_journal_image.specs.Entry.{HasOlder, LinesTell}
 use Rattle.bx_journal_image.specs.Unfinished.{HasLongSavedLine, LeavesImage, touched_at}
 
 -- a line has what was found of the texts, the length of the image x, and these lengths of what a command makes
@@ -38,9 +39,41 @@ pub record AreStepsMarks (x text : List ℕ) (marks : List (Option ℕ)) : Type 
   pub struck : AreStruck (length x) (ranges_in (split text).lines) known marks
   pub all : AreWholeMarks x known ⊎ HasLongLine 65536 0 (length text) text
 
+-- a length lies within a span
+abbrev pub IsInSpan : Span → ℕ → Type 0
+IsInSpan span l = (span.least ≤ l) × (l ≤ span.most)
+
+-- each length of 64 bits does
+abbrev pub HasAll : Span → Type 0
+HasAll span = (span.least ≡ 0) × (2 ^ 64 - 1 ≤ span.most)
+
+-- a span was widened by lines: just so that it has each length that one tells, and by one that begins an entry of the older form to all
+pub record Widens (lines : List (List ℕ)) (old new : Span) : Type 0 where
+  pub low : new.least ≤ old.least
+  pub high : old.most ≤ new.most
+  pub each : (l : ℕ) → LinesTell lines l → IsInSpan new l
+  pub older : HasOlder lines → HasAll new
+  pub least : (new.least ≡ old.least) ⊎ LinesTell lines new.least ⊎ HasOlder lines
+  pub most : (new.most ≡ old.most) ⊎ LinesTell lines new.most ⊎ HasOlder lines
+
+-- not all lengths are known that the entries of a text restore: one is of the older form, or a line is too long
+abbrev pub HasUntold : List ℕ → Type 0
+HasUntold text = HasOlder (split text).lines ⊎ HasLongLine 65536 0 (length text) text
+
+-- between which lengths steps by the entries of a text leave an image of n bytes: its own and each that a line tells, and no others but
+-- those between, where all are known
+pub record IsStepsSpan (n : ℕ) (text : List ℕ) (span : Span) : Type 0 where
+  pub own : IsInSpan span n
+  pub each : (l : ℕ) → LinesTell (split text).lines l → IsInSpan span l
+  pub older : HasOlder (split text).lines → HasAll span
+  pub least : (span.least ≡ n) ⊎ LinesTell (split text).lines span.least ⊎ HasUntold text
+  pub most : (span.most ≡ n) ⊎ LinesTell (split text).lines span.most ⊎ HasUntold text
+
 -- such a line before steps that the entries of a text tell
 pub record IsStepsSealOf (x text : List ℕ) (now : Standing) (others : ℕ) (sealed : ImageLine) : Type 0 where
-  pub line : IsLineOf x now others any_length sealed
+  pub span : Span
+  pub line : IsLineOf x now others span sealed
+  pub lengths : IsStepsSpan (length x) text span
   pub marks : AreStepsMarks x text sealed.marks
 
 -- the line that says nothing of an image

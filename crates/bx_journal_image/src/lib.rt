@@ -26,4 +26,5 @@ pub use line::form::{ImageLine, LINE, LineText, read_line, write_line};
 pub use line::marks::{BLOCK, BLOCKS, Marks};
 pub use line::ranges::{END, Range, end_of};
 pub use sealing::resealing::seal_unfinished;
-pub use sealing::seal::{Span, seal, seal_steps};
+pub use sealing::seal::{Span, seal};
+pub use sealing::steps::seal_steps;

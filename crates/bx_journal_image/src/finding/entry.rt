@@ -14,7 +14,7 @@ use memchr::memmem::rfind;
 const BEGINS: &[u8] = b"\nchange";
 
 /// How many bytes the line has that begins an entry of the newer form.
-const FIRST: usize = 34;
+pub(crate) const FIRST: usize = 34;
 
 /// The number of the entry that a text of `len` bytes ends with; none where its last bytes are no end line of the newer form.
 pub fn number_at_end<T: TextStore>(
@@ -80,7 +80,7 @@ fn write_beginning(n: u64, before: u64) -> LineText
 }
 
 /// The length that an entry restores, by its first bytes, as many as such a line has; none where these are no such line.
-fn length_in(first: &[u8]) -> Option<u64>
+pub(crate) fn length_in(first: &[u8]) -> Option<u64>
     requires { length first.now ≤ 34 }
     ensures { IsBefore first.now result }
 {

@@ -3,7 +3,7 @@ use Rattle.bx_journal_format.specs.Text.{split}
 use Rattle.bx_journal_read.specs.scan.Windows.{rest_to}
 use Rattle.bx_journal_image.specs.Blocks.{AreStruck, HasLongLine, ranges_in}
 use Rattle.bx_journal_image.proofs.SealLemmas.{steps_struck, steps_unknown}
-use Rattle.bx_journal_image.proofs.sealing.seal.mark_untouched.Goals as goal
+use Rattle.bx_journal_image.proofs.sealing.steps.mark_untouched.Goals as goal
 
 pub returns-then-not-all-clause-marks : goal.returns-then-not-all-clause-marks
 returns-then-not-all-clause-marks g c = λ hi ht.
