@@ -24,7 +24,7 @@ use Rattle.bx_journal_image.specs.declared.advice.Standing.{Standing}
 use Rattle.bx_journal_image.specs.declared.finding.rest.AtRest.{AtRest}
 use Rattle.bx_journal_image.specs.declared.line.form.ImageLine.{ImageLine}
 use Rattle.bx_journal_image.specs.declared.sealing.seal.Span.{Span}
-use Rattle.bx_journal_image.specs.Seal.{IsSealOf}
+use Rattle.bx_journal_image.specs.Seal.{IsInSpan, IsSealOf}
 use Rattle.bx_journal_image.specs.Unfinished.{IsOpenJudged}
 use Rattle.bx_journal_image.specs.declared.judging.judge.Verdict.{Verdict}
 use Rattle.bx_journal_image.specs.Ranges.{EndsIn, ending_line}
@@ -33,7 +33,7 @@ use Rattle.bx_run_session.specs.declared.session.looked.Looked.{Looked}
 use Rattle.bx_run_session.specs.declared.session.looked.Looked.TheVariants.{Another, Goes}
 use Rattle.bx_run_session.specs.declared.session.task.Task.{Task}
 use Rattle.bx_run_session.specs.declared.session.terms.Terms.{Terms}
-use Rattle.bx_run_session.specs.session.Guarded.{EndsLine, IsFoundAtRest, IsJudgedBeside, IsKeptOff, IsLineOn, IsLookedAt, IsReadyBehind, IsSure, LookAt, Spans, is_kept_off}
+use Rattle.bx_run_session.specs.session.Guarded.{EndsLine, IsFoundAtRest, IsJudgedBeside, IsKeptOff, IsLineOn, IsLookedAt, IsReadyBehind, IsSure, LookAt, is_kept_off}
 
 -- of a text that is accepted a fault of reading is a device's
 pub finds_device : (faithful : Type 0) (text : List ℕ) (e : SessionFault) → faithful → IsAccepted text → FindFault faithful text e → DeviceFault e
@@ -80,7 +80,7 @@ module _ {D T : Type 0} (d : DeviceViews D) (t : StoreViews T) where
 
 -- the line before one step
 pub line_of_one : (r : Result ImageLine SessionFault) (old : Contents) (found : Option AtRest) (now told : Standing) (others : ℕ) (span : Span)
-    (way : Option Direction) → way ≡ None → now ≡ told → IfSome found (λ f. Spans f.standing.length span) → IfOk r (IsSealOf old.image now others span)
+    (way : Option Direction) → way ≡ None → now ≡ told → IfSome found (λ f. IsInSpan span f.standing.length) → IfOk r (IsSealOf old.image now others span)
     → IfOk r (IsLineOn way old found told others)
 line_of_one (Ok line) old found now told others span way one is spans seal =
     rw one (span, spans, subst (λ (s : Standing). IsSealOf old.image s others span line) is seal)

@@ -21,7 +21,7 @@ use Rattle.bx_journal_image.specs.declared.finding.rest.AtRest.{AtRest}
 use Rattle.bx_journal_image.specs.Advice.{is_redo_refused, is_undo_refused, on_no_texts, others_after}
 use Rattle.bx_journal_image.specs.Digest.{image_digest}
 use Rattle.bx_journal_image.specs.Line.{FitsPlaces, image_line}
-use Rattle.bx_journal_image.specs.Seal.{IsOpenSeal, IsSealOf, IsStepsSealOf}
+use Rattle.bx_journal_image.specs.Seal.{IsInSpan, IsOpenSeal, IsSealOf, IsStepsSealOf}
 use Rattle.bx_journal_image.specs.Stand.{IsStandOf}
 use Rattle.bx_journal_image.specs.Ranges.{ending_line}
 use Rattle.bx_journal_image.specs.Unfinished.{IsOpenJudged, IsUnfinishedJudged, LeavesImage}
@@ -210,14 +210,10 @@ pub record RiseByOne {D T : Type 0} (d : DeviceViews D) (t : StoreViews T) (old 
   pub journal : t.failures new.journal ≤ t.failures old.journal + 1
   pub redo : t.failures new.redo ≤ t.failures old.redo + 1
 
--- an image of this length is between these lengths
-abbrev pub Spans : ℕ → Span → Type 0
-Spans n span = (span.least ≤ n) × (n ≤ span.most)
-
 -- The line on an image as it is, with what it tells of its texts: before steps over the entries of a text without the blocks that their saved lines
 -- touch, and before one step between lengths among which the image's is
 abbrev pub IsLineOn : Option Direction → Contents → Option AtRest → Standing → ℕ → ImageLine → Type 0
-IsLineOn None old found now others line = (span : Span) × IfSome found (λ f. Spans f.standing.length span) × IsSealOf old.image now others span line
+IsLineOn None old found now others line = (span : Span) × IfSome found (λ f. IsInSpan span f.standing.length) × IsSealOf old.image now others span line
 IsLineOn (Some Backward) old found now others line = IsStepsSealOf old.image old.journal now others line
 IsLineOn (Some Onward) old found now others line = IsStepsSealOf old.image old.redo now others line
 

@@ -4,12 +4,12 @@ ghost use Rattle.bx_image.specs.Change.{Fits, effect};
 ghost use Rattle.bx_image.specs.declared.change.TheConstants.{MAX_LEN};
 ghost use Rattle.bx_journal_format.specs.Shown.{shown};
 ghost use Rattle.bx_journal_image.specs.Stand.{IsStandOf};
-ghost use Rattle.bx_journal_image.specs.Seal.{IsOpenSeal, IsSealOf, IsStepsSealOf};
+ghost use Rattle.bx_journal_image.specs.Seal.{IsInSpan, IsOpenSeal, IsSealOf, IsStepsSealOf};
 ghost use Rattle.bx_journal_model.specs.Looking.{OnlyReadsText};
 ghost use Rattle.bx_journal_model.specs.Fault.{DeviceFault};
 ghost use Rattle.bx_journal_read.specs.scan.Recovery.{FindFault};
 ghost use Rattle.bx_run_session.specs.session.Contents.{AreFaithful, held_by};
-ghost use Rattle.bx_run_session.specs.session.Guarded.{AreFew, CountLooks, EndsLine, EndsWhole, IsFoundAtRest, IsJudgedBeside, IsLineBehind, IsLineOn, IsLookedAt, IsReadyBehind, IsSealAtRest, LookAt, RiseByOne, Spans, is_other, is_too_many, is_writing, known_by, others_of, standing_before, standing_of, steps_of};
+ghost use Rattle.bx_run_session.specs.session.Guarded.{AreFew, CountLooks, EndsLine, EndsWhole, IsFoundAtRest, IsJudgedBeside, IsLineBehind, IsLineOn, IsLookedAt, IsReadyBehind, IsSealAtRest, LookAt, RiseByOne, is_other, is_too_many, is_writing, known_by, others_of, standing_before, standing_of, steps_of};
 
 use crate::session::task::Task;
 use crate::session::terms::{Terms, is_kept_off, is_moved_off};
@@ -118,7 +118,7 @@ fn steps_of<R: Read>(task: &Task<R>) -> Option<Direction>
 
 /// The lengths between which a change leaves an image of `len` bytes, wherever it is stopped: its base comes first, and then each write.
 fn span_of_change(change: &Change, len: u64) -> Span
-    ensures spans { Spans len result }
+    ensures spans { IsInSpan result len }
     ensures behind { (x : List ℕ) → length x ≡ len → Fits change.now len MAX_LEN
         → (result.least ≤ length (effect change.now x)) × (length (effect change.now x) ≤ result.most) }
 {
@@ -133,7 +133,7 @@ fn span_of_change(change: &Change, len: u64) -> Span
 
 /// The lengths between which an image of `len` bytes is that is brought to another length.
 fn span_to(len: u64, told: Option<u64>) -> Span
-    ensures { Spans len result }
+    ensures { IsInSpan result len }
 {
     match told {
         Some(other) => Span::between(len, other),
@@ -156,7 +156,7 @@ fn longest_with(pieces: &[Piece], len: u64) -> u64
 /// The lengths between which the change of a patch leaves an image of `len` bytes that agrees with it: behind a length that the patch tells
 /// it writes nothing.
 fn span_of_patch(patch: &Patch, len: u64) -> Span
-    ensures spans { Spans len result }
+    ensures spans { IsInSpan result len }
     ensures told { IfSome patch.now.lengths (λ l. result ≡ record { least = min len l.new; most = max len l.new }) }
 {
     match patch.lengths {
@@ -167,7 +167,7 @@ fn span_of_patch(patch: &Patch, len: u64) -> Span
 
 /// The lengths between which a task of one step leaves an image, by what is found of it.
 fn span_of<R: Read>(task: &Task<R>, found: &AtRest) -> Span
-    ensures { Spans found.now.standing.length result }
+    ensures { IsInSpan result found.now.standing.length }
 {
     let len = found.standing.length;
     match task {
@@ -190,7 +190,7 @@ fn span_of<R: Read>(task: &Task<R>, found: &AtRest) -> Span
 
 /// The same, where nothing may be found of it.
 fn span_if<R: Read>(task: &Task<R>, found: &Option<AtRest>) -> Span
-    ensures { IfSome found.now (λ f. Spans f.standing.length result) }
+    ensures { IfSome found.now (λ f. IsInSpan result f.standing.length) }
 {
     match found {
         Some(found) => span_of(task, found),
