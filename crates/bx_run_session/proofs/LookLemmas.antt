@@ -80,11 +80,11 @@ module _ {D T : Type 0} (d : DeviceViews D) (t : StoreViews T) where
 
 -- the line before one step
 pub line_of_one : (r : Result ImageLine SessionFault) (old : Contents) (found : Option AtRest) (now told : Standing) (others : ℕ) (span : Span)
-    (way : Option Direction) → way ≡ None → now ≡ told → IfSome found (λ f. IsInSpan span f.standing.length) → IfOk r (IsSealOf old.image now others span)
-    → IfOk r (IsLineOn way old found told others)
-line_of_one (Ok line) old found now told others span way one is spans seal =
+    (way : Option Direction) (Known : AtRest → Span → Type 0) → way ≡ None → now ≡ told → IfSome found (λ f. IsInSpan span f.standing.length × Known f span)
+    → IfOk r (IsSealOf old.image now others span) → IfOk r (IsLineOn way Known old found told others)
+line_of_one (Ok line) old found now told others span way Known one is spans seal =
     rw one (span, spans, subst (λ (s : Standing). IsSealOf old.image s others span line) is seal)
-line_of_one (Err e) old found now told others span way one is spans seal = tt
+line_of_one (Err e) old found now told others span way Known one is spans seal = tt
 
 -- what was judged kept the task off, or not
 pub kept_off : (terms : Terms) (old : Contents) (verdict : Option Verdict) → IsJudgedBeside terms.line old.journal old.image verdict

@@ -1,8 +1,9 @@
 -- A task on the files of an image.
-pub mod Task
+pub mod Changes
 pub mod Contents
 pub mod Guarded
-pub mod Ran
-pub mod Named
+pub mod Lengths
 pub mod Moves
-pub mod Changes
+pub mod Named
+pub mod Ran
+pub mod Task

@@ -39,6 +39,7 @@ use Rattle.bx_run_session.specs.declared.session.looked.Seal.TheVariants.{Kept, 
 use Rattle.bx_run_session.specs.declared.session.task.Task.{Task}
 use Rattle.bx_run_session.specs.declared.session.task.Task.TheVariants.{Run, Put, Keep}
 use Rattle.bx_run_session.specs.declared.session.terms.Terms.{Terms}
+use Rattle.bx_run_session.specs.session.Lengths.{IsTaskSpan}
 use Rattle.bx_run_session.specs.session.Contents.{AreFaithful, Contents, StayFaithful, held_by}
 
 -- whether an image isn't written to that was judged so: it is another one, or was missing; or nothing is known of it, where something has to be
@@ -211,16 +212,17 @@ pub record RiseByOne {D T : Type 0} (d : DeviceViews D) (t : StoreViews T) (old 
   pub redo : t.failures new.redo ≤ t.failures old.redo + 1
 
 -- The line on an image as it is, with what it tells of its texts: before steps over the entries of a text without the blocks that their saved lines
--- touch, and before one step between lengths among which the image's is
-abbrev pub IsLineOn : Option Direction → Contents → Option AtRest → Standing → ℕ → ImageLine → Type 0
-IsLineOn None old found now others line = (span : Span) × IfSome found (λ f. IsInSpan span f.standing.length) × IsSealOf old.image now others span line
-IsLineOn (Some Backward) old found now others line = IsStepsSealOf old.image old.journal now others line
-IsLineOn (Some Onward) old found now others line = IsStepsSealOf old.image old.redo now others line
+-- touch, and before one step between lengths among which the image's is, with what is known of these lengths
+abbrev pub IsLineOn : Option Direction → (AtRest → Span → Type 0) → Contents → Option AtRest → Standing → ℕ → ImageLine → Type 0
+IsLineOn None Known old found now others line =
+    (span : Span) × IfSome found (λ f. IsInSpan span f.standing.length × Known f span) × IsSealOf old.image now others span line
+IsLineOn (Some Backward) Known old found now others line = IsStepsSealOf old.image old.journal now others line
+IsLineOn (Some Onward) Known old found now others line = IsStepsSealOf old.image old.redo now others line
 
 -- What the note is to have before a task on finished texts: what it has, where the task writes nothing, or is refused as there are fewer steps; and else the line on the image as it is
 abbrev pub IsSealAtRest : {R : Type 0} → Contents → Task R → Option AtRest → ℕ → Seal → Type 0
 IsSealAtRest old task found others Kept = (is_writing task ≡ false) ⊎ (is_too_many task found ≡ true)
-IsSealAtRest old task found others (Line line) = IsLineOn (steps_of task) old found (standing_before task found) others line
+IsSealAtRest old task found others (Line line) = IsLineOn (steps_of task) (IsTaskSpan task) old found (standing_before task found) others line
 
 -- the line that is on an image which was judged so
 abbrev pub known_by : Option ImageLine → Verdict → Option ImageLine

@@ -1,7 +1,5 @@
 //! What is known of an image before a task writes to it. The three devices are only looked at.
-ghost use Rattle.std.specs.Prelude.{◌≡◌, ◌≤◌, ◌<◌, ℕ, List, true, length, min, max, is_err, IfOk, IfErr, IfSome};
-ghost use Rattle.bx_image.specs.Change.{Fits, effect};
-ghost use Rattle.bx_image.specs.declared.change.TheConstants.{MAX_LEN};
+ghost use Rattle.std.specs.Prelude.{◌≡◌, ◌≤◌, ◌<◌, true, length, is_err, IfOk, IfErr, IfSome};
 ghost use Rattle.bx_journal_format.specs.Shown.{shown};
 ghost use Rattle.bx_journal_image.specs.Stand.{IsStandOf};
 ghost use Rattle.bx_journal_image.specs.Seal.{IsInSpan, IsOpenSeal, IsSealOf, IsStepsSealOf};
@@ -9,6 +7,7 @@ ghost use Rattle.bx_journal_model.specs.Looking.{OnlyReadsText};
 ghost use Rattle.bx_journal_model.specs.Fault.{DeviceFault};
 ghost use Rattle.bx_journal_read.specs.scan.Recovery.{FindFault};
 ghost use Rattle.bx_run_session.specs.session.Contents.{AreFaithful, held_by};
+ghost use Rattle.bx_run_session.specs.session.Lengths.{IsChangeSpan, IsPatchSpan, IsSpanTo, IsTaskSpan};
 ghost use Rattle.bx_run_session.specs.session.Guarded.{AreFew, CountLooks, EndsLine, EndsWhole, IsFoundAtRest, IsJudgedBeside, IsLineBehind, IsLineOn, IsLookedAt, IsReadyBehind, IsSealAtRest, LookAt, RiseByOne, is_other, is_too_many, is_writing, known_by, others_of, standing_before, standing_of, steps_of};
 
 use crate::session::task::Task;
@@ -118,9 +117,8 @@ fn steps_of<R: Read>(task: &Task<R>) -> Option<Direction>
 
 /// The lengths between which a change leaves an image of `len` bytes, wherever it is stopped: its base comes first, and then each write.
 fn span_of_change(change: &Change, len: u64) -> Span
-    ensures spans { IsInSpan result len }
-    ensures behind { (x : List ℕ) → length x ≡ len → Fits change.now len MAX_LEN
-        → (result.least ≤ length (effect change.now x)) × (length (effect change.now x) ≤ result.most) }
+    ensures within { IsInSpan result len }
+    ensures known { IsChangeSpan change.now len result }
 {
     match check(change, len) {
         Ok(longest) => {
@@ -133,7 +131,8 @@ fn span_of_change(change: &Change, len: u64) -> Span
 
 /// The lengths between which an image of `len` bytes is that is brought to another length.
 fn span_to(len: u64, told: Option<u64>) -> Span
-    ensures { IsInSpan result len }
+    ensures within { IsInSpan result len }
+    ensures known { IsSpanTo len told result }
 {
     match told {
         Some(other) => Span::between(len, other),
@@ -156,8 +155,8 @@ fn longest_with(pieces: &[Piece], len: u64) -> u64
 /// The lengths between which the change of a patch leaves an image of `len` bytes that agrees with it: behind a length that the patch tells
 /// it writes nothing.
 fn span_of_patch(patch: &Patch, len: u64) -> Span
-    ensures spans { IsInSpan result len }
-    ensures told { IfSome patch.now.lengths (λ l. result ≡ record { least = min len l.new; most = max len l.new }) }
+    ensures within { IsInSpan result len }
+    ensures known { IsPatchSpan patch.now len result }
 {
     match patch.lengths {
         Some(lengths) => Span::between(len, lengths.new),
@@ -167,7 +166,8 @@ fn span_of_patch(patch: &Patch, len: u64) -> Span
 
 /// The lengths between which a task of one step leaves an image, by what is found of it.
 fn span_of<R: Read>(task: &Task<R>, found: &AtRest) -> Span
-    ensures { IsInSpan result found.now.standing.length }
+    ensures within { IsInSpan result found.now.standing.length }
+    ensures known { IsTaskSpan task.now found.now result }
 {
     let len = found.standing.length;
     match task {
@@ -190,7 +190,7 @@ fn span_of<R: Read>(task: &Task<R>, found: &AtRest) -> Span
 
 /// The same, where nothing may be found of it.
 fn span_if<R: Read>(task: &Task<R>, found: &Option<AtRest>) -> Span
-    ensures { IfSome found.now (λ f. IsInSpan result f.standing.length) }
+    ensures { IfSome found.now (λ f. IsInSpan result f.standing.length × IsTaskSpan task.now f result) }
 {
     match found {
         Some(found) => span_of(task, found),
@@ -390,7 +390,7 @@ fn line_on<D: Device, T: TextStore, R: Read>(
 ) -> Result<ImageLine, SessionFault>
     requires few { AreFew D.Device T.TextStore devices.old }
     ensures line { AreFaithful D.Device T.TextStore devices.old
-        → IfOk result (IsLineOn (steps_of task.now) (held_by D.Device T.TextStore devices.old) found.now
+        → IfOk result (IsLineOn (steps_of task.now) (IsTaskSpan task.now) (held_by D.Device T.TextStore devices.old) found.now
         (standing_before task.now found.now) others) }
     ensures fault { IfErr result DeviceFault }
     ensures looks { LookAt D.Device T.TextStore devices.old devices.new }
