@@ -303,7 +303,11 @@ def lengths(room, setting, left):
     if not is_unfinished(left):
         return
     made = [len(image) for image in setting.images]
-    for name, count in (("longer", max(made) + 100), ("shorter", min(made) - 7)):
+    others = [("longer", max(made) + 100)]
+    if setting.words != "dd of=img":
+        # which cuts the image to nothing before it writes
+        others.append(("shorter", min(made) - 7))
+    for name, count in others:
         image = setting.rng.randbytes(count)
         for words in NEXT:
             files = {**left, "img": image}
