@@ -79,10 +79,10 @@ Into the middle of a device, without notrunc: as with the real dd the length sta
   $ bx undo -k 2 -J device.bxj $dev; [ "$(sha256sum < $dev)" = "$first" ]
   0
 
-Killed in the middle of changes and undos:
+Killed in the middle of changes and undos. What is unfinished touches all blocks, so `log` would only name it; an undo of none recovers it:
 
   $ seq 0 59999 | awk '{ printf "%x: 41\n", $1 * 7919 % 1048575 }' > dump
-  $ killed() { timeout --foreground -s KILL "$@" > /dev/null 2>&1; bx log -J device.bxj $dev 2> /dev/null | wc -l; }
+  $ killed() { timeout --foreground -s KILL "$@" > /dev/null 2>&1; bx undo -k 0 -J device.bxj $dev > /dev/null 2>&1; bx log -J device.bxj $dev | wc -l; }
   $ for n in $(seq 30); do
   >   [ $((n % 2)) = 1 ] && words="revert -f dump $dev" || words="dd if=whole of=$dev ibs=64k"
   >   changes=$(killed 0.$(printf %03d $((2 * n))) bx $words -J device.bxj); [ $((n % 3)) = 0 ] || continue
